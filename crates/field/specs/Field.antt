@@ -1,0 +1,24 @@
+-- 01, "The image": "All numbers are big-endian, here and in every later layout." A field is w bytes at a place of the image;
+-- the width is free, so that no law is stated for one width. Bytes are numbers below 256.
+use Prim.Native.Nat.{ℕ, zero, suc, _+_, _*_, _/_, _%_}
+use mathlib.Core.List.{List, [], _∷_, _++_}
+use lib.ListN.{getD, replicate}
+use lib.Seq.{sets}
+
+-- the number in the w bytes from place at on, the first byte the most significant
+unfoldable pub fieldAt : List ℕ → ℕ → ℕ → ℕ
+fieldAt l at zero = 0
+fieldAt l at (suc w) = fieldAt l at w * 256 + getD l (at + w) 0
+
+-- the w bytes of a number, the most significant first
+unfoldable pub digits : ℕ → ℕ → List ℕ
+digits zero v = []
+digits (suc w) v = digits w (v / 256) ++ (v % 256 ∷ [])
+
+-- the bytes with a number written in the w bytes from place at on
+abbrev pub putField : List ℕ → ℕ → ℕ → ℕ → List ℕ
+putField l at w v = sets l at (digits w v)
+
+-- the bytes with n zeros from place at on
+abbrev pub cleared : List ℕ → ℕ → ℕ → List ℕ
+cleared l at n = sets l at (replicate n 0)

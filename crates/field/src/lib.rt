@@ -1,0 +1,1 @@
+// Big-endian fields in a slice of bytes.

@@ -1,0 +1,5 @@
+pub mod Keys
+pub mod Lowest
+pub mod Rules
+pub mod Storing
+pub mod Table

@@ -1,0 +1,36 @@
+-- 01's rules on links, each by itself ("Links: every link that isn't empty is at most G and greater than the address of the node it
+-- stands in. Every address from 1 to G stands in exactly one link"). The table has no link outside its nodes and letters (`Framed`), so
+-- no rule repeats these bounds; an empty link is 0, which is at most G.
+use Prim.Native.Nat.{ℕ, _≤_, _<_}
+use mathlib.Core.Path.{_≡_}
+use mathlib.Core.Logic.{_≢_}
+use Rattle.trie.specs.Table.{Table}
+
+-- outside the nodes 0..g and the letters below n all is 0
+pub record Framed (t : Table) (g n : ℕ) : Type 0 where
+  pub no-node : (q i : ℕ) → g < q → t .child q i ≡ 0
+  pub no-letter : (q i : ℕ) → n ≤ i → t .child q i ≡ 0
+  pub no-data : (q : ℕ) → g < q → t .value q ≡ 0
+
+-- "every link that isn't empty is at most G"
+abbrev pub Within : Table → ℕ → Type 0
+Within t g = (q i : ℕ) → t .child q i ≤ g
+
+-- "and greater than the address of the node it stands in"
+abbrev pub Rising : Table → Type 0
+Rising t = (q i : ℕ) → t .child q i ≢ 0 → q < t .child q i
+
+-- "Every address from 1 to G stands in ... one link": in one at least
+abbrev pub Named : Table → ℕ → Type 0
+Named t g = (x : ℕ) → 1 ≤ x → x ≤ g → (q : ℕ) × (i : ℕ) × (t .child q i ≡ x)
+
+-- "exactly one": two links that hold one address are one link
+abbrev pub Once : Table → Type 0
+Once t = (q i p j : ℕ) → t .child q i ≢ 0 → t .child q i ≡ t .child p j → (q ≡ p) × (i ≡ j)
+
+-- What every law on storing asks of a table, and gives back. It leaves out `Rising`: no law on trees needs it.
+pub record Linked (t : Table) (g n : ℕ) : Type 0 where
+  pub framed : Framed t g n
+  pub within : Within t g
+  pub named : Named t g
+  pub once : Once t

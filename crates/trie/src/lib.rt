@@ -1,0 +1,1 @@
+// Tables of nodes and their laws: definitions and proofs alone, no code.
