@@ -3,7 +3,8 @@
 use Prim.Native.Nat.{ℕ, zero, suc, pred}
 use mathlib.Core.Bool.{Bool, true, false, not, cond}
 use mathlib.Core.Option.{Option, none, some}
-use mathlib.Core.List.{List, [], _∷_, _++_, map}
+use mathlib.Core.List.{List, [], _∷_, _++_, map, List·Memᴰ}
+use mathlib.Core.Path.{_≡_}
 use lib.Dec.{eqb, ltb}
 use Rattle.trie.specs.Table.{Table, follow}
 
@@ -52,3 +53,8 @@ meets false given k = not (before k given)
 unfoldable pub firstMeeting : (List ℕ → Bool) → List (List ℕ) → Option (List ℕ)
 firstMeeting p [] = none
 firstMeeting p (k ∷ ks) = cond (p k) (some k) (firstMeeting p ks)
+
+-- strictly rising: each key comes before every key that follows it in the list
+abbrev pub Ascending : List (List ℕ) → Type 0
+Ascending [] = Unit {0}
+Ascending (k ∷ ks) = ((m : List ℕ) → List·Memᴰ m ks → before k m ≡ true) × Ascending ks
