@@ -1,0 +1,65 @@
+-- 01, "The image": the head is seven 32-bit fields, in the order G, N, A, D, F, min, max, then F bytes of alphabet; the table of what is
+-- permitted; the node width W, where a node begins, and the used length U.
+use Prim.Native.Nat.{ℕ, _+_, _*_}
+use mathlib.Core.Bool.{Bool, _&&_}
+use mathlib.Core.List.{List}
+use Rattle.field.specs.Field.{fieldAt}
+use Rattle.field.specs.Range.{between}
+use Rattle.head.specs.declared.Head.{Head}
+
+-- "The head's own ceilings are named once, as constants of the head."
+abbrev pub mostLinks : ℕ
+mostLinks = 256
+
+abbrev pub mostLinkBytes : ℕ
+mostLinkBytes = 4
+
+abbrev pub mostDataBytes : ℕ
+mostDataBytes = 4
+
+abbrev pub mostAlphabet : ℕ
+mostAlphabet = 1024
+
+abbrev pub mostLetters : ℕ
+mostLetters = 64
+
+-- the bytes of the seven fields
+abbrev pub fieldsLen : ℕ
+fieldsLen = 28
+
+unfoldable pub headOf : List ℕ → Head
+unfolding fieldAt
+headOf l =
+    record
+    { g = fieldAt l 0 4
+    ; n = fieldAt l 4 4
+    ; a = fieldAt l 8 4
+    ; d = fieldAt l 12 4
+    ; f = fieldAt l 16 4
+    ; min = fieldAt l 20 4
+    ; max = fieldAt l 24 4
+    }
+
+-- the column "Permitted"
+unfoldable pub permitted : Head → Bool
+permitted h =
+    between (h .n) 1 mostLinks
+    && between (h .a) 1 mostLinkBytes
+    && between (h .d) 1 mostDataBytes
+    && between (h .f) 0 mostAlphabet
+    && between (h .min) 0 (h .max)
+    && between (h .max) 0 mostLetters
+
+-- "A node takes W = N*A + D bytes"
+unfoldable pub nodeWidth : Head → ℕ
+nodeWidth h = h .n * h .a + h .d
+
+-- "Node n begins at byte 28 + F + n*W"
+unfoldable pub nodePlace : Head → ℕ → ℕ
+unfolding nodeWidth
+nodePlace h q = fieldsLen + h .f + q * nodeWidth h
+
+-- "The used length is U = 28 + F + (G+1)*W"
+unfoldable pub usedLen : Head → ℕ
+unfolding nodePlace
+usedLen h = nodePlace h (h .g + 1)

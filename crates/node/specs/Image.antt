@@ -1,0 +1,28 @@
+-- 01, "The image": "A node takes W = N*A + D bytes: N links, then its data." From here on an image is its table of nodes.
+use Prim.Native.Nat.{ℕ, _+_, _*_}
+use mathlib.Core.Bool.{Bool, _&&_, cond}
+use mathlib.Core.List.{List}
+use lib.Dec.{leb, ltb}
+use Rattle.field.specs.Field.{fieldAt}
+use Rattle.trie.specs.Table.{Table}
+use Rattle.head.specs.declared.Head.{Head}
+use Rattle.head.specs.Fields.{nodePlace}
+
+-- where the link for letter i of node q stands
+unfoldable pub linkPlace : Head → ℕ → ℕ → ℕ
+unfolding nodePlace
+linkPlace h q i = nodePlace h q + i * h .a
+
+-- where the data of node q stands
+unfoldable pub dataPlace : Head → ℕ → ℕ
+unfolding nodePlace
+dataPlace h q = nodePlace h q + h .n * h .a
+
+-- the image as a table: the links and data of its nodes 0..G, and 0 outside them
+unfoldable pub tableOf : Head → List ℕ → Table
+unfolding linkPlace dataPlace fieldAt
+tableOf h l =
+    record
+    { child = λ q i. cond (leb q (h .g) && ltb i (h .n)) (fieldAt l (linkPlace h q i) (h .a)) 0
+    ; value = λ q. cond (leb q (h .g)) (fieldAt l (dataPlace h q) (h .d)) 0
+    }

@@ -1,0 +1,63 @@
+-- What a store writes, as an ordered list (01, "Walking, storing, listing"; the order is 02's, Ask 1): "first the new nodes, one write
+-- each by rising address, then G, then the old link; for a complete path, the data field alone". The bytes after a store are this list
+-- carried out.
+use Prim.Native.Nat.{ℕ, zero, suc, _+_, _-_, _*_}
+use mathlib.Core.List.{List, [], _∷_, _++_}
+use lib.ListN.{length, replicate}
+use lib.Seq.{sets}
+use Rattle.field.specs.Field.{digits}
+use Rattle.trie.specs.Table.{Descent, complete, stopped}
+use Rattle.head.specs.declared.Head.{Head}
+use Rattle.head.specs.Fields.{nodePlace}
+use Rattle.node.specs.Image.{linkPlace, dataPlace}
+
+-- a place and the bytes that go there
+pub record Write : Type 0 where
+  pub place : ℕ
+  pub bytes : List ℕ
+
+-- the writes done one after the other
+unfoldable pub carriedOut : List ℕ → List Write → List ℕ
+carriedOut l [] = l
+carriedOut l (w ∷ ws) = carriedOut (sets l (w .place) (w .bytes)) ws
+
+-- a whole node with no link and this data
+unfoldable pub lastNode : Head → ℕ → List ℕ
+unfolding digits
+lastNode h v = replicate (h .n * h .a) 0 ++ digits (h .d) v
+
+-- a whole node whose link for letter y is c, "all else zero"
+unfoldable pub pathNode : Head → ℕ → ℕ → List ℕ
+unfolding digits
+pathNode h y c = replicate (y * h .a) 0 ++ (digits (h .a) c ++ replicate ((h .n - suc y) * h .a + h .d) 0)
+
+-- "nodes G+1 to G+k are written in key order, each linking to the next by the key's letter, all else zero; the last holds the value":
+-- the node at address q and, for each letter that follows, the next
+unfoldable pub newNodes : Head → ℕ → List ℕ → ℕ → List Write
+unfolding lastNode pathNode nodePlace
+newNodes h q [] v = record { place = nodePlace h q; bytes = lastNode h v } ∷ []
+newNodes h q (y ∷ ys) v = record { place = nodePlace h q; bytes = pathNode h y (suc q) } ∷ newNodes h (suc q) ys v
+
+-- "G becomes G+k"
+unfoldable pub totalWrite : ℕ → Write
+unfolding digits
+totalWrite g = record { place = 0; bytes = digits 4 g }
+
+-- the link for letter x of node q
+unfoldable pub linkWrite : Head → ℕ → ℕ → ℕ → Write
+unfolding digits linkPlace
+linkWrite h q x c = record { place = linkPlace h q x; bytes = digits (h .a) c }
+
+-- the data of node q
+unfoldable pub dataWrite : Head → ℕ → ℕ → Write
+unfolding digits dataPlace
+dataWrite h q v = record { place = dataPlace h q; bytes = digits (h .d) v }
+
+-- a store of a value where the key's walk ended so
+unfoldable pub storeWrites : Head → Descent → ℕ → List Write
+unfolding newNodes totalWrite linkWrite dataWrite
+storeWrites h (complete q) v = dataWrite h q v ∷ []
+storeWrites h (stopped q x xs) zero = []
+storeWrites h (stopped q x xs) (suc v) =
+    newNodes h (suc (h .g)) xs (suc v)
+    ++ (totalWrite (h .g + suc (length xs)) ∷ linkWrite h q x (suc (h .g)) ∷ [])

@@ -1,0 +1,1 @@
+// A node of an image: its links and its data.

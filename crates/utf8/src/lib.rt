@@ -1,0 +1,1 @@
+// The characters of UTF-8.
