@@ -1,0 +1,31 @@
+-- 01, "The image": an image that meets every rule, rule by rule, in 01's words and with no word of the check. (01 calls an image accepted
+-- if the check, lent enough working numbers, answers 0. That the two are the same is demand 2's theorem.)
+use Prim.Native.Nat.{ℕ, _+_, _≤_, _<_}
+use mathlib.Core.Path.{_≡_}
+use mathlib.Core.Bool.{true}
+use mathlib.Core.List.{List}
+use lib.ListN.{length}
+use Rattle.trie.specs.Rules.{Within, Rising, Named, Once}
+use Rattle.head.specs.Fields.{headOf, permitted, usedLen}
+use Rattle.alphabet.specs.Letters.{goodAlphabet}
+use Rattle.paper.specs.Orders.{alphabetIn}
+use Rattle.paper.specs.Rows.{shortestImage, longestImage}
+use Rattle.paper.specs.Calls.{tableIn}
+
+pub record Accepted (l : List ℕ) : Type 0 where
+  -- the lent image is 28 to 16,777,216 bytes long
+  pub long-enough : shortestImage ≤ length l
+  pub short-enough : length l ≤ longestImage
+  -- every head field is as the table permits
+  pub head-permitted : permitted (headOf l) ≡ true
+  -- "if F is 0, keys are letter numbers only ... Otherwise the F bytes are exactly N well-formed characters, all different"
+  pub alphabet-good : 0 < headOf l .f → goodAlphabet (headOf l .n) (alphabetIn (headOf l) l) ≡ true
+  -- "The used length is U ... The lent image may be longer"
+  pub room : usedLen (headOf l) ≤ length l
+  -- "every link that isn't empty is at most G"
+  pub within : Within (tableIn l) (headOf l .g)
+  -- "and greater than the address of the node it stands in"
+  pub rising : Rising (tableIn l)
+  -- "Every address from 1 to G stands in exactly one link"
+  pub named : Named (tableIn l) (headOf l .g)
+  pub once : Once (tableIn l)

@@ -1,0 +1,138 @@
+-- The outcome of each of the eight calls, for any arguments: the answer's numbers and the last content of every buffer lent to be
+-- written. Each is the first row of its order that is given, or else what 01 says the call does.
+use Prim.Native.Nat.{ℕ, zero, suc, _+_, _*_}
+use mathlib.Core.Bool.{Bool}
+use mathlib.Core.Option.{Option, none, some}
+use mathlib.Core.List.{List, [], _∷_, _++_}
+use lib.ListN.{length, drop, replicate}
+use lib.Seq.{sets}
+use lib.IntN.{ℤ, pos}
+use Rattle.field.specs.Field.{digits}
+use Rattle.trie.specs.Table.{Table, descend, answer}
+use Rattle.trie.specs.Keys.{listing, meets, firstMeeting}
+use Rattle.trie.specs.Storing.{changeOf}
+use Rattle.head.specs.declared.Head.{Head}
+use Rattle.head.specs.Fields.{headOf, nodeWidth}
+use Rattle.alphabet.specs.Letters.{letters, lettersIn, keyOfText}
+use Rattle.node.specs.Image.{tableOf}
+use Rattle.node.specs.Writes.{carriedOut, storeWrites}
+use Rattle.paper.specs.Hearing.{Row, Numbers, Outcome, outcome, doneNumbers, first, heard}
+use Rattle.paper.specs.Rows.{row5}
+use Rattle.paper.specs.Orders.{alphabetIn, opening, openingOf, checking, byLetters, byText, lookingUp, storing, nexting}
+
+-- the image's own table
+unfoldable pub tableIn : List ℕ → Table
+unfolding tableOf headOf
+tableIn l = tableOf (headOf l) l
+
+-- "Once 5 is passed, the first G+1 of them are 0 when the call returns, with the G of entry, whatever the answer; the rest keep what they
+-- held. If the call stops at 5, where its order first names it, or before that, all keep what they held."
+unfoldable pub clearedBy : Row → ℕ → List ℕ → List ℕ
+clearedBy none nodes work = replicate nodes 0 ++ drop nodes work
+clearedBy (some s) nodes work = work
+
+unfoldable pub workAfter : List ℕ → List ℕ → List ℕ
+unfolding clearedBy first openingOf row5 headOf
+workAfter l work = clearedBy (first (openingOf l ++ (row5 (headOf l) (length work) ∷ []))) (headOf l .g + 1) work
+
+-- make
+
+-- the head of a fresh image: G is 0, "F is the length of the alphabet given"
+unfoldable pub freshHead : ℕ → ℕ → ℕ → List ℕ → ℕ → ℕ → Head
+freshHead n a d alphabet least most =
+    record { g = 0; n = n; a = a; d = d; f = length alphabet; min = least; max = most }
+
+-- the seven fields of a head as they stand in an image
+unfoldable pub headBytes : Head → List ℕ
+unfolding digits
+headBytes h =
+    digits 4 (h .g) ++ (digits 4 (h .n) ++ (digits 4 (h .a) ++ (digits 4 (h .d) ++ (digits 4 (h .f) ++ (digits 4 (h .min) ++ digits 4 (h .max))))))
+
+-- "it writes head, alphabet and a zero root, and bytes from U on keep what they held"
+unfoldable pub freshImage : Head → List ℕ → List ℕ → List ℕ
+unfolding headBytes nodeWidth
+freshImage h alphabet image = sets image 0 (headBytes h ++ (alphabet ++ replicate (nodeWidth h) 0))
+
+unfoldable pub makeOf : List ℕ → ℕ → ℕ → ℕ → List ℕ → ℕ → ℕ → Outcome
+unfolding heard first opening freshHead freshImage doneNumbers
+makeOf image n a d alphabet least most =
+    heard (first (opening (freshHead n a d alphabet least most) alphabet (length image))) (image ∷ [])
+    (outcome (doneNumbers 0 (pos 0) 0) (freshImage (freshHead n a d alphabet least most) alphabet image ∷ []))
+
+-- check
+
+unfoldable pub checkOf : List ℕ → List ℕ → Outcome
+unfolding heard first checking workAfter doneNumbers
+checkOf l work = heard (first (checking l work)) (workAfter l work ∷ []) (outcome (doneNumbers 0 (pos 0) 0) (workAfter l work ∷ []))
+
+-- number of keys
+
+-- the stored keys of an image in order
+unfoldable pub storedKeys : List ℕ → List (List ℕ)
+unfolding tableIn headOf
+storedKeys l = listing (tableIn l) (headOf l .n) (headOf l .min) (headOf l .max)
+
+unfoldable pub countOf : List ℕ → List ℕ → Outcome
+unfolding heard first checking workAfter doneNumbers storedKeys
+countOf l work =
+    heard (first (checking l work)) (workAfter l work ∷ [])
+    (outcome (doneNumbers 0 (pos 0) (length (storedKeys l))) (workAfter l work ∷ []))
+
+-- look up
+
+unfoldable pub lookUpBy : List ℕ → List Row → List ℕ → Outcome
+unfolding heard first lookingUp doneNumbers answer tableIn
+lookUpBy l keyed key = heard (first (lookingUp l keyed key)) [] (outcome (doneNumbers 0 (pos 0) (answer (tableIn l) key)) [])
+
+unfoldable pub lookUpOf : List ℕ → List ℕ → Outcome
+unfolding lookUpBy byLetters headOf
+lookUpOf l key = lookUpBy l (byLetters (headOf l) key) key
+
+-- the key that a text names in an image
+unfoldable pub namedIn : List ℕ → List ℕ → Option (List ℕ)
+unfolding keyOfText letters alphabetIn headOf
+namedIn l text = keyOfText (letters (alphabetIn (headOf l) l)) text
+
+unfoldable pub lookUpTextOf : List ℕ → List ℕ → Outcome
+unfolding lookUpBy byText namedIn lettersIn
+lookUpTextOf l text = lookUpBy l (byText (headOf l) (namedIn l text)) (lettersIn (namedIn l text))
+
+-- store
+
+-- the image after a store that is not refused: the store's writes carried out
+unfoldable pub storedImage : List ℕ → List ℕ → ℕ → List ℕ
+unfolding carriedOut storeWrites descend tableIn headOf
+storedImage l key value = carriedOut l (storeWrites (headOf l) (descend (tableIn l) 0 key) value)
+
+unfoldable pub storeBy : List ℕ → List ℕ → List Row → List ℕ → ℕ → Outcome
+unfolding heard first storing workAfter doneNumbers storedImage changeOf answer
+storeBy l work keyed key value =
+    heard (first (storing l work keyed key value)) (l ∷ workAfter l work ∷ [])
+    (outcome (doneNumbers 0 (changeOf (answer (tableIn l) key) value) 0) (storedImage l key value ∷ workAfter l work ∷ []))
+
+unfoldable pub storeOf : List ℕ → List ℕ → List ℕ → ℕ → Outcome
+unfolding storeBy byLetters headOf
+storeOf l work key value = storeBy l work (byLetters (headOf l) key) key value
+
+unfoldable pub storeTextOf : List ℕ → List ℕ → List ℕ → ℕ → Outcome
+unfolding storeBy byText namedIn lettersIn
+storeTextOf l work text value = storeBy l work (byText (headOf l) (namedIn l text)) (lettersIn (namedIn l text)) value
+
+-- next key
+
+-- the first stored key that meets the request
+unfoldable pub nextIn : List ℕ → List ℕ → Bool → Option (List ℕ)
+unfolding firstMeeting meets storedKeys
+nextIn l key after = firstMeeting (meets after key) (storedKeys l)
+
+-- "its letters at the front of the key buffer (the rest unchanged), length and value"
+unfoldable pub foundIn : List ℕ → List ℕ → List ℕ → List ℕ → Outcome
+unfolding doneNumbers answer tableIn workAfter
+foundIn l work buffer k =
+    outcome (doneNumbers (length k) (pos 0) (answer (tableIn l) k)) (workAfter l work ∷ sets buffer 0 k ∷ [])
+
+unfoldable pub nextKeyOf : List ℕ → List ℕ → List ℕ → Bool → List ℕ → Outcome
+unfolding heard first nexting workAfter nextIn foundIn lettersIn
+nextKeyOf l work key after buffer =
+    heard (first (nexting l work key (length buffer) (nextIn l key after))) (workAfter l work ∷ buffer ∷ [])
+    (foundIn l work buffer (lettersIn (nextIn l key after)))

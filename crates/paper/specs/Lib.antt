@@ -1,0 +1,9 @@
+pub mod Accepted
+pub mod Answers
+pub mod Calls
+pub mod Cases
+pub mod Hearing
+pub mod Orders
+pub mod Promises
+pub mod Rows
+pub mod Walk002

@@ -1,0 +1,70 @@
+-- 01, "The first that applies is given, in this order": the order of each call, as a list of rows. Orders are joined from named parts,
+-- so that they read as 01 writes them.
+use Prim.Native.Nat.{ℕ}
+use mathlib.Core.Option.{Option}
+use mathlib.Core.List.{List, [], _∷_, _++_}
+use lib.ListN.{length, take, drop}
+use Rattle.trie.specs.Table.{Table, descend, missing}
+use Rattle.trie.specs.Storing.{added}
+use Rattle.alphabet.specs.Letters.{lettersIn}
+use Rattle.head.specs.declared.Head.{Head}
+use Rattle.head.specs.Fields.{headOf, fieldsLen}
+use Rattle.node.specs.Image.{tableOf}
+use Rattle.paper.specs.Hearing.{Row}
+use Rattle.paper.specs.Rows.{row1, row2, row3, row4, row5, row6, row6path, row7, row8, row9, row9next, row10, row10text, row11, row12, row13, row14, row15}
+
+-- the F bytes after the seven fields, as many of them as the image has
+unfoldable pub alphabetIn : Head → List ℕ → List ℕ
+alphabetIn h l = take (h .f) (drop fieldsLen l)
+
+-- 1 to 4, of a head, its alphabet and the length of the image
+unfoldable pub opening : Head → List ℕ → ℕ → List Row
+opening h alphabet len = row1 len ∷ row2 h ∷ row3 h alphabet ∷ row4 h len ∷ []
+
+-- 1 to 4, of an image
+unfoldable pub openingOf : List ℕ → List Row
+unfolding opening alphabetIn headOf
+openingOf l = opening (headOf l) (alphabetIn (headOf l) l) (length l)
+
+-- 6 to 8
+unfoldable pub linking : Head → Table → List Row
+linking h t = row6 h t ∷ row7 h t ∷ row8 h t ∷ []
+
+-- "check and number of keys: 1 to 8"
+unfoldable pub checking : List ℕ → List ℕ → List Row
+unfolding openingOf linking tableOf
+checking l work = openingOf l ++ (row5 (headOf l) (length work) ∷ linking (headOf l) (tableOf (headOf l) l))
+
+-- 9, 10 for letters
+unfoldable pub byLetters : Head → List ℕ → List Row
+byLetters h key = row9 h key ∷ row10 h key ∷ []
+
+-- "For text, 10 stands before 9." A text that names no key has no length; 10 is given before it is asked.
+unfoldable pub byText : Head → Option (List ℕ) → List Row
+unfolding lettersIn
+byText h named = row10text named ∷ row9 h (lettersIn named) ∷ []
+
+-- "look up: 1 to 4, 9, 10, then 6", with the part for the key given
+unfoldable pub lookingUp : List ℕ → List Row → List ℕ → List Row
+unfolding openingOf tableOf
+lookingUp l keyed key = openingOf l ++ (keyed ++ (row6path (headOf l) (tableOf (headOf l) l) key ∷ []))
+
+-- 11, 12, 13, with k missing nodes
+unfoldable pub adding : Head → ℕ → ℕ → ℕ → List Row
+adding h value k len = row11 h value ∷ row12 h k ∷ row13 h k len ∷ []
+
+-- "Here k is the number of nodes missing on the key's path, but 0 where the value is 0."
+unfoldable pub newOf : Head → List ℕ → List ℕ → ℕ → ℕ
+unfolding added missing descend tableOf
+newOf h l key value = added (missing (descend (tableOf h l) 0 key)) value
+
+-- "store: 1 to 8, 9, 10, 11, 12, 13", with the part for the key given
+unfoldable pub storing : List ℕ → List ℕ → List Row → List ℕ → ℕ → List Row
+unfolding checking adding newOf
+storing l work keyed key value = checking l work ++ (keyed ++ adding (headOf l) value (newOf (headOf l) l key value) (length l))
+
+-- "next key: 1 to 8, 9, 10, 14, 15"
+unfoldable pub nexting : List ℕ → List ℕ → List ℕ → ℕ → Option (List ℕ) → List Row
+unfolding checking
+nexting l work key lent found =
+    checking l work ++ (row9next (headOf l) key ∷ row10 (headOf l) key ∷ row14 (headOf l) lent ∷ row15 found ∷ [])

@@ -1,0 +1,53 @@
+-- TRIEFF 0.6.0 (source document 002), "Querying the document": its sample algorithm, transcribed line by line and apart from our own
+-- walk, for demand 2. It knows no table and no refusal: it reads fields at computed places of the document, and answers 0 for whatever is
+-- not there. Where 002 writes s.indexOf(..) for a character, the allowed characters are meant; -1, "not found", is here the number of
+-- allowed characters, which the test `query[f] >= [N]` turns away likewise.
+use Prim.Native.Nat.{ℕ, zero, suc, _+_, _*_}
+use mathlib.Core.Bool.{Bool, _||_, cond}
+use mathlib.Core.Option.{Option, none, some}
+use mathlib.Core.List.{List, [], _∷_, map}
+use lib.ListN.{length}
+use lib.Dec.{leb, ltb}
+use Rattle.field.specs.Field.{fieldAt}
+use Rattle.utf8.specs.Text.{chars}
+use Rattle.alphabet.specs.Letters.{letters, letterOf}
+use Rattle.head.specs.declared.Head.{Head}
+use Rattle.head.specs.Fields.{headOf}
+use Rattle.paper.specs.Orders.{alphabetIn}
+
+-- return [read [D] bytes at](address * ([N] * [A] + [D]) + [F] + 28 + [N] * [A]);
+unfoldable pub dataRead : Head → List ℕ → ℕ → ℕ
+unfolding fieldAt
+dataRead h l address = fieldAt l (address * (h .n * h .a + h .d) + h .f + 28 + h .n * h .a) (h .d)
+
+-- address = [read [A] bytes at](address * ([N] * [A] + [D]) + [F] + 28 + query[f] * [A]);
+unfoldable pub linkRead : Head → List ℕ → ℕ → ℕ → ℕ
+unfolding fieldAt
+linkRead h l address x = fieldAt l (address * (h .n * h .a + h .d) + h .f + 28 + x * h .a) (h .a)
+
+-- if (address == 0) { return 0; //not found }, else on with the next letter
+unfoldable pub unlessEmpty : ℕ → (ℕ → ℕ) → ℕ
+unlessEmpty zero on = 0
+unlessEmpty (suc c) on = on (suc c)
+
+-- for (int f = 0; f < query.length; f++) { if (query[f] < 0 || query[f] >= [N]) { return 0; } .. }
+unfoldable pub queryFrom : Head → List ℕ → ℕ → List ℕ → ℕ
+unfolding dataRead linkRead unlessEmpty
+queryFrom h l address [] = dataRead h l address
+queryFrom h l address (x ∷ xs) = cond (leb (h .n) x) 0 (unlessEmpty (linkRead h l address x) (λ c. queryFrom h l c xs))
+
+-- if (query.length < [min] || query.length > [max]) { return 0; //doesn't exist }
+unfoldable pub query002 : List ℕ → List ℕ → ℕ
+unfolding queryFrom headOf
+query002 l query =
+    cond (ltb (length query) (headOf l .min) || ltb (headOf l .max) (length query)) 0 (queryFrom (headOf l) l 0 query)
+
+-- for (int f = 0; f < s.length; f++) { query[f] = s.indexOf(qTemp.charAt(f)); }
+unfoldable pub indexesOf : List ℕ → Option (List ℕ) → List ℕ
+unfolding letterOf
+indexesOf allowedChars none = []
+indexesOf allowedChars (some s) = map (letterOf allowedChars) s
+
+unfoldable pub queryText002 : List ℕ → List ℕ → ℕ
+unfolding query002 indexesOf letters chars alphabetIn
+queryText002 l text = query002 l (indexesOf (letters (alphabetIn (headOf l) l)) (chars text))
