@@ -1,1 +1,77 @@
-// The letters of an alphabet.
+// An alphabet: N different characters, judged and decoded in one pass, and the letter number of a character.
+// A pass over characters that ascend is linear: one above all before it is new, and only another is searched for.
+ghost use mathlib.Core.Path.{_≡_};
+ghost use Prim.Native.Nat.{_≤_};
+ghost use lib.ListN.{length, take};
+ghost use Rattle.alphabet.specs.Letters.{among, letterOf};
+ghost use Rattle.alphabet.specs.Judged.{Judged};
+
+// An alphabet that was judged: where it is good, the first N codes are its characters in order.
+pub struct Letters {
+    pub good: bool,
+    pub codes: [u32; 256],
+}
+
+// Are these bytes exactly n well-formed characters, all different?
+pub fn judge(bytes: &[u8], n: usize) -> Letters
+    requires { ⌜ n ≤ 256 ⌝ }
+    ensures { λ r. ⌜ Judged n (now (bytes .entry)) r ⌝ }
+{
+    let mut codes = [0u32; 256];
+    let mut count: usize = 0;
+    let mut top: u32 = 0;
+    let mut at: usize = 0;
+    while at < bytes.len() {
+        let len = utf8::char_len(bytes, at);
+        if len == 0 {
+            return Letters { good: false, codes };
+        }
+        if n <= count {
+            return Letters { good: false, codes };
+        }
+        let code = utf8::char_at(bytes, at, len);
+        if code <= top {
+            if seen(&codes, count, code) {
+                return Letters { good: false, codes };
+            }
+        } else {
+            top = code;
+        }
+        codes[count] = code;
+        count += 1;
+        at += len;
+    }
+    Letters {
+        good: count == n,
+        codes,
+    }
+}
+
+// Is the code among the first `count`? The loop has no early exit, so that it runs over several codes at once.
+fn seen(codes: &[u32; 256], count: usize, code: u32) -> bool
+    requires { ⌜ count ≤ 256 ⌝ }
+    ensures { λ r. ⌜ r ≡ among code (take count (now (codes .entry))) ⌝ }
+{
+    let mut hit = false;
+    let mut i: usize = 0;
+    while i < count {
+        hit = hit | (codes[i] == code);
+        i += 1;
+    }
+    hit
+}
+
+// The letter number of a character among the first n codes, n where it is not there.
+pub fn letter(codes: &[u32; 256], n: usize, code: u32) -> usize
+    requires { ⌜ n ≤ 256 ⌝ }
+    ensures { λ r. ⌜ r ≡ letterOf (take n (now (codes .entry))) code ⌝ }
+{
+    let mut i: usize = 0;
+    while i < n {
+        if codes[i] == code {
+            return i;
+        }
+        i += 1;
+    }
+    n
+}

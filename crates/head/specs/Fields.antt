@@ -2,8 +2,8 @@
 -- permitted; the node width W, where a node begins, and the used length U.
 use Prim.Native.Nat.{ℕ, _+_, _*_}
 use mathlib.Core.Bool.{Bool, _&&_}
-use mathlib.Core.List.{List}
-use Rattle.field.specs.Field.{fieldAt}
+use mathlib.Core.List.{List, _++_}
+use Rattle.field.specs.Field.{fieldAt, digits}
 use Rattle.field.specs.Range.{between}
 use Rattle.head.specs.declared.Head.{Head}
 
@@ -27,18 +27,31 @@ mostLetters = 64
 abbrev pub fieldsLen : ℕ
 fieldsLen = 28
 
+-- how short and how long an image may be
+abbrev pub shortestImage : ℕ
+shortestImage = 28
+
+abbrev pub longestImage : ℕ
+longestImage = 16777216
+
 unfoldable pub headOf : List ℕ → Head
 unfolding fieldAt
 headOf l =
-    record
-    { g = fieldAt l 0 4
-    ; n = fieldAt l 4 4
-    ; a = fieldAt l 8 4
-    ; d = fieldAt l 12 4
-    ; f = fieldAt l 16 4
-    ; min = fieldAt l 20 4
-    ; max = fieldAt l 24 4
+    record {
+      g = fieldAt l 0 4;
+      n = fieldAt l 4 4;
+      a = fieldAt l 8 4;
+      d = fieldAt l 12 4;
+      f = fieldAt l 16 4;
+      min = fieldAt l 20 4;
+      max = fieldAt l 24 4;
     }
+
+-- the seven fields as they stand in an image
+unfoldable pub headBytes : Head → List ℕ
+unfolding digits
+headBytes h =
+    digits 4 (h .g) ++ (digits 4 (h .n) ++ (digits 4 (h .a) ++ (digits 4 (h .d) ++ (digits 4 (h .f) ++ (digits 4 (h .min) ++ digits 4 (h .max))))))
 
 -- the column "Permitted"
 unfoldable pub permitted : Head → Bool

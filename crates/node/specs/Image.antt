@@ -1,12 +1,19 @@
 -- 01, "The image": "A node takes W = N*A + D bytes: N links, then its data." From here on an image is its table of nodes.
-use Prim.Native.Nat.{ℕ, _+_, _*_}
-use mathlib.Core.Bool.{Bool, _&&_, cond}
+use Prim.Native.Nat.{ℕ, _+_, _*_, _≤_}
+use mathlib.Core.Path.{_≡_}
+use mathlib.Core.Bool.{Bool, true, _&&_, cond}
 use mathlib.Core.List.{List}
+use lib.ListN.{length}
 use lib.Dec.{leb, ltb}
 use Rattle.field.specs.Field.{fieldAt}
 use Rattle.trie.specs.Table.{Table}
 use Rattle.head.specs.declared.Head.{Head}
-use Rattle.head.specs.Fields.{nodePlace}
+use Rattle.head.specs.Fields.{permitted, nodePlace, usedLen}
+
+-- what a node's place rests on: the head is permitted, and what is used lies inside the image
+pub record Open (h : Head) (l : List ℕ) : Type 0 where
+  pub head-permitted : permitted h ≡ true
+  pub room : usedLen h ≤ length l
 
 -- where the link for letter i of node q stands
 unfoldable pub linkPlace : Head → ℕ → ℕ → ℕ
@@ -22,7 +29,7 @@ dataPlace h q = nodePlace h q + h .n * h .a
 unfoldable pub tableOf : Head → List ℕ → Table
 unfolding linkPlace dataPlace fieldAt
 tableOf h l =
-    record
-    { child = λ q i. cond (leb q (h .g) && ltb i (h .n)) (fieldAt l (linkPlace h q i) (h .a)) 0
-    ; value = λ q. cond (leb q (h .g)) (fieldAt l (dataPlace h q) (h .d)) 0
+    record {
+      child = λ q i. cond (leb q (h .g) && ltb i (h .n)) (fieldAt l (linkPlace h q i) (h .a)) 0;
+      value = λ q. cond (leb q (h .g)) (fieldAt l (dataPlace h q) (h .d)) 0;
     }

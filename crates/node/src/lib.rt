@@ -1,1 +1,61 @@
-// A node of an image: its links and its data.
+// A node of an image: its links and its data, read and written where they stand. This is the one place that turns bytes into the
+// table of nodes; every floor above speaks of the table. A caller has opened the image (`Open`) and stays inside G and N.
+ghost use mathlib.Core.Path.{_≡_};
+ghost use Prim.Native.Nat.{_≤_, _<_, _^_};
+ghost use mathlib.Core.Bool.{true};
+ghost use mathlib.Core.List.{[], _∷_};
+ghost use Rattle.trie.specs.Storing.{put, grow};
+ghost use Rattle.head.specs.Fields.{permitted};
+ghost use Rattle.node.specs.Image.{Open, linkPlace, dataPlace, tableOf};
+ghost use Rattle.node.specs.Writes.{carriedOut, linkWrite, dataWrite};
+use head::Head;
+
+// The link for letter i of node q.
+pub fn link(image: &[u8], h: Head, q: u32, i: u32) -> u32
+    requires { ⌜ Open h (now image) ⌝ ∗ ⌜ q ≤ h .g ⌝ ∗ ⌜ i < h .n ⌝ }
+    ensures { λ r. ⌜ r ≡ tableOf h (now (image .entry)) .child q i ⌝ }
+{
+    field::read(image, link_place(h, q, i), h.a as usize) as u32
+}
+
+// The data of node q.
+pub fn data(image: &[u8], h: Head, q: u32) -> u64
+    requires { ⌜ Open h (now image) ⌝ ∗ ⌜ q ≤ h .g ⌝ }
+    ensures { λ r. ⌜ r ≡ tableOf h (now (image .entry)) .value q ⌝ }
+{
+    field::read(image, data_place(h, q), h.d as usize)
+}
+
+// Writes the link for letter i of node q: on the table, node c is linked there.
+pub fn set_link(image: &mut [u8], h: Head, q: u32, i: u32, c: u32)
+    requires { ⌜ Open h (now image) ⌝ ∗ ⌜ q ≤ h .g ⌝ ∗ ⌜ i < h .n ⌝ ∗ ⌜ c < 256 ^ h .a ⌝ }
+    ensures { λ _. ⌜ now (image .exit) ≡ carriedOut (now (image .entry)) (linkWrite h q i c ∷ []) ⌝ }
+    ensures { λ _. ⌜ tableOf h (now (image .exit)) ≡ grow (tableOf h (now (image .entry))) q i c ⌝ }
+{
+    field::write(image, link_place(h, q, i), h.a as usize, c as u64);
+}
+
+// Writes the data of node q: on the table, the value is put there.
+pub fn set_data(image: &mut [u8], h: Head, q: u32, v: u64)
+    requires { ⌜ Open h (now image) ⌝ ∗ ⌜ q ≤ h .g ⌝ ∗ ⌜ v < 256 ^ h .d ⌝ }
+    ensures { λ _. ⌜ now (image .exit) ≡ carriedOut (now (image .entry)) (dataWrite h q v ∷ []) ⌝ }
+    ensures { λ _. ⌜ tableOf h (now (image .exit)) ≡ put (tableOf h (now (image .entry))) q v ⌝ }
+{
+    field::write(image, data_place(h, q), h.d as usize, v);
+}
+
+// Where the link for letter i of node q stands.
+fn link_place(h: Head, q: u32, i: u32) -> usize
+    requires { ⌜ permitted h ≡ true ⌝ ∗ ⌜ i < h .n ⌝ }
+    ensures { λ r. ⌜ r ≡ linkPlace h q i ⌝ }
+{
+    (h.node_place(q as u64) as usize) + (i as usize) * (h.a as usize)
+}
+
+// Where the data of node q stands.
+fn data_place(h: Head, q: u32) -> usize
+    requires { ⌜ permitted h ≡ true ⌝ }
+    ensures { λ r. ⌜ r ≡ dataPlace h q ⌝ }
+{
+    (h.node_place(q as u64) as usize) + (h.n as usize) * (h.a as usize)
+}

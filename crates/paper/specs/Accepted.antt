@@ -6,10 +6,9 @@ use mathlib.Core.Bool.{true}
 use mathlib.Core.List.{List}
 use lib.ListN.{length}
 use Rattle.trie.specs.Rules.{Within, Rising, Named, Once}
-use Rattle.head.specs.Fields.{headOf, permitted, usedLen}
+use Rattle.head.specs.Fields.{shortestImage, longestImage, headOf, permitted, usedLen}
 use Rattle.alphabet.specs.Letters.{goodAlphabet}
 use Rattle.paper.specs.Orders.{alphabetIn}
-use Rattle.paper.specs.Rows.{shortestImage, longestImage}
 use Rattle.paper.specs.Calls.{tableIn}
 
 pub record Accepted (l : List ℕ) : Type 0 where

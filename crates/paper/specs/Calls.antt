@@ -7,12 +7,11 @@ use mathlib.Core.List.{List, [], _∷_, _++_}
 use lib.ListN.{length, drop, replicate}
 use lib.Seq.{sets}
 use lib.IntN.{ℤ, pos}
-use Rattle.field.specs.Field.{digits}
 use Rattle.trie.specs.Table.{Table, descend, answer}
 use Rattle.trie.specs.Keys.{listing, meets, firstMeeting}
 use Rattle.trie.specs.Storing.{changeOf}
 use Rattle.head.specs.declared.Head.{Head}
-use Rattle.head.specs.Fields.{headOf, nodeWidth}
+use Rattle.head.specs.Fields.{headOf, headBytes, nodeWidth}
 use Rattle.alphabet.specs.Letters.{letters, lettersIn, keyOfText}
 use Rattle.node.specs.Image.{tableOf}
 use Rattle.node.specs.Writes.{carriedOut, storeWrites}
@@ -41,12 +40,6 @@ workAfter l work = clearedBy (first (openingOf l ++ (row5 (headOf l) (length wor
 unfoldable pub freshHead : ℕ → ℕ → ℕ → List ℕ → ℕ → ℕ → Head
 freshHead n a d alphabet least most =
     record { g = 0; n = n; a = a; d = d; f = length alphabet; min = least; max = most }
-
--- the seven fields of a head as they stand in an image
-unfoldable pub headBytes : Head → List ℕ
-unfolding digits
-headBytes h =
-    digits 4 (h .g) ++ (digits 4 (h .n) ++ (digits 4 (h .a) ++ (digits 4 (h .d) ++ (digits 4 (h .f) ++ (digits 4 (h .min) ++ digits 4 (h .max))))))
 
 -- "it writes head, alphabet and a zero root, and bytes from U on keep what they held"
 unfoldable pub freshImage : Head → List ℕ → List ℕ → List ℕ

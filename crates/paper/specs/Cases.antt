@@ -81,9 +81,9 @@ cases =
     record { call = make 35; leaves = done 0 (pos 0) 0 (file 0 body1 0 ∷ []) }
     ∷ record { call = make 34; leaves = refused 4 0 (rubbish 34 ∷ []) }
     -- P2
-    ∷ record
-    { call = storeOf (file 0 body1 25) work (1 ∷ 0 ∷ []) 9
-    ; leaves = done 0 (pos 1) 0 (file 2 body2 17 ∷ (0 ∷ 7 ∷ 7 ∷ []) ∷ [])
+    ∷ record {
+      call = storeOf (file 0 body1 25) work (1 ∷ 0 ∷ []) 9;
+      leaves = done 0 (pos 1) 0 (file 2 body2 17 ∷ (0 ∷ 7 ∷ 7 ∷ []) ∷ []);
     }
     -- P3, by letters and by text
     ∷ record { call = storeOf (file 2 body2 17) work (1 ∷ []) 5; leaves = done 0 (pos 1) 0 (file3 ∷ cleared ∷ []) }

@@ -10,15 +10,9 @@ use Rattle.field.specs.Range.{between}
 use Rattle.trie.specs.Table.{Table, fault}
 use Rattle.trie.specs.Lowest.{lowest}
 use Rattle.head.specs.declared.Head.{Head}
-use Rattle.head.specs.Fields.{permitted, nodeWidth, usedLen}
+use Rattle.head.specs.Fields.{shortestImage, longestImage, permitted, nodeWidth, usedLen}
 use Rattle.alphabet.specs.Letters.{goodAlphabet}
 use Rattle.paper.specs.Hearing.{Said, Row, given}
-
-abbrev pub shortestImage : ℕ
-shortestImage = 28
-
-abbrev pub longestImage : ℕ
-longestImage = 16777216
 
 -- image shorter than 28 or longer than 16,777,216 bytes
 unfoldable pub row1 : ℕ → Row

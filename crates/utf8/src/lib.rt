@@ -1,1 +1,76 @@
-// The characters of UTF-8.
+// Characters of UTF-8: Table 3-7 of the Unicode Standard, consulted by row. Any place of any bytes may be asked
+// for; what stands past the end is no character.
+ghost use mathlib.Core.Path.{_≡_};
+ghost use Rattle.utf8.specs.Table37.{inRange, fitsRow, charLen};
+ghost use Rattle.utf8.specs.Text.{charAt};
+
+// A row: the lowest and the highest first byte, the lowest and the highest second byte, and the character's bytes.
+const ROWS: [[u8; 5]; 9] = [
+    [0x00, 0x7F, 0x00, 0x00, 1],
+    [0xC2, 0xDF, 0x80, 0xBF, 2],
+    [0xE0, 0xE0, 0xA0, 0xBF, 3],
+    [0xE1, 0xEC, 0x80, 0xBF, 3],
+    [0xED, 0xED, 0x80, 0x9F, 3],
+    [0xEE, 0xEF, 0x80, 0xBF, 3],
+    [0xF0, 0xF0, 0x90, 0xBF, 4],
+    [0xF1, 0xF3, 0x80, 0xBF, 4],
+    [0xF4, 0xF4, 0x80, 0x8F, 4],
+];
+
+// The bytes of the well-formed character at `at`, 0 where none stands there.
+pub fn char_len(s: &[u8], at: usize) -> usize
+    ensures { λ r. ⌜ r ≡ charLen (now (s .entry)) at ⌝ }
+{
+    let mut i: usize = 0;
+    while i < 9 {
+        let row = ROWS[i];
+        if fits(row, s, at) {
+            return row[4] as usize;
+        }
+        i += 1;
+    }
+    0
+}
+
+// The character of n bytes at `at` as the number that its bytes make.
+pub fn char_at(s: &[u8], at: usize, n: usize) -> u32
+    requires { ⌜ n ≡ charLen (now s) at ⌝ }
+    ensures { λ r. ⌜ r ≡ charAt (now (s .entry)) at ⌝ }
+{
+    field::read(s, at, n) as u32
+}
+
+// Does a character of this row stand at `at`, whole?
+fn fits(row: [u8; 5], s: &[u8], at: usize) -> bool
+    ensures { λ r. ⌜ r ≡ fitsRow row (now (s .entry)) at ⌝ }
+{
+    let n = row[4] as usize;
+    if s.len() < n {
+        return false;
+    }
+    if s.len() - n < at {
+        return false;
+    }
+    let mut i: usize = 0;
+    while i < n {
+        let b = s[at + i];
+        if !in_range(row, i, b) {
+            return false;
+        }
+        i += 1;
+    }
+    true
+}
+
+// Is b in the range for byte i of a character of this row?
+fn in_range(row: [u8; 5], i: usize, b: u8) -> bool
+    ensures { λ r. ⌜ r ≡ inRange row i b ⌝ }
+{
+    if i == 0 {
+        return (row[0] <= b) & (b <= row[1]);
+    }
+    if i == 1 {
+        return (row[2] <= b) & (b <= row[3]);
+    }
+    (0x80 <= b) & (b <= 0xBF)
+}
