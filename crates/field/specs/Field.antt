@@ -1,9 +1,13 @@
 -- 01, "The image": "All numbers are big-endian, here and in every later layout." A field is w bytes at a place of the image;
 -- the width is free, so that no law is stated for one width. Bytes are numbers below 256.
-use Prim.Native.Nat.{ℕ, zero, suc, _+_, _*_, _/_, _%_}
+use Prim.Native.Nat.{ℕ, zero, suc, _+_, _*_, _/_, _%_, _<_}
 use mathlib.Core.List.{List, [], _∷_, _++_}
 use lib.ListN.{getD, replicate}
 use lib.Seq.{sets}
+
+-- a list whose elements are bytes: what is known of the elements of a lent slice
+abbrev pub Bytes : List ℕ → Type 0
+Bytes l = (k : ℕ) → getD l k 0 < 256
 
 -- the number in the w bytes from place at on, the first byte the most significant
 unfoldable pub fieldAt : List ℕ → ℕ → ℕ → ℕ

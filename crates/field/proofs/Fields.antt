@@ -1,0 +1,141 @@
+-- The number in a field. It depends on the field's bytes alone (`field-same`) and, of bytes, determines them (`same-bytes`): all else that
+-- is said of a field follows from what is known of the bytes.
+use mathlib.Core.Path.{_≡_, refl, sym, ap, ap₂, _∙_}
+use mathlib.Core.Logic.{_⊎_, inl, inr, ⊎-elim}
+use Prim.Native.Nat.{ℕ, zero, suc, _+_, _-_, _*_, _/_, _%_, _^_, _≤_, _<_}
+use native.Mathlib.Nat.{add-zero, zero-add, add-assoc, pow-suc, pow-le-pow-right, one-le-pow, mod-one, mod-eq-of-lt, lt-of-lt-of-le, not-suc-le-zero}
+use native.Mathlib.Omega.{arith}
+use borrow.Author.Count.{below-more}
+use mathlib.Core.List.{List, [], _∷_, _++_}
+use lib.Arith.{digits-lt, digits-div, digits-mod, mod-mul}
+use lib.ListN.{length, getD, set, take, drop, replicate, length-append, length-drop, length-replicate, List·getD-append, getD-replicate}
+use lib.Seq.{sets, getD-take, getD-drop, getD-append-add, getD-at, take-suc}
+use Rattle.field.specs.Field.{Bytes, fieldAt, digits, putField, cleared}
+use Rattle.field.proofs.Laid.{getD-outside, getD-inside, sets-append, set-sets, sets-same}
+use Rattle.field.proofs.Bytes.{bytes-digits}
+
+-- ---- a field is what its bytes are
+
+pub field-same : (l m : List ℕ) (at bt w : ℕ) → ((k : ℕ) → k < w → getD l (at + k) 0 ≡ getD m (bt + k) 0) → fieldAt l at w ≡ fieldAt m bt w
+unfolding fieldAt
+field-same l m at bt zero e = refl
+field-same l m at bt (suc w) e =
+    ap₂ (λ (n b : ℕ). n * 256 + b) (field-same l m at bt w (λ k h. e k (omega arith))) (e w (omega arith))
+
+pub field-bound : (l : List ℕ) (at w : ℕ) → Bytes l → fieldAt l at w < 256 ^ w
+unfolding fieldAt
+field-bound l at zero p = omega arith
+field-bound l at (suc w) p = rw (pow-suc 256 w) (digits-lt (field-bound l at w p) (p (at + w)))
+
+-- the bound of a wider field, for a number whose place has a fixed width
+pub field-fits : (l : List ℕ) (at w n : ℕ) → Bytes l → w ≤ n → fieldAt l at w < 256 ^ n
+field-fits l at w n p h = lt-of-lt-of-le (field-bound l at w p) (pow-le-pow-right (omega arith) h)
+
+-- ---- of a part, of an append, of zeros
+
+pub field-take : (l : List ℕ) (n at w : ℕ) → at + w ≤ n → fieldAt (take n l) at w ≡ fieldAt l at w
+field-take l n at w h = field-same (take n l) l at at w (λ k b. getD-take n l (at + k) 0 (omega arith))
+
+pub field-drop : (l : List ℕ) (n at w : ℕ) → fieldAt (drop n l) at w ≡ fieldAt l (n + at) w
+field-drop l n at w = field-same (drop n l) l at (n + at) w (λ k b. rw (add-assoc n at k) (getD-drop n l (at + k) 0))
+
+pub field-left : (a b : List ℕ) (at w : ℕ) → at + w ≤ length a → fieldAt (a ++ b) at w ≡ fieldAt a at w
+field-left a b at w h = field-same (a ++ b) a at at w (λ k c. List·getD-append a b 0 (at + k) (omega arith))
+
+pub field-right : (a b : List ℕ) (at w : ℕ) → fieldAt (a ++ b) (length a + at) w ≡ fieldAt b at w
+field-right a b at w = field-same (a ++ b) b (length a + at) at w (λ k c. rw (add-assoc (length a) at k) (getD-append-add a b (at + k) 0))
+
+zero-at : (n k : ℕ) → _≡_ {A = ℕ} (getD (replicate n 0) k 0) 0
+zero-at zero k = refl
+zero-at (suc n) zero = refl
+zero-at (suc n) (suc k) = zero-at n k
+
+pub field-zeros : (n at w : ℕ) → fieldAt (replicate n 0) at w ≡ 0
+unfolding fieldAt
+field-zeros n at zero = refl
+field-zeros n at (suc w) = omega (arith, field-zeros n at w, zero-at n (at + w))
+
+-- ---- after bytes were laid
+
+pub field-outside : (l vs : List ℕ) (at bt u : ℕ) → (bt + u ≤ at) ⊎ (at + length vs ≤ bt) → fieldAt (sets l at vs) bt u ≡ fieldAt l bt u
+field-outside l vs at bt u h =
+    field-same (sets l at vs) l bt bt u (λ k b. getD-outside l vs at (bt + k) 0 (⊎-elim (λ x. inl (omega arith)) (λ x. inr (omega arith)) h))
+
+pub field-inside : (l vs : List ℕ) (at k u : ℕ) → k + u ≤ length vs → at + length vs ≤ length l → fieldAt (sets l at vs) (at + k) u ≡ fieldAt vs k u
+field-inside l vs at k u h f =
+    field-same (sets l at vs) vs (at + k) k u (λ j b. rw (add-assoc at k j) (getD-inside l vs at (k + j) 0 (omega arith) f))
+
+-- ---- the bytes of a number
+
+pub length-digits : (w v : ℕ) → length (digits w v) ≡ w
+unfolding digits
+length-digits zero v = refl
+length-digits (suc w) v = length-append (digits w (v / 256)) (v % 256 ∷ []) ∙ omega (arith, length-digits w (v / 256))
+
+-- what does not fit the width is lost
+pub field-digits : (w v : ℕ) → fieldAt (digits w v) 0 w ≡ v % 256 ^ w
+unfolding fieldAt digits
+field-digits zero v = sym (mod-one v)
+field-digits (suc w) v =
+    let q : List ℕ = digits w (v / 256) in
+    let n : length q ≡ w = length-digits w (v / 256) in
+    ap₂ (λ (x b : ℕ). x * 256 + b)
+    (field-left q (v % 256 ∷ []) 0 w (omega arith) ∙ field-digits w (v / 256))
+    (rw (zero-add w) (getD-at q (v % 256) [] 0 w n))
+    ∙ sym (mod-mul v (one-le-pow w 256 (omega arith)) (omega arith))
+    ∙ rw (pow-suc 256 w)
+
+pub digits-field : (l : List ℕ) (at w : ℕ) → Bytes l → at + w ≤ length l → digits w (fieldAt l at w) ≡ take w (drop at l)
+unfolding fieldAt digits
+digits-field l at zero p h = refl
+digits-field l at (suc w) p h =
+    let b : ℕ = getD l (at + w) 0 in
+    let f : ℕ = fieldAt l at w in
+    rw (digits-div f (p (at + w)), digits-mod f (p (at + w)), digits-field l at w p (omega arith), ← getD-drop at l w 0)
+    (sym (take-suc (drop at l) w 0 (simp length-drop (omega arith))))
+
+-- no two numbers that fit have the same bytes
+pub digits-injective : (w v u : ℕ) → v < 256 ^ w → u < 256 ^ w → digits w v ≡ digits w u → v ≡ u
+digits-injective w v u hv hu e =
+    sym (field-digits w v ∙ mod-eq-of-lt hv) ∙ ap (λ (d : List ℕ). fieldAt d 0 w) e ∙ field-digits w u ∙ mod-eq-of-lt hu
+
+-- and no two runs of bytes the same number
+pub same-bytes : (l m : List ℕ) (at bt w : ℕ) → Bytes l → Bytes m → fieldAt l at w ≡ fieldAt m bt w → (k : ℕ) → k < w → getD l (at + k) 0 ≡ getD m (bt + k) 0
+unfolding fieldAt
+same-bytes l m at bt zero p q e k h = absurd (not-suc-le-zero h)
+same-bytes l m at bt (suc w) p q e k h =
+    let b : getD l (at + w) 0 < 256 = p (at + w) in
+    let c : getD m (bt + w) 0 < 256 = q (bt + w) in
+    below-more (λ (j : ℕ). getD l (at + j) 0 ≡ getD m (bt + j) 0) w (same-bytes l m at bt w p q (omega arith)) (omega arith) k (omega arith)
+
+pub same-part : (l m : List ℕ) (at bt w : ℕ) → Bytes l → Bytes m → at + w ≤ length l → bt + w ≤ length m → fieldAt l at w ≡ fieldAt m bt w → take w (drop at l) ≡ take w (drop bt m)
+same-part l m at bt w p q hl hm e = sym (digits-field l at w p hl) ∙ ap (digits w) e ∙ digits-field m bt w q hm
+
+-- ---- after a number was written
+
+pub read-written : (l : List ℕ) (at w v : ℕ) → at + w ≤ length l → fieldAt (putField l at w v) at w ≡ v % 256 ^ w
+read-written l at w v h =
+    let n : length (digits w v) ≡ w = length-digits w v in
+    ap (λ (k : ℕ). fieldAt (putField l at w v) k w) (sym (add-zero at))
+    ∙ field-inside l (digits w v) at 0 w (omega arith) (omega arith)
+    ∙ field-digits w v
+
+pub read-written-fits : (l : List ℕ) (at w v : ℕ) → at + w ≤ length l → v < 256 ^ w → fieldAt (putField l at w v) at w ≡ v
+read-written-fits l at w v h b = read-written l at w v h ∙ mod-eq-of-lt b
+
+pub write-back : (l : List ℕ) (at w : ℕ) → Bytes l → at + w ≤ length l → putField l at w (fieldAt l at w) ≡ l
+write-back l at w p h = ap (λ (r : List ℕ). sets l at r) (digits-field l at w p h) ∙ sets-same l at w h
+
+-- the last byte first, then the rest of the number in the width that is left: how a loop from the end writes
+pub put-last : (l : List ℕ) (at w v : ℕ) → putField l at (suc w) v ≡ putField (set l (at + w) (v % 256)) at w (v / 256)
+unfolding digits
+put-last l at w v =
+    let n : length (digits w (v / 256)) ≡ w = length-digits w (v / 256) in
+    sets-append l at (digits w (v / 256)) (v % 256 ∷ [])
+    ∙ ap (λ (k : ℕ). set (sets l at (digits w (v / 256))) (at + k) (v % 256)) n
+    ∙ sym (set-sets l (digits w (v / 256)) at (at + w) (v % 256) (inr (omega arith)))
+
+pub field-cleared : (l : List ℕ) (at n k u : ℕ) → k + u ≤ n → at + n ≤ length l → fieldAt (cleared l at n) (at + k) u ≡ 0
+field-cleared l at n k u h f =
+    let e : length {A = ℕ} (replicate n 0) ≡ n = length-replicate n 0 in
+    field-inside l (replicate n 0) at k u (omega arith) (omega arith) ∙ field-zeros n k u

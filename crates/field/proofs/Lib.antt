@@ -1,0 +1,6 @@
+-- Laws over plain lists and numbers. For the crates above: `Laid` on bytes laid into a list at a place, `Bytes` on what is a list of bytes,
+-- `Fields` on the numbers in it. For this crate's own proofs: `Loops`.
+pub mod Laid
+pub mod Bytes
+pub mod Fields
+mod Loops

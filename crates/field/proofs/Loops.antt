@@ -1,0 +1,77 @@
+-- What the loops keep. Reading, the number so far is that of the bytes so far. Laying from the front, a turn's store is one more element of
+-- the list (`sets-append`). Writing from the last byte, the rest of the number is still to be written in the width that is left (`put-last`).
+use mathlib.Core.Path.{_≡_, refl, sym, ap, ap₂, _∙_}
+use Prim.Native.Nat.{ℕ, zero, suc, _+_, _-_, _*_, _/_, _%_, _^_, _≤_, _<_}
+use native.Mathlib.Nat.{not-suc-le-zero}
+use native.Mathlib.Numerals.{add-one, sub-one}
+use native.Mathlib.Omega.{arith}
+use mathlib.Core.List.{List, [], _∷_}
+use lib.ListN.{length, getD, set, take, length-set}
+use lib.Seq.{sets, length-sets, take-all, take-suc, length-take-le}
+use Rattle.field.specs.Field.{Bytes, fieldAt, digits, putField}
+use Rattle.field.proofs.Laid.{sets-append}
+use Rattle.field.proofs.Fields.{field-fits, put-last}
+
+-- v is the number in the first i bytes of the field
+pub record Reading (l : List ℕ) (at w v i : ℕ) : Type 0 where
+  pub within : i ≤ w
+  pub read : v ≡ fieldAt l at i
+
+pub reading-none : (l : List ℕ) (at w : ℕ) → Reading l at w 0 0
+unfolding fieldAt
+reading-none l at w = record { within = omega arith; read = refl }
+
+pub reading-more : {l : List ℕ} {at w v i b : ℕ} → Reading l at w v i → i < w → b ≡ getD l (at + i) 0 → Reading l at w (v * 256 + b) (i + 1)
+unfolding fieldAt
+reading-more {i} p h e = record { within = omega arith; read = rw (add-one i) (ap₂ (λ (x y : ℕ). x * 256 + y) (p .read) e) }
+
+pub reading-all : {l : List ℕ} {at w v i : ℕ} → Reading l at w v i → w ≤ i → v ≡ fieldAt l at w
+reading-all {l} {at} {w} {i} p h =
+    let e : i ≡ w = omega arith in
+    p .read ∙ ap (λ (k : ℕ). fieldAt l at k) e
+
+-- one byte more fits what holds w bytes
+pub reading-room : {l : List ℕ} {at w v i : ℕ} (n : ℕ) → Bytes l → Reading l at w v i → i < w → w ≤ suc n → v < 256 ^ n
+reading-room {l} {at} {i} n b p h k = rw (p .read) (field-fits l at i n b (omega arith))
+
+-- s is l with the first i of vs laid at `at`
+pub record Laying (l : List ℕ) (at : ℕ) (vs s : List ℕ) (i : ℕ) : Type 0 where
+  pub within : i ≤ length vs
+  pub long : length s ≡ length l
+  pub laid : s ≡ sets l at (take i vs)
+
+pub laying-none : (l : List ℕ) (at : ℕ) (vs : List ℕ) → Laying l at vs l 0
+laying-none l at vs = record { within = omega arith; long = refl; laid = refl }
+
+pub laying-more : {l : List ℕ} {at : ℕ} {vs s : List ℕ} {i x : ℕ} → Laying l at vs s i → i < length vs → x ≡ getD vs i 0 → Laying l at vs (set s (at + i) x) (i + 1)
+laying-more {l} {at} {vs} {s} {i} {x} p h e =
+    record {
+      within = omega arith;
+      long = length-set s (at + i) x ∙ p .long;
+      laid =
+          rw (add-one i, take-suc vs i 0 h, sets-append l at (take i vs) (getD vs i 0 ∷ []), length-take-le i vs (p .within))
+          (ap₂ (λ (r : List ℕ) (y : ℕ). set r (at + i) y) (p .laid) e);
+    }
+
+pub laying-all : {l : List ℕ} {at : ℕ} {vs s : List ℕ} {i : ℕ} → Laying l at vs s i → length vs ≤ i → s ≡ sets l at vs
+laying-all {l} {at} {vs} {i} p h = p .laid ∙ ap (λ (r : List ℕ). sets l at r) (take-all i vs h)
+
+-- what is left of the number is x, and of the width i: writing it into s is writing v into l
+pub record Writing (l : List ℕ) (at w v : ℕ) (s : List ℕ) (x i : ℕ) : Type 0 where
+  pub within : i ≤ w
+  pub long : length s ≡ length l
+  pub left : putField s at i x ≡ putField l at w v
+
+pub writing-none : (l : List ℕ) (at w v : ℕ) → Writing l at w v l v w
+writing-none l at w v = record { within = omega arith; long = refl; left = refl }
+
+pub writing-more : {l : List ℕ} {at w v : ℕ} {s : List ℕ} {x i : ℕ} → Writing l at w v s x i → 0 < i → Writing l at w v (set s (at + (i - 1)) (x % 256)) (x / 256) (i - 1)
+writing-more {i = zero} p h = absurd (not-suc-le-zero h)
+writing-more {at} {s} {x} {i = suc i} p h =
+    rw (sub-one (suc i))
+    (record { within = omega (arith, p .within); long = length-set s (at + i) (x % 256) ∙ p .long; left = sym (put-last s at i x) ∙ p .left })
+
+pub writing-all : {l : List ℕ} {at w v : ℕ} {s : List ℕ} {x i : ℕ} → Writing l at w v s x i → i ≤ 0 → s ≡ putField l at w v
+unfolding digits
+writing-all {i = zero} p h = p .left
+writing-all {i = suc i} p h = absurd (not-suc-le-zero h)

@@ -1,0 +1,57 @@
+-- `field::clear` meets its contract. Clearing is laying zeros, one a turn; each zero laid is the next of them.
+-- The measure is what is left of them. Assumes nothing.
+use Prim.Native.Nat.{_-_}
+use lib.ListN.{replicate, length-replicate, getD-replicate}
+use mathlib.Core.Path.{sym}
+use Prim.Native.Nat.{ℕ}
+use Rattle.field.proofs.Loops.{Laying, laying-none, laying-more, laying-all}
+use native.Mathlib.Omega.{arith}
+use borrow.Author.Needs.{needs}
+use lib.ListN.{length, length-set}
+use Rattle.field.proofs.clear.Statement.{statement}
+use Rattle.field.proofs.clear.Tie as tie
+
+abbrev Inv-loop : tie.InvT-loop
+Inv-loop s₀ at n i₀ s i = Laying s₀ at (replicate n 0) s i
+
+abbrev μ-loop : tie.MeasureT-loop
+μ-loop s₀ at n i₀ s i = n - i
+
+loop-holds : tie.Need-loop-holds Inv-loop μ-loop
+loop-holds c = laying-none _ _ _
+
+add-s : tie.Need-add-s Inv-loop μ-loop
+add-s c = omega arith
+
+slice-write-s : tie.Need-slice-write-s Inv-loop μ-loop
+slice-write-s c = omega arith
+
+add-i : tie.Need-add-i Inv-loop μ-loop
+add-i c = omega arith
+
+loop-less : tie.Need-loop-less Inv-loop μ-loop
+loop-less c = omega arith
+
+loop-again : tie.Need-loop-again Inv-loop μ-loop
+loop-again c = let n = c .before .before .args .n in let i = c .before .loop .i in laying-more (c .before .loop .inv) (omega (arith, length-replicate {A = ℕ} n 0)) (sym (getD-replicate n i 0 0 (omega arith)))
+
+same-length : tie.Need-same-length Inv-loop μ-loop
+same-length c = c .before .loop .inv .long
+
+returns : tie.Need-returns Inv-loop μ-loop
+returns c = let n = c .before .before .args .n in laying-all (c .before .loop .inv) (omega (arith, length-replicate {A = ℕ} n 0))
+
+pub clear-spec : {M : Type 1} → statement M
+clear-spec =
+    tie.close
+    (tie.spec
+    Inv-loop
+    μ-loop
+    loop-holds
+    add-s
+    slice-write-s
+    add-i
+    loop-less
+    loop-again
+    same-length
+    returns)
