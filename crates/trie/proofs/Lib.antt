@@ -1,3 +1,4 @@
+pub mod Grow
 pub mod Letters
 pub mod Put
 pub mod Walk

@@ -1,14 +1,13 @@
 -- A value put as a node's data. No link changes, so every walk stays; and one key at most ends at that node, so one answer at most
 -- changes.
-use Prim.Native.Nat.{ℕ, _≤_, _<_}
-use mathlib.Core.Bool.{Bool, true, false, cond}
-use mathlib.Core.List.{List, []}
+use Prim.Native.Nat.{ℕ, _≤_}
+use mathlib.Core.List.{List}
 use mathlib.Core.Path.{_≡_, refl, sym, _∙_}
 use mathlib.Core.Logic.{_≢_}
 use native.Mathlib.Omega.{arith}
 use borrow.Author.Tests.{eq-eqb, ne-eqb}
 use Rattle.trie.specs.Table.{Table, Descent, complete, stopped, descend, answer}
-use Rattle.trie.specs.Rules.{Framed, Once, Linked}
+use Rattle.trie.specs.Rules.{Once, Linked}
 use Rattle.trie.specs.Storing.{put}
 use Rattle.trie.proofs.Walk.{Walk, end, stop, on, walk, descended, answer-complete, answer-stopped, one-key}
 
@@ -32,14 +31,15 @@ put-descend t q v p k = descended (kept q v (walk t p k refl))
 pub put-answer : (t : Table) (k : List ℕ) (v : ℕ) {q : ℕ} → descend t 0 k ≡ complete q → answer (put t q v) k ≡ v
 put-answer t k v {q} e = answer-complete (put t q v) k (put-descend t q v 0 k ∙ e) ∙ put-value t q v
 
-pub put-answer-other : (t : Table) (k : List ℕ) (v : ℕ) (m : List ℕ) {q : ℕ} → Once t → descend t 0 k ≡ complete q → m ≢ k → answer (put t q v) m ≡ answer t m
+pub put-answer-other : (t : Table) (k : List ℕ) (v : ℕ) (m : List ℕ) {q : ℕ} → Once t → descend t 0 k ≡ complete q → m ≢ k
+    → answer (put t q v) m ≡ answer t m
 put-answer-other t k v m {q} once e h = go (descend t 0 m) refl
   where
     go : (d : Descent) → descend t 0 m ≡ d → answer (put t q v) m ≡ answer t m
     go (complete p) f =
         answer-complete (put t q v) m (put-descend t q v 0 m ∙ f)
-          ∙ put-value-other t q v p (λ s. h (one-key t m k once f (rw s e)))
-          ∙ sym (answer-complete t m f)
+        ∙ put-value-other t q v p (λ s. h (one-key t m k once f (rw s e)))
+        ∙ sym (answer-complete t m f)
     go (stopped p x xs) f = answer-stopped (put t q v) m (put-descend t q v 0 m ∙ f) ∙ sym (answer-stopped t m f)
 
 pub put-linked : {t : Table} {g n : ℕ} (q v : ℕ) → Linked t g n → q ≤ g → Linked (put t q v) g n
@@ -49,9 +49,9 @@ put-linked {t} {g} {n} q v l h =
       framed = record {
         no-node = l .framed .no-node;
         no-letter = l .framed .no-letter;
-        no-data = λ p f. put-value-other t q v p (omega arith) ∙ l .framed .no-data p f
+        no-data = λ p f. put-value-other t q v p (omega arith) ∙ l .framed .no-data p f;
       };
       within = l .within;
       named = l .named;
-      once = l .once
+      once = l .once;
     }

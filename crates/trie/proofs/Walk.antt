@@ -75,7 +75,8 @@ unfolding answer valueAt
 answer-stopped t k e = ap (valueAt t) e
 
 -- the last link of a complete walk
-last : {t : Table} {a q : ℕ} (k : List ℕ) (x : ℕ) → Walk t a (k ++ (x ∷ [])) (complete q) → (p : ℕ) × Walk t a k (complete p) × (t .child p x ≡ q) × (q ≢ 0)
+last : {t : Table} {a q : ℕ} (k : List ℕ) (x : ℕ) → Walk t a (k ++ (x ∷ [])) (complete q)
+    → (p : ℕ) × Walk t a k (complete p) × (t .child p x ≡ q) × (q ≢ 0)
 last {a = a} [] x (on h end) = (a, end, refl, h)
 last (y ∷ k) x (on h w) = let (p, v, e, f) = last k x w in (p, on h v, e, f)
 
@@ -92,10 +93,11 @@ unique {t} (x ∷ k) (y ∷ m) once v w =
 
 -- two keys that walk to one node are equal
 pub one-key : (t : Table) (k m : List ℕ) {q : ℕ} → Once t → descend t 0 k ≡ complete q → descend t 0 m ≡ complete q → k ≡ m
-one-key t k m {q} once e f =
-    sym (reverse-reverse k)
-    ∙ ap reverse (unique {t = t} {q = q} (reverse k) (reverse m) once (rw reverse-reverse (walk t 0 k e)) (rw reverse-reverse (walk t 0 m f)))
-    ∙ reverse-reverse m
+one-key t k m {q} once e f = sym (reverse-reverse k) ∙ ap reverse same ∙ reverse-reverse m
+  where
+    same : reverse k ≡ reverse m
+    same =
+        unique {t = t} {q = q} (reverse k) (reverse m) once (rw reverse-reverse (walk t 0 k e)) (rw reverse-reverse (walk t 0 m f))
 
 -- where a walk is
 inside : {t : Table} {a q : ℕ} {k : List ℕ} (g : ℕ) → Within t g → a ≤ g → Walk t a k (complete q) → q ≤ g
@@ -116,7 +118,12 @@ halt : {t : Table} {a q x : ℕ} {k xs : List ℕ} → Walk t a k (stopped q x x
 halt {t} {a} (stop e) = record { path = []; key = refl; reaches = descend-nil t a; empty = e }
 halt {t} (on {q} {x} h w) =
     let s = halt w in
-    record { path = x ∷ s .path; key = ap (λ (l : List ℕ). x ∷ l) (s .key); reaches = descend-on t q x (s .path) h ∙ s .reaches; empty = s .empty }
+    record {
+      path = x ∷ s .path;
+      key = ap (λ (l : List ℕ). x ∷ l) (s .key);
+      reaches = descend-on t q x (s .path) h ∙ s .reaches;
+      empty = s .empty;
+    }
 
 pub where-stopped : (t : Table) (a : ℕ) (k : List ℕ) {q x : ℕ} {xs : List ℕ} → descend t a k ≡ stopped q x xs → Stopped t a k q x xs
 where-stopped t a k e = halt (walk t a k e)
@@ -133,5 +140,5 @@ short {n = n} framed (on {q} {x} h w) = (go (decLt x n), short framed w)
     go (yes l) = l
     go (no l) = absurd (h (framed .no-letter q x (omega arith)))
 
-pub complete-letters : (t : Table) (k : List ℕ) {g n q : ℕ} → Framed t g n → descend t 0 k ≡ complete q → Letters n k
-complete-letters t k framed e = short framed (walk t 0 k e)
+pub complete-letters : (t : Table) (a : ℕ) (k : List ℕ) {g n q : ℕ} → Framed t g n → descend t a k ≡ complete q → Letters n k
+complete-letters t a k framed e = short framed (walk t a k e)
