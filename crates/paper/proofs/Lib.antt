@@ -1,1 +1,3 @@
+pub mod Hearing
 pub mod Tabulated
+pub mod Unique

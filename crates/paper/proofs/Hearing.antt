@@ -1,0 +1,82 @@
+-- Laws on rows, orders and outcomes, for every call alike: a row that is given ends its order, one that is not is passed over, orders
+-- are joined, and an order that passed tells of each row that its test failed. Each is by cases on the row.
+use Prim.Native.Nat.{ℕ}
+use mathlib.Core.Path.{_≡_, refl, sym, _∙_, ap}
+use mathlib.Core.Bool.{Bool, true, false, not, cond}
+use mathlib.Core.Option.{Option, none, some}
+use mathlib.Core.List.{List, [], _∷_, _++_}
+use native.Mathlib.Omega.{arith}
+use Rattle.paper.specs.Hearing.{Said, Row, Outcome, given, first, heard, outcome, refusedNumbers}
+
+-- ---- one row
+
+pub is-given : (number place : ℕ) {test : Bool} → test ≡ true → given number place test ≡ some (record { number = number; place = place })
+unfolding given
+is-given number place e = rw e
+
+pub not-given : (number place : ℕ) {test : Bool} → test ≡ false → given number place test ≡ none
+unfolding given
+not-given number place e = rw e
+
+-- a row that is not given has a test that failed
+pub was-false : (number place : ℕ) (test : Bool) → given number place test ≡ none → test ≡ false
+unfolding given
+was-false number place true e = let z : _≡_ {A = ℕ} 0 1 = cc in absurd (omega arith)
+was-false number place false e = refl
+
+-- ---- an order
+
+pub first-nil : first [] ≡ none
+unfolding first
+first-nil = refl
+
+pub first-some : (r : Row) {s : Said} (rows : List Row) → r ≡ some s → first (r ∷ rows) ≡ some s
+unfolding first
+first-some r rows e = rw e
+
+pub first-none : (r : Row) (rows : List Row) → r ≡ none → first (r ∷ rows) ≡ first rows
+unfolding first
+first-none r rows e = rw e
+
+-- a row that is given is heard, whatever follows
+pub yes-row : (number place : ℕ) {test : Bool} (rows : List Row) → test ≡ true → first (given number place test ∷ rows) ≡ some (record { number = number; place = place })
+yes-row number place rows e = first-some _ rows (is-given number place e)
+
+-- a row that is not given is passed over
+pub no-row : (number place : ℕ) {test : Bool} (rows : List Row) → test ≡ false → first (given number place test ∷ rows) ≡ first rows
+no-row number place rows e = first-none _ rows (not-given number place e)
+
+-- the first part of a joined order is heard first
+pub first-part : (xs ys : List Row) {s : Said} → first xs ≡ some s → first (xs ++ ys) ≡ some s
+unfolding first
+first-part [] ys e = let z : _≡_ {A = ℕ} 0 1 = cc in absurd (omega arith)
+first-part (none ∷ xs) ys e = first-part xs ys e
+first-part (some t ∷ xs) ys e = e
+
+pub second-part : (xs ys : List Row) → first xs ≡ none → first (xs ++ ys) ≡ first ys
+unfolding first
+second-part [] ys e = refl
+second-part (none ∷ xs) ys e = second-part xs ys e
+second-part (some t ∷ xs) ys e = let z : _≡_ {A = ℕ} 0 1 = cc in absurd (omega arith)
+
+-- an order that passed: none of its rows is given
+pub passed-row : (r : Row) (rows : List Row) → first (r ∷ rows) ≡ none → (r ≡ none) × (first rows ≡ none)
+unfolding first
+passed-row none rows e = (refl, e)
+passed-row (some s) rows e = let z : _≡_ {A = ℕ} 0 1 = cc in absurd (omega arith)
+
+pub passed-parts : (xs ys : List Row) → first (xs ++ ys) ≡ none → (first xs ≡ none) × (first ys ≡ none)
+unfolding first
+passed-parts [] ys e = (refl, e)
+passed-parts (none ∷ xs) ys e = passed-parts xs ys e
+passed-parts (some t ∷ xs) ys e = let z : _≡_ {A = ℕ} 0 1 = cc in absurd (omega arith)
+
+-- ---- an outcome
+
+pub heard-refused : (r : Row) {s : Said} (kept : List (List ℕ)) (done : Outcome) → r ≡ some s → heard r kept done ≡ outcome (refusedNumbers s) kept
+unfolding heard
+heard-refused r kept done e = rw e
+
+pub heard-done : (r : Row) (kept : List (List ℕ)) (done : Outcome) → r ≡ none → heard r kept done ≡ done
+unfolding heard
+heard-done r kept done e = rw e

@@ -1,0 +1,166 @@
+-- 01, "Where the written promises must bite": "For each input, that statement leaves only one possible answer and one possible content of
+-- image, key buffer and working numbers, refusals too. Prove that any pair of outcomes allowed by it is equal." An answer is known from its
+-- numbers (each list of numbers has a left inverse), and an outcome holds the numbers and the buffers; the rest is one law for all calls.
+use Prim.Native.Nat.{ℕ, zero, suc}
+use mathlib.Core.Path.{_≡_, refl, sym, _∙_, ap}
+use mathlib.Core.Bool.{Bool}
+use mathlib.Core.List.{List, [], _∷_}
+use lib.ListN.{getD}
+use Rattle.paper.specs.declared.Refusal.{Refusal}
+use Rattle.paper.specs.declared.Refusal.the-variants.{ImageLength, HeadField, Alphabet, ImageRoom, TooFewNumbers, Link, LinkedTwice, NotLinked, KeyLength, Letter, ValueTooGreat, NoAddress, NoRoom, ShortBuffer, NoKey}
+use Rattle.paper.specs.declared.Done.{Done}
+use Rattle.paper.specs.declared.Counted.{Counted}
+use Rattle.paper.specs.declared.Looked.{Looked}
+use Rattle.paper.specs.declared.Stored.{Stored}
+use Rattle.paper.specs.declared.Found.{Found}
+use Rattle.paper.specs.Hearing.{Said, Numbers, Outcome, outcome, refusedNumbers, doneNumbers}
+use Rattle.paper.specs.Answers.{saidOf, refusalNumbers, doneOf, countedOf, lookedOf, storedOf, foundOf}
+use Rattle.paper.specs.Promises.{Makes, Checks, Counts, LooksUp, LooksUpText, Stores, StoresText, Nexts}
+
+-- ---- an answer, from its numbers
+
+-- the refusal with this number and place; number 0 is none
+refusalIn : Numbers → Refusal
+refusalIn m =
+    getD
+    (NoKey ∷ ImageLength ∷ HeadField ∷ Alphabet ∷ ImageRoom ∷ TooFewNumbers ∷ Link (m .place) ∷ LinkedTwice (m .place) ∷ NotLinked (m .place) ∷ KeyLength ∷ Letter ∷ ValueTooGreat ∷ NoAddress ∷ NoRoom ∷ ShortBuffer ∷ NoKey ∷ [])
+    (m .number) NoKey
+
+refusal-back : (r : Refusal) → refusalIn (refusalNumbers r) ≡ r
+unfolding refusalIn refusalNumbers saidOf refusedNumbers
+refusal-back ImageLength = refl
+refusal-back HeadField = refl
+refusal-back Alphabet = refl
+refusal-back ImageRoom = refl
+refusal-back TooFewNumbers = refl
+refusal-back (Link q) = refl
+refusal-back (LinkedTwice x) = refl
+refusal-back (NotLinked x) = refl
+refusal-back KeyLength = refl
+refusal-back Letter = refl
+refusal-back ValueTooGreat = refl
+refusal-back NoAddress = refl
+refusal-back NoRoom = refl
+refusal-back ShortBuffer = refl
+refusal-back NoKey = refl
+
+-- number 0 is done, every other a refusal
+byNumber : {X : Type 0} → ℕ → X → X → X
+byNumber zero done refused = done
+byNumber (suc n) done refused = refused
+
+by-refusal : {X : Type 0} (done refused : X) (r : Refusal) → byNumber (refusalNumbers r .number) done refused ≡ refused
+unfolding byNumber refusalNumbers saidOf refusedNumbers
+by-refusal done refused ImageLength = refl
+by-refusal done refused HeadField = refl
+by-refusal done refused Alphabet = refl
+by-refusal done refused ImageRoom = refl
+by-refusal done refused TooFewNumbers = refl
+by-refusal done refused (Link q) = refl
+by-refusal done refused (LinkedTwice x) = refl
+by-refusal done refused (NotLinked x) = refl
+by-refusal done refused KeyLength = refl
+by-refusal done refused Letter = refl
+by-refusal done refused ValueTooGreat = refl
+by-refusal done refused NoAddress = refl
+by-refusal done refused NoRoom = refl
+by-refusal done refused ShortBuffer = refl
+by-refusal done refused NoKey = refl
+
+-- an answer type is known from its numbers
+pub record Told (R : Type 0) (numbersOf : R → Numbers) : Type 0 where
+  pub back : Numbers → R
+  pub inverse : (r : R) → back (numbersOf r) ≡ r
+
+-- an answer that is done in one way or refused: what is done is had from the numbers, and so is the refusal
+tellBy : {R : Type 0} → (Numbers → R) → (Refusal → R) → Numbers → R
+tellBy done refused m = byNumber (m .number) (done m) (refused (refusalIn m))
+
+tell-refused : {R : Type 0} (done : Numbers → R) (refused : Refusal → R) (r : Refusal) → tellBy done refused (refusalNumbers r) ≡ refused r
+unfolding tellBy
+tell-refused done refused r = by-refusal (done (refusalNumbers r)) (refused (refusalIn (refusalNumbers r))) r ∙ ap refused (refusal-back r)
+
+told-done : Told Done doneOf
+unfolding tellBy byNumber doneOf doneNumbers
+told-done = record { back = tellBy (λ m. Done.Done) Done.Refused; inverse = inverse }
+  where
+    inverse : (r : Done) → tellBy (λ m. Done.Done) Done.Refused (doneOf r) ≡ r
+    inverse Done.Done = refl
+    inverse (Done.Refused r) = tell-refused (λ m. Done.Done) Done.Refused r
+
+told-counted : Told Counted countedOf
+unfolding tellBy byNumber countedOf doneNumbers
+told-counted = record { back = tellBy (λ m. Counted.Keys (m .value)) Counted.Refused; inverse = inverse }
+  where
+    inverse : (r : Counted) → tellBy (λ m. Counted.Keys (m .value)) Counted.Refused (countedOf r) ≡ r
+    inverse (Counted.Keys n) = refl
+    inverse (Counted.Refused r) = tell-refused (λ m. Counted.Keys (m .value)) Counted.Refused r
+
+told-looked : Told Looked lookedOf
+unfolding tellBy byNumber lookedOf doneNumbers
+told-looked = record { back = tellBy (λ m. Looked.Value (m .value)) Looked.Refused; inverse = inverse }
+  where
+    inverse : (r : Looked) → tellBy (λ m. Looked.Value (m .value)) Looked.Refused (lookedOf r) ≡ r
+    inverse (Looked.Value v) = refl
+    inverse (Looked.Refused r) = tell-refused (λ m. Looked.Value (m .value)) Looked.Refused r
+
+told-stored : Told Stored storedOf
+unfolding tellBy byNumber storedOf doneNumbers
+told-stored = record { back = tellBy (λ m. Stored.Change (m .change)) Stored.Refused; inverse = inverse }
+  where
+    inverse : (r : Stored) → tellBy (λ m. Stored.Change (m .change)) Stored.Refused (storedOf r) ≡ r
+    inverse (Stored.Change c) = refl
+    inverse (Stored.Refused r) = tell-refused (λ m. Stored.Change (m .change)) Stored.Refused r
+
+told-found : Told Found foundOf
+unfolding tellBy byNumber foundOf doneNumbers
+told-found = record { back = tellBy (λ m. Found.Key (m .length) (m .value)) Found.Refused; inverse = inverse }
+  where
+    inverse : (r : Found) → tellBy (λ m. Found.Key (m .length) (m .value)) Found.Refused (foundOf r) ≡ r
+    inverse (Found.Key length value) = refl
+    inverse (Found.Refused r) = tell-refused (λ m. Found.Key (m .length) (m .value)) Found.Refused r
+
+-- ---- the law
+
+-- two answers with their buffers that are the one outcome are the same answer, with the same buffers
+pub one-outcome : {R : Type 0} {numbersOf : R → Numbers} → Told R numbersOf → (r s : R) (ls ms : List (List ℕ)) (o : Outcome)
+    → outcome (numbersOf r) ls ≡ o → outcome (numbersOf s) ms ≡ o → (r ≡ s) × (ls ≡ ms)
+one-outcome {R} {numbersOf} t r s ls ms o p q =
+    let e : outcome (numbersOf r) ls ≡ outcome (numbersOf s) ms = p ∙ sym q in
+    (sym (t .inverse r) ∙ ap (t .back) (ap (λ (x : Outcome). x .numbers) e) ∙ t .inverse s, ap (λ (x : Outcome). x .lent) e)
+
+one : {a b : List ℕ} → (a ∷ []) ≡ (b ∷ []) → a ≡ b
+one e = cc
+
+two : {a b c d : List ℕ} → (a ∷ c ∷ []) ≡ (b ∷ d ∷ []) → (a ≡ b) × (c ≡ d)
+two e = (cc, cc)
+
+-- ---- the eight calls
+
+pub makes-once : (image : List ℕ) (n a d : ℕ) (alphabet : List ℕ) (least most : ℕ) {r s : Done} {i j : List ℕ}
+    → Makes image n a d alphabet least most r i → Makes image n a d alphabet least most s j → (r ≡ s) × (i ≡ j)
+makes-once image n a d alphabet least most {r} {s} p q = let u = one-outcome told-done r s _ _ _ p q in (u .0, one (u .1))
+
+pub checks-once : (l work : List ℕ) {r s : Done} {i j : List ℕ} → Checks l work r i → Checks l work s j → (r ≡ s) × (i ≡ j)
+checks-once l work {r} {s} p q = let u = one-outcome told-done r s _ _ _ p q in (u .0, one (u .1))
+
+pub counts-once : (l work : List ℕ) {r s : Counted} {i j : List ℕ} → Counts l work r i → Counts l work s j → (r ≡ s) × (i ≡ j)
+counts-once l work {r} {s} p q = let u = one-outcome told-counted r s _ _ _ p q in (u .0, one (u .1))
+
+pub looks-up-once : (l key : List ℕ) {r s : Looked} → LooksUp l key r → LooksUp l key s → r ≡ s
+looks-up-once l key {r} {s} p q = one-outcome told-looked r s _ _ _ p q .0
+
+pub looks-up-text-once : (l text : List ℕ) {r s : Looked} → LooksUpText l text r → LooksUpText l text s → r ≡ s
+looks-up-text-once l text {r} {s} p q = one-outcome told-looked r s _ _ _ p q .0
+
+pub stores-once : (l work key : List ℕ) (value : ℕ) {r s : Stored} {i j v w : List ℕ}
+    → Stores l work key value r i v → Stores l work key value s j w → (r ≡ s) × ((i ≡ j) × (v ≡ w))
+stores-once l work key value {r} {s} p q = let u = one-outcome told-stored r s _ _ _ p q in (u .0, two (u .1))
+
+pub stores-text-once : (l work text : List ℕ) (value : ℕ) {r s : Stored} {i j v w : List ℕ}
+    → StoresText l work text value r i v → StoresText l work text value s j w → (r ≡ s) × ((i ≡ j) × (v ≡ w))
+stores-text-once l work text value {r} {s} p q = let u = one-outcome told-stored r s _ _ _ p q in (u .0, two (u .1))
+
+pub nexts-once : (l work key : List ℕ) (after : Bool) (buffer : List ℕ) {r s : Found} {v w i j : List ℕ}
+    → Nexts l work key after buffer r v i → Nexts l work key after buffer s w j → (r ≡ s) × ((v ≡ w) × (i ≡ j))
+nexts-once l work key after buffer {r} {s} p q = let u = one-outcome told-found r s _ _ _ p q in (u .0, two (u .1))
