@@ -1,0 +1,26 @@
+-- 01, "Walking, storing, listing": "A key in hand is up to 64 letter numbers together with its length." A key that is longer cannot be held
+-- whole; its length is, and no max reaches it.
+use Prim.Native.Nat.{ℕ, _≤_}
+use mathlib.Core.Path.{_≡_}
+use mathlib.Core.Bool.{true, false}
+use mathlib.Core.Option.{Option, none, some}
+use mathlib.Core.List.{List, [], _++_}
+use lib.ListN.{length, take, replicate}
+use Rattle.head.specs.Fields.{mostLetters}
+use Rattle.key.specs.declared.Key.{Key}
+use Rattle.key.specs.declared.Typed.{Typed}
+
+-- the key in hand with these letters: the first 64 of them, zeros where there are fewer, and how many there are
+unfoldable pub inHand : List ℕ → Key
+inHand k = record { letters = take mostLetters (k ++ replicate mostLetters 0); len = length k }
+
+-- The key in hand holds this key: its length and, where they can be held, its letters. What stands in the array after them is not judged.
+pub record Holds (hand : Key) (k : List ℕ) : Type 0 where
+  pub len : hand .len ≡ length k
+  pub letters : length k ≤ mostLetters → take (length k) (hand .letters) ≡ k
+
+-- a text as a key in hand, and whether it names a key at all
+unfoldable pub typedAs : Option (List ℕ) → Typed
+unfolding inHand
+typedAs none = record { named = false; key = inHand [] }
+typedAs (some k) = record { named = true; key = inHand k }

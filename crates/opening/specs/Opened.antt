@@ -1,0 +1,44 @@
+-- What opening an image tells: which of 1 to 4 is heard and, where none is, the head and the letters of the alphabet.
+use Prim.Native.Nat.{ℕ, _≤_}
+use mathlib.Core.Path.{_≡_}
+use mathlib.Core.Option.{none}
+use mathlib.Core.List.{List}
+use lib.ListN.{length, take}
+use Rattle.head.specs.declared.Head.{Head}
+use Rattle.head.specs.Fields.{headOf}
+use Rattle.alphabet.specs.Letters.{letters}
+use Rattle.paper.specs.declared.Refusal.{Refusal}
+use Rattle.paper.specs.declared.Verdict.{Verdict}
+use Rattle.paper.specs.Hearing.{first}
+use Rattle.paper.specs.Answers.{rowOf}
+use Rattle.paper.specs.Orders.{alphabetIn, opening, openingOf}
+use Rattle.paper.specs.Rows.{row4}
+use Rattle.opening.specs.declared.Opened.{Opened}
+
+-- the letters of an alphabet are the first codes, as many as are counted
+pub record Decoded (alphabet : List ℕ) (r : Opened) : Type 0 where
+  pub count : r .count ≤ 256
+  pub codes : take (r .count) (r .codes) ≡ letters alphabet
+
+-- 1 to 4 of a head, an alphabet and the length of an image
+pub record Judged (h : Head) (alphabet : List ℕ) (len : ℕ) (r : Opened) : Type 0 where
+  pub verdict : rowOf (r .verdict) ≡ first (opening h alphabet len)
+  pub head : r .head ≡ h
+  pub decoded : rowOf (r .verdict) ≡ none → length alphabet ≡ h .f → Decoded alphabet r
+
+-- 1 to 4 of an image
+pub record Opens (l : List ℕ) (r : Opened) : Type 0 where
+  pub verdict : rowOf (r .verdict) ≡ first (openingOf l)
+  pub head : rowOf (r .verdict) ≡ none → r .head ≡ headOf l
+  pub decoded : rowOf (r .verdict) ≡ none → Decoded (alphabetIn (headOf l) l) r
+
+-- 4 alone, with what was learnt before it
+pub record RoomOf (h : Head) (len count : ℕ) (codes : List ℕ) (r : Opened) : Type 0 where
+  pub verdict : rowOf (r .verdict) ≡ row4 h len
+  pub head : r .head ≡ h
+  pub count : r .count ≡ count
+  pub codes : r .codes ≡ codes
+
+pub record RefusedOf (h : Head) (why : Refusal) (r : Opened) : Type 0 where
+  pub verdict : r .verdict ≡ Verdict.Refused why
+  pub head : r .head ≡ h
