@@ -1,19 +1,19 @@
 -- What is a list of bytes. Each law follows the list that it speaks of; past a list's end `getD` answers 0, which is a byte, so no law
 -- asks for a place within the list.
-use mathlib.Core.Bool.{Bool, true, false, _&&_}
+use mathlib.Core.Bool.{Bool, true, _&&_}
 use Prim.Native.Nat.{ℕ, zero, suc, _/_, _%_, _<_}
 use native.Mathlib.Omega.{arith}
 use mathlib.Core.List.{List, [], _∷_, _++_}
 use lib.Dec.{T, ltb, ltb→lt}
-use lib.ListN.{getD, set, take, drop, replicate}
+use lib.ListN.{set, take, drop, replicate}
 use lib.Seq.{sets, getD-drop}
 use mir.Facts.{and-yes}
 use Rattle.field.specs.Field.{Bytes, digits}
 
-bytes-nil : Bytes []
+pub bytes-nil : Bytes []
 bytes-nil k = omega arith
 
-bytes-cons : (b : ℕ) (l : List ℕ) → b < 256 → Bytes l → Bytes (b ∷ l)
+pub bytes-cons : (b : ℕ) (l : List ℕ) → b < 256 → Bytes l → Bytes (b ∷ l)
 bytes-cons b l h p zero = h
 bytes-cons b l h p (suc k) = p k
 
@@ -33,7 +33,7 @@ pub bytes-replicate : (n : ℕ) {b : ℕ} → b < 256 → Bytes (replicate n b)
 bytes-replicate zero h = bytes-nil
 bytes-replicate (suc n) {b} h = bytes-cons b (replicate n b) h (bytes-replicate n h)
 
-bytes-set : (l : List ℕ) (i b : ℕ) → Bytes l → b < 256 → Bytes (set l i b)
+pub bytes-set : (l : List ℕ) (i b : ℕ) → Bytes l → b < 256 → Bytes (set l i b)
 bytes-set [] i b p h = bytes-nil
 bytes-set (x ∷ l) zero b p h = bytes-cons b l h (λ k. p (suc k))
 bytes-set (x ∷ l) (suc i) b p h = bytes-cons x (set l i b) (p 0) (bytes-set l i b (λ k. p (suc k)) h)

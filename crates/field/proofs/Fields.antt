@@ -2,17 +2,16 @@
 -- is said of a field follows from what is known of the bytes.
 use mathlib.Core.Path.{_≡_, refl, sym, ap, ap₂, _∙_}
 use mathlib.Core.Logic.{_⊎_, inl, inr, ⊎-elim}
-use Prim.Native.Nat.{ℕ, zero, suc, _+_, _-_, _*_, _/_, _%_, _^_, _≤_, _<_}
+use Prim.Native.Nat.{ℕ, zero, suc, _+_, _*_, _/_, _%_, _^_, _≤_, _<_}
 use native.Mathlib.Nat.{add-zero, zero-add, add-assoc, pow-suc, pow-le-pow-right, one-le-pow, mod-one, mod-eq-of-lt, lt-of-lt-of-le, not-suc-le-zero}
 use native.Mathlib.Omega.{arith}
 use borrow.Author.Count.{below-more}
 use mathlib.Core.List.{List, [], _∷_, _++_}
 use lib.Arith.{digits-lt, digits-div, digits-mod, mod-mul}
-use lib.ListN.{length, getD, set, take, drop, replicate, length-append, length-drop, length-replicate, List·getD-append, getD-replicate}
+use lib.ListN.{length, getD, set, take, drop, replicate, length-append, length-drop, length-replicate, List·getD-append}
 use lib.Seq.{sets, getD-take, getD-drop, getD-append-add, getD-at, take-suc}
 use Rattle.field.specs.Field.{Bytes, fieldAt, digits, putField, cleared}
 use Rattle.field.proofs.Laid.{getD-outside, getD-inside, sets-append, set-sets, sets-same}
-use Rattle.field.proofs.Bytes.{bytes-digits}
 
 -- ---- a field is what its bytes are
 
@@ -27,7 +26,7 @@ unfolding fieldAt
 field-bound l at zero p = omega arith
 field-bound l at (suc w) p = rw (pow-suc 256 w) (digits-lt (field-bound l at w p) (p (at + w)))
 
--- the bound of a wider field, for a number whose place has a fixed width
+-- a narrower field is below the bound of a wider one
 pub field-fits : (l : List ℕ) (at w n : ℕ) → Bytes l → w ≤ n → fieldAt l at w < 256 ^ n
 field-fits l at w n p h = lt-of-lt-of-le (field-bound l at w p) (pow-le-pow-right (omega arith) h)
 
@@ -89,7 +88,6 @@ pub digits-field : (l : List ℕ) (at w : ℕ) → Bytes l → at + w ≤ length
 unfolding fieldAt digits
 digits-field l at zero p h = refl
 digits-field l at (suc w) p h =
-    let b : ℕ = getD l (at + w) 0 in
     let f : ℕ = fieldAt l at w in
     rw (digits-div f (p (at + w)), digits-mod f (p (at + w)), digits-field l at w p (omega arith), ← getD-drop at l w 0)
     (sym (take-suc (drop at l) w 0 (simp length-drop (omega arith))))

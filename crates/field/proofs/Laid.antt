@@ -1,5 +1,5 @@
--- A list laid into another at a place, `sets l at vs`. Each store of the run goes to a place of its own, so the run can be read, cut and
--- moved store by store. That the length is kept is `length-sets` of `lib.Seq`.
+-- A list laid into another at a place, `sets l at vs`, for a number written, a range cleared and bytes copied alike. Each store of the run
+-- goes to a place of its own, so the run can be read, cut and moved store by store. That the length is kept is `length-sets` of `lib.Seq`.
 use mathlib.Core.Path.{_≡_, refl, sym, ap, _∙_}
 use mathlib.Core.Logic.{_⊎_, inl, inr, ⊎-elim}
 use Prim.Native.Nat.{ℕ, zero, suc, _+_, _≤_, _<_}

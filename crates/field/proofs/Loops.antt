@@ -7,7 +7,7 @@ use native.Mathlib.Numerals.{add-one, sub-one}
 use native.Mathlib.Omega.{arith}
 use mathlib.Core.List.{List, [], _∷_}
 use lib.ListN.{length, getD, set, take, length-set}
-use lib.Seq.{sets, length-sets, take-all, take-suc, length-take-le}
+use lib.Seq.{sets, take-all, take-suc, length-take-le}
 use Rattle.field.specs.Field.{Bytes, fieldAt, digits, putField}
 use Rattle.field.proofs.Laid.{sets-append}
 use Rattle.field.proofs.Fields.{field-fits, put-last}

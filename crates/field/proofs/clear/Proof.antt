@@ -1,13 +1,10 @@
--- `field::clear` meets its contract. Clearing is laying zeros, one a turn; each zero laid is the next of them.
--- The measure is what is left of them. Assumes nothing.
-use Prim.Native.Nat.{_-_}
-use lib.ListN.{replicate, length-replicate, getD-replicate}
+-- `field::clear` meets its contract. Clearing is laying zeros, and the zero that a turn stores is the next of them.
+-- The measure is how many are left. Assumes nothing.
 use mathlib.Core.Path.{sym}
-use Prim.Native.Nat.{ℕ}
-use Rattle.field.proofs.Loops.{Laying, laying-none, laying-more, laying-all}
+use Prim.Native.Nat.{ℕ, _-_}
 use native.Mathlib.Omega.{arith}
-use borrow.Author.Needs.{needs}
-use lib.ListN.{length, length-set}
+use lib.ListN.{replicate, length-replicate, getD-replicate}
+use Rattle.field.proofs.Loops.{Laying, laying-none, laying-more, laying-all}
 use Rattle.field.proofs.clear.Statement.{statement}
 use Rattle.field.proofs.clear.Tie as tie
 
@@ -33,13 +30,16 @@ loop-less : tie.Need-loop-less Inv-loop μ-loop
 loop-less c = omega arith
 
 loop-again : tie.Need-loop-again Inv-loop μ-loop
-loop-again c = let n = c .before .before .args .n in let i = c .before .loop .i in laying-more (c .before .loop .inv) (omega (arith, length-replicate {A = ℕ} n 0)) (sym (getD-replicate n i 0 0 (omega arith)))
+loop-again c =
+    let n = c .before .before .args .n in
+    let i = c .before .loop .i in
+    laying-more (c .before .loop .inv) (omega (arith, length-replicate {A = ℕ} n 0)) (sym (getD-replicate n i 0 0 (omega arith)))
 
 same-length : tie.Need-same-length Inv-loop μ-loop
 same-length c = c .before .loop .inv .long
 
 returns : tie.Need-returns Inv-loop μ-loop
-returns c = let n = c .before .before .args .n in laying-all (c .before .loop .inv) (omega (arith, length-replicate {A = ℕ} n 0))
+returns c = laying-all (c .before .loop .inv) (omega (arith, length-replicate {A = ℕ} (c .before .before .args .n) 0))
 
 pub clear-spec : {M : Type 1} → statement M
 clear-spec =

@@ -1,11 +1,10 @@
--- `field::lay` meets its contract. A turn lays the next element of what is copied; the measure is what is left of it.
--- Assumes nothing.
-use Prim.Native.Nat.{_-_}
+-- `field::lay` meets its contract. A turn stores the next element of what is copied.
+-- The measure is how many are left. Assumes nothing.
 use mathlib.Core.Path.{refl}
-use Rattle.field.proofs.Loops.{Laying, laying-none, laying-more, laying-all}
+use Prim.Native.Nat.{_-_}
 use native.Mathlib.Omega.{arith}
-use borrow.Author.Needs.{needs}
-use lib.ListN.{length, length-set}
+use lib.ListN.{length}
+use Rattle.field.proofs.Loops.{Laying, laying-none, laying-more, laying-all}
 use Rattle.field.proofs.lay.Statement.{statement}
 use Rattle.field.proofs.lay.Tie as tie
 

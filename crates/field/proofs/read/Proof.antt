@@ -1,6 +1,6 @@
--- `field::read` meets its contract. A turn takes the next byte into the number; before it the number has at most seven bytes, so that
--- one more fits 64 bits. The measure is the bytes that are left. Assumes nothing.
-use Prim.Native.Nat.{_+_, _-_, _<_, _^_}
+-- `field::read` meets its contract. A turn appends a byte to the number, which has seven at most before it, so that 64 bits hold the
+-- result. The measure is how many bytes are left. Assumes nothing.
+use Prim.Native.Nat.{_-_, _<_, _^_}
 use native.Mathlib.Omega.{arith}
 use Rattle.field.proofs.Loops.{Reading, reading-none, reading-more, reading-all, reading-room}
 use Rattle.field.proofs.read.Statement.{statement}
@@ -31,7 +31,9 @@ wide-requires : tie.Need-wide-requires Inv-loop μ-loop
 wide-requires c κs = tt
 
 add-v : tie.Need-add-v Inv-loop μ-loop
-add-v c = omega (arith, room (c .before .before), c .wide .ensures, c .before .shared-slice-known2 .given (c .before .before .before .before .before .args .at + c .before .before .before .loop .i))
+add-v c =
+    let byte : c .wide .result < 256 = rw (c .wide .ensures) (c .before .shared-slice-known2 .given _ .fits) in
+    omega (arith, room (c .before .before))
 
 add-i : tie.Need-add-i Inv-loop μ-loop
 add-i c = omega arith

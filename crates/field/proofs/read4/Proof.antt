@@ -1,12 +1,12 @@
--- `field::read4` meets its contract: what it computes is the definition at width 4, written out. A number read is a byte, so the whole
--- is below 256 ^ 4, which fits 32 bits. Assumes nothing.
+-- `field::read4` meets its contract. What it computes is the definition at width 4, written out; the four numbers are bytes, so that 32
+-- bits hold the result. Assumes nothing.
 use mathlib.Core.Path.{ap}
 use Prim.Native.Nat.{ℕ, _+_, _<_}
 use native.Mathlib.Nat.{add-zero}
-use lib.ListN.{getD}
-use Rattle.field.specs.Field.{fieldAt}
 use native.Mathlib.Omega.{arith}
 use borrow.Author.Needs.{needs}
+use lib.ListN.{getD}
+use Rattle.field.specs.Field.{fieldAt}
 use Rattle.field.proofs.read4.Statement.{statement}
 use Rattle.field.proofs.read4.Tie as tie
 
@@ -44,7 +44,8 @@ wide-requires-4 : tie.Need-wide-requires-4
 wide-requires-4 c κs = search needs
 
 -- the four numbers that were read are bytes
-small : (c : tie.After-wide4) → (c .before .before .before .before .before .before .wide .result < 256) × (c .before .before .before .before .wide2 .result < 256) × (c .before .before .wide3 .result < 256) × (c .wide4 .result < 256)
+small : (c : tie.After-wide4)
+    → (c .before .before .before .before .before .before .wide .result < 256) × (c .before .before .before .before .wide2 .result < 256) × (c .before .before .wide3 .result < 256) × (c .wide4 .result < 256)
 small c =
     let byte = c .before .shared-slice-known5 .given in
     let at = c .before .before .before .before .before .before .before .before .before .args .at in
