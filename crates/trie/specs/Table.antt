@@ -1,6 +1,6 @@
 -- A trie as a table of nodes, and the walk through it (01, "Walking, storing, listing"). No bytes: `node` turns an image into a table.
 -- A node is its address, the root is 0, and link 0 is empty.
-use Prim.Native.Nat.{ℕ, zero, suc}
+use Prim.Native.Nat.{ℕ, zero, suc, _<_}
 use mathlib.Core.Bool.{Bool, cond}
 use mathlib.Core.Option.{Option, none, some}
 use mathlib.Core.List.{List, [], _∷_}
@@ -37,6 +37,11 @@ valueAt t (stopped q x xs) = 0
 unfoldable pub answer : Table → List ℕ → ℕ
 unfolding valueAt descend
 answer t k = valueAt t (descend t 0 k)
+
+-- every letter of a key is one of the n letters
+abbrev pub Letters : ℕ → List ℕ → Type 0
+Letters n [] = Unit {0}
+Letters n (x ∷ xs) = (x < n) × Letters n xs
 
 -- "the number of nodes missing on the key's path"
 unfoldable pub missing : Descent → ℕ

@@ -1,0 +1,19 @@
+-- Keys whose letters are all below n. The type computes letter by letter, so each law goes down the key.
+use Prim.Native.Nat.{ℕ, zero, suc, _<_}
+use mathlib.Core.List.{List, [], _∷_, _++_}
+use native.Mathlib.Omega.{arith}
+use lib.ListN.{length, getD}
+use Rattle.trie.specs.Table.{Letters}
+
+pub letters-at : (n : ℕ) (k : List ℕ) → Letters n k → (i : ℕ) → i < length k → getD k i 0 < n
+letters-at n [] l i h = omega arith
+letters-at n (x ∷ k) l zero h = l .0
+letters-at n (x ∷ k) l (suc i) h = letters-at n k (l .1) i (omega arith)
+
+pub letters-of : (n : ℕ) (k : List ℕ) → ((i : ℕ) → i < length k → getD k i 0 < n) → Letters n k
+letters-of n [] f = tt
+letters-of n (x ∷ k) f = (f 0 (omega arith), letters-of n k (λ i h. f (suc i) (omega arith)))
+
+pub letters-after : (n : ℕ) (k m : List ℕ) → Letters n (k ++ m) → Letters n m
+letters-after n [] m l = l
+letters-after n (x ∷ k) m l = letters-after n k m (l .1)
