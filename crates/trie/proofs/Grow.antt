@@ -172,14 +172,14 @@ room {t} {g} {n} k {q} {x} {xs} l s e =
       letters = letters-after n (w .path) (x ∷ xs) (subst (λ (m : List ℕ). Letters n m) (w .key) s);
     }
 
-room-fresh : {t : Table} {g n q x : ℕ} {xs : List ℕ} → Room t g n q x xs → Fresh t q x (suc g)
+pub room-fresh : {t : Table} {g n q x : ℕ} {xs : List ℕ} → Room t g n q x xs → Fresh t q x (suc g)
 room-fresh {q = q} {x = x} r = fresh q x (r .linked) (r .node) (r .empty)
 
 room-linked : {t : Table} {g n q x : ℕ} {xs : List ℕ} → Room t g n q x xs → Linked (grow t q x (suc g)) (suc g) n
 room-linked {q = q} {x = x} r = grow-linked q x (r .linked) (r .node) (r .letters .0) (r .empty)
 
 -- one node on, there is room for the rest
-room-next : {t : Table} {g n q x y : ℕ} {ys : List ℕ} → Room t g n q x (y ∷ ys) → Room (grow t q x (suc g)) (suc g) n (suc g) y ys
+pub room-next : {t : Table} {g n q x y : ℕ} {ys : List ℕ} → Room t g n q x (y ∷ ys) → Room (grow t q x (suc g)) (suc g) n (suc g) y ys
 room-next {t} {g} {n} {q} {x} {y} r =
     record {
       linked = room-linked r;

@@ -1,0 +1,217 @@
+-- How many keys are listed. A list in order is known by its keys, so two tables that answer alike for every key but one have listings
+-- that differ in that key at most; and a node with no link and no data lists nothing, so a new one changes no listing.
+use Prim.Native.Nat.{ℕ, zero, suc, pred, _+_, _-_, _≤_}
+use native.Mathlib.Omega.{arith}
+use native.Mathlib.Numerals.{add-one}
+use mathlib.Core.List.{List, [], _∷_, _++_, List·Memᴰ, List·Memᴰ·head, List·Memᴰ·tail}
+use mathlib.Core.List.{List·Memᴰ·cases-cons, List·Memᴰ·append-cases, Memᴰ·append-left, Memᴰ·append-right, Memᴰ·cast}
+use mathlib.Core.Logic.{_↔_, _≢_, ⊎-elim}
+use mathlib.Core.Path.{_≡_, refl, sym, _∙_, ap, ap₂, subst, fun-ext}
+use lib.IntN.{pos, negsuc, _+ℤ_, +ℤ-idr}
+use lib.ListN.{length, length-append}
+use borrow.Author.Tests.{le-ltb}
+use Rattle.trie.specs.Table.{Table, complete, follow, descend, answer, missing, Letters}
+use Rattle.trie.specs.Keys.{present, ownKey, byLetter, keysUnder, listing, Ascending}
+use Rattle.trie.specs.Rules.{Framed, Linked}
+use Rattle.trie.specs.Storing.{put, grow, growPath, stored, storedBy, added, changeOf}
+use Rattle.trie.proofs.Listing.{listing-holds, keysUnder-ascending, held-once, same-keys}
+use Rattle.trie.proofs.Walk.{follow-empty, follow-on, answer-complete, complete-letters}
+use Rattle.trie.proofs.Grow.{Grown, new, old, grown, Fresh, Room, room-fresh, room-next}
+use Rattle.trie.proofs.Storing.{stored-answer, stored-answer-other, stored-linked}
+
+-- One key more.
+
+with-key : {j : List ℕ} (l m : List (List ℕ)) (k : List ℕ) → List·Memᴰ j (l ++ m) → List·Memᴰ j (l ++ k ∷ m)
+with-key l m k a = ⊎-elim (Memᴰ·append-left (k ∷ m)) (λ b. Memᴰ·append-right l (List·Memᴰ·tail b)) (List·Memᴰ·append-cases l a)
+
+without-key : {j : List ℕ} (l m : List (List ℕ)) (k : List ℕ) → j ≢ k → List·Memᴰ j (l ++ k ∷ m) → List·Memᴰ j (l ++ m)
+without-key l m k other a =
+    ⊎-elim
+    (Memᴰ·append-left m)
+    (λ b. ⊎-elim (λ e. absurd (other e)) (Memᴰ·append-right l) (List·Memᴰ·cases-cons b))
+    (List·Memᴰ·append-cases l a)
+
+without-ascending : (l m : List (List ℕ)) (k : List ℕ) → Ascending (l ++ k ∷ m) → Ascending (l ++ m)
+without-ascending [] m k h = h .1
+without-ascending (x ∷ l) m k h = (λ j a. h .0 j (with-key l m k a), without-ascending l m k (h .1))
+
+-- where a list holds a key
+split : {k : List ℕ} {m : List (List ℕ)} → List·Memᴰ k m → (xs : List (List ℕ)) × (ys : List (List ℕ)) × (m ≡ xs ++ k ∷ ys)
+split (List·Memᴰ·head {xs = ys} e) = ([], ys, ap (_∷ ys) (sym e))
+split (List·Memᴰ·tail {x = x} a) = let (xs, ys, e) = split a in (x ∷ xs, ys, ap (x ∷_) e)
+
+inserted : (l xs ys : List (List ℕ)) (k : List ℕ) → Ascending l → Ascending (xs ++ k ∷ ys)
+    → ¬ List·Memᴰ k l
+    → ((j : List ℕ) → j ≢ k → List·Memᴰ j l ↔ List·Memᴰ j (xs ++ k ∷ ys))
+    → length (xs ++ k ∷ ys) ≡ suc (length l)
+inserted l xs ys k hl hm out others =
+    let same : l ≡ xs ++ ys = same-keys l (xs ++ ys) hl (without-ascending xs ys k hm) to from in
+    omega (arith, ap length same, length-append xs (k ∷ ys), length-append xs ys)
+  where
+    to : (j : List ℕ) → List·Memᴰ j l → List·Memᴰ j (xs ++ ys)
+    to j a = let other : j ≢ k = λ e. out (Memᴰ·cast (sym e) a) in without-key xs ys k other (others j other .0 a)
+
+    from : (j : List ℕ) → List·Memᴰ j (xs ++ ys) → List·Memᴰ j l
+    from j a = others j (λ e. held-once xs ys k hm (Memᴰ·cast (sym e) a)) .1 (with-key xs ys k a)
+
+-- a list in order that has k besides the keys of another
+one-more : (l m : List (List ℕ)) (k : List ℕ) → Ascending l → Ascending m
+    → ¬ List·Memᴰ k l
+    → List·Memᴰ k m
+    → ((j : List ℕ) → j ≢ k → List·Memᴰ j l ↔ List·Memᴰ j m)
+    → length m ≡ suc (length l)
+one-more l m k hl hm out held others =
+    let (xs, ys, e) = split held in
+    subst
+    (λ (m : List (List ℕ)). Ascending m → ((j : List ℕ) → j ≢ k → List·Memᴰ j l ↔ List·Memᴰ j m) → length m ≡ suc (length l))
+    (sym e)
+    (λ hm others. inserted l xs ys k hl hm out others)
+    hm
+    others
+
+-- Two tables that answer alike for every key but k, whose length is allowed.
+
+pub record Alike (t s : Table) (g h n least most : ℕ) (k : List ℕ) : Type 0 where
+  pub from : Framed t g n
+  pub to : Framed s h n
+  pub low : least ≤ length k
+  pub high : length k ≤ most
+  pub others : (m : List ℕ) → m ≢ k → answer s m ≡ answer t m
+
+turned : {t s : Table} {g h n least most : ℕ} {k : List ℕ} → Alike t s g h n least most k → Alike s t h g n least most k
+turned a = record { from = a .to; to = a .from; low = a .low; high = a .high; others = λ m e. sym (a .others m e) }
+
+-- a key that is listed stays listed, but perhaps for k
+kept : {t s : Table} {g h n least most : ℕ} {k : List ℕ} → Alike t s g h n least most k → (m : List ℕ)
+    → (m ≡ k → answer s m ≡ 0 → answer t m ≡ 0)
+    → List·Memᴰ m (listing t n least most)
+    → List·Memᴰ m (listing s n least most)
+kept {least = least} {most = most} a m at-k b =
+    let (low, high, full) = listing-holds (a .from) least most m .0 b in
+    listing-holds (a .to) least most m .1 (low, high, λ z. full (sym (a .others m (λ e. full (at-k e z))) ∙ z))
+
+-- k answers in both tables, or in neither
+same-listing : {t s : Table} {g h n least most : ℕ} {k : List ℕ} → Alike t s g h n least most k
+    → ((answer t k ≡ 0) ↔ (answer s k ≡ 0))
+    → listing s n least most ≡ listing t n least most
+same-listing {t} {s} {n = n} {least} {most} {k} a e =
+    same-keys
+    (listing s n least most)
+    (listing t n least most)
+    (keysUnder-ascending s n least most 0)
+    (keysUnder-ascending t n least most 0)
+    (λ m. kept (turned a) m (λ q. subst (λ (m : List ℕ). answer t m ≡ 0 → answer s m ≡ 0) (sym q) (e .0)))
+    (λ m. kept a m (λ q. subst (λ (m : List ℕ). answer s m ≡ 0 → answer t m ≡ 0) (sym q) (e .1)))
+
+-- k answers in s alone
+longer-listing : {t s : Table} {g h n least most : ℕ} {k : List ℕ} → Alike t s g h n least most k
+    → answer t k ≡ 0
+    → answer s k ≢ 0
+    → length (listing s n least most) ≡ suc (length (listing t n least most))
+longer-listing {t} {s} {n = n} {least} {most} {k} a e f =
+    one-more
+    (listing t n least most)
+    (listing s n least most)
+    k
+    (keysUnder-ascending t n least most 0)
+    (keysUnder-ascending s n least most 0)
+    (λ b. listing-holds (a .from) least most k .0 b .2 e)
+    (listing-holds (a .to) least most k .1 (a .low, a .high, f))
+    (λ m other. (kept a m (λ q. absurd (other q)), kept (turned a) m (λ q. absurd (other q))))
+
+-- the change as a whole number
+up : {a b : ℕ} → a ≡ suc b → pos a ≡ pos b +ℤ pos 1
+up {b = b} e = ap pos (e ∙ sym (add-one b))
+
+down : {a b : ℕ} → b ≡ suc a → pos a ≡ pos b +ℤ negsuc 0
+down {a} {b} e = let f : a ≡ b - 1 = omega arith in rw (le-ltb b 1 (omega arith)) (ap pos f)
+
+pub listing-change : {t s : Table} {g h n least most : ℕ} {k : List ℕ} → Alike t s g h n least most k
+    → pos (length (listing s n least most)) ≡ pos (length (listing t n least most)) +ℤ changeOf (answer t k) (answer s k)
+unfolding changeOf
+listing-change {t} {s} {n = n} {least} {most} {k} a = go (answer t k) (answer s k) refl refl
+  where
+    level : ((answer t k ≡ 0) ↔ (answer s k ≡ 0))
+        → pos (length (listing s n least most)) ≡ pos (length (listing t n least most)) +ℤ pos 0
+    level e = ap (λ (l : List (List ℕ)). pos (length l)) (same-listing a e) ∙ sym (+ℤ-idr (pos (length (listing t n least most))))
+
+    go : (b c : ℕ) → answer t k ≡ b → answer s k ≡ c
+        → pos (length (listing s n least most)) ≡ pos (length (listing t n least most)) +ℤ changeOf b c
+    go zero zero e f = level (λ z. f, λ z. e)
+    go zero (suc c) e f = up (longer-listing a e (omega arith))
+    go (suc b) zero e f = down (longer-listing (turned a) f (omega arith))
+    go (suc b) (suc c) e f = level (omega arith)
+
+-- "the change in the number of stored keys: -1, 0 or 1"
+pub stored-count : {t : Table} {g n : ℕ} → Linked t g n → (k : List ℕ) → Letters n k
+    → (v least most : ℕ) → least ≤ length k → length k ≤ most
+    → pos (length (listing (stored t g k v) n least most)) ≡ pos (length (listing t n least most)) +ℤ changeOf (answer t k) v
+stored-count {t} {g} {n} l k letters v least most low high =
+    let a : Alike t (stored t g k v) g (g + added (missing (descend t 0 k)) v) n least most k = record {
+      from = l .framed;
+      to = stored-linked l k letters v .framed;
+      low = low;
+      high = high;
+      others = stored-answer-other l k letters v;
+    } in
+    rw (stored-answer l k letters v) at (listing-change a)
+
+-- a value put as the data of a key's own node
+pub put-count : {t : Table} {g n : ℕ} → Linked t g n → (k : List ℕ) {q : ℕ} → descend t 0 k ≡ complete q
+    → (v least most : ℕ) → least ≤ length k → length k ≤ most
+    → pos (length (listing (put t q v) n least most)) ≡ pos (length (listing t n least most)) +ℤ changeOf (t .value q) v
+unfolding stored storedBy
+put-count {t} {g} {n} l k e v least most low high =
+    rw (answer-complete t k e, e, stored) at (stored-count l k (complete-letters t 0 k (l .framed) e) v least most low high)
+
+-- New nodes.
+
+byLetter-none : (keys : ℕ → List (List ℕ)) (i m : ℕ) → ((x : ℕ) → keys x ≡ []) → byLetter keys i m ≡ []
+unfolding byLetter
+byLetter-none keys i zero h = refl
+byLetter-none keys i (suc m) h = rw (h i) (byLetter-none keys (suc i) m h)
+
+own-none : (t : Table) (short q : ℕ) → t .value q ≡ 0 → ownKey t short q ≡ []
+unfolding ownKey
+own-none t zero q e = ap present e
+own-none t (suc short) q e = refl
+
+-- a node with no link and no data lists nothing
+pub blank-keys : (t : Table) (n short left c : ℕ) → ((i : ℕ) → t .child c i ≡ 0) → t .value c ≡ 0 → keysUnder t n short left c ≡ []
+unfolding keysUnder
+blank-keys t n short zero c no-links no-data = own-none t short c no-data
+blank-keys t n short (suc left) c no-links no-data =
+    ap₂ _++_ (own-none t short c no-data) (byLetter-none _ 0 n (λ x. follow-empty (t .child c x) [] _ (no-links x)))
+
+own-same : (t s : Table) (short q : ℕ) → s .value q ≡ t .value q → ownKey s short q ≡ ownKey t short q
+unfolding ownKey
+own-same t s zero q e = ap present e
+own-same t s (suc short) q e = refl
+
+-- what a link lists: the new one leads to a node that lists nothing
+link-keys : {t : Table} {q x c p i y : ℕ} → Fresh t q x c → (keys keys′ : ℕ → List (List ℕ)) → keys c ≡ []
+    → ((r : ℕ) → keys′ r ≡ keys r)
+    → Grown t q x c p i y
+    → follow y [] keys′ ≡ follow (t .child p i) [] keys
+link-keys {t} {q} {x} {c} {p} {i} f keys keys′ none same (new e d) =
+    follow-on c [] keys′ (f .no-root) ∙ same c ∙ none ∙ sym (follow-empty (t .child p i) [] keys (rw (e, d) (f .empty)))
+link-keys {t} {p = p} {i} f keys keys′ none same old = ap (follow (t .child p i) []) (fun-ext same)
+
+-- linking a new node changes no listing
+pub grow-keys : {t : Table} {q x c : ℕ} → Fresh t q x c → (n short left p : ℕ)
+    → keysUnder (grow t q x c) n short left p ≡ keysUnder t n short left p
+unfolding keysUnder grow
+grow-keys {t} {q} {x} {c} f n short zero p = own-same t (grow t q x c) short p refl
+grow-keys {t} {q} {x} {c} f n short (suc left) p =
+    let none = blank-keys t n (pred short) left c (f .no-links) (f .no-data) in
+    ap₂
+    (λ (own : List (List ℕ)) (keys : ℕ → List (List ℕ)). own ++ byLetter keys 0 n)
+    (own-same t (grow t q x c) short p refl)
+    (fun-ext (λ i. link-keys f _ _ none (grow-keys f n (pred short) left) (grown t q x c p i)))
+
+-- nor does a new path
+pub growPath-keys : {t : Table} {g n q x : ℕ} (xs : List ℕ) → Room t g n q x xs → (m short left p : ℕ)
+    → keysUnder (growPath t q x xs (suc g)) m short left p ≡ keysUnder t m short left p
+unfolding growPath
+growPath-keys [] r m short left p = grow-keys (room-fresh r) m short left p
+growPath-keys (y ∷ ys) r m short left p = growPath-keys ys (room-next r) m short left p ∙ grow-keys (room-fresh r) m short left p
