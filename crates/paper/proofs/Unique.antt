@@ -14,7 +14,7 @@ use Rattle.paper.specs.declared.Looked.{Looked}
 use Rattle.paper.specs.declared.Stored.{Stored}
 use Rattle.paper.specs.declared.Found.{Found}
 use Rattle.paper.specs.Hearing.{Said, Numbers, Outcome, outcome, refusedNumbers, doneNumbers}
-use Rattle.paper.specs.Answers.{saidOf, refusalNumbers, doneOf, countedOf, lookedOf, storedOf, foundOf}
+use Rattle.paper.specs.Answers.{refusalNumbers, doneOf, countedOf, lookedOf, storedOf, foundOf}
 use Rattle.paper.specs.Promises.{Makes, Checks, Counts, LooksUp, LooksUpText, Stores, StoresText, Nexts}
 
 -- ---- an answer, from its numbers
@@ -27,7 +27,7 @@ refusalIn m =
     (m .number) NoKey
 
 refusal-back : (r : Refusal) → refusalIn (refusalNumbers r) ≡ r
-unfolding refusalIn refusalNumbers saidOf refusedNumbers
+unfolding refusalIn refusalNumbers refusedNumbers
 refusal-back ImageLength = refl
 refusal-back HeadField = refl
 refusal-back Alphabet = refl
@@ -50,7 +50,7 @@ byNumber zero done refused = done
 byNumber (suc n) done refused = refused
 
 by-refusal : {X : Type 0} (done refused : X) (r : Refusal) → byNumber (refusalNumbers r .number) done refused ≡ refused
-unfolding byNumber refusalNumbers saidOf refusedNumbers
+unfolding byNumber refusalNumbers refusedNumbers
 by-refusal done refused ImageLength = refl
 by-refusal done refused HeadField = refl
 by-refusal done refused Alphabet = refl

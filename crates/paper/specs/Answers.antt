@@ -13,10 +13,10 @@ use Rattle.paper.specs.declared.Stored.{Stored}
 use Rattle.paper.specs.declared.Found.{Found}
 use Rattle.paper.specs.Hearing.{Said, Row, Numbers, refusedNumbers, doneNumbers}
 
-abbrev said : ℕ → ℕ → Said
+abbrev pub said : ℕ → ℕ → Said
 said number place = record { number = number; place = place }
 
-unfoldable pub saidOf : Refusal → Said
+abbrev pub saidOf : Refusal → Said
 saidOf ImageLength = said 1 0
 saidOf HeadField = said 2 0
 saidOf Alphabet = said 3 0
@@ -35,12 +35,11 @@ saidOf NoKey = said 15 0
 
 -- a part of an order that has been gone through
 unfoldable pub rowOf : Verdict → Row
-unfolding saidOf
 rowOf Verdict.Passed = none
 rowOf (Verdict.Refused r) = some (saidOf r)
 
 unfoldable pub refusalNumbers : Refusal → Numbers
-unfolding saidOf refusedNumbers
+unfolding refusedNumbers
 refusalNumbers r = refusedNumbers (saidOf r)
 
 unfoldable pub doneOf : Done → Numbers

@@ -1,5 +1,7 @@
-// What the bench may hear: document 01's refusals, and the answer of each call. Types alone; the numbers of each case, the rows, their
-// orders and every call's outcome stand in specs/.
+// What the bench may hear: document 01's refusals with their numbers, and the answer of each call. The rows, their orders and every
+// call's outcome stand in specs/.
+ghost use mathlib.Core.Path.{_≡_};
+ghost use Rattle.paper.specs.Answers.{saidOf};
 
 // One variant for each number of 01's table from 1 on. Those whose place is a node or an address carry it.
 pub enum Refusal {
@@ -18,6 +20,53 @@ pub enum Refusal {
     NoRoom,
     ShortBuffer,
     NoKey,
+}
+
+impl Refusal {
+    pub fn number(self) -> u32
+        ensures { λ r. ⌜ r ≡ saidOf self .number ⌝ }
+    {
+        match self {
+            Refusal::ImageLength => 1,
+            Refusal::HeadField => 2,
+            Refusal::Alphabet => 3,
+            Refusal::ImageRoom => 4,
+            Refusal::TooFewNumbers => 5,
+            Refusal::Link(_) => 6,
+            Refusal::LinkedTwice(_) => 7,
+            Refusal::NotLinked(_) => 8,
+            Refusal::KeyLength => 9,
+            Refusal::Letter => 10,
+            Refusal::ValueTooGreat => 11,
+            Refusal::NoAddress => 12,
+            Refusal::NoRoom => 13,
+            Refusal::ShortBuffer => 14,
+            Refusal::NoKey => 15,
+        }
+    }
+
+    // The node or address that 01 names, else 0.
+    pub fn place(self) -> u32
+        ensures { λ r. ⌜ r ≡ saidOf self .place ⌝ }
+    {
+        match self {
+            Refusal::Link(node) => node,
+            Refusal::LinkedTwice(address) => address,
+            Refusal::NotLinked(address) => address,
+            Refusal::ImageLength => 0,
+            Refusal::HeadField => 0,
+            Refusal::Alphabet => 0,
+            Refusal::ImageRoom => 0,
+            Refusal::TooFewNumbers => 0,
+            Refusal::KeyLength => 0,
+            Refusal::Letter => 0,
+            Refusal::ValueTooGreat => 0,
+            Refusal::NoAddress => 0,
+            Refusal::NoRoom => 0,
+            Refusal::ShortBuffer => 0,
+            Refusal::NoKey => 0,
+        }
+    }
 }
 
 // How far an order has come: nothing in it was given, or the first that was.
