@@ -1,0 +1,79 @@
+-- 1 to 4, row by row, for whoever opens an image: which is heard when, and what is known where none is. Each law goes down the order by the
+-- laws of `Hearing`.
+use Prim.Native.Nat.{ℕ, _≤_, _<_}
+use mathlib.Core.Path.{_≡_, refl, sym, _∙_, ap}
+use mathlib.Core.Bool.{Bool, true, false, not, _&&_}
+use mathlib.Core.Option.{none, some}
+use mathlib.Core.List.{List, [], _∷_}
+use lib.ListN.{length}
+use lib.Dec.{ltb, eqb, leb}
+use borrow.Author.Tests.{lt-ltb, eq-eqb, leb-true, ltb-false, not-false}
+use Rattle.field.specs.Range.{between}
+use Rattle.head.specs.declared.Head.{Head}
+use Rattle.head.specs.Fields.{shortestImage, longestImage, permitted, usedLen}
+use Rattle.alphabet.specs.Letters.{goodAlphabet}
+use Rattle.paper.specs.Hearing.{Row, first}
+use Rattle.paper.specs.Answers.{said}
+use Rattle.paper.specs.Rows.{row1, row2, row3, row4}
+use Rattle.paper.specs.Orders.{opening}
+use Rattle.paper.proofs.Hearing.{yes-row, no-row, first-nil, first-none, passed-row, was-false}
+
+-- a test that holds as such is false where it stands negated
+untrue : {b : Bool} → b ≡ true → not b ≡ false
+untrue e = rw e
+
+unfalse : {b : Bool} → b ≡ false → not b ≡ true
+unfalse e = rw e
+
+-- the order's last row alone is the row
+last-row : (r : Row) → first (r ∷ []) ≡ r
+unfolding first
+last-row none = refl
+last-row (some s) = refl
+
+module _ (h : Head) (alphabet : List ℕ) (len : ℕ) where
+  -- the test of row 3
+  abbrev pub spoilt : Bool
+  spoilt = ltb 0 (h .f) && eqb (length alphabet) (h .f) && not (goodAlphabet (h .n) alphabet)
+
+  pub heard-1 : between len shortestImage longestImage ≡ false → first (opening h alphabet len) ≡ some (said 1 0)
+  unfolding opening row1
+  heard-1 e = yes-row 1 0 _ (unfalse e)
+
+  pub heard-2 : between len shortestImage longestImage ≡ true → permitted h ≡ false → first (opening h alphabet len) ≡ some (said 2 0)
+  unfolding opening row1 row2
+  heard-2 e p = no-row 1 0 _ (untrue e) ∙ yes-row 2 0 _ (unfalse p)
+
+  pub heard-3 : between len shortestImage longestImage ≡ true → permitted h ≡ true → spoilt ≡ true → first (opening h alphabet len) ≡ some (said 3 0)
+  unfolding opening row1 row2 row3
+  heard-3 e p s = no-row 1 0 _ (untrue e) ∙ no-row 2 0 _ (untrue p) ∙ yes-row 3 0 _ s
+
+  -- where 1 to 3 have passed, what is heard is row 4
+  pub left-4 : between len shortestImage longestImage ≡ true → permitted h ≡ true → spoilt ≡ false → first (opening h alphabet len) ≡ row4 h len
+  unfolding opening row1 row2 row3
+  left-4 e p s = no-row 1 0 _ (untrue e) ∙ no-row 2 0 _ (untrue p) ∙ no-row 3 0 _ s ∙ last-row (row4 h len)
+
+  -- what an image that was opened is known to be
+  pub record Passed : Type 0 where
+    pub allowed : between len shortestImage longestImage ≡ true
+    pub head-permitted : permitted h ≡ true
+    pub unspoilt : spoilt ≡ false
+    pub room : usedLen h ≤ len
+
+  pub passed : first (opening h alphabet len) ≡ none → Passed
+  unfolding opening row1 row2 row3 row4
+  passed e =
+      let after1 = passed-row (row1 len) (row2 h ∷ row3 h alphabet ∷ row4 h len ∷ []) e in
+      let after2 = passed-row (row2 h) (row3 h alphabet ∷ row4 h len ∷ []) (after1 .1) in
+      let after3 = passed-row (row3 h alphabet) (row4 h len ∷ []) (after2 .1) in
+      let after4 = passed-row (row4 h len) [] (after3 .1) in
+      record
+      { allowed = not-false _ (was-false 1 0 _ (after1 .0))
+      ; head-permitted = not-false _ (was-false 2 0 _ (after2 .0))
+      ; unspoilt = was-false 3 0 _ (after3 .0)
+      ; room = ltb-false len (usedLen h) (was-false 4 0 _ (after4 .0))
+      }
+
+  -- where F is above 0 and the alphabet whole, it is good
+  pub unspoilt-good : spoilt ≡ false → 0 < h .f → length alphabet ≡ h .f → goodAlphabet (h .n) alphabet ≡ true
+  unspoilt-good s f w = not-false _ (simp (lt-ltb 0 (h .f) f, eq-eqb (length alphabet) (h .f) w) at s)
