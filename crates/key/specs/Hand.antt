@@ -1,18 +1,25 @@
 -- 01, "Walking, storing, listing": "A key in hand is up to 64 letter numbers together with its length." A key that is longer cannot be held
 -- whole; its length is, and no max reaches it.
-use Prim.Native.Nat.{ℕ, _≤_}
+use Prim.Native.Nat.{ℕ, zero, suc, _≤_}
 use mathlib.Core.Path.{_≡_}
 use mathlib.Core.Bool.{true, false}
 use mathlib.Core.Option.{Option, none, some}
-use mathlib.Core.List.{List, [], _++_}
-use lib.ListN.{length, take, replicate}
+use mathlib.Core.List.{List, [], _∷_}
+use lib.ListN.{length, take}
 use Rattle.head.specs.Fields.{mostLetters}
 use Rattle.key.specs.declared.Key.{Key}
 use Rattle.key.specs.declared.Typed.{Typed}
 
--- the key in hand with these letters: the first 64 of them, zeros where there are fewer, and how many there are
+-- the first w letters of a key, and zeros where it has fewer
+unfoldable pub padded : ℕ → List ℕ → List ℕ
+padded zero k = []
+padded (suc w) [] = 0 ∷ padded w []
+padded (suc w) (x ∷ k) = x ∷ padded w k
+
+-- the key in hand with these letters: the first 64 of them, and how many there are
 unfoldable pub inHand : List ℕ → Key
-inHand k = record { letters = take mostLetters (k ++ replicate mostLetters 0); len = length k }
+unfolding padded
+inHand k = record { letters = padded mostLetters k; len = length k }
 
 -- The key in hand holds this key: its length and, where they can be held, its letters. What stands in the array after them is not judged.
 pub record Holds (hand : Key) (k : List ℕ) : Type 0 where

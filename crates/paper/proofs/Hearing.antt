@@ -1,14 +1,21 @@
 -- Laws on rows, orders and outcomes, for every call alike: a row that is given ends its order, one that is not is passed over, orders
 -- are joined, and an order that passed tells of each row that its test failed. Each is by cases on the row.
 use Prim.Native.Nat.{ℕ}
-use mathlib.Core.Path.{_≡_, refl, sym, _∙_, ap}
-use mathlib.Core.Bool.{Bool, true, false, not, cond}
-use mathlib.Core.Option.{Option, none, some}
+use mathlib.Core.Path.{_≡_, refl}
+use mathlib.Core.Bool.{Bool, true, false, not}
+use mathlib.Core.Option.{none, some}
 use mathlib.Core.List.{List, [], _∷_, _++_}
 use native.Mathlib.Omega.{arith}
 use Rattle.paper.specs.Hearing.{Said, Row, Outcome, given, first, heard, outcome, refusedNumbers}
 
 -- ---- one row
+
+-- a rule that holds is a test that fails, where a row negates it
+pub untrue : {b : Bool} → b ≡ true → not b ≡ false
+untrue e = rw e
+
+pub unfalse : {b : Bool} → b ≡ false → not b ≡ true
+unfalse e = rw e
 
 pub is-given : (number place : ℕ) {test : Bool} → test ≡ true → given number place test ≡ some (record { number = number; place = place })
 unfolding given

@@ -1,13 +1,13 @@
 -- 1 to 4, row by row, for whoever opens an image: which is heard when, and what is known where none is. Each law goes down the order by the
 -- laws of `Hearing`.
 use Prim.Native.Nat.{ℕ, _≤_, _<_}
-use mathlib.Core.Path.{_≡_, refl, sym, _∙_, ap}
+use mathlib.Core.Path.{_≡_, refl, _∙_}
 use mathlib.Core.Bool.{Bool, true, false, not, _&&_}
 use mathlib.Core.Option.{none, some}
 use mathlib.Core.List.{List, [], _∷_}
 use lib.ListN.{length}
-use lib.Dec.{ltb, eqb, leb}
-use borrow.Author.Tests.{lt-ltb, eq-eqb, leb-true, ltb-false, not-false}
+use lib.Dec.{ltb, eqb}
+use borrow.Author.Tests.{lt-ltb, eq-eqb, ltb-false, not-false}
 use Rattle.field.specs.Range.{between}
 use Rattle.head.specs.declared.Head.{Head}
 use Rattle.head.specs.Fields.{shortestImage, longestImage, permitted, usedLen}
@@ -16,14 +16,7 @@ use Rattle.paper.specs.Hearing.{Row, first}
 use Rattle.paper.specs.Answers.{said}
 use Rattle.paper.specs.Rows.{row1, row2, row3, row4}
 use Rattle.paper.specs.Orders.{opening}
-use Rattle.paper.proofs.Hearing.{yes-row, no-row, first-nil, first-none, passed-row, was-false}
-
--- a test that holds as such is false where it stands negated
-untrue : {b : Bool} → b ≡ true → not b ≡ false
-untrue e = rw e
-
-unfalse : {b : Bool} → b ≡ false → not b ≡ true
-unfalse e = rw e
+use Rattle.paper.proofs.Hearing.{untrue, unfalse, yes-row, no-row, passed-row, was-false}
 
 -- the order's last row alone is the row
 last-row : (r : Row) → first (r ∷ []) ≡ r
@@ -67,11 +60,11 @@ module _ (h : Head) (alphabet : List ℕ) (len : ℕ) where
       let after2 = passed-row (row2 h) (row3 h alphabet ∷ row4 h len ∷ []) (after1 .1) in
       let after3 = passed-row (row3 h alphabet) (row4 h len ∷ []) (after2 .1) in
       let after4 = passed-row (row4 h len) [] (after3 .1) in
-      record
-      { allowed = not-false _ (was-false 1 0 _ (after1 .0))
-      ; head-permitted = not-false _ (was-false 2 0 _ (after2 .0))
-      ; unspoilt = was-false 3 0 _ (after3 .0)
-      ; room = ltb-false len (usedLen h) (was-false 4 0 _ (after4 .0))
+      record {
+        allowed = not-false _ (was-false 1 0 _ (after1 .0));
+        head-permitted = not-false _ (was-false 2 0 _ (after2 .0));
+        unspoilt = was-false 3 0 _ (after3 .0);
+        room = ltb-false len (usedLen h) (was-false 4 0 _ (after4 .0));
       }
 
   -- where F is above 0 and the alphabet whole, it is good

@@ -1,0 +1,46 @@
+-- The key in hand of a list of letters holds it: its front is the list where the array is long enough, and zeros fill the rest. All by
+-- going down the array.
+use Prim.Native.Nat.{ℕ, zero, suc, _≤_, _<_}
+use mathlib.Core.Path.{_≡_, refl, ap}
+use mathlib.Core.List.{List, [], _∷_, _++_}
+use native.Mathlib.Nat.{le-of-suc-le-suc, not-suc-le-zero}
+use lib.ListN.{length, take, set, replicate}
+use Rattle.head.specs.Fields.{mostLetters}
+use Rattle.key.specs.Hand.{padded, inHand, Holds}
+
+pub take-padded : (w : ℕ) (k : List ℕ) → length k ≤ w → take (length k) (padded w k) ≡ k
+unfolding padded
+take-padded zero [] h = refl
+take-padded zero (x ∷ k) h = absurd (not-suc-le-zero h)
+take-padded (suc w) [] h = refl
+take-padded (suc w) (x ∷ k) h = ap (λ (l : List ℕ). x ∷ l) (take-padded w k (le-of-suc-le-suc h))
+
+pub padded-nil : (w : ℕ) → padded w [] ≡ replicate w 0
+unfolding padded
+padded-nil zero = refl
+padded-nil (suc w) = ap (λ (l : List ℕ). 0 ∷ l) (padded-nil w)
+
+-- one letter more, where there is room for it
+pub padded-more : (w : ℕ) (k : List ℕ) (x : ℕ) → length k < w → set (padded w k) (length k) x ≡ padded w (k ++ (x ∷ []))
+unfolding padded
+padded-more zero k x h = absurd (not-suc-le-zero h)
+padded-more (suc w) [] x h = refl
+padded-more (suc w) (y ∷ k) x h = ap (λ (l : List ℕ). y ∷ l) (padded-more w k x (le-of-suc-le-suc h))
+
+-- and where there is none
+pub padded-full : (w : ℕ) (k : List ℕ) (x : ℕ) → w ≤ length k → padded w k ≡ padded w (k ++ (x ∷ []))
+unfolding padded
+padded-full zero k x h = refl
+padded-full (suc w) [] x h = absurd (not-suc-le-zero h)
+padded-full (suc w) (y ∷ k) x h = ap (λ (l : List ℕ). y ∷ l) (padded-full w k x (le-of-suc-le-suc h))
+
+-- letters past the array's end are not kept
+pub padded-take : (w : ℕ) (k : List ℕ) → padded w (take w k) ≡ padded w k
+unfolding padded
+padded-take zero k = refl
+padded-take (suc w) [] = refl
+padded-take (suc w) (x ∷ k) = ap (λ (l : List ℕ). x ∷ l) (padded-take w k)
+
+pub hand-holds : (k : List ℕ) → Holds (inHand k) k
+unfolding inHand
+hand-holds k = record { len = refl; letters = λ h. take-padded mostLetters k h }
