@@ -1,0 +1,14 @@
+-- `head::Head::permitted` meets its contract. The code tests what the definition tests, in its order, but for the least values of F,
+-- min and max, which are 0. Assumes nothing.
+use mathlib.Core.Bool.{and-assoc}
+use lib.Dec.{leb·zero}
+use Rattle.head.specs.Fields.{permitted}
+use Rattle.head.proofs.Head.permitted.Statement.{statement}
+use Rattle.head.proofs.Head.permitted.Tie as tie
+
+returns : tie.Need-returns
+unfolding permitted
+returns c = simp (leb·zero, and-assoc)
+
+pub permitted-spec : {M : Type 1} → statement M
+permitted-spec = tie.close (tie.spec returns)

@@ -1,0 +1,69 @@
+-- What is permitted in a head, as a record of named bounds and back. The test is a chain of tests within limits, and a chain is true
+-- exactly where each of its links is.
+use mathlib.Core.Path.{_≡_, refl}
+use mathlib.Core.Bool.{Bool, true, false, _&&_, false≢true}
+use Prim.Native.Nat.{ℕ, _≤_}
+use native.Mathlib.Omega.{arith}
+use borrow.Author.Tests.{leb-true, le-leb}
+use lib.Dec.{leb}
+use Rattle.field.specs.Range.{between}
+use Rattle.head.specs.declared.Head.{Head}
+use Rattle.head.specs.Fields.{permitted, mostLinks, mostLinkBytes, mostDataBytes, mostAlphabet, mostLetters}
+
+pub record Bounds (h : Head) : Type 0 where
+  pub n-least : 1 ≤ h .n
+  pub n-most : h .n ≤ mostLinks
+  pub a-least : 1 ≤ h .a
+  pub a-most : h .a ≤ mostLinkBytes
+  pub d-least : 1 ≤ h .d
+  pub d-most : h .d ≤ mostDataBytes
+  pub f-most : h .f ≤ mostAlphabet
+  pub min-most : h .min ≤ h .max
+  pub max-most : h .max ≤ mostLetters
+
+both : (a b : Bool) → (a && b) ≡ true → (a ≡ true) × (b ≡ true)
+both true b e = (refl, e)
+both false b e = absurd (false≢true e)
+
+pub between-true : (x low high : ℕ) → between x low high ≡ true → (low ≤ x) × (x ≤ high)
+between-true x low high e =
+    let t : (leb low x ≡ true) × (leb x high ≡ true) = both (leb low x) (leb x high) e in
+    (leb-true low x (t .0), leb-true x high (t .1))
+
+pub true-between : (x low high : ℕ) → low ≤ x → x ≤ high → between x low high ≡ true
+true-between x low high p q = rw (le-leb low x p, le-leb x high q)
+
+pub bounds : (h : Head) → permitted h ≡ true → Bounds h
+unfolding permitted
+bounds h e =
+    let t5 = both _ (between (h .max) 0 mostLetters) e in
+    let t4 = both _ (between (h .min) 0 (h .max)) (t5 .0) in
+    let t3 = both _ (between (h .f) 0 mostAlphabet) (t4 .0) in
+    let t2 = both _ (between (h .d) 1 mostDataBytes) (t3 .0) in
+    let t1 = both (between (h .n) 1 mostLinks) (between (h .a) 1 mostLinkBytes) (t2 .0) in
+    let n = between-true (h .n) 1 mostLinks (t1 .0) in
+    let a = between-true (h .a) 1 mostLinkBytes (t1 .1) in
+    let d = between-true (h .d) 1 mostDataBytes (t2 .1) in
+    record {
+      n-least = n .0;
+      n-most = n .1;
+      a-least = a .0;
+      a-most = a .1;
+      d-least = d .0;
+      d-most = d .1;
+      f-most = between-true (h .f) 0 mostAlphabet (t3 .1) .1;
+      min-most = between-true (h .min) 0 (h .max) (t4 .1) .1;
+      max-most = between-true (h .max) 0 mostLetters (t5 .1) .1;
+    }
+
+pub bounded : (h : Head) → Bounds h → permitted h ≡ true
+unfolding permitted
+bounded h b =
+    rw (
+      true-between (h .n) 1 mostLinks (b .n-least) (b .n-most),
+      true-between (h .a) 1 mostLinkBytes (b .a-least) (b .a-most),
+      true-between (h .d) 1 mostDataBytes (b .d-least) (b .d-most),
+      true-between (h .f) 0 mostAlphabet (omega arith) (b .f-most),
+      true-between (h .min) 0 (h .max) (omega arith) (b .min-most),
+      true-between (h .max) 0 mostLetters (omega arith) (b .max-most),
+    )

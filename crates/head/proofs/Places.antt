@@ -1,0 +1,66 @@
+-- Where nodes begin and how much is used. A node begins W bytes after the one before it, so that all follows from the laws of a product;
+-- in a permitted head W is at most 1028, and no address takes a place past 43 bits.
+use mathlib.Core.Path.{_≡_, refl}
+use mathlib.Core.Bool.{true}
+use Prim.Native.Nat.{ℕ, suc, _+_, _*_, _^_, _≤_, _<_}
+use native.Mathlib.Nat.{add-mul, suc-mul, one-le-mul, mul-le-mul, mul-le-mul-right}
+use native.Mathlib.Omega.{arith}
+use Rattle.head.specs.declared.Head.{Head}
+use Rattle.head.specs.Fields.{permitted, nodeWidth, nodePlace, usedLen, fieldsLen}
+use Rattle.head.proofs.Permitted.{Bounds}
+
+-- a row of w ends before a later one begins
+pub row : {p q : ℕ} (w : ℕ) → p < q → p * w + w ≤ q * w
+row {p} w h = rw (← suc-mul p w) (mul-le-mul-right w h)
+
+-- ---- the node width
+
+pub width : (h : Head) → nodeWidth h ≡ h .n * h .a + h .d
+unfolding nodeWidth
+width h = refl
+
+pub width-least : {h : Head} → Bounds h → 1 < nodeWidth h
+unfolding nodeWidth
+width-least b = omega (arith, one-le-mul (b .n-least) (b .a-least))
+
+pub width-most : {h : Head} → Bounds h → nodeWidth h ≤ 1028
+unfolding nodeWidth
+width-most b = omega (arith, mul-le-mul (b .n-most) (b .a-most))
+
+-- ---- where a node begins
+
+pub place : (h : Head) (q : ℕ) → nodePlace h q ≡ fieldsLen + h .f + q * nodeWidth h
+unfolding nodePlace
+place h q = refl
+
+pub place-add : (h : Head) (q k : ℕ) → nodePlace h (q + k) ≡ nodePlace h q + k * nodeWidth h
+unfolding nodePlace
+place-add h q k = omega (arith, add-mul q k (nodeWidth h))
+
+-- a node ends before a later one begins
+pub place-row : (h : Head) {p q : ℕ} → p < q → nodePlace h p + nodeWidth h ≤ nodePlace h q
+unfolding nodePlace
+place-row h b = omega (arith, row (nodeWidth h) b)
+
+pub place-least : (h : Head) (q : ℕ) → fieldsLen + h .f ≤ nodePlace h q
+unfolding nodePlace
+place-least h q = omega arith
+
+pub place-most : {h : Head} (q : ℕ) → Bounds h → q ≤ 2 ^ 32 → nodePlace h q < 2 ^ 43
+unfolding nodePlace
+place-most q b l = omega (arith, mul-le-mul l (width-most b), b .f-most)
+
+-- ---- what is used
+
+pub used : (h : Head) → usedLen h ≡ fieldsLen + h .f + (h .g + 1) * nodeWidth h
+unfolding usedLen
+used h = refl
+
+pub used-place : (h : Head) → usedLen h ≡ nodePlace h (h .g + 1)
+unfolding usedLen
+used-place h = refl
+
+-- a node up to G ends within what is used
+pub used-row : (h : Head) {q : ℕ} → q ≤ h .g → nodePlace h q + nodeWidth h ≤ usedLen h
+unfolding usedLen
+used-row h l = place-row h (omega arith)
