@@ -33,11 +33,11 @@ pub record Opens (l : List ℕ) (r : Opened) : Type 0 where
   pub decoded : rowOf (r .verdict) ≡ none → Decoded (alphabetIn (headOf l) l) r
 
 -- 4 alone, with what was learnt before it
-pub record RoomOf (h : Head) (len count : ℕ) (codes : List ℕ) (r : Opened) : Type 0 where
+pub record RoomOf (h : Head) (len counted : ℕ) (decodes : List ℕ) (r : Opened) : Type 0 where
   pub verdict : rowOf (r .verdict) ≡ row4 h len
   pub head : r .head ≡ h
-  pub count : r .count ≡ count
-  pub codes : r .codes ≡ codes
+  pub count : r .count ≡ counted
+  pub codes : r .codes ≡ decodes
 
 pub record RefusedOf (h : Head) (why : Refusal) (r : Opened) : Type 0 where
   pub verdict : r .verdict ≡ Verdict.Refused why

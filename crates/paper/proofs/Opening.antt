@@ -6,8 +6,8 @@ use mathlib.Core.Bool.{Bool, true, false, not, _&&_}
 use mathlib.Core.Option.{none, some}
 use mathlib.Core.List.{List, [], _∷_}
 use lib.ListN.{length}
-use lib.Dec.{ltb, eqb}
-use borrow.Author.Tests.{lt-ltb, eq-eqb, ltb-false, not-false}
+use lib.Dec.{leb, ltb, eqb}
+use borrow.Author.Tests.{lt-ltb, le-ltb, eq-eqb, leb-true, leb-false, ltb-false, not-false}
 use Rattle.field.specs.Range.{between}
 use Rattle.head.specs.declared.Head.{Head}
 use Rattle.head.specs.Fields.{shortestImage, longestImage, permitted, usedLen}
@@ -16,13 +16,22 @@ use Rattle.paper.specs.Hearing.{Row, first}
 use Rattle.paper.specs.Answers.{said}
 use Rattle.paper.specs.Rows.{row1, row2, row3, row4}
 use Rattle.paper.specs.Orders.{opening}
-use Rattle.paper.proofs.Hearing.{untrue, unfalse, yes-row, no-row, passed-row, was-false}
+use Rattle.paper.proofs.Hearing.{is-given, not-given, untrue, unfalse, yes-row, no-row, passed-row, was-false}
 
 -- the order's last row alone is the row
 last-row : (r : Row) → first (r ∷ []) ≡ r
 unfolding first
 last-row none = refl
 last-row (some s) = refl
+
+-- row 4, by the test that the used bytes fit
+pub fits-4 : (h : Head) (len : ℕ) → leb (usedLen h) len ≡ true → row4 h len ≡ none
+unfolding row4
+fits-4 h len e = not-given 4 0 (le-ltb len (usedLen h) (leb-true (usedLen h) len e))
+
+pub heard-4 : (h : Head) (len : ℕ) → leb (usedLen h) len ≡ false → row4 h len ≡ some (said 4 0)
+unfolding row4
+heard-4 h len e = is-given 4 0 (lt-ltb len (usedLen h) (leb-false (usedLen h) len e))
 
 module _ (h : Head) (alphabet : List ℕ) (len : ℕ) where
   -- the test of row 3

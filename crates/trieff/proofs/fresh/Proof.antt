@@ -1,0 +1,56 @@
+-- `trieff::fresh` meets its contract: the three parts lie one behind the other inside the image, and are the fresh image.
+-- Assumes nothing.
+use Prim.Native.Nat.{_+_, _≤_}
+use native.Mathlib.Omega.{arith}
+use borrow.Author.Needs.{needs}
+use lib.ListN.{length}
+use Rattle.head.specs.Fields.{nodeWidth}
+use Rattle.trieff.proofs.Making.{whole, written}
+use Rattle.trieff.proofs.fresh.Statement.{statement}
+use Rattle.trieff.proofs.fresh.Tie as tie
+
+-- head, alphabet and root lie inside the image
+inside : (c : tie.Start) → 28 + length (c .args .alphabet .now) + nodeWidth (c .args .h) ≤ length (c .args .image .now)
+inside c = whole (c .args .h) (c .args .alphabet .now) (c .args .image .now) (c .pre .1 .0) (c .pre .1 .1 .0) (c .pre .1 .1 .1)
+
+write-requires : tie.Need-write-requires
+write-requires c κs = omega (arith, inside (c .before .before .before))
+
+lay-requires : tie.Need-lay-requires
+lay-requires c κs =
+    omega (arith, inside (c .before .before .before .before .before .before .before), c .before .before .before .write .kept .1 .0)
+
+node-width-requires : tie.Need-node-width-requires
+node-width-requires c κs = search needs
+
+add-clear : tie.Need-add-clear
+add-clear c = search needs
+
+clear-requires : tie.Need-clear-requires
+clear-requires c κs =
+    let lay = c .before .before .before .before in
+    let write = c .before .before .before .before .before .before .before .before in
+    omega (arith, inside (write .before .before .before .before), c .before .node-width .ensures, lay .lay .kept .0, write .write .kept .1 .0)
+
+same-length : tie.Need-same-length
+same-length c = search needs
+
+returns : tie.Need-returns
+returns c =
+    let clear = c .before .before in
+    let width = clear .before .before in
+    let lay = width .before .before .before in
+    let write = lay .before .before .before .before in
+    written _ _ _ (write .write .ensures) (lay .lay .ensures) (width .node-width .ensures) (clear .clear .ensures)
+
+pub fresh-spec : {M : Type 1} → statement M
+fresh-spec =
+    tie.close
+    (tie.spec
+    write-requires
+    lay-requires
+    node-width-requires
+    add-clear
+    clear-requires
+    same-length
+    returns)
