@@ -44,8 +44,7 @@ fit-bytes l b =
 pub head-same : (l m : List ℕ) → ((k : ℕ) → k < fieldsLen → getD l k 0 ≡ getD m k 0) → headOf l ≡ headOf m
 unfolding headOf
 head-same l m e =
-    let same : (at : ℕ) → at + 4 ≤ fieldsLen → fieldAt l at 4 ≡ fieldAt m at 4 =
-    λ at b. field-same l m at at 4 (λ k c. e (at + k) (omega arith)) in
+    let same : (at : ℕ) → at + 4 ≤ fieldsLen → fieldAt l at 4 ≡ fieldAt m at 4 = λ at b. field-same l m at at 4 (λ k c. e (at + k) (omega arith)) in
     head-eq (headOf l) (headOf m)
     (same 0 (omega arith)) (same 4 (omega arith)) (same 8 (omega arith)) (same 12 (omega arith))
     (same 16 (omega arith)) (same 20 (omega arith)) (same 24 (omega arith))
@@ -92,8 +91,7 @@ pub head-total : (l : List ℕ) (g : ℕ) → 4 ≤ length l → g < 2 ^ 32
     ≡ record { g = g; n = headOf l .n; a = headOf l .a; d = headOf l .d; f = headOf l .f; min = headOf l .min; max = headOf l .max }
 unfolding headOf
 head-total l g e b =
-    let kept : (at : ℕ) → 4 ≤ at → fieldAt (sets l 0 (digits 4 g)) at 4 ≡ fieldAt l at 4 =
-    λ at c. field-outside l (digits 4 g) 0 at 4 (inr (omega (arith, length-digits 4 g))) in
+    let kept : (at : ℕ) → 4 ≤ at → fieldAt (sets l 0 (digits 4 g)) at 4 ≡ fieldAt l at 4 = λ at c. field-outside l (digits 4 g) 0 at 4 (inr (omega (arith, length-digits 4 g))) in
     head-eq (headOf (sets l 0 (digits 4 g))) _
     (read-written-fits l 0 4 g e b)
     (kept 4 (omega arith)) (kept 8 (omega arith)) (kept 12 (omega arith))

@@ -21,7 +21,7 @@ pub record Bounds (h : Head) : Type 0 where
   pub min-most : h .min ≤ h .max
   pub max-most : h .max ≤ mostLetters
 
-both : (a b : Bool) → (a && b) ≡ true → (a ≡ true) × (b ≡ true)
+pub both : (a b : Bool) → (a && b) ≡ true → (a ≡ true) × (b ≡ true)
 both true b e = (refl, e)
 both false b e = absurd (false≢true e)
 

@@ -37,10 +37,9 @@ pub place-add : (h : Head) (q k : ℕ) → nodePlace h (q + k) ≡ nodePlace h q
 unfolding nodePlace
 place-add h q k = omega (arith, add-mul q k (nodeWidth h))
 
--- a node ends before a later one begins
-pub place-row : (h : Head) {p q : ℕ} → p < q → nodePlace h p + nodeWidth h ≤ nodePlace h q
+pub place-le : (h : Head) (p q : ℕ) → p ≤ q → nodePlace h p ≤ nodePlace h q
 unfolding nodePlace
-place-row h b = omega (arith, row (nodeWidth h) b)
+place-le h p q b = omega (arith, mul-le-mul-right (nodeWidth h) b)
 
 pub place-least : (h : Head) (q : ℕ) → fieldsLen + h .f ≤ nodePlace h q
 unfolding nodePlace
@@ -56,11 +55,7 @@ pub used : (h : Head) → usedLen h ≡ fieldsLen + h .f + (h .g + 1) * nodeWidt
 unfolding usedLen
 used h = refl
 
-pub used-place : (h : Head) → usedLen h ≡ nodePlace h (h .g + 1)
+-- nodes up to G end within what is used
+pub used-le : (h : Head) (q : ℕ) → q ≤ h .g + 1 → nodePlace h q ≤ usedLen h
 unfolding usedLen
-used-place h = refl
-
--- a node up to G ends within what is used
-pub used-row : (h : Head) {q : ℕ} → q ≤ h .g → nodePlace h q + nodeWidth h ≤ usedLen h
-unfolding usedLen
-used-row h l = place-row h (omega arith)
+used-le h q b = place-le h q (h .g + 1) b

@@ -1,0 +1,6 @@
+-- Laws over heads, tables and lists of bytes, for the crates above: `Places` on where links and data stand, `Tables` on the table that an
+-- image is, `Writes` on what a write does to it, `Heads` on the tables that two heads see in one image.
+pub mod Places
+pub mod Tables
+pub mod Writes
+pub mod Heads
