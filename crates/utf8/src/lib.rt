@@ -17,13 +17,15 @@ const ROWS: [[u8; 5]; 9] = [
     [0xF4, 0xF4, 0x80, 0x8F, 4],
 ];
 
-// The bytes of the well-formed character at `at`, 0 where none stands there.
+// The bytes of the well-formed character at `at`, 0 where none stands there. The table is bound before the loop, so that
+// the compiler makes the loop nine tests against constants.
 pub fn char_len(s: &[u8], at: usize) -> usize
     ensures { λ r. ⌜ r ≡ charLen (now (s .entry)) at ⌝ }
 {
+    let rows = ROWS;
     let mut i: usize = 0;
     while i < 9 {
-        let row = ROWS[i];
+        let row = rows[i];
         if fits(row, s, at) {
             return row[4] as usize;
         }
@@ -32,11 +34,18 @@ pub fn char_len(s: &[u8], at: usize) -> usize
     0
 }
 
-// The character of n bytes at `at` as the number that its bytes make.
+// The character of n bytes at `at` as the number that its bytes make, 0 where none stands there. A single byte is read
+// straight, without the loop of a field.
 pub fn char_at(s: &[u8], at: usize, n: usize) -> u32
     requires { ⌜ n ≡ charLen (now s) at ⌝ }
     ensures { λ r. ⌜ r ≡ charAt (now (s .entry)) at ⌝ }
 {
+    if n == 0 {
+        return 0;
+    }
+    if n == 1 {
+        return s[at] as u32;
+    }
     field::read(s, at, n) as u32
 }
 
