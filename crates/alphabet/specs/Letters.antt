@@ -29,7 +29,7 @@ unfoldable pub goodAlphabet : ℕ → List ℕ → Bool
 unfolding isAlphabet chars
 goodAlphabet n bytes = isAlphabet n (chars bytes)
 
--- the letters of an alphabet: its characters, and none where it is empty or no alphabet at all
+-- the letters of an alphabet are its characters; bytes that are not well-formed have none
 unfoldable pub lettersIn : Option (List ℕ) → List ℕ
 lettersIn none = []
 lettersIn (some cs) = cs

@@ -1,10 +1,16 @@
 -- The key in hand of a list of letters holds it: its front is the list where the array is long enough, and zeros fill the rest. All by
 -- going down the array.
-use Prim.Native.Nat.{ℕ, zero, suc, _≤_, _<_}
-use mathlib.Core.Path.{_≡_, refl, ap}
+use Prim.Native.Nat.{ℕ, zero, suc, _+_, _≤_, _<_, min}
+use mathlib.Core.Path.{_≡_, refl, sym, _∙_, ap}
+use mathlib.Core.Bool.{Bool, true, false}
 use mathlib.Core.List.{List, [], _∷_, _++_}
 use native.Mathlib.Nat.{le-of-suc-le-suc, not-suc-le-zero}
-use lib.ListN.{length, take, set, replicate}
+use native.Mathlib.Numerals.{add-one}
+use native.Mathlib.Omega.{arith}
+use lib.Dec.{leb}
+use lib.ListN.{length, getD, take, set, replicate}
+use lib.Seq.{length-take-le, take-all, take-suc}
+use borrow.Author.Tests.{leb-true, leb-false}
 use Rattle.head.specs.Fields.{mostLetters}
 use Rattle.key.specs.Hand.{padded, inHand, Holds}
 
@@ -40,6 +46,27 @@ unfolding padded
 padded-take zero k = refl
 padded-take (suc w) [] = refl
 padded-take (suc w) (x ∷ k) = ap (λ (l : List ℕ). x ∷ l) (padded-take w k)
+
+-- ---- letters copied one after the other
+
+pub copy-more : (w : ℕ) (l kept : List ℕ) (i : ℕ) → i < length l → i < w → kept ≡ padded w (take i l) → set kept i (getD l i 0) ≡ padded w (take (i + 1) l)
+copy-more w l kept i h k e =
+    let so : length (take i l) ≡ i = length-take-le i l (omega arith) in
+    ap (λ (a : List ℕ). set a i (getD l i 0)) e
+    ∙ ap (λ (j : ℕ). set (padded w (take i l)) j (getD l i 0)) (sym so)
+    ∙ padded-more w (take i l) (getD l i 0) (omega arith)
+    ∙ ap (padded w) (sym (take-suc l i 0 h) ∙ ap (λ (j : ℕ). take j l) (sym (add-one i)))
+
+-- as many as there are, and as the array can hold
+pub copy-all : (w : ℕ) (l : List ℕ) (i : ℕ) → i ≡ min (length l) w → padded w (take i l) ≡ padded w l
+copy-all w l i e = go (leb (length l) w) refl
+  where
+    go : (b : Bool) → leb (length l) w ≡ b → padded w (take i l) ≡ padded w l
+    go true b = let h : length l ≤ w = leb-true _ _ b in ap (padded w) (take-all i l (omega arith))
+    go false b =
+        let h : w < length l = leb-false _ _ b in
+        let so : i ≡ w = omega arith in
+        ap (λ (j : ℕ). padded w (take j l)) so ∙ padded-take w l
 
 pub hand-holds : (k : List ℕ) → Holds (inHand k) k
 unfolding inHand

@@ -1,7 +1,7 @@
 -- TRIEFF 0.6.0 (source document 002), "Querying the document": its sample algorithm, transcribed line by line and apart from our own
 -- walk, for demand 2. It knows no table and no refusal: it reads fields at computed places of the document, and answers 0 for whatever is
--- not there. Where 002 writes s.indexOf(..) for a character, the allowed characters are meant; -1, "not found", is here the number of
--- allowed characters, which the test `query[f] >= [N]` turns away likewise.
+-- not there. Where 002 writes s.indexOf(..) for a character, the allowed characters are meant; its -1, "not found", is here [N], which the
+-- same test turns away.
 use Prim.Native.Nat.{ℕ, zero, suc, _+_, _*_}
 use mathlib.Core.Bool.{Bool, _||_, cond}
 use mathlib.Core.Option.{Option, none, some}
@@ -42,12 +42,17 @@ unfolding queryFrom headOf
 query002 l query =
     cond (ltb (length query) (headOf l .min) || ltb (headOf l .max) (length query)) 0 (queryFrom (headOf l) l 0 query)
 
--- for (int f = 0; f < s.length; f++) { query[f] = s.indexOf(qTemp.charAt(f)); }
-unfoldable pub indexesOf : List ℕ → Option (List ℕ) → List ℕ
+-- s.indexOf(qTemp.charAt(f)): the place of a character among the allowed ones, and [N] for -1
+unfoldable pub indexOf : Head → List ℕ → ℕ → ℕ
 unfolding letterOf
-indexesOf allowedChars none = []
-indexesOf allowedChars (some s) = map (letterOf allowedChars) s
+indexOf h allowedChars c = cond (ltb (letterOf allowedChars c) (length allowedChars)) (letterOf allowedChars c) (h .n)
+
+-- for (int f = 0; f < s.length; f++) { query[f] = s.indexOf(qTemp.charAt(f)); }; bytes that are no text are not stored
+unfoldable pub queryChars : List ℕ → Option (List ℕ) → ℕ
+unfolding query002 indexOf letters alphabetIn
+queryChars l none = 0
+queryChars l (some s) = query002 l (map (indexOf (headOf l) (letters (alphabetIn (headOf l) l))) s)
 
 unfoldable pub queryText002 : List ℕ → List ℕ → ℕ
-unfolding query002 indexesOf letters chars alphabetIn
-queryText002 l text = query002 l (indexesOf (letters (alphabetIn (headOf l) l)) (chars text))
+unfolding queryChars chars
+queryText002 l text = queryChars l (chars text)

@@ -21,7 +21,7 @@ pub fn make(image: &mut [u8], n: u32, a: u32, d: u32, alphabet: &[u8], min: u32,
         return Done::Refused(Refusal::ImageLength);
     }
     let f = alphabet.len();
-    if 1024 < f {
+    if (Head::F_MOST as usize) < f {
         return Done::Refused(Refusal::HeadField);
     }
     let h = Head {

@@ -1,0 +1,53 @@
+-- `key::Key::of` meets its contract: the letters copied so far, with zeros behind them, are the array.
+-- Assumes nothing.
+use Prim.Native.Nat.{_+_, _-_, _≤_, min}
+use mathlib.Core.Path.{_≡_, refl, sym, _∙_, ap}
+use native.Mathlib.Omega.{arith}
+use borrow.Author.Needs.{needs}
+use lib.ListN.{length, take}
+use Rattle.key.specs.Hand.{padded, inHand}
+use Rattle.key.proofs.Hand.{copy-more, copy-all}
+use Rattle.key.proofs.Key.of.Statement.{statement}
+use Rattle.key.proofs.Key.of.Tie as tie
+
+abbrev Inv-loop : tie.InvT-loop
+Inv-loop letters most kept₀ i₀ kept i = (i ≤ most) × (most ≡ min (length letters) 64) × (kept ≡ padded 64 (take i letters))
+
+abbrev μ-loop : tie.MeasureT-loop
+μ-loop letters most kept₀ i₀ kept i = most - i
+
+loop-holds : tie.Need-loop-holds Inv-loop μ-loop
+unfolding padded
+loop-holds c = ?holds
+
+shared-slice-read-kept : tie.Need-shared-slice-read-kept Inv-loop μ-loop
+shared-slice-read-kept c = omega arith
+
+array-write-kept : tie.Need-array-write-kept Inv-loop μ-loop
+array-write-kept c = ?write
+
+add-i : tie.Need-add-i Inv-loop μ-loop
+add-i c = omega arith
+
+loop-less : tie.Need-loop-less Inv-loop μ-loop
+loop-less c = omega arith
+
+loop-again : tie.Need-loop-again Inv-loop μ-loop
+loop-again c = ?again
+
+returns : tie.Need-returns Inv-loop μ-loop
+returns c = ?returns
+
+pub of-spec : {M : Type 1} → statement M
+of-spec =
+    tie.close
+    (tie.spec
+    Inv-loop
+    μ-loop
+    loop-holds
+    shared-slice-read-kept
+    array-write-kept
+    add-i
+    loop-less
+    loop-again
+    returns)

@@ -1,0 +1,27 @@
+-- `key::Typed::judge` meets its contract: 10 where the text names no key, then 9 by the length of the key that it names.
+-- Assumes nothing.
+use mathlib.Core.Path.{sym, _∙_}
+use borrow.Author.Needs.{needs}
+use borrow.Author.Tests.{not-true, not-false}
+use Rattle.paper.specs.Answers.{rowOf}
+use Rattle.key.proofs.Judging.{typed-10, typed-9, typed-passed}
+use Rattle.key.proofs.Typed.judge.Statement.{statement}
+use Rattle.key.proofs.Typed.judge.Tie as tie
+
+returns : tie.Need-returns
+unfolding rowOf
+returns c = λ named e. sym (typed-10 _ _ named e (not-true _ (c .if1 .taken)))
+
+length-allowed-requires : tie.Need-length-allowed-requires
+length-allowed-requires c κs = search needs
+
+returns-2 : tie.Need-returns-2
+unfolding rowOf
+returns-2 c = λ named e. sym (typed-9 _ _ named e ?named ?len)
+
+returns-3 : tie.Need-returns-3
+unfolding rowOf
+returns-3 c = λ named e. sym (typed-passed _ _ named e ?named ?len)
+
+pub judge-spec : {M : Type 1} → statement M
+judge-spec = tie.close (tie.spec returns length-allowed-requires returns-2 returns-3)
