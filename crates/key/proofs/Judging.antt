@@ -10,7 +10,8 @@ use lib.ListN.{length, getD, take}
 use borrow.Author.Tests.{lt-ltb, le-ltb}
 use Rattle.field.specs.Range.{between}
 use Rattle.head.specs.declared.Head.{Head}
-use Rattle.head.specs.Fields.{mostLetters}
+use Rattle.head.specs.Fields.{permitted, mostLetters}
+use Rattle.head.proofs.Permitted.{bounds, between-true}
 use Rattle.alphabet.specs.Letters.{lettersIn}
 use Rattle.paper.specs.Hearing.{first}
 use Rattle.paper.specs.Answers.{said}
@@ -24,6 +25,10 @@ use Rattle.key.specs.Hand.{inHand, Holds, typedAs}
 -- the letters of a key in hand whose length is allowed
 pub held : {hand : Key} {k : List ℕ} → Holds hand k → hand .len ≤ mostLetters → take (hand .len) (hand .letters) ≡ k
 held {hand} {k} o h = rw (o .len) (o .letters (rw (o .len) at h))
+
+-- a key whose length is allowed can be held
+pub short : (h : Head) {len : ℕ} → permitted h ≡ true → between len (h .min) (h .max) ≡ true → len ≤ mostLetters
+short h {len} p b = let m = bounds h p in let u = between-true len (h .min) (h .max) b in omega arith
 
 module _ (h : Head) {hand : Key} {k : List ℕ} (o : Holds hand k) where
   pub letters-9 : between (hand .len) (h .min) (h .max) ≡ false → first (byLetters h k) ≡ some (said 9 0)

@@ -1,6 +1,7 @@
 -- `key::Key::of` meets its contract: the letters copied so far, with zeros behind them, are the array.
 -- Assumes nothing.
 use Prim.Native.Nat.{_+_, _-_, _≤_, min}
+use mathlib.Core.Logic.{⊎-elim}
 use mathlib.Core.Path.{_≡_, refl, sym, _∙_, ap}
 use native.Mathlib.Omega.{arith}
 use borrow.Author.Needs.{needs}
@@ -18,13 +19,13 @@ abbrev μ-loop : tie.MeasureT-loop
 
 loop-holds : tie.Need-loop-holds Inv-loop μ-loop
 unfolding padded
-loop-holds c = ?holds
+loop-holds c = (omega arith, ⊎-elim (λ w. omega arith) (λ w. omega arith) (c .if1 .came), refl)
 
 shared-slice-read-kept : tie.Need-shared-slice-read-kept Inv-loop μ-loop
 shared-slice-read-kept c = omega arith
 
 array-write-kept : tie.Need-array-write-kept Inv-loop μ-loop
-array-write-kept c = ?write
+array-write-kept c = omega arith
 
 add-i : tie.Need-add-i Inv-loop μ-loop
 add-i c = omega arith
@@ -33,10 +34,16 @@ loop-less : tie.Need-loop-less Inv-loop μ-loop
 loop-less c = omega arith
 
 loop-again : tie.Need-loop-again Inv-loop μ-loop
-loop-again c = ?again
+loop-again c =
+    (omega arith, c .before .before .loop .inv .1, copy-more 64 _ _ _ (omega arith) (omega arith) (c .before .before .loop .inv .2))
 
 returns : tie.Need-returns Inv-loop μ-loop
-returns c = ?returns
+unfolding inHand
+returns c =
+    let at = c .before in
+    let letters = at .before .before .args .letters .now in
+    let all : at .loop .kept ≡ padded 64 letters = at .loop .inv .2 ∙ copy-all 64 letters (at .loop .i) (omega arith) in
+    λ j. record { letters = all j; len = length letters }
 
 pub of-spec : {M : Type 1} → statement M
 of-spec =

@@ -17,11 +17,11 @@ length-allowed-requires c κs = search needs
 
 returns-2 : tie.Need-returns-2
 unfolding rowOf
-returns-2 c = λ named e. sym (typed-9 _ _ named e ?named ?len)
+returns-2 c = λ named e. sym (typed-9 _ _ named e (not-false _ (c .before .before .before .if1 .left)) (sym (c .before .length-allowed .ensures) ∙ not-true _ (c .if2 .taken)))
 
 returns-3 : tie.Need-returns-3
 unfolding rowOf
-returns-3 c = λ named e. sym (typed-passed _ _ named e ?named ?len)
+returns-3 c = λ named e. sym (typed-passed _ _ named e (not-false _ (c .before .before .before .if1 .left)) (sym (c .before .length-allowed .ensures) ∙ not-false _ (c .if2 .left)))
 
 pub judge-spec : {M : Type 1} → statement M
 judge-spec = tie.close (tie.spec returns length-allowed-requires returns-2 returns-3)
