@@ -1,6 +1,6 @@
 -- What a write does to the table. One that misses the nodes changes nothing; that of a link or of data changes its own entry, since no
 -- other field has a byte in common with it.
-use mathlib.Core.Path.{_≡_, refl, sym, ap, _∙_}
+use mathlib.Core.Path.{_≡_, sym, _∙_}
 use mathlib.Core.Logic.{_⊎_, inl, inr, ⊎-elim, Dec·and}
 use Prim.Native.Nat.{ℕ, _+_, _^_, _≤_, _<_}
 use native.Mathlib.Decide.{ℕ-discrete}
@@ -17,7 +17,7 @@ use Rattle.trie.proofs.Put.{put-value, put-value-other}
 use Rattle.head.specs.declared.Head.{Head}
 use Rattle.head.specs.Fields.{fieldsLen, usedLen}
 use Rattle.node.specs.Image.{linkPlace, dataPlace, tableOf}
-use Rattle.node.proofs.Places.{Inside, inside-least, inside-used, link-inside, data-inside, Apart, links-apart, link-data-apart, data-apart}
+use Rattle.node.proofs.Places.{inside-least, inside-used, link-inside, data-inside, Apart, links-apart, link-data-apart, data-apart}
 use Rattle.node.proofs.Tables.{table-eq, child-in, value-in, child-same, value-same, table-same}
 
 -- a write into the head or the alphabet, or after what is used

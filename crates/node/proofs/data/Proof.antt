@@ -5,7 +5,6 @@ use mathlib.Core.Path.{sym, ap, _∙_}
 use Prim.Native.Nat.{ℕ}
 use Rattle.head.proofs.Permitted.{bounds}
 use Rattle.field.specs.Field.{fieldAt}
-use Rattle.node.specs.Image.{dataPlace}
 use Rattle.node.proofs.Places.{data-inside, inside-room}
 use Rattle.node.proofs.Tables.{value-in}
 use borrow.Author.Needs.{needs}

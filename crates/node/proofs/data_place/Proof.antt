@@ -1,6 +1,6 @@
 -- `node::data_place` meets its contract. A node begins below 2^43 and its links take 1024 bytes at most, so nothing wraps.
 -- Assumes nothing.
-use Prim.Native.Nat.{ℕ, _+_, _*_, _^_, _<_}
+use Prim.Native.Nat.{ℕ, _+_, _*_}
 use native.Mathlib.Omega.{arith}
 use mathlib.Core.Path.{ap}
 use Rattle.head.proofs.Permitted.{bounds}

@@ -6,7 +6,6 @@ use Prim.Native.Nat.{ℕ}
 use Rattle.head.proofs.Permitted.{bounds}
 use Rattle.field.specs.Field.{fieldAt}
 use Rattle.field.proofs.Fields.{field-fits}
-use Rattle.node.specs.Image.{linkPlace}
 use Rattle.node.proofs.Places.{link-inside, inside-room}
 use Rattle.node.proofs.Tables.{child-in}
 use borrow.Author.Needs.{needs}

@@ -1,0 +1,136 @@
+-- Whole nodes. A node whose bytes are all 0 has no link and no data, so a table with one such node more is the same table. The bytes of a
+-- new node are zeros with one number among them: they are laid as well by clearing the node and writing the number.
+use mathlib.Core.Path.{_≡_, refl, sym, ap, _∙_}
+use mathlib.Core.Logic.{inl}
+use Prim.Native.Nat.{ℕ, suc, _+_, _-_, _*_, _≤_, _<_}
+use native.Mathlib.Nat.{add-zero, add-mul, suc-mul, suc-ne-zero}
+use native.Mathlib.Decide.{ℕ-discrete, decLe, decLt}
+use native.Mathlib.Omega.{arith}
+use mathlib.Core.List.{List, [], _∷_, _++_, append-nil}
+use lib.ListN.{length, getD, set, replicate, length-replicate, getD-replicate, replicate-append-replicate}
+use lib.Seq.{sets, set-set}
+use Rattle.field.specs.Field.{fieldAt, digits, putField, cleared}
+use Rattle.field.proofs.Laid.{getD-inside, set-sets, sets-append, sets-comm}
+use Rattle.field.proofs.Fields.{field-same, field-zeros, length-digits}
+use Rattle.head.specs.declared.Head.{Head}
+use Rattle.head.specs.Fields.{nodeWidth, nodePlace}
+use Rattle.head.proofs.Places.{place-add}
+use Rattle.node.specs.Image.{linkPlace, dataPlace, tableOf}
+use Rattle.node.specs.Writes.{lastNode, pathNode}
+use Rattle.node.proofs.Places.{Inside, link-inside, data-inside}
+use Rattle.node.proofs.Tables.{table-eq, child-in, value-in, framed}
+use Rattle.node.proofs.Heads.{withTotal, child-kept, value-kept}
+
+-- ---- a node of zeros
+
+abbrev pub Blank : Head → List ℕ → ℕ → Type 0
+Blank h l q = (k : ℕ) → k < nodeWidth h → getD l (nodePlace h q + k) 0 ≡ 0
+
+blank-field : (h : Head) (l : List ℕ) (q at w : ℕ) → Blank h l q → Inside h q at w → fieldAt l at w ≡ 0
+blank-field h l q at w z s = field-same l [] at 0 w zeros ∙ field-zeros 0 0 w
+  where
+    zeros : (k : ℕ) → k < w → getD l (at + k) 0 ≡ getD [] (0 + k) 0
+    zeros k b =
+        let j : ℕ = at + k - nodePlace h q in
+        let e : nodePlace h q + j ≡ at + k = omega (arith, s) in
+        ap (λ (p : ℕ). getD l p 0) (sym e) ∙ z j (omega (arith, s, place-add h q 1))
+
+module _ (h : Head) (l : List ℕ) (q : ℕ) (z : Blank h l q) where
+  pub blank-child : (i : ℕ) → tableOf h l .child q i ≡ 0
+  blank-child i = go (decLe q (h .g)) (decLt i (h .n))
+    where
+      go : Dec (q ≤ h .g) → Dec (i < h .n) → tableOf h l .child q i ≡ 0
+      go (yes b) (yes c) = child-in h l q i b c ∙ blank-field h l q (linkPlace h q i) (h .a) z (link-inside h q c)
+      go (yes b) (no c) = framed h l .no-letter q i (omega arith)
+      go (no b) c = framed h l .no-node q i (omega arith)
+
+  pub blank-value : tableOf h l .value q ≡ 0
+  blank-value = go (decLe q (h .g))
+    where
+      go : Dec (q ≤ h .g) → tableOf h l .value q ≡ 0
+      go (yes b) = value-in h l q b ∙ blank-field h l q (dataPlace h q) (h .d) z (data-inside h q)
+      go (no b) = framed h l .no-data q (omega arith)
+
+pub blank-cleared : (h : Head) (l : List ℕ) (q : ℕ) → nodePlace h q + nodeWidth h ≤ length l → Blank h (cleared l (nodePlace h q) (nodeWidth h)) q
+blank-cleared h l q r k b =
+    let n : length {A = ℕ} (replicate (nodeWidth h) 0) ≡ nodeWidth h = length-replicate (nodeWidth h) 0 in
+    getD-inside l (replicate (nodeWidth h) 0) (nodePlace h q) k 0 (omega arith) (omega arith) ∙ getD-replicate (nodeWidth h) k 0 0 b
+
+-- one node more, all of it 0
+pub table-blank : (h : Head) (l : List ℕ) (g : ℕ) → Blank h l (suc g) → tableOf (withTotal h (suc g)) l ≡ tableOf (withTotal h g) l
+unfolding nodeWidth nodePlace
+table-blank h l g z =
+    table-eq (tableOf more l) (tableOf less l) (λ p i. child p i (ℕ-discrete p (suc g)) (decLe p g)) (λ p. value p (ℕ-discrete p (suc g)) (decLe p g))
+  where
+    more : Head
+    more = withTotal h (suc g)
+
+    less : Head
+    less = withTotal h g
+
+    child : (p i : ℕ) → Dec (p ≡ suc g) → Dec (p ≤ g) → tableOf more l .child p i ≡ tableOf less l .child p i
+    child p i d (yes b) = child-kept less l (suc g) p b (omega arith) i
+    child p i (yes e) (no b) = rw e (blank-child more l (suc g) z i ∙ sym (framed less l .no-node (suc g) i (omega arith)))
+    child p i (no e) (no b) = framed more l .no-node p i (omega arith) ∙ sym (framed less l .no-node p i (omega arith))
+
+    value : (p : ℕ) → Dec (p ≡ suc g) → Dec (p ≤ g) → tableOf more l .value p ≡ tableOf less l .value p
+    value p d (yes b) = value-kept less l (suc g) p b (omega arith)
+    value p (yes e) (no b) = rw e (blank-value more l (suc g) z ∙ sym (framed less l .no-data (suc g) (omega arith)))
+    value p (no e) (no b) = framed more l .no-data p (omega arith) ∙ sym (framed less l .no-data p (omega arith))
+
+-- ---- the bytes of a new node
+
+-- what was laid before at the same place is gone
+sets-over : (l us vs : List ℕ) (at : ℕ) → length us ≡ length vs → sets (sets l at us) at vs ≡ sets l at vs
+sets-over l [] [] at e = refl
+sets-over l [] (v ∷ vs) at e = absurd (suc-ne-zero (length vs) (sym e))
+sets-over l (u ∷ us) [] at e = absurd (suc-ne-zero (length us) e)
+sets-over l (u ∷ us) (v ∷ vs) at e =
+    ap (λ (r : List ℕ). sets r (suc at) vs) (sym (set-sets (set l at u) us (suc at) at v (inl (omega arith))))
+    ∙ sets-over (set (set l at u) at v) us vs (suc at) (omega arith)
+    ∙ ap (λ (r : List ℕ). sets r (suc at) vs) (set-set l at u v)
+
+-- a part laid over the part that was laid there
+sets-among : (l a b c d : List ℕ) (at : ℕ) → length b ≡ length d → sets l at (a ++ (d ++ c)) ≡ sets (sets l at (a ++ (b ++ c))) (at + length a) d
+sets-among l a b c d at e =
+    three d
+    ∙ sym
+    (ap (λ (r : List ℕ). sets r p d) (three b)
+    ∙ sets-comm (sets x p b) c d (p + length b) p (inl (omega arith))
+    ∙ ap (λ (r : List ℕ). sets r (p + length b) c) (sets-over x b d p e)
+    ∙ ap (λ (n : ℕ). sets (sets x p d) (p + n) c) e)
+  where
+    x : List ℕ
+    x = sets l at a
+
+    p : ℕ
+    p = at + length a
+
+    three : (m : List ℕ) → sets l at (a ++ (m ++ c)) ≡ sets (sets x p m) (p + length m) c
+    three m = sets-append l at a (m ++ c) ∙ sets-append x p m c
+
+-- a number among zeros
+zeros-with : (l : List ℕ) (at k w r v : ℕ)
+    → sets l at (replicate k 0 ++ (digits w v ++ replicate r 0)) ≡ putField (cleared l at (k + (w + r))) (at + k) w v
+zeros-with l at k w r v =
+    sets-among l (replicate k 0) (replicate w 0) (replicate r 0) (digits w v) at (length-replicate w 0 ∙ sym (length-digits w v))
+    ∙ rw (replicate-append-replicate {A = ℕ} w r 0, replicate-append-replicate {A = ℕ} k (w + r) 0, length-replicate {A = ℕ} k 0)
+
+pub path-node : (h : Head) (l : List ℕ) (q y c : ℕ) → y < h .n
+    → sets l (nodePlace h q) (pathNode h y c) ≡ putField (cleared l (nodePlace h q) (nodeWidth h)) (linkPlace h q y) (h .a) c
+unfolding pathNode linkPlace
+path-node h l q y c b =
+    let r : ℕ = h .n - suc y in
+    let n : suc y + r ≡ h .n = omega arith in
+    let e : y * h .a + (h .a + (r * h .a + h .d)) ≡ h .n * h .a + h .d =
+    omega (arith, ap (λ (k : ℕ). k * h .a) n, add-mul (suc y) r (h .a), suc-mul y (h .a)) in
+    zeros-with l (nodePlace h q) (y * h .a) (h .a) (r * h .a + h .d) c
+    ∙ ap (λ (k : ℕ). putField (cleared l (nodePlace h q) k) (linkPlace h q y) (h .a) c) e
+
+pub last-node : (h : Head) (l : List ℕ) (q v : ℕ)
+    → sets l (nodePlace h q) (lastNode h v) ≡ putField (cleared l (nodePlace h q) (nodeWidth h)) (dataPlace h q) (h .d) v
+unfolding lastNode dataPlace
+last-node h l q v =
+    ap (λ (r : List ℕ). sets l (nodePlace h q) (replicate (h .n * h .a) 0 ++ r)) (sym (append-nil (digits (h .d) v)))
+    ∙ zeros-with l (nodePlace h q) (h .n * h .a) (h .d) 0 v
+    ∙ rw (add-zero (h .d))
