@@ -52,7 +52,10 @@ pub fn judge(h: Head, alphabet: &[u8], len: usize) -> Opened
         return refused(h, Refusal::HeadField);
     }
     let f = h.f as usize;
-    if (f == 0) | (alphabet.len() != f) {
+    if f == 0 {
+        return room(h, len, 0, [0u32; 256]);
+    }
+    if alphabet.len() != f {
         return room(h, len, 0, [0u32; 256]);
     }
     let n = h.n as usize;

@@ -20,7 +20,12 @@ abbrev μ-loop : tie.MeasureT-loop
 
 -- the alphabet has as many letters as are said
 letters : (c : tie.Start Inv-loop μ-loop) → length (take (c .args .n) (c .args .codes .now)) ≡ c .args .n
-letters c = length-take-le (c .args .n) (c .args .codes .now) ?codes
+letters c = length-take-le (c .args .n) (c .args .codes .now) (omega arith)
+
+-- the character passed is whole
+whole : (c : tie.After-char-len Inv-loop μ-loop) → c .char-len .result ≢ 0
+    → c .before .before .loop .at + c .char-len .result ≤ length (c .before .before .before .before .args .text .now)
+whole c h = ?whole
 
 loop-holds : tie.Need-loop-holds Inv-loop μ-loop
 loop-holds c = (omega arith, typing-none _ _)
@@ -32,7 +37,10 @@ nameless-requires : tie.Need-nameless-requires Inv-loop μ-loop
 nameless-requires c κs = search needs
 
 returns : tie.Need-returns Inv-loop μ-loop
-returns c = ?r1
+returns c =
+    let test = c .before in
+    let at = test .before .before .before in
+    c .nameless .ensures ∙ typing-ill (at .loop .inv .1) (omega arith) (sym (test .before .char-len .ensures) ∙ test .if1 .taken)
 
 char-at-requires : tie.Need-char-at-requires Inv-loop μ-loop
 char-at-requires c κs = c .before .char-len .ensures
@@ -44,28 +52,32 @@ nameless-requires-2 : tie.Need-nameless-requires-2 Inv-loop μ-loop
 nameless-requires-2 c κs = search needs
 
 returns-2 : tie.Need-returns-2 Inv-loop μ-loop
-returns-2 c = ?r2
+returns-2 c =
+    let test = c .before in
+    let seen = test .before .before .before .before in
+    let at = seen .before .before in
+    c .nameless2 .ensures ∙ typing-outside (at .loop .inv .1) ?z ?h
 
 cast-kept : tie.Need-cast-kept Inv-loop μ-loop
-cast-kept c = ?cast
+cast-kept c = omega arith
 
 array-write-kept : tie.Need-array-write-kept Inv-loop μ-loop
 array-write-kept c = omega arith
 
 add-len : tie.Need-add-len Inv-loop μ-loop
-add-len c = ?len
+add-len c = omega arith
 
 add-at : tie.Need-add-at Inv-loop μ-loop
-add-at c = ?at
+add-at c = omega (arith, whole (c .before .before .before .before .before))
 
 loop-less : tie.Need-loop-less Inv-loop μ-loop
-loop-less c = ?less
+loop-less c = omega (arith, whole (c .before .before .before .before .before))
 
 loop-again : tie.Need-loop-again Inv-loop μ-loop
-loop-again c = ?again
+loop-again c = (omega (arith, whole (c .before .before .before .before .before)), ⊎-elim (λ w. ?w1) (λ w. ?w2) (c .if3 .came))
 
 returns-3 : tie.Need-returns-3 Inv-loop μ-loop
-returns-3 c = ?r3
+returns-3 c = typing-all (c .before .loop .inv .1) (omega arith)
 
 pub of-spec : {M : Type 1} → statement M
 of-spec =
