@@ -12,50 +12,54 @@ pub struct Letters {
     pub codes: [u32; 256],
 }
 
-// Are these bytes exactly n well-formed characters, all different?
+// Are these bytes exactly n well-formed characters, all different? The codes are written into the answer itself, so that
+// no second array is copied.
 pub fn judge(bytes: &[u8], n: usize) -> Letters
     requires { ⌜ n ≤ 256 ⌝ }
     ensures { λ r. ⌜ Judged n (now (bytes .entry)) r ⌝ }
 {
-    let mut codes = [0u32; 256];
+    let mut judged = Letters {
+        good: false,
+        codes: [0u32; 256],
+    };
     let mut count: usize = 0;
     let mut top: u32 = 0;
     let mut at: usize = 0;
     while at < bytes.len() {
         let len = utf8::char_len(bytes, at);
         if len == 0 {
-            return Letters { good: false, codes };
+            return judged;
         }
         if n <= count {
-            return Letters { good: false, codes };
+            return judged;
         }
         let code = utf8::char_at(bytes, at, len);
         if code <= top {
-            if seen(&codes, count, code) {
-                return Letters { good: false, codes };
+            if seen(&judged.codes, count, code) {
+                return judged;
             }
         } else {
             top = code;
         }
-        codes[count] = code;
+        judged.codes[count] = code;
         count += 1;
         at += len;
     }
-    Letters {
-        good: count == n,
-        codes,
-    }
+    judged.good = count == n;
+    judged
 }
 
-// Is the code among the first `count`? The loop has no early exit, so that it runs over several codes at once.
+// Is the code among the first `count`? The loop has no early exit, so that it runs over several codes at once. As a slice
+// the array tells its length, here and below.
 fn seen(codes: &[u32; 256], count: usize, code: u32) -> bool
     requires { ⌜ count ≤ 256 ⌝ }
     ensures { λ r. ⌜ r ≡ among code (take count (now (codes .entry))) ⌝ }
 {
+    let all: &[u32] = codes;
     let mut hit = false;
     let mut i: usize = 0;
     while i < count {
-        hit = hit | (codes[i] == code);
+        hit = hit | (all[i] == code);
         i += 1;
     }
     hit
@@ -66,9 +70,10 @@ pub fn letter(codes: &[u32; 256], n: usize, code: u32) -> usize
     requires { ⌜ n ≤ 256 ⌝ }
     ensures { λ r. ⌜ r ≡ letterOf (take n (now (codes .entry))) code ⌝ }
 {
+    let all: &[u32] = codes;
     let mut i: usize = 0;
     while i < n {
-        if codes[i] == code {
+        if all[i] == code {
             return i;
         }
         i += 1;

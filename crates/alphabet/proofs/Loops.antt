@@ -1,0 +1,141 @@
+-- What the loops keep. Searching, no code passed is the one looked for. Judging, the codes so far are the text's characters so far, all
+-- different, and none is above `top`: so a code above `top` is new, and any other is new exactly if it is not among them.
+use mathlib.Core.Path.{_≡_, refl, sym, ap, _∙_, subst}
+use mathlib.Core.Logic.{_≢_}
+use mathlib.Core.Bool.{Bool, true, false, _||_, and-true, and-false}
+use mathlib.Core.Option.{Option, none, some}
+use Prim.Native.Nat.{ℕ, suc, _+_, _≤_, _<_}
+use native.Mathlib.Numerals.{add-one}
+use native.Mathlib.Omega.{arith}
+use mathlib.Core.List.{List, [], _∷_, _++_}
+use lib.Dec.{eqb}
+use lib.ListN.{length, getD, set, take, drop, length-set, length-append}
+use lib.Seq.{split-at, take-take, getD-take, take-suc, take-suc-set, length-take-le}
+use borrow.Author.Tests.{eqb-true, ne-eqb, ltb-false}
+use Rattle.utf8.specs.Table37.{charLen}
+use Rattle.utf8.specs.Text.{charAt}
+use Rattle.utf8.proofs.Texts.{prepend, charsAt, Passed, passed-none, passed-more, passed-all, passed-ill}
+use Rattle.alphabet.specs.Letters.{among, allDifferent, isAlphabet, goodAlphabet, lettersIn, letters, letterOf}
+use Rattle.alphabet.specs.Judged.{Judged}
+use Rattle.alphabet.specs.declared.Letters.{Letters}
+use Rattle.alphabet.proofs.Alphabets.{eqb-sym, among-snoc, different-snoc, repeated-append, letter-most, letter-below, letter-behind, letter-here}
+
+-- ---- searching
+
+-- `hit` tells whether the code is among the first i of n
+pub record Searching (codes : List ℕ) (n code : ℕ) (hit : Bool) (i : ℕ) : Type 0 where
+  pub within : i ≤ n
+  pub told : hit ≡ among code (take i codes)
+
+pub searching-none : (codes : List ℕ) (n code : ℕ) → Searching codes n code false 0
+unfolding among
+searching-none codes n code = record { within = omega arith; told = refl }
+
+module _ {codes : List ℕ} {n code : ℕ} {hit : Bool} {i : ℕ} (p : Searching codes n code hit i) (room : n ≤ length codes) where
+  pub searching-more : i < n → Searching codes n code (hit || eqb (getD codes i 0) code) (i + 1)
+  searching-more h =
+      record {
+        within = omega arith;
+        told = rw (add-one i, take-suc codes i 0 (omega arith), among-snoc code (take i codes) (getD codes i 0), eqb-sym code (getD codes i 0), p .told);
+      }
+
+  pub searching-all : n ≤ i → hit ≡ among code (take n codes)
+  searching-all h = let e : i ≡ n = omega arith in p .told ∙ ap (λ (k : ℕ). among code (take k codes)) e
+
+-- the same search, where it stops at the code
+module _ {codes : List ℕ} {n code i : ℕ} (p : Searching codes n code false i) (room : n ≤ length codes) where
+  pub searching-on : i < n → (getD codes i 0 ≡ code → ⊥) → Searching codes n code false (i + 1)
+  searching-on h d = subst (λ (t : Bool). Searching codes n code t (i + 1)) (ne-eqb (getD codes i 0) code d) (searching-more p room h)
+
+  pub searching-found : i < n → getD codes i 0 ≡ code → i ≡ letterOf (take n codes) code
+  searching-found h e =
+      let rest : List ℕ = drop (suc i) (take n codes) in
+      let long : length (take n codes) ≡ n = length-take-le n codes room in
+      let split : take n codes ≡ take i codes ++ (code ∷ rest) =
+      split-at (take n codes) i 0 (omega arith) ∙ rw (take-take i n codes (p .within), getD-take n codes i 0 h, e)
+      in
+      sym (rw (split, letter-behind (take i codes) (code ∷ rest) code (sym (p .told)), letter-here code rest, length-take-le i codes (omega arith)) (omega arith))
+
+  pub searching-missed : n ≤ i → n ≡ letterOf (take n codes) code
+  searching-missed h =
+      let none : among code (take n codes) ≡ false = sym (searching-all p room h) in
+      let long : length (take n codes) ≡ n = length-take-le n codes room in
+      omega (arith, letter-most (take n codes) code, ltb-false (letterOf (take n codes) code) (length (take n codes)) (letter-below (take n codes) code ∙ none))
+
+-- ---- judging
+
+too-many : (n : ℕ) (cs : List ℕ) → n < length cs → (rest : Option (List ℕ)) → isAlphabet n (prepend cs rest) ≡ false
+unfolding isAlphabet
+too-many n cs h none = refl
+too-many n cs h (some ds) = rw (ne-eqb (length (cs ++ ds)) n (λ e. omega (arith, length-append cs ds)))
+
+not-new : (n : ℕ) (cs : List ℕ) → allDifferent cs ≡ false → (rest : Option (List ℕ)) → isAlphabet n (prepend cs rest) ≡ false
+unfolding isAlphabet
+not-new n cs e none = refl
+not-new n cs e (some ds) = rw (repeated-append cs ds e) (and-false (eqb (length (cs ++ ds)) n))
+
+-- what is judged so far: `count` codes, the bytes before place at
+pub record Judging (n : ℕ) (bytes : List ℕ) (r : Letters) (count top at : ℕ) : Type 0 where
+  pub few : n ≤ 256
+  pub unjudged : r .good ≡ false
+  pub room : length (r .codes) ≡ 256
+  pub counted : count ≤ n
+  pub passed : Passed bytes (take count (r .codes)) at
+  pub different : allDifferent (take count (r .codes)) ≡ true
+  pub above : (c : ℕ) → top < c → among c (take count (r .codes)) ≡ false
+
+pub judging-none : (n : ℕ) (bytes : List ℕ) (r : Letters) → n ≤ 256 → r .good ≡ false → length (r .codes) ≡ 256 → Judging n bytes r 0 0 0
+unfolding among allDifferent
+judging-none n bytes r f e h =
+    record { few = f; unjudged = e; room = h; counted = omega arith; passed = passed-none bytes; different = refl; above = λ c l. refl }
+
+module _ {n : ℕ} {bytes : List ℕ} {r : Letters} {count top at : ℕ} (p : Judging n bytes r count top at) where
+  long : length (take count (r .codes)) ≡ count
+  long = length-take-le count (r .codes) (omega (arith, p .room, p .counted, p .few))
+
+  -- one more character, that is new
+  pub judging-more : {len code higher : ℕ} → count < n → len ≡ charLen bytes at → len ≢ 0 → code ≡ charAt bytes at → among code (take count (r .codes)) ≡ false → top ≤ higher → code ≤ higher
+      → Judging n bytes (record { good = r .good; codes = set (r .codes) count code }) (count + 1) higher (at + len)
+  judging-more {len} {code} {higher} h e ne d new up down =
+      let grown : take (count + 1) (set (r .codes) count code) ≡ take count (r .codes) ++ (code ∷ []) =
+      rw (add-one count) (take-suc-set (r .codes) count code (omega (arith, p .room, p .few)))
+      in
+      record {
+        few = p .few;
+        unjudged = p .unjudged;
+        room = length-set (r .codes) count code ∙ p .room;
+        counted = omega arith;
+        passed = rw grown (passed-more (p .passed) e ne d);
+        different = rw (grown, different-snoc (take count (r .codes)) code, p .different, new);
+        above = λ c l. rw (grown, among-snoc c (take count (r .codes)) code, p .above c (omega arith), ne-eqb c code (λ q. omega arith));
+      }
+
+  -- what is no alphabet was not called good
+  refused : goodAlphabet n bytes ≡ false → Judged n bytes r
+  refused h = record { good = p .unjudged ∙ sym h; codes = λ q. absurd (let z : _≡_ {A = ℕ} 0 1 = cc in omega arith) }
+
+  pub judging-ill : at < length bytes → charLen bytes at ≡ 0 → Judged n bytes r
+  unfolding goodAlphabet
+  judging-ill h e = refused (rw (passed-ill (p .passed) h e))
+
+  -- the text begins with the characters so far and the one at the place, whatever follows
+  begins : charLen bytes at ≢ 0 → ((rest : Option (List ℕ)) → isAlphabet n (prepend (take count (r .codes) ++ (charAt bytes at ∷ [])) rest) ≡ false) → Judged n bytes r
+  unfolding goodAlphabet
+  begins h e = refused (rw (passed-more (p .passed) refl h refl .before) (e (charsAt bytes (at + charLen bytes at))))
+
+  pub judging-many : charLen bytes at ≢ 0 → n ≤ count → Judged n bytes r
+  judging-many h l = begins h (too-many n (take count (r .codes) ++ (charAt bytes at ∷ [])) (simp length-append (omega (arith, long))))
+
+  pub judging-again : charLen bytes at ≢ 0 → among (charAt bytes at) (take count (r .codes)) ≡ true → Judged n bytes r
+  judging-again h e =
+      begins h
+      (not-new n (take count (r .codes) ++ (charAt bytes at ∷ []))
+      (rw (different-snoc (take count (r .codes)) (charAt bytes at), e) (and-false (allDifferent (take count (r .codes))))))
+
+  pub judging-all : length bytes ≤ at → Judged n bytes (record { good = eqb count n; codes = r .codes })
+  unfolding goodAlphabet isAlphabet letters lettersIn
+  judging-all h =
+      record {
+        good = rw (passed-all (p .passed) h, long, p .different) (sym (and-true (eqb count n)));
+        codes = λ e. rw (passed-all (p .passed) h, eqb-true count n e);
+      }
