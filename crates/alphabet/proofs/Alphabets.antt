@@ -6,7 +6,7 @@ use Prim.Native.Nat.{ℕ, suc, _+_, _≤_, _<_}
 use native.Mathlib.Omega.{arith}
 use mathlib.Core.List.{List, [], _∷_, _++_}
 use mathlib.Core.Option.{Option, none, some}
-use Rattle.utf8.specs.Text.{chars}
+use Rattle.utf8.specs.Text.{chars, charsFrom}
 use lib.Dec.{eqb, ltb, leb·suc-suc}
 use lib.ListN.{length, getD}
 use borrow.Author.Tests.{eq-eqb, ne-eqb, eqb-true, eqb-false, lt-ltb}
@@ -109,3 +109,9 @@ good-in n (some cs) e = eqb-true (length cs) n (left (eqb (length cs) n) (allDif
 pub good-length : (n : ℕ) (bytes : List ℕ) → goodAlphabet n bytes ≡ true → length (letters bytes) ≡ n
 unfolding goodAlphabet letters
 good-length n bytes e = good-in n (chars bytes) e
+
+-- no bytes have no letters
+pub no-letters : (bytes : List ℕ) → length bytes ≡ 0 → letters bytes ≡ []
+unfolding letters lettersIn chars charsFrom
+no-letters [] e = refl
+no-letters (b ∷ bs) e = absurd (omega arith)

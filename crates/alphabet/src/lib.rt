@@ -66,14 +66,13 @@ fn seen(codes: &[u32; 256], count: usize, code: u32) -> bool
 }
 
 // The letter number of a character among the first n codes, n where it is not there.
-pub fn letter(codes: &[u32; 256], n: usize, code: u32) -> usize
-    requires { ⌜ n ≤ 256 ⌝ }
+pub fn letter(codes: &[u32], n: usize, code: u32) -> usize
+    requires { ⌜ n ≤ length (now codes) ⌝ }
     ensures { λ r. ⌜ r ≡ letterOf (take n (now (codes .entry))) code ⌝ }
 {
-    let all: &[u32] = codes;
     let mut i: usize = 0;
     while i < n {
-        if all[i] == code {
+        if codes[i] == code {
             return i;
         }
         i += 1;

@@ -34,25 +34,25 @@ module _ {alphabet text kept : List ℕ} {len at : ℕ} (t : Typing alphabet tex
   pub typing-more : {n x : ℕ} → n ≡ charLen text at → n ≢ 0 → x ≡ letterOf alphabet (charAt text at) → x < length alphabet → len < mostLetters
       → Typing alphabet text (set kept len x) (len + 1) (at + n)
   typing-more {n} {x} e z l b r =
-      record
-      { letters = t .letters ++ (x ∷ [])
-      ; spelling = spelling-more (t .spelling) e z l b
-      ; array =
-          ap (λ (a : List ℕ). set a len x) (t .array)
-          ∙ ap (λ (j : ℕ). set (padded mostLetters (t .letters)) j x) (t .count)
-          ∙ padded-more mostLetters (t .letters) x (omega (arith, t .count))
-      ; count = longer x
+      record {
+        letters = t .letters ++ (x ∷ []);
+        spelling = spelling-more (t .spelling) e z l b;
+        array =
+            ap (λ (a : List ℕ). set a len x) (t .array)
+            ∙ ap (λ (j : ℕ). set (padded mostLetters (t .letters)) j x) (t .count)
+            ∙ padded-more mostLetters (t .letters) x (omega (arith, t .count));
+        count = longer x;
       }
 
   -- and counted alone where there is none
   pub typing-past : {n x : ℕ} → n ≡ charLen text at → n ≢ 0 → x ≡ letterOf alphabet (charAt text at) → x < length alphabet → mostLetters ≤ len
       → Typing alphabet text kept (len + 1) (at + n)
   typing-past {n} {x} e z l b r =
-      record
-      { letters = t .letters ++ (x ∷ [])
-      ; spelling = spelling-more (t .spelling) e z l b
-      ; array = t .array ∙ padded-full mostLetters (t .letters) x (omega (arith, t .count))
-      ; count = longer x
+      record {
+        letters = t .letters ++ (x ∷ []);
+        spelling = spelling-more (t .spelling) e z l b;
+        array = t .array ∙ padded-full mostLetters (t .letters) x (omega (arith, t .count));
+        count = longer x;
       }
 
   pub typing-all : length text ≤ at → _≡_ {A = Typed} (record { named = true; key = record { letters = kept; len = len } }) (typedAs (keyOfText alphabet text))

@@ -75,6 +75,7 @@ impl Typed {
         requires { ⌜ n ≤ 256 ⌝ }
         ensures { λ r. ⌜ r ≡ typedAs (keyOfText (take n (now (codes .entry))) (now (text .entry))) ⌝ }
     {
+        let letters: &[u32] = codes;
         let mut kept = [0u8; 64];
         let mut len: usize = 0;
         let mut at: usize = 0;
@@ -83,7 +84,7 @@ impl Typed {
             if size == 0 {
                 return nameless();
             }
-            let x = alphabet::letter(codes, n, utf8::char_at(text, at, size));
+            let x = alphabet::letter(letters, n, utf8::char_at(text, at, size));
             if n <= x {
                 return nameless();
             }

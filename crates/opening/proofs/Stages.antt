@@ -9,10 +9,9 @@ use native.Mathlib.Omega.{arith}
 use lib.Dec.{ltb, eqb}
 use lib.ListN.{length, take, drop, length-take, length-drop}
 use borrow.Author.Tests.{lt-ltb, le-ltb, eq-eqb, ne-eqb}
-use Rattle.utf8.specs.Text.{chars, charsFrom}
 use Rattle.head.specs.declared.Head.{Head}
 use Rattle.head.specs.Fields.{fieldsLen}
-use Rattle.alphabet.specs.Letters.{goodAlphabet, lettersIn, letters}
+use Rattle.alphabet.specs.Letters.{goodAlphabet, letters}
 use Rattle.paper.specs.declared.Refusal.{Refusal}
 use Rattle.paper.specs.Hearing.{first}
 use Rattle.paper.specs.Answers.{saidOf, rowOf}
@@ -22,30 +21,24 @@ use Rattle.paper.proofs.Opening.{spoilt}
 use Rattle.opening.specs.declared.Opened.{Opened}
 use Rattle.opening.specs.Opened.{Decoded, Judged, RoomOf, RefusedOf}
 
--- no bytes have no letters
-pub no-letters : (alphabet : List ℕ) → length alphabet ≡ 0 → letters alphabet ≡ []
-unfolding letters lettersIn chars charsFrom
-no-letters [] e = refl
-no-letters (b ∷ bs) e = absurd (omega arith)
-
 module _ (h : Head) (alphabet : List ℕ) (len : ℕ) where
   pub judged-refused : {why : Refusal} {r : Opened} → RefusedOf h why r → first (opening h alphabet len) ≡ some (saidOf why) → Judged h alphabet len r
   unfolding rowOf
   judged-refused {why} {r} o e =
       let heard : rowOf (r .verdict) ≡ some (saidOf why) = ap rowOf (o .verdict) in
-      record
-      { verdict = heard ∙ sym e
-      ; head = o .head
-      ; decoded = λ n _. let z : _≡_ {A = ℕ} 0 1 = cc in absurd (omega arith)
+      record {
+        verdict = heard ∙ sym e;
+        head = o .head;
+        decoded = λ n _. let z : _≡_ {A = ℕ} 0 1 = cc in absurd (omega arith);
       }
 
   pub judged-room : {count : ℕ} {codes : List ℕ} {r : Opened} → RoomOf h len count codes r → first (opening h alphabet len) ≡ row4 h len → count ≤ 256
       → (length alphabet ≡ h .f → take count codes ≡ letters alphabet) → Judged h alphabet len r
   judged-room o e b d =
-      record
-      { verdict = o .verdict ∙ sym e
-      ; head = o .head
-      ; decoded = λ n w. record { count = rw (o .count) b; codes = rw (o .count, o .codes) (d w) }
+      record {
+        verdict = o .verdict ∙ sym e;
+        head = o .head;
+        decoded = λ n w. record { count = rw (o .count) b; codes = rw (o .count, o .codes) (d w) };
       }
 
   -- the test of row 3, by what its parts are

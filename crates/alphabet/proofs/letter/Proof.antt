@@ -1,21 +1,17 @@
 -- `alphabet::letter` meets its contract. No code passed is the one looked for, so where it is met it stands first, and where it is not the
 -- number is the length. The measure is the codes that are left. Assumes nothing.
-use Prim.Native.Nat.{_-_, _≤_}
+use Prim.Native.Nat.{_-_}
 use native.Mathlib.Omega.{arith}
-use lib.ListN.{length}
 use mathlib.Core.Bool.{false}
 use Rattle.alphabet.proofs.Loops.{Searching, searching-none, searching-on, searching-found, searching-missed}
 use Rattle.alphabet.proofs.letter.Statement.{statement}
 use Rattle.alphabet.proofs.letter.Tie as tie
 
 abbrev Inv-loop : tie.InvT-loop
-Inv-loop codes n code all i₀ i = Searching codes n code false i
+Inv-loop codes n code i₀ i = Searching codes n code false i
 
 abbrev μ-loop : tie.MeasureT-loop
-μ-loop codes n code all i₀ i = n - i
-
-room : (c : tie.After-all Inv-loop μ-loop) → c .before .args .n ≤ length (c .before .args .codes .now)
-room c = omega arith
+μ-loop codes n code i₀ i = n - i
 
 loop-holds : tie.Need-loop-holds Inv-loop μ-loop
 loop-holds c = searching-none _ _ _
@@ -27,7 +23,7 @@ shared-slice-read-if1 : tie.Need-shared-slice-read-if1 Inv-loop μ-loop
 shared-slice-read-if1 c = omega arith
 
 returns : tie.Need-returns Inv-loop μ-loop
-returns c = searching-found (c .before .before .before .loop .inv) (room (c .before .before .before .before)) (omega arith) (c .if1 .taken)
+returns c = searching-found (c .before .before .before .loop .inv) (c .before .before .before .before .pre) (omega arith) (c .if1 .taken)
 
 add-i : tie.Need-add-i Inv-loop μ-loop
 add-i c = omega arith
@@ -36,10 +32,10 @@ loop-less : tie.Need-loop-less Inv-loop μ-loop
 loop-less c = omega arith
 
 loop-again : tie.Need-loop-again Inv-loop μ-loop
-loop-again c = searching-on (c .before .before .before .loop .inv) (room (c .before .before .before .before)) (omega arith) (c .if1 .left)
+loop-again c = searching-on (c .before .before .before .loop .inv) (c .before .before .before .before .pre) (omega arith) (c .if1 .left)
 
 returns-2 : tie.Need-returns-2 Inv-loop μ-loop
-returns-2 c = searching-missed (c .before .loop .inv) (room (c .before .before)) (omega arith)
+returns-2 c = searching-missed (c .before .loop .inv) (c .before .before .pre) (omega arith)
 
 pub letter-spec : {M : Type 1} → statement M
 letter-spec =
