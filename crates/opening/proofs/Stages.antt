@@ -1,25 +1,26 @@
 -- What an opening tells at each way out, from what its stages returned: a refusal that is heard, or row 4 with the letters that were decoded.
-use Prim.Native.Nat.{ℕ, zero, suc, _+_, _≤_, _<_, min}
+use Prim.Native.Nat.{ℕ, _+_, _-_, _≤_, _<_, min}
 use mathlib.Core.Path.{_≡_, refl, sym, _∙_, ap}
 use mathlib.Core.Bool.{Bool, true, false, not, _&&_, and-false}
 use mathlib.Core.Option.{none, some}
-use mathlib.Core.List.{List, [], _∷_}
-use native.Mathlib.Nat.{not-suc-le-zero}
+use mathlib.Core.List.{List}
 use native.Mathlib.Omega.{arith}
-use lib.Dec.{ltb, eqb}
-use lib.ListN.{length, take, drop, length-take, length-drop}
-use borrow.Author.Tests.{lt-ltb, le-ltb, eq-eqb, ne-eqb}
+use lib.Dec.{leb, ltb, eqb}
+use lib.ListN.{length, take, drop, length-drop}
+use lib.Seq.{take-all, length-take-le}
+use borrow.Author.Tests.{lt-ltb, le-ltb, eq-eqb, ne-eqb, leb-true, leb-false}
 use Rattle.head.specs.declared.Head.{Head}
-use Rattle.head.specs.Fields.{fieldsLen}
+use Rattle.head.specs.Fields.{headOf}
+use Rattle.head.proofs.Places.{used-le, place-least}
 use Rattle.alphabet.specs.Letters.{goodAlphabet, letters}
 use Rattle.paper.specs.declared.Refusal.{Refusal}
 use Rattle.paper.specs.Hearing.{first}
 use Rattle.paper.specs.Answers.{saidOf, rowOf}
 use Rattle.paper.specs.Rows.{row4}
-use Rattle.paper.specs.Orders.{opening}
-use Rattle.paper.proofs.Opening.{spoilt}
+use Rattle.paper.specs.Orders.{alphabetIn, opening, openingOf}
+use Rattle.paper.proofs.Opening.{spoilt, passed}
 use Rattle.opening.specs.declared.Opened.{Opened}
-use Rattle.opening.specs.Opened.{Decoded, Judged, RoomOf, RefusedOf}
+use Rattle.opening.specs.Opened.{Decoded, Judged, Opens, RoomOf, RefusedOf}
 
 module _ (h : Head) (alphabet : List ℕ) (len : ℕ) where
   pub judged-refused : {why : Refusal} {r : Opened} → RefusedOf h why r → first (opening h alphabet len) ≡ some (saidOf why) → Judged h alphabet len r
@@ -53,7 +54,47 @@ module _ (h : Head) (alphabet : List ℕ) (len : ℕ) where
       and-false-left false = refl
 
   pub plain-good : goodAlphabet (h .n) alphabet ≡ true → spoilt h alphabet len ≡ false
-  plain-good e = rw e (and-false _)
+  plain-good e = rw e (and-false (ltb 0 (h .f) && eqb (length alphabet) (h .f)))
 
   pub spoilt-bad : (h .f ≡ 0 → ⊥) → length alphabet ≡ h .f → goodAlphabet (h .n) alphabet ≡ false → spoilt h alphabet len ≡ true
   spoilt-bad z w e = rw (lt-ltb 0 (h .f) (omega arith), eq-eqb (length alphabet) (h .f) w, e)
+
+-- ---- an image
+
+pub opens-refused : (l : List ℕ) {h : Head} {why : Refusal} {r : Opened} → RefusedOf h why r → first (openingOf l) ≡ some (saidOf why) → Opens l r
+unfolding rowOf
+opens-refused l {h} {why} {r} o e =
+    let heard : rowOf (r .verdict) ≡ some (saidOf why) = ap rowOf (o .verdict) in
+    record {
+      verdict = heard ∙ sym e;
+      head = λ n. let z : _≡_ {A = ℕ} 0 1 = cc in absurd (omega arith);
+      decoded = λ n. let z : _≡_ {A = ℕ} 0 1 = cc in absurd (omega arith);
+    }
+
+-- the part of the image that was judged is its alphabet, as much of it as is there
+part : (l : List ℕ) (f end : ℕ) → 28 ≤ length l → end ≡ min (28 + f) (length l) → take (end - 28) (drop 28 l) ≡ take f (drop 28 l)
+part l f end h e = go (leb (28 + f) (length l)) refl
+  where
+    go : (b : Bool) → leb (28 + f) (length l) ≡ b → take (end - 28) (drop 28 l) ≡ take f (drop 28 l)
+    go true b =
+        let k : 28 + f ≤ length l = leb-true _ _ b in
+        let so : end - 28 ≡ f = omega arith in
+        ap (λ (j : ℕ). take j (drop 28 l)) so
+    go false b =
+        let k : length l < 28 + f = leb-false _ _ b in
+        take-all (end - 28) (drop 28 l) (omega (arith, length-drop 28 l)) ∙ sym (take-all f (drop 28 l) (omega (arith, length-drop 28 l)))
+
+pub opens-judged : (l : List ℕ) {h : Head} {end : ℕ} {r : Opened} → h ≡ headOf l → end ≡ min (28 + h .f) (length l) → 28 ≤ length l
+    → Judged h (take (end - 28) (drop 28 l)) (length l) r → Opens l r
+unfolding openingOf alphabetIn
+opens-judged l {h} {end} {r} e b k j =
+    let alphabet : List ℕ = take (headOf l .f) (drop 28 l) in
+    let same : take (end - 28) (drop 28 l) ≡ alphabet = part l (h .f) end k b ∙ ap (λ (g : Head). take (g .f) (drop 28 l)) e in
+    let o : Judged (headOf l) alphabet (length l) r = rw (e, same) at j in
+    record {
+      verdict = o .verdict;
+      head = λ _. o .head;
+      decoded = λ n. o .decoded n
+          (let p = passed (headOf l) alphabet (length l) (sym (o .verdict) ∙ n) in
+          length-take-le (headOf l .f) (drop 28 l) (omega (arith, length-drop 28 l, p .room, used-le (headOf l) 0 (omega arith), place-least (headOf l) 0)));
+    }
