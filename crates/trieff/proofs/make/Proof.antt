@@ -1,59 +1,69 @@
+-- `trieff::make` meets its contract: 1 and the part of 2 that a 32-bit F cannot say are judged here, the rest of 1 to 4 by the opening.
+-- Assumes nothing.
+use mathlib.Core.Path.{_≡_, refl, sym, _∙_, ap}
+use mathlib.Core.Option.{none}
+use native.Mathlib.Omega.{arith}
 use borrow.Author.Needs.{needs}
+use borrow.Author.Tests.{not-true, not-false}
+use Rattle.paper.specs.Answers.{rowOf}
+use Rattle.paper.proofs.Opening.{heard-1, passed}
+use Rattle.trieff.proofs.Making.{heardOf, makes-refused, makes-done, too-many}
 use Rattle.trieff.proofs.make.Statement.{statement}
 use Rattle.trieff.proofs.make.Tie as tie
-use Rattle.trieff.proofs.make.Reads as reads
-use Rattle.trieff.proofs.make.Lts as lts
-use Rattle.head.proofs.length_allowed.Reads as length-allowed-reads
-use Rattle.opening.proofs.judge.Reads as judge-reads
-use Rattle.trieff.proofs.fresh.Reads as fresh-reads
 
--- src/lib.rt:20:9
 length-allowed-requires : tie.Need-length-allowed-requires
 length-allowed-requires c κs = search needs
 
--- src/lib.rt:21:9
 returns : tie.Need-returns
-returns c = ?
+returns c = makes-refused _ _ _ _ _ _ _ _ (heard-1 _ _ _ (sym (c .before .length-allowed .ensures) ∙ not-true _ (c .if1 .taken)))
 
--- src/lib.rt:24:9
 cast-if2 : tie.Need-cast-if2
 cast-if2 c = search needs
 
--- src/lib.rt:25:9
 returns-2 : tie.Need-returns-2
-returns-2 c = ?
+returns-2 c =
+    let one = c .before in
+    let s = one .before .before .before .before .args in
+    makes-refused _ _ _ _ _ _ _ _
+    (too-many (s .image .now) (s .n) (s .a) (s .d) (s .alphabet .now) (s .min) (s .max) (sym (one .before .length-allowed .ensures) ∙ not-false _ (one .if1 .left)) (c .if2 .taken))
 
--- src/lib.rt:32:12
 cast-t19 : tie.Need-cast-t19
 cast-t19 c = search needs
 
--- src/lib.rt:36:9
 judge-requires : tie.Need-judge-requires
 judge-requires c κs = search needs
 
--- src/lib.rt:39:26
 enum-known-verdict : tie.Need-enum-known-verdict
 enum-known-verdict c = search needs
 
--- src/lib.rt:41:19
 enum-told : tie.Need-enum-told
 enum-told c = search needs
 
--- src/lib.rt:41:13
+-- in the arm where nothing was refused
+unheard : (c : tie.After-enum-told)
+    → let s = c .before .before .before .before .before .before .before .before .args in
+    heardOf (s .image .now) (s .n) (s .a) (s .d) (s .alphabet .now) (s .min) (s .max) ≡ none
+unfolding rowOf
+unheard c = sym (c .before .before .judge .ensures .verdict) ∙ ap rowOf (c .enum-told .given .1)
+
 fresh-requires : tie.Need-fresh-requires
-fresh-requires c κs = ?
+fresh-requires c κs =
+    let p = passed _ _ _ (unheard (c .before)) in
+    (p .head-permitted, (refl, (refl, p .room)))
 
--- src/lib.rt:16:1
 returns-3 : tie.Need-returns-3
-returns-3 c = ?
+unfolding rowOf
+returns-3 c =
+    let judge = c .before .before .before in
+    makes-refused _ _ _ _ _ _ _ _ (sym (judge .judge .ensures .verdict) ∙ ap rowOf (c .before .verdict .given .1))
 
--- src/lib.rt:16:1
 same-length : tie.Need-same-length
 same-length c = search needs
 
--- src/lib.rt:16:1
 returns-4 : tie.Need-returns-4
-returns-4 c = ?
+returns-4 c =
+    let fresh = c .before .before in
+    makes-done _ _ _ _ _ _ _ (unheard (fresh .before .before)) (fresh .fresh .ensures)
 
 pub make-spec : {M : Type 1} → statement M
 make-spec =
