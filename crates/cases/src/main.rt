@@ -81,16 +81,24 @@ fn said(number: u32, place: u32) {
     io::write_all(STDOUT_FILENO, b":");
 }
 
-// The bytes in hexadecimal, four by four.
+// The bytes in hexadecimal, four by four, and the line's end.
 fn bytes(image: &[u8]) {
     let mut i: usize = 0;
     while i < image.len() {
         if i % 4 == 0 {
-            io::write_all(STDOUT_FILENO, b" ");
+            space();
         }
         io::print_hex(STDOUT_FILENO, wide(image[i]), 2);
         i += 1;
     }
+    line_end();
+}
+
+fn space() {
+    io::write_all(STDOUT_FILENO, b" ");
+}
+
+fn line_end() {
     io::write_all(STDOUT_FILENO, b"\n");
 }
 
