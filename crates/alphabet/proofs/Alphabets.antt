@@ -6,6 +6,7 @@ use Prim.Native.Nat.{ℕ, suc, _+_, _≤_, _<_}
 use native.Mathlib.Omega.{arith}
 use mathlib.Core.List.{List, [], _∷_, _++_}
 use mathlib.Core.Option.{Option, none, some}
+use Rattle.field.proofs.Range.{both}
 use Rattle.utf8.specs.Text.{chars, charsFrom}
 use lib.Dec.{eqb, ltb, leb·suc-suc}
 use lib.ListN.{length, getD}
@@ -100,11 +101,7 @@ letter-behind (d ∷ cs) ds c e = go (eqb c d) refl (letter-behind cs ds c)
 good-in : (n : ℕ) (o : Option (List ℕ)) → isAlphabet n o ≡ true → length (lettersIn o) ≡ n
 unfolding isAlphabet lettersIn
 good-in n none e = let z : _≡_ {A = ℕ} 0 1 = cc in omega arith
-good-in n (some cs) e = eqb-true (length cs) n (left (eqb (length cs) n) (allDifferent cs) e)
-  where
-    left : (a b : Bool) → (a && b) ≡ true → a ≡ true
-    left true b h = refl
-    left false b h = h
+good-in n (some cs) e = eqb-true (length cs) n (both (eqb (length cs) n) (allDifferent cs) e .0)
 
 pub good-length : (n : ℕ) (bytes : List ℕ) → goodAlphabet n bytes ≡ true → length (letters bytes) ≡ n
 unfolding goodAlphabet letters

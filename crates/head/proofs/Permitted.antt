@@ -1,12 +1,11 @@
 -- What is permitted in a head, as a record of named bounds and back. The test is a chain of tests within limits, and a chain is true
 -- exactly where each of its links is.
-use mathlib.Core.Path.{_≡_, refl}
-use mathlib.Core.Bool.{Bool, true, false, _&&_, false≢true}
-use Prim.Native.Nat.{ℕ, _≤_}
+use mathlib.Core.Path.{_≡_}
+use mathlib.Core.Bool.{true}
+use Prim.Native.Nat.{_≤_}
 use native.Mathlib.Omega.{arith}
-use borrow.Author.Tests.{leb-true, le-leb}
-use lib.Dec.{leb}
 use Rattle.field.specs.Range.{between}
+use Rattle.field.proofs.Range.{both, between-true, true-between}
 use Rattle.head.specs.declared.Head.{Head}
 use Rattle.head.specs.Fields.{permitted, mostLinks, mostLinkBytes, mostDataBytes, mostAlphabet, mostLetters}
 
@@ -20,18 +19,6 @@ pub record Bounds (h : Head) : Type 0 where
   pub f-most : h .f ≤ mostAlphabet
   pub min-most : h .min ≤ h .max
   pub max-most : h .max ≤ mostLetters
-
-pub both : (a b : Bool) → (a && b) ≡ true → (a ≡ true) × (b ≡ true)
-both true b e = (refl, e)
-both false b e = absurd (false≢true e)
-
-pub between-true : (x low high : ℕ) → between x low high ≡ true → (low ≤ x) × (x ≤ high)
-between-true x low high e =
-    let t : (leb low x ≡ true) × (leb x high ≡ true) = both (leb low x) (leb x high) e in
-    (leb-true low x (t .0), leb-true x high (t .1))
-
-pub true-between : (x low high : ℕ) → low ≤ x → x ≤ high → between x low high ≡ true
-true-between x low high p q = rw (le-leb low x p, le-leb x high q)
 
 pub bounds : (h : Head) → permitted h ≡ true → Bounds h
 unfolding permitted

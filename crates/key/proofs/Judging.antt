@@ -9,9 +9,10 @@ use lib.Dec.{ltb}
 use lib.ListN.{length, getD, take}
 use borrow.Author.Tests.{lt-ltb, le-ltb}
 use Rattle.field.specs.Range.{between}
+use Rattle.field.proofs.Range.{both, between-true}
 use Rattle.head.specs.declared.Head.{Head}
 use Rattle.head.specs.Fields.{permitted, mostLetters}
-use Rattle.head.proofs.Permitted.{bounds, between-true}
+use Rattle.head.proofs.Permitted.{bounds}
 use Rattle.alphabet.specs.Letters.{lettersIn}
 use Rattle.paper.specs.Hearing.{first}
 use Rattle.paper.specs.Answers.{said}
@@ -77,10 +78,6 @@ module _ (h : Head) (t : Typed) where
   typed-passed (some k) e f b = text-passed h k (rw (ap (λ (r : Typed). r .key .len) e) at b)
 
 -- ---- the letters looked through one after the other
-
-both : (a b : Bool) → a && b ≡ true → (a ≡ true) × (b ≡ true)
-both true b e = (refl, e)
-both false b e = absurd (true≢false (sym e))
 
 pub below-none : (n : ℕ) (l : List ℕ) → allBelow n (take 0 l) ≡ true
 unfolding allBelow

@@ -13,11 +13,11 @@ use lib.ListN.{length, replicate}
 use lib.Seq.{sets, length-sets}
 use Rattle.field.specs.Field.{digits, cleared}
 use Rattle.field.proofs.Fields.{length-digits}
+use Rattle.field.proofs.Range.{both}
 use Rattle.trie.specs.Table.{Table, Letters, complete, stopped}
 use Rattle.trie.specs.Storing.{put, grow, growPath, storedBy}
 use Rattle.head.specs.declared.Head.{Head}
 use Rattle.head.specs.Fields.{headOf, nodeWidth, nodePlace, usedLen}
-use Rattle.head.proofs.Permitted.{both}
 use Rattle.head.proofs.Places.{place-add, place-le, place-least}
 use Rattle.head.proofs.Fields.{head-outside, head-total}
 use Rattle.node.specs.Image.{linkPlace, dataPlace, tableOf}

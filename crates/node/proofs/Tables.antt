@@ -10,10 +10,10 @@ use mathlib.Core.List.{List}
 use lib.Dec.{leb, ltb}
 use Rattle.field.specs.Field.{Bytes, fieldAt}
 use Rattle.field.proofs.Fields.{field-bound}
+use Rattle.field.proofs.Range.{both}
 use Rattle.trie.specs.Table.{Table}
 use Rattle.trie.specs.Rules.{Framed}
 use Rattle.head.specs.declared.Head.{Head}
-use Rattle.head.proofs.Permitted.{both}
 use Rattle.node.specs.Image.{linkPlace, dataPlace, tableOf}
 use Rattle.node.proofs.Places.{Inside, link-inside, data-inside}
 

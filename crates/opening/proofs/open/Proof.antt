@@ -6,7 +6,7 @@ use native.Mathlib.Omega.{arith}
 use borrow.Author.Needs.{needs}
 use borrow.Author.Tests.{not-true, not-false}
 use lib.ListN.{length}
-use Rattle.head.proofs.Permitted.{between-true}
+use Rattle.field.proofs.Range.{between-true}
 use Rattle.paper.specs.Orders.{openingOf}
 use Rattle.paper.proofs.Opening.{heard-1}
 use Rattle.opening.proofs.Stages.{opens-refused, opens-judged}
