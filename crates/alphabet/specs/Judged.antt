@@ -1,4 +1,5 @@
--- What judging an alphabet tells: whether it is one, and then its letters.
+-- Row 3 of 01's table, "not N different well-formed characters", as one pass over the alphabet judges it: what it tells is whether the bytes are
+-- an alphabet, and then its letters.
 use Prim.Native.Nat.{ℕ}
 use mathlib.Core.Path.{_≡_}
 use mathlib.Core.Bool.{true}

@@ -1,6 +1,6 @@
 -- 01, "The image": "Alphabet: if F is 0, keys are letter numbers only and no text but the empty one names a key. Otherwise the F bytes are
 -- exactly N well-formed characters, all different; letter i is the i-th, from 0."
-use Prim.Native.Nat.{ℕ, zero, suc}
+use Prim.Native.Nat.{ℕ, suc}
 use mathlib.Core.Bool.{Bool, true, false, not, _&&_, _||_, cond}
 use mathlib.Core.Option.{Option, none, some}
 use mathlib.Core.List.{List, [], _∷_}

@@ -1,7 +1,6 @@
 // Document 01's cases, run through the public calls: a line for each with the answer's number and place and the image afterwards. What it
 // must write stands in the file `stdout`. Images lie in lent bytes that held AA.
 ghost use Prim.Native.Nat.{_≤_};
-ghost use lib.ListN.{length};
 use libc::STDOUT_FILENO;
 use paper::Done;
 

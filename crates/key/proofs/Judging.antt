@@ -1,7 +1,7 @@
 -- 9 and 10, row by row, of a key in hand: a key whose length is allowed is at most max, which is at most 64 letters, so all of it is held.
 use Prim.Native.Nat.{ℕ, zero, suc, _≤_, _<_}
 use mathlib.Core.Path.{_≡_, refl, sym, _∙_, ap}
-use mathlib.Core.Bool.{Bool, true, false, _&&_, true≢false, and-false}
+use mathlib.Core.Bool.{Bool, true, false, true≢false, and-false}
 use mathlib.Core.Option.{Option, none, some}
 use mathlib.Core.List.{List, [], _∷_}
 use native.Mathlib.Omega.{arith}

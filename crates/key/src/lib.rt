@@ -5,7 +5,7 @@ ghost use mathlib.Core.Bool.{true};
 ghost use mathlib.Core.Option.{Option, none};
 ghost use mathlib.Core.List.{List};
 ghost use Prim.Native.Nat.{ℕ, _≤_};
-ghost use lib.ListN.{length, take};
+ghost use lib.ListN.{take};
 ghost use Rattle.field.specs.Range.{between};
 ghost use Rattle.head.specs.Fields.{permitted};
 ghost use Rattle.alphabet.specs.Letters.{keyOfText};

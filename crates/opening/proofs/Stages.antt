@@ -2,7 +2,7 @@
 use Prim.Native.Nat.{ℕ, _+_, _-_, _≤_, _<_, min}
 use mathlib.Core.Path.{_≡_, refl, sym, _∙_, ap}
 use mathlib.Core.Bool.{Bool, true, false, not, _&&_, and-false}
-use mathlib.Core.Option.{none, some}
+use mathlib.Core.Option.{some}
 use mathlib.Core.List.{List}
 use native.Mathlib.Omega.{arith}
 use lib.Dec.{leb, ltb, eqb}
@@ -20,7 +20,7 @@ use Rattle.paper.specs.Rows.{row4}
 use Rattle.paper.specs.Orders.{alphabetIn, opening, openingOf}
 use Rattle.paper.proofs.Opening.{spoilt, passed}
 use Rattle.opening.specs.declared.Opened.{Opened}
-use Rattle.opening.specs.Opened.{Decoded, Judged, Opens, RoomOf, RefusedOf}
+use Rattle.opening.specs.Opened.{Judged, Opens, RoomOf, RefusedOf}
 
 module _ (h : Head) (alphabet : List ℕ) (len : ℕ) where
   pub judged-refused : {why : Refusal} {r : Opened} → RefusedOf h why r → first (opening h alphabet len) ≡ some (saidOf why) → Judged h alphabet len r

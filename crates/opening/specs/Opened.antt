@@ -1,4 +1,5 @@
--- What opening an image tells: which of 1 to 4 is heard and, where none is, the head and the letters of the alphabet.
+-- 01, "What the bench may hear", 1 to 4: what opening an image tells is which of them is heard and, where none is, the head and the letters of
+-- the alphabet.
 use Prim.Native.Nat.{ℕ, _≤_}
 use mathlib.Core.Path.{_≡_}
 use mathlib.Core.Option.{none}

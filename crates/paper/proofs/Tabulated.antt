@@ -1,6 +1,6 @@
 -- P1 to P12 of document 01, together: each call of the table leaves what the table says. The checker computes it.
 use mathlib.Core.Path.{_≡_, refl}
-use mathlib.Core.List.{List, map}
+use mathlib.Core.List.{map}
 use Rattle.field.specs.Field.{fieldAt, digits}
 use Rattle.utf8.specs.Table37.{inRange, inRanges, fitsRow, lengthBy, charLen}
 use Rattle.utf8.specs.Text.{charAt, inFront, charsFrom, chars}
@@ -12,7 +12,7 @@ use Rattle.head.specs.Fields.{headOf, headBytes, permitted, nodeWidth, nodePlac
 use Rattle.alphabet.specs.Letters.{among, allDifferent, isAlphabet, goodAlphabet, lettersIn, letters, letterOf, withLetter, lettersOf, keyOfChars, keyOfText}
 use Rattle.node.specs.Image.{linkPlace, dataPlace, tableOf}
 use Rattle.node.specs.Writes.{carriedOut, lastNode, pathNode, newNodes, totalWrite, linkWrite, dataWrite, storeWrites}
-use Rattle.paper.specs.Hearing.{Outcome, given, first, refusedNumbers, doneNumbers, heard}
+use Rattle.paper.specs.Hearing.{given, first, refusedNumbers, doneNumbers, heard}
 use Rattle.paper.specs.Rows.{row1, row2, row3, row4, row5, badLink, holdsBad, givenLowest, row6, timesIn, times, row7, row8, row9, row9next, allBelow, row10, isNone, row10text, row11, row12, row13, row14, row15, rowAt, row6path}
 use Rattle.paper.specs.Orders.{alphabetIn, opening, openingOf, linking, checking, byLetters, byText, lookingUp, adding, newOf, storing, nexting}
 use Rattle.paper.specs.Calls.{tableIn, clearedBy, workAfter, freshHead, freshImage, makeOf, checkOf, storedKeys, countOf, lookUpBy, lookUpOf, namedIn, lookUpTextOf, storedImage, storeBy, storeOf, storeTextOf, nextIn, foundIn, nextKeyOf}

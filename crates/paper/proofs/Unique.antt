@@ -13,7 +13,7 @@ use Rattle.paper.specs.declared.Counted.{Counted}
 use Rattle.paper.specs.declared.Looked.{Looked}
 use Rattle.paper.specs.declared.Stored.{Stored}
 use Rattle.paper.specs.declared.Found.{Found}
-use Rattle.paper.specs.Hearing.{Said, Numbers, Outcome, outcome, refusedNumbers, doneNumbers}
+use Rattle.paper.specs.Hearing.{Numbers, Outcome, outcome, refusedNumbers, doneNumbers}
 use Rattle.paper.specs.Answers.{refusalNumbers, doneOf, countedOf, lookedOf, storedOf, foundOf}
 use Rattle.paper.specs.Promises.{Makes, Checks, Counts, LooksUp, LooksUpText, Stores, StoresText, Nexts}
 

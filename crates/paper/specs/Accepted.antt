@@ -1,6 +1,6 @@
 -- 01, "The image": an image that meets every rule, rule by rule, in 01's words and with no word of the check. (01 calls an image accepted
 -- if the check, lent enough working numbers, answers 0. That the two are the same is demand 2's theorem.)
-use Prim.Native.Nat.{ℕ, _+_, _≤_, _<_}
+use Prim.Native.Nat.{ℕ, _≤_, _<_}
 use mathlib.Core.Path.{_≡_}
 use mathlib.Core.Bool.{true}
 use mathlib.Core.List.{List}

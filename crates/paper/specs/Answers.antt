@@ -2,7 +2,7 @@
 -- each refusal, and the numbers of each call's answer.
 use Prim.Native.Nat.{ℕ}
 use mathlib.Core.Option.{none, some}
-use lib.IntN.{ℤ, pos}
+use lib.IntN.{pos}
 use Rattle.paper.specs.declared.Refusal.{Refusal}
 use Rattle.paper.specs.declared.Refusal.the-variants.{ImageLength, HeadField, Alphabet, ImageRoom, TooFewNumbers, Link, LinkedTwice, NotLinked, KeyLength, Letter, ValueTooGreat, NoAddress, NoRoom, ShortBuffer, NoKey}
 use Rattle.paper.specs.declared.Verdict.{Verdict}

@@ -1,12 +1,12 @@
 -- The outcome of each of the eight calls, for any arguments: the answer's numbers and the last content of every buffer lent to be
 -- written. Each is the first row of its order that is given, or else what 01 says the call does.
-use Prim.Native.Nat.{ℕ, zero, suc, _+_, _*_}
+use Prim.Native.Nat.{ℕ, _+_}
 use mathlib.Core.Bool.{Bool}
 use mathlib.Core.Option.{Option, none, some}
 use mathlib.Core.List.{List, [], _∷_, _++_}
 use lib.ListN.{length, drop, replicate}
 use lib.Seq.{sets}
-use lib.IntN.{ℤ, pos}
+use lib.IntN.{pos}
 use Rattle.trie.specs.Table.{Table, descend, answer}
 use Rattle.trie.specs.Keys.{listing, meets, firstMeeting}
 use Rattle.trie.specs.Storing.{changeOf}
@@ -15,7 +15,7 @@ use Rattle.head.specs.Fields.{headOf, headBytes, nodeWidth}
 use Rattle.alphabet.specs.Letters.{letters, lettersIn, keyOfText}
 use Rattle.node.specs.Image.{tableOf}
 use Rattle.node.specs.Writes.{carriedOut, storeWrites}
-use Rattle.paper.specs.Hearing.{Row, Numbers, Outcome, outcome, doneNumbers, first, heard}
+use Rattle.paper.specs.Hearing.{Row, Outcome, outcome, doneNumbers, first, heard}
 use Rattle.paper.specs.Rows.{row5}
 use Rattle.paper.specs.Orders.{alphabetIn, opening, openingOf, checking, byLetters, byText, lookingUp, storing, nexting}
 

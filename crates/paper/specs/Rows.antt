@@ -12,7 +12,7 @@ use Rattle.trie.specs.Lowest.{lowest}
 use Rattle.head.specs.declared.Head.{Head}
 use Rattle.head.specs.Fields.{shortestImage, longestImage, permitted, nodeWidth, usedLen}
 use Rattle.alphabet.specs.Letters.{goodAlphabet}
-use Rattle.paper.specs.Hearing.{Said, Row, given}
+use Rattle.paper.specs.Hearing.{Row, given}
 
 -- image shorter than 28 or longer than 16,777,216 bytes
 unfoldable pub row1 : ℕ → Row

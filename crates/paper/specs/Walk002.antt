@@ -3,7 +3,7 @@
 -- not there. Where 002 writes s.indexOf(..) for a character, the allowed characters are meant; its -1, "not found", is here [N], which the
 -- same test turns away.
 use Prim.Native.Nat.{ℕ, zero, suc, _+_, _*_}
-use mathlib.Core.Bool.{Bool, _||_, cond}
+use mathlib.Core.Bool.{_||_, cond}
 use mathlib.Core.Option.{Option, none, some}
 use mathlib.Core.List.{List, [], _∷_, map}
 use lib.ListN.{length}

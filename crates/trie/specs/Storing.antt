@@ -2,7 +2,7 @@
 -- value 0: nothing changes, answer 0. Path incomplete otherwise: the empty link that stopped the walk receives G+1; nodes G+1 to G+k are
 -- written in key order, each linking to the next by the key's letter, all else zero; the last holds the value").
 use Prim.Native.Nat.{ℕ, zero, suc, _+_}
-use mathlib.Core.Bool.{Bool, _&&_, cond}
+use mathlib.Core.Bool.{_&&_, cond}
 use mathlib.Core.List.{List, [], _∷_}
 use lib.ListN.{length}
 use lib.Dec.{eqb}

@@ -2,7 +2,7 @@
 -- Third and fourth bytes are 80..BF." A row: the lowest and the highest first byte, the lowest and the highest second byte (0 where the
 -- character has none), and the character's bytes.
 use Prim.Native.Nat.{ℕ, zero, suc, _+_}
-use mathlib.Core.Bool.{Bool, true, false, _&&_, cond}
+use mathlib.Core.Bool.{Bool, true, _&&_, cond}
 use mathlib.Core.List.{List, [], _∷_}
 use lib.ListN.{length, getD}
 use lib.Dec.{leb}

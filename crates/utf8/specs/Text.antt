@@ -1,7 +1,7 @@
--- A text as its characters. A character is the number that its bytes make as one big-endian field: the first byte of a longer
+-- 01, "The image": "exactly N well-formed characters", and "What the bench may hear": "the text is not well-formed". A character is the number that its bytes make as one big-endian field: the first byte of a longer
 -- character is never 0, so two characters are the same exactly if their numbers are, and half a character is no character.
 use Prim.Native.Nat.{ℕ, zero, suc, _+_}
-use mathlib.Core.Bool.{Bool, cond}
+use mathlib.Core.Bool.{cond}
 use mathlib.Core.Option.{Option, none, some}
 use mathlib.Core.List.{List, [], _∷_}
 use lib.ListN.{length}

@@ -1,10 +1,9 @@
 -- `key::Key::of` meets its contract: the letters copied so far, with zeros behind them, are the array.
 -- Assumes nothing.
-use Prim.Native.Nat.{_+_, _-_, _≤_, min}
+use Prim.Native.Nat.{_-_, _≤_, min}
 use mathlib.Core.Logic.{⊎-elim}
-use mathlib.Core.Path.{_≡_, refl, sym, _∙_, ap}
+use mathlib.Core.Path.{_≡_, refl, _∙_}
 use native.Mathlib.Omega.{arith}
-use borrow.Author.Needs.{needs}
 use lib.ListN.{length, take}
 use Rattle.key.specs.Hand.{padded, inHand}
 use Rattle.key.proofs.Hand.{copy-more, copy-all}
