@@ -1,13 +1,13 @@
--- `trieff::fresh` meets its contract: the three parts lie one behind the other inside the image, and are the fresh image.
+-- `making::fresh` meets its contract: the three parts lie one behind the other inside the image, and are the fresh image.
 -- Assumes nothing.
 use Prim.Native.Nat.{_+_, _≤_}
 use native.Mathlib.Omega.{arith}
 use borrow.Author.Needs.{needs}
 use lib.ListN.{length}
 use Rattle.head.specs.Fields.{nodeWidth}
-use Rattle.trieff.proofs.Making.{whole, written}
-use Rattle.trieff.proofs.fresh.Statement.{statement}
-use Rattle.trieff.proofs.fresh.Tie as tie
+use Rattle.making.proofs.Parts.{whole, written}
+use Rattle.making.proofs.fresh.Statement.{statement}
+use Rattle.making.proofs.fresh.Tie as tie
 
 -- head, alphabet and root lie inside the image
 inside : (c : tie.Start) → 28 + length (c .args .alphabet .now) + nodeWidth (c .args .h) ≤ length (c .args .image .now)
