@@ -17,7 +17,6 @@ use Rattle.utf8.specs.Text.{charAt}
 use Rattle.utf8.proofs.Texts.{prepend, charsAt, Passed, passed-none, passed-more, passed-all, passed-ill}
 use Rattle.alphabet.specs.Letters.{among, allDifferent, isAlphabet, goodAlphabet, lettersIn, letters, letterOf}
 use Rattle.alphabet.specs.Judged.{Judged}
-use Rattle.alphabet.specs.declared.Letters.{Letters}
 use Rattle.alphabet.proofs.Alphabets.{eqb-sym, among-snoc, different-snoc, repeated-append, letter-most, letter-below, letter-behind, letter-here}
 
 -- ---- searching
@@ -75,64 +74,60 @@ not-new n cs e none = refl
 not-new n cs e (some ds) = rw (repeated-append cs ds e) (and-false (eqb (length (cs ++ ds)) n))
 
 -- what is judged so far: `count` codes, the bytes before place at
-pub record Judging (n : ℕ) (bytes : List ℕ) (r : Letters) (count top at : ℕ) : Type 0 where
-  pub few : n ≤ 256
-  pub unjudged : r .good ≡ false
-  pub room : length (r .codes) ≡ 256
+pub record Judging (n : ℕ) (bytes codes : List ℕ) (count top at : ℕ) : Type 0 where
+  pub room : n ≤ length codes
   pub counted : count ≤ n
-  pub passed : Passed bytes (take count (r .codes)) at
-  pub different : allDifferent (take count (r .codes)) ≡ true
-  pub above : (c : ℕ) → top < c → among c (take count (r .codes)) ≡ false
+  pub passed : Passed bytes (take count codes) at
+  pub different : allDifferent (take count codes) ≡ true
+  pub above : (c : ℕ) → top < c → among c (take count codes) ≡ false
 
-pub judging-none : (n : ℕ) (bytes : List ℕ) (r : Letters) → n ≤ 256 → r .good ≡ false → length (r .codes) ≡ 256 → Judging n bytes r 0 0 0
+pub judging-none : (n : ℕ) (bytes codes : List ℕ) → n ≤ length codes → Judging n bytes codes 0 0 0
 unfolding among allDifferent
-judging-none n bytes r f e h =
-    record { few = f; unjudged = e; room = h; counted = omega arith; passed = passed-none bytes; different = refl; above = λ c l. refl }
+judging-none n bytes codes h =
+    record { room = h; counted = omega arith; passed = passed-none bytes; different = refl; above = λ c l. refl }
 
-module _ {n : ℕ} {bytes : List ℕ} {r : Letters} {count top at : ℕ} (p : Judging n bytes r count top at) where
-  long : length (take count (r .codes)) ≡ count
-  long = length-take-le count (r .codes) (omega (arith, p .room, p .counted, p .few))
+module _ {n : ℕ} {bytes codes : List ℕ} {count top at : ℕ} (p : Judging n bytes codes count top at) where
+  long : length (take count codes) ≡ count
+  long = length-take-le count codes (omega (arith, p .room, p .counted))
 
   -- one more character, that is new
-  pub judging-more : {len code higher : ℕ} → count < n → len ≡ charLen bytes at → len ≢ 0 → code ≡ charAt bytes at → among code (take count (r .codes)) ≡ false → top ≤ higher → code ≤ higher
-      → Judging n bytes (record { good = r .good; codes = set (r .codes) count code }) (count + 1) higher (at + len)
+  pub judging-more : {len code higher : ℕ} → count < n → len ≡ charLen bytes at → len ≢ 0 → code ≡ charAt bytes at → among code (take count codes) ≡ false → top ≤ higher → code ≤ higher
+      → Judging n bytes (set codes count code) (count + 1) higher (at + len)
   judging-more {len} {code} {higher} h e ne d new up down =
-      let grown : take (count + 1) (set (r .codes) count code) ≡ take count (r .codes) ++ (code ∷ []) =
-      rw (add-one count) (take-suc-set (r .codes) count code (omega (arith, p .room, p .few)))
+      let grown : take (count + 1) (set codes count code) ≡ take count codes ++ (code ∷ []) =
+      rw (add-one count) (take-suc-set codes count code (omega (arith, p .room)))
       in
       record {
-        few = p .few;
-        unjudged = p .unjudged;
-        room = length-set (r .codes) count code ∙ p .room;
+        room = simp length-set (p .room);
         counted = omega arith;
         passed = rw grown (passed-more (p .passed) e ne d);
-        different = rw (grown, different-snoc (take count (r .codes)) code, p .different, new);
-        above = λ c l. rw (grown, among-snoc c (take count (r .codes)) code, p .above c (omega arith), ne-eqb c code (λ q. omega arith));
+        different = rw (grown, different-snoc (take count codes) code, p .different, new);
+        above = λ c l. rw (grown, among-snoc c (take count codes) code, p .above c (omega arith), ne-eqb c code (λ q. omega arith));
       }
 
-  -- what is no alphabet was not called good
-  refused : goodAlphabet n bytes ≡ false → Judged n bytes r
-  refused h = record { good = p .unjudged ∙ sym h; codes = λ q. absurd (let z : _≡_ {A = ℕ} 0 1 = cc in omega arith) }
+  -- what is no alphabet is not called good
+  refused : goodAlphabet n bytes ≡ false → Judged n bytes false codes
+  refused h = record { good = sym h; codes = λ q. absurd (let z : _≡_ {A = ℕ} 0 1 = cc in omega arith) }
 
-  pub judging-ill : at < length bytes → charLen bytes at ≡ 0 → Judged n bytes r
+  pub judging-ill : at < length bytes → charLen bytes at ≡ 0 → Judged n bytes false codes
   unfolding goodAlphabet
   judging-ill h e = refused (rw (passed-ill (p .passed) h e))
 
   -- the text begins with the characters so far and the one at the place, whatever follows
-  begins : charLen bytes at ≢ 0 → ((rest : Option (List ℕ)) → isAlphabet n (prepend (take count (r .codes) ++ (charAt bytes at ∷ [])) rest) ≡ false) → Judged n bytes r
+  begins : charLen bytes at ≢ 0 → ((rest : Option (List ℕ)) → isAlphabet n (prepend (take count codes ++ (charAt bytes at ∷ [])) rest) ≡ false) → Judged n bytes false codes
   unfolding goodAlphabet
   begins h e = refused (rw (passed-more (p .passed) refl h refl .before) (e (charsAt bytes (at + charLen bytes at))))
 
-  pub judging-many : charLen bytes at ≢ 0 → n ≤ count → Judged n bytes r
-  judging-many h l = begins h (too-many n (take count (r .codes) ++ (charAt bytes at ∷ [])) (simp length-append (omega (arith, long))))
+  pub judging-many : charLen bytes at ≢ 0 → n ≤ count → Judged n bytes false codes
+  judging-many h l = begins h (too-many n (take count codes ++ (charAt bytes at ∷ [])) (simp length-append (omega (arith, long))))
 
-  pub judging-again : charLen bytes at ≢ 0 → among (charAt bytes at) (take count (r .codes)) ≡ true → Judged n bytes r
+  pub judging-again : charLen bytes at ≢ 0 → among (charAt bytes at) (take count codes) ≡ true → Judged n bytes false codes
   judging-again h e =
       begins h
-      (not-new n (take count (r .codes) ++ (charAt bytes at ∷ []))
-      (rw (different-snoc (take count (r .codes)) (charAt bytes at), e) (and-false (allDifferent (take count (r .codes))))))
+      (not-new n (take count codes ++ (charAt bytes at ∷ []))
+      (rw (different-snoc (take count codes) (charAt bytes at), e) (and-false (allDifferent (take count codes)))))
 
-  pub judging-all : length bytes ≤ at → Judged n bytes (record { good = eqb count n; codes = r .codes })
+  pub judging-all : length bytes ≤ at → Judged n bytes (eqb count n) codes
   unfolding goodAlphabet isAlphabet letters lettersIn
   judging-all h =
       record {

@@ -6,60 +6,48 @@ ghost use lib.ListN.{length, take};
 ghost use Rattle.alphabet.specs.Letters.{among, letterOf};
 ghost use Rattle.alphabet.specs.Judged.{Judged};
 
-// An alphabet that was judged: where it is good, the first N codes are its characters in order.
-pub struct Letters {
-    pub good: bool,
-    pub codes: [u32; 256],
-}
-
-// Are these bytes exactly n well-formed characters, all different? The codes are written into the answer itself, so that
-// no second array is copied.
-pub fn judge(bytes: &[u8], n: usize) -> Letters
+// Are these bytes exactly n well-formed characters, all different? Then the first n of the lent codes are the characters in order; what the
+// codes hold otherwise is left open. As a slice the array tells its length.
+pub fn judge(bytes: &[u8], n: usize, codes: &mut [u32; 256]) -> bool
     requires { ⌜ n ≤ 256 ⌝ }
-    ensures { λ r. ⌜ Judged n (now (bytes .entry)) r ⌝ }
+    ensures { λ r. ⌜ Judged n (now (bytes .entry)) r (now (codes .exit)) ⌝ }
 {
-    let mut judged = Letters {
-        good: false,
-        codes: [0u32; 256],
-    };
+    let all: &mut [u32] = codes;
     let mut count: usize = 0;
     let mut top: u32 = 0;
     let mut at: usize = 0;
     while at < bytes.len() {
         let len = utf8::char_len(bytes, at);
         if len == 0 {
-            return judged;
+            return false;
         }
         if n <= count {
-            return judged;
+            return false;
         }
         let code = utf8::char_at(bytes, at, len);
         if code <= top {
-            if seen(&judged.codes, count, code) {
-                return judged;
+            if seen(all, count, code) {
+                return false;
             }
         } else {
             top = code;
         }
-        judged.codes[count] = code;
+        all[count] = code;
         count += 1;
         at += len;
     }
-    judged.good = count == n;
-    judged
+    count == n
 }
 
-// Is the code among the first `count`? The loop has no early exit, so that it runs over several codes at once. As a slice
-// the array tells its length, here and below.
-fn seen(codes: &[u32; 256], count: usize, code: u32) -> bool
-    requires { ⌜ count ≤ 256 ⌝ }
+// Is the code among the first `count`? The loop has no early exit, so that it runs over several codes at once.
+fn seen(codes: &[u32], count: usize, code: u32) -> bool
+    requires { ⌜ count ≤ length (now codes) ⌝ }
     ensures { λ r. ⌜ r ≡ among code (take count (now (codes .entry))) ⌝ }
 {
-    let all: &[u32] = codes;
     let mut hit = false;
     let mut i: usize = 0;
     while i < count {
-        hit = hit | (all[i] == code);
+        hit = hit | (codes[i] == code);
         i += 1;
     }
     hit

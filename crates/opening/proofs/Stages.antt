@@ -23,7 +23,7 @@ use Rattle.opening.specs.declared.Opened.{Opened}
 use Rattle.opening.specs.Opened.{Judged, Opens, RoomOf, RefusedOf}
 
 module _ (h : Head) (alphabet : List ℕ) (len : ℕ) where
-  pub judged-refused : {why : Refusal} {r : Opened} → RefusedOf h why r → first (opening h alphabet len) ≡ some (saidOf why) → Judged h alphabet len r
+  pub judged-refused : {why : Refusal} {r : Opened} {codes : List ℕ} → RefusedOf h why r → first (opening h alphabet len) ≡ some (saidOf why) → Judged h alphabet len r codes
   unfolding rowOf
   judged-refused {why} {r} o e =
       let heard : rowOf (r .verdict) ≡ some (saidOf why) = ap rowOf (o .verdict) in
@@ -33,13 +33,13 @@ module _ (h : Head) (alphabet : List ℕ) (len : ℕ) where
         decoded = λ n _. let z : _≡_ {A = ℕ} 0 1 = cc in absurd (omega arith);
       }
 
-  pub judged-room : {count : ℕ} {codes : List ℕ} {r : Opened} → RoomOf h len count codes r → first (opening h alphabet len) ≡ row4 h len → count ≤ 256
-      → (length alphabet ≡ h .f → take count codes ≡ letters alphabet) → Judged h alphabet len r
+  pub judged-room : {count : ℕ} {r : Opened} {codes : List ℕ} → RoomOf h len count r → first (opening h alphabet len) ≡ row4 h len → count ≤ 256
+      → (length alphabet ≡ h .f → take count codes ≡ letters alphabet) → Judged h alphabet len r codes
   judged-room o e b d =
       record {
         verdict = o .verdict ∙ sym e;
         head = o .head;
-        decoded = λ n w. record { count = rw (o .count) b; codes = rw (o .count, o .codes) (d w) };
+        decoded = λ n w. record { count = rw (o .count) b; codes = rw (o .count) (d w) };
       }
 
   -- the test of row 3, by what its parts are
@@ -61,7 +61,7 @@ module _ (h : Head) (alphabet : List ℕ) (len : ℕ) where
 
 -- ---- an image
 
-pub opens-refused : (l : List ℕ) {h : Head} {why : Refusal} {r : Opened} → RefusedOf h why r → first (openingOf l) ≡ some (saidOf why) → Opens l r
+pub opens-refused : (l : List ℕ) {h : Head} {why : Refusal} {r : Opened} {codes : List ℕ} → RefusedOf h why r → first (openingOf l) ≡ some (saidOf why) → Opens l r codes
 unfolding rowOf
 opens-refused l {h} {why} {r} o e =
     let heard : rowOf (r .verdict) ≡ some (saidOf why) = ap rowOf (o .verdict) in
@@ -84,13 +84,13 @@ part l f end h e = go (leb (28 + f) (length l)) refl
         let k : length l < 28 + f = leb-false _ _ b in
         take-all (end - 28) (drop 28 l) (omega (arith, length-drop 28 l)) ∙ sym (take-all f (drop 28 l) (omega (arith, length-drop 28 l)))
 
-pub opens-judged : (l : List ℕ) {h : Head} {end : ℕ} {r : Opened} → h ≡ headOf l → end ≡ min (28 + h .f) (length l) → 28 ≤ length l
-    → Judged h (take (end - 28) (drop 28 l)) (length l) r → Opens l r
+pub opens-judged : (l : List ℕ) {h : Head} {end : ℕ} {r : Opened} {codes : List ℕ} → h ≡ headOf l → end ≡ min (28 + h .f) (length l) → 28 ≤ length l
+    → Judged h (take (end - 28) (drop 28 l)) (length l) r codes → Opens l r codes
 unfolding openingOf alphabetIn
-opens-judged l {h} {end} {r} e b k j =
+opens-judged l {h} {end} {r} {codes} e b k j =
     let alphabet : List ℕ = take (headOf l .f) (drop 28 l) in
     let same : take (end - 28) (drop 28 l) ≡ alphabet = part l (h .f) end k b ∙ ap (λ (g : Head). take (g .f) (drop 28 l)) e in
-    let o : Judged (headOf l) alphabet (length l) r = rw (e, same) at j in
+    let o : Judged (headOf l) alphabet (length l) r codes = rw (e, same) at j in
     record {
       verdict = o .verdict;
       head = λ _. o .head;

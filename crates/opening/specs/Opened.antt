@@ -16,29 +16,28 @@ use Rattle.paper.specs.Orders.{alphabetIn, opening, openingOf}
 use Rattle.paper.specs.Rows.{row4}
 use Rattle.opening.specs.declared.Opened.{Opened}
 
--- the letters of an alphabet are the first codes, as many as are counted
-pub record Decoded (alphabet : List ℕ) (r : Opened) : Type 0 where
+-- the letters of an alphabet are the first of the lent codes, as many as are counted
+pub record Decoded (alphabet : List ℕ) (r : Opened) (decoded : List ℕ) : Type 0 where
   pub count : r .count ≤ 256
-  pub codes : take (r .count) (r .codes) ≡ letters alphabet
+  pub codes : take (r .count) decoded ≡ letters alphabet
 
 -- 1 to 4 of a head, an alphabet and the length of an image
-pub record Judged (h : Head) (alphabet : List ℕ) (len : ℕ) (r : Opened) : Type 0 where
+pub record Judged (h : Head) (alphabet : List ℕ) (len : ℕ) (r : Opened) (codes : List ℕ) : Type 0 where
   pub verdict : rowOf (r .verdict) ≡ first (opening h alphabet len)
   pub head : r .head ≡ h
-  pub decoded : rowOf (r .verdict) ≡ none → length alphabet ≡ h .f → Decoded alphabet r
+  pub decoded : rowOf (r .verdict) ≡ none → length alphabet ≡ h .f → Decoded alphabet r codes
 
 -- 1 to 4 of an image
-pub record Opens (l : List ℕ) (r : Opened) : Type 0 where
+pub record Opens (l : List ℕ) (r : Opened) (codes : List ℕ) : Type 0 where
   pub verdict : rowOf (r .verdict) ≡ first (openingOf l)
   pub head : rowOf (r .verdict) ≡ none → r .head ≡ headOf l
-  pub decoded : rowOf (r .verdict) ≡ none → Decoded (alphabetIn (headOf l) l) r
+  pub decoded : rowOf (r .verdict) ≡ none → Decoded (alphabetIn (headOf l) l) r codes
 
 -- 4 alone, with what was learnt before it
-pub record RoomOf (h : Head) (len counted : ℕ) (decodes : List ℕ) (r : Opened) : Type 0 where
+pub record RoomOf (h : Head) (len counted : ℕ) (r : Opened) : Type 0 where
   pub verdict : rowOf (r .verdict) ≡ row4 h len
   pub head : r .head ≡ h
   pub count : r .count ≡ counted
-  pub codes : r .codes ≡ decodes
 
 pub record RefusedOf (h : Head) (why : Refusal) (r : Opened) : Type 0 where
   pub verdict : r .verdict ≡ Verdict.Refused why

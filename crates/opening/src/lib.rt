@@ -9,17 +9,17 @@ use head::Head;
 use paper::Refusal;
 use paper::Verdict;
 
-// The letters of the alphabet are the first `count` codes; an image whose F is 0 has none.
+// The letters of the alphabet are the first `count` of the lent codes. An image whose F is 0 has none, and the codes are then not touched;
+// what they hold after a refusal is left open.
 pub struct Opened {
     pub verdict: Verdict,
     pub head: Head,
     pub count: usize,
-    pub codes: [u32; 256],
 }
 
 // 1 to 4 of an image.
-pub fn open(image: &[u8]) -> Opened
-    ensures { λ r. ⌜ Opens (now (image .entry)) r ⌝ }
+pub fn open(image: &[u8], codes: &mut [u32; 256]) -> Opened
+    ensures { λ r. ⌜ Opens (now (image .entry)) r (now (codes .exit)) ⌝ }
 {
     let len = image.len();
     if !head::length_allowed(len) {
@@ -38,12 +38,12 @@ pub fn open(image: &[u8]) -> Opened
     }
     let h = Head::read(image);
     let end = alphabet_end(h, len);
-    judge(h, &image[28..end], len)
+    judge(h, &image[28..end], len, codes)
 }
 
 // 1 to 4 of a head, its alphabet and the length of the image.
-pub fn judge(h: Head, alphabet: &[u8], len: usize) -> Opened
-    ensures { λ r. ⌜ Judged h (now (alphabet .entry)) len r ⌝ }
+pub fn judge(h: Head, alphabet: &[u8], len: usize, codes: &mut [u32; 256]) -> Opened
+    ensures { λ r. ⌜ Judged h (now (alphabet .entry)) len r (now (codes .exit)) ⌝ }
 {
     if !head::length_allowed(len) {
         return refused(h, Refusal::ImageLength);
@@ -53,24 +53,22 @@ pub fn judge(h: Head, alphabet: &[u8], len: usize) -> Opened
     }
     let f = h.f as usize;
     if f == 0 {
-        return room(h, len, 0, [0u32; 256]);
+        return room(h, len, 0);
     }
     if alphabet.len() != f {
-        return room(h, len, 0, [0u32; 256]);
+        return room(h, len, 0);
     }
     let n = h.n as usize;
-    let letters = alphabet::judge(alphabet, n);
-    if !letters.good {
+    if !alphabet::judge(alphabet, n, codes) {
         return refused(h, Refusal::Alphabet);
     }
-    let codes = letters.codes;
-    room(h, len, n, codes)
+    room(h, len, n)
 }
 
 // 4, the last of them, where 1 to 3 have passed.
-fn room(h: Head, len: usize, count: usize, codes: [u32; 256]) -> Opened
+fn room(h: Head, len: usize, count: usize) -> Opened
     requires { ⌜ permitted h ≡ true ⌝ }
-    ensures { λ r. ⌜ RoomOf h len count codes r ⌝ }
+    ensures { λ r. ⌜ RoomOf h len count r ⌝ }
 {
     let verdict = if h.fits(len) {
         Verdict::Passed
@@ -81,7 +79,6 @@ fn room(h: Head, len: usize, count: usize, codes: [u32; 256]) -> Opened
         verdict,
         head: h,
         count,
-        codes,
     }
 }
 
@@ -93,7 +90,6 @@ fn refused(h: Head, why: Refusal) -> Opened
         verdict: Verdict::Refused(why),
         head: h,
         count: 0,
-        codes: [0u32; 256],
     }
 }
 

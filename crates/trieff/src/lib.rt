@@ -27,7 +27,8 @@ pub fn make(image: &mut [u8], n: u32, a: u32, d: u32, alphabet: &[u8], min: u32,
         min,
         max,
     };
-    let opened = opening::judge(h, alphabet, len);
+    let mut codes = [0u32; 256];
+    let opened = opening::judge(h, alphabet, len, &mut codes);
     let verdict = opened.verdict;
     match verdict {
         Verdict::Refused(why) => Done::Refused(why),

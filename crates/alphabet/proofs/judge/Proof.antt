@@ -14,13 +14,13 @@ use Rattle.alphabet.proofs.judge.Statement.{statement}
 use Rattle.alphabet.proofs.judge.Tie as tie
 
 abbrev Inv-loop : tie.InvT-loop
-Inv-loop bytes n judged₀ count₀ top₀ at₀ judged count top at = Judging n bytes judged count top at
+Inv-loop bytes n all₀ count₀ top₀ at₀ all count top at = Judging n bytes all count top at
 
 abbrev μ-loop : tie.MeasureT-loop
-μ-loop bytes n judged₀ count₀ top₀ at₀ judged count top at = length bytes - at
+μ-loop bytes n all₀ count₀ top₀ at₀ all count top at = length bytes - at
 
 loop-holds : tie.Need-loop-holds Inv-loop μ-loop
-loop-holds c = judging-none _ _ _ (c .before .pre) refl refl
+loop-holds c = judging-none _ _ _ (omega arith)
 
 char-len-requires : tie.Need-char-len-requires Inv-loop μ-loop
 char-len-requires c κs = tt
@@ -29,14 +29,14 @@ returns : tie.Need-returns Inv-loop μ-loop
 returns c = judging-ill (c .before .before .before .loop .inv) (omega arith) (sym (c .before .char-len .ensures) ∙ c .if1 .taken)
 
 -- past the first test a character stands there
-stands : (c : tie.Else1 Inv-loop μ-loop) → charLen (c .before .before .before .before .before .args .bytes .now) (c .before .before .before .loop .at) ≢ 0
+stands : (c : tie.Else1 Inv-loop μ-loop) → charLen (c .before .before .before .before .before .before .args .bytes .now) (c .before .before .before .loop .at) ≢ 0
 stands c z = c .if1 .left (c .before .char-len .ensures ∙ z)
 
-whole : (c : tie.Else1 Inv-loop μ-loop) → c .before .before .before .loop .at + c .before .char-len .result ≤ length (c .before .before .before .before .before .args .bytes .now)
+whole : (c : tie.Else1 Inv-loop μ-loop) → c .before .before .before .loop .at + c .before .char-len .result ≤ length (c .before .before .before .before .before .before .args .bytes .now)
 whole c = rw (c .before .char-len .ensures) (character _ _ (stands c) .whole)
 
 returns-2 : tie.Need-returns-2 Inv-loop μ-loop
-returns-2 c = judging-many (c .before .before .before .before .loop .inv) (stands (c .before)) (c .if2 .taken)
+returns-2 c = judging-many (c .before .before .before .before .loop .inv) (stands (c .before)) (omega arith)
 
 char-at-requires : tie.Need-char-at-requires Inv-loop μ-loop
 char-at-requires c κs = c .before .before .char-len .ensures
@@ -46,13 +46,13 @@ seen-requires c κs = omega arith
 
 returns-3 : tie.Need-returns-3 Inv-loop μ-loop
 returns-3 c =
-    judging-again (c .before .before .before .before .before .before .before .before .before .before .loop .inv) (stands (c .before .before .before .before .before .before .before)) (rw (← c .before .before .before .before .before .char-at .ensures) (sym (c .before .seen .ensures) ∙ c .if4 .taken))
+    judging-again (c .before .before .before .before .before .before .before .before .before .loop .inv) (stands (c .before .before .before .before .before .before)) (rw (← c .before .before .before .before .char-at .ensures) (sym (c .before .seen .ensures) ∙ c .if4 .taken))
 
-mul-judged : tie.Need-mul-judged Inv-loop μ-loop
-mul-judged c = omega arith
+mul-all : tie.Need-mul-all Inv-loop μ-loop
+mul-all c = omega arith
 
-element-write-judged : tie.Need-element-write-judged Inv-loop μ-loop
-element-write-judged c = omega arith
+slice-write-all : tie.Need-slice-write-all Inv-loop μ-loop
+slice-write-all c = omega arith
 
 add-count : tie.Need-add-count Inv-loop μ-loop
 add-count c = omega arith
@@ -65,11 +65,11 @@ loop-less c = omega (arith, whole (c .before .before .before))
 
 -- where the two ways meet the code is new, and none is above `top`
 new : (c : tie.Joined3 Inv-loop μ-loop)
-    → (among (c .before .char-at .result) (take (c .before .before .before .before .before .before .loop .count) (c .before .before .before .before .before .before .loop .judged .codes)) ≡ false)
+    → (among (c .before .char-at .result) (take (c .before .before .before .before .before .before .loop .count) (c .before .before .before .before .before .before .loop .all)) ≡ false)
     × (c .before .before .before .before .before .before .loop .top ≤ c .if3 .top)
     × (c .before .char-at .result ≤ c .if3 .top)
 new c =
-    ⊎-elim (λ w. (sym (w .3 .ensures) ∙ w .4 .left, omega arith, omega arith))
+    ⊎-elim (λ w. (sym (w .2 .ensures) ∙ w .3 .left, omega arith, omega arith))
     (λ w. (c .before .before .before .before .before .before .loop .inv .above _ (w .0 .left), omega arith, omega arith))
     (c .if3 .came)
 
@@ -93,8 +93,8 @@ judge-spec =
     char-at-requires
     seen-requires
     returns-3
-    mul-judged
-    element-write-judged
+    mul-all
+    slice-write-all
     add-count
     add-at
     loop-less

@@ -1,20 +1,16 @@
--- `alphabet::seen` meets its contract. The answer so far is that of the codes passed; lent as a slice, the array is known to have 256, so
--- that all that are asked for are there. The measure is the codes that are left. Assumes nothing.
-use Prim.Native.Nat.{_-_, _≤_}
+-- `alphabet::seen` meets its contract. The answer so far is that of the codes passed. The measure is the codes that are left.
+-- Assumes nothing.
+use Prim.Native.Nat.{_-_}
 use native.Mathlib.Omega.{arith}
-use lib.ListN.{length}
 use Rattle.alphabet.proofs.Loops.{Searching, searching-none, searching-more, searching-all}
 use Rattle.alphabet.proofs.seen.Statement.{statement}
 use Rattle.alphabet.proofs.seen.Tie as tie
 
 abbrev Inv-loop : tie.InvT-loop
-Inv-loop codes count code all hit₀ i₀ hit i = Searching codes count code hit i
+Inv-loop codes count code hit₀ i₀ hit i = Searching codes count code hit i
 
 abbrev μ-loop : tie.MeasureT-loop
-μ-loop codes count code all hit₀ i₀ hit i = count - i
-
-room : (c : tie.After-all Inv-loop μ-loop) → c .before .args .count ≤ length (c .before .args .codes .now)
-room c = omega arith
+μ-loop codes count code hit₀ i₀ hit i = count - i
 
 loop-holds : tie.Need-loop-holds Inv-loop μ-loop
 loop-holds c = searching-none _ _ _
@@ -32,10 +28,10 @@ loop-less : tie.Need-loop-less Inv-loop μ-loop
 loop-less c = omega arith
 
 loop-again : tie.Need-loop-again Inv-loop μ-loop
-loop-again c = searching-more (c .before .before .loop .inv) (room (c .before .before .before)) (omega arith)
+loop-again c = searching-more (c .before .before .loop .inv) (c .before .before .before .pre) (omega arith)
 
 returns : tie.Need-returns Inv-loop μ-loop
-returns c = searching-all (c .before .loop .inv) (room (c .before .before)) (omega arith)
+returns c = searching-all (c .before .loop .inv) (c .before .before .pre) (omega arith)
 
 pub seen-spec : {M : Type 1} → statement M
 seen-spec =

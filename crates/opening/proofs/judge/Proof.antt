@@ -81,7 +81,7 @@ cast-n : tie.Need-cast-n
 cast-n c = search needs
 
 judge-requires : tie.Need-judge-requires
-judge-requires c κs = few (c .before .before .before .before)
+judge-requires c κs = few (c .before .before .before .before .before)
 
 refused-requires-3 : tie.Need-refused-requires-3
 refused-requires-3 c κs = search needs
@@ -89,8 +89,8 @@ refused-requires-3 c κs = search needs
 returns-5 : tie.Need-returns-5
 returns-5 c =
     let five = c .before in
-    let judge = five .before .before in
-    let four = judge .before .before in
+    let judge = five .before in
+    let four = judge .before .before .before in
     let two = four .before .before .before in
     let s = two .before .before .before .before .before .args in
     judged-refused _ _ _ (c .refused3 .ensures)
@@ -98,14 +98,13 @@ returns-5 c =
     (spoilt-bad (s .h) (s .alphabet .now) (s .len) (four .before .if3 .left) (four .if4 .left) (sym (judge .judge .ensures .good) ∙ not-true _ (five .if5 .taken))))
 
 room-requires-3 : tie.Need-room-requires-3
-room-requires-3 c κs = good-head (c .before .before .before .before .before .before .before .before)
+room-requires-3 c κs = good-head (c .before .before .before .before .before .before .before)
 
 returns-6 : tie.Need-returns-6
 returns-6 c =
-    let codes = c .before in
-    let five = codes .before in
-    let judge = five .before .before in
-    let four = judge .before .before in
+    let five = c .before in
+    let judge = five .before in
+    let four = judge .before .before .before in
     let two = four .before .before .before in
     let s = two .before .before .before .before .before .args in
     let good = not-false _ (five .if5 .left) in

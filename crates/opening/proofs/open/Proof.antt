@@ -49,7 +49,7 @@ judge-requires c κs = search needs
 
 returns-2 : tie.Need-returns-2
 returns-2 c =
-    let end = c .before .before in
+    let end = c .before .before .before in
     opens-judged _ (end .before .read .ensures) (end .alphabet-end .ensures) (fields (end .before .before)) (c .judge .ensures)
 
 pub open-spec : {M : Type 1} → statement M

@@ -17,7 +17,6 @@ returns c =
       verdict = sym (fits-4 _ _ (sym (c .before .fits2 .ensures) ∙ c .if1 .taken));
       head = refl;
       count = refl;
-      codes = refl;
     }
 
 returns-2 : tie.Need-returns-2
@@ -27,7 +26,6 @@ returns-2 c =
       verdict = sym (heard-4 _ _ (sym (c .before .fits2 .ensures) ∙ c .if1 .left));
       head = refl;
       count = refl;
-      codes = refl;
     }
 
 pub room-spec : {M : Type 1} → statement M

@@ -26,8 +26,8 @@ returns-2 c =
     makes-refused _ _ _ _ _ _ _ _
     (too-many (s .image .now) (s .n) (s .a) (s .d) (s .alphabet .now) (s .min) (s .max) (sym (one .before .length-allowed .ensures) ∙ not-false _ (one .if1 .left)) (c .if2 .taken))
 
-cast-t19 : tie.Need-cast-t19
-cast-t19 c = search needs
+cast-t20 : tie.Need-cast-t20
+cast-t20 c = search needs
 
 judge-requires : tie.Need-judge-requires
 judge-requires c κs = search needs
@@ -40,7 +40,7 @@ enum-told c = search needs
 
 -- in the arm where nothing was refused
 unheard : (c : tie.After-enum-told)
-    → let s = c .before .before .before .before .before .before .before .before .args in
+    → let s = c .before .before .before .before .before .before .before .before .before .args in
     heardOf (s .image .now) (s .n) (s .a) (s .d) (s .alphabet .now) (s .min) (s .max) ≡ none
 unfolding rowOf
 unheard c = sym (c .before .before .judge .ensures .verdict) ∙ ap rowOf (c .enum-told .given .1)
@@ -72,7 +72,7 @@ make-spec =
     returns
     cast-if2
     returns-2
-    cast-t19
+    cast-t20
     judge-requires
     enum-known-verdict
     enum-told
