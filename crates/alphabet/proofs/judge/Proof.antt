@@ -4,7 +4,7 @@ use mathlib.Core.Logic.{_≢_, ⊎-elim}
 use Rattle.utf8.specs.Table37.{charLen}
 use Rattle.utf8.proofs.Characters.{character}
 use Prim.Native.Nat.{_+_, _-_, _≤_}
-use mathlib.Core.Path.{_≡_, refl, sym, _∙_}
+use mathlib.Core.Path.{_≡_, sym, _∙_}
 use mathlib.Core.Bool.{false}
 use native.Mathlib.Omega.{arith}
 use lib.ListN.{length, take}
