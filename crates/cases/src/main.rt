@@ -87,7 +87,7 @@ fn bytes(image: &[u8]) {
         if i % 4 == 0 {
             space();
         }
-        io::print_hex(STDOUT_FILENO, wide(image[i]), 2);
+        io::print_hex(STDOUT_FILENO, field::wide(image[i]), 2);
         i += 1;
     }
     line_end();
@@ -99,8 +99,4 @@ fn space() {
 
 fn line_end() {
     io::write_all(STDOUT_FILENO, b"\n");
-}
-
-fn wide(x: u8) -> u64 {
-    x as u64
 }

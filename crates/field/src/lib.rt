@@ -71,7 +71,7 @@ pub fn lay(s: &mut [u8], at: usize, from: &[u8])
 }
 
 // A byte as a wide number: its bound is then known from its type.
-fn wide(x: u8) -> u64
+pub fn wide(x: u8) -> u64
     ensures { λ r. ⌜ r ≡ x ⌝ }
 {
     x as u64

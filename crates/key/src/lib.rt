@@ -131,19 +131,12 @@ fn all_below(letters: [u8; 64], len: usize, n: u32) -> bool
 {
     let mut i: usize = 0;
     while i < len {
-        if n <= wide(letters[i]) {
+        if (n as u64) <= field::wide(letters[i]) {
             return false;
         }
         i += 1;
     }
     true
-}
-
-// A byte as a wide number: its bound is then known from its type.
-fn wide(x: u8) -> u32
-    ensures { λ r. ⌜ r ≡ x ⌝ }
-{
-    x as u32
 }
 
 // What a text that names no key is.
