@@ -44,6 +44,10 @@ unfoldable pub byText : Head → Option (List ℕ) → List Row
 unfolding lettersIn
 byText h named = row10text named ∷ row9 h (lettersIn named) ∷ []
 
+-- 9, 10 of the key from which the next one is sought. "For next key, 9 means only a key longer than max."
+unfoldable pub byNext : Head → List ℕ → List Row
+byNext h key = row9next h key ∷ row10 h key ∷ []
+
 -- "look up: 1 to 4, 9, 10, then 6", with the part for the key given
 unfoldable pub lookingUp : List ℕ → List Row → List ℕ → List Row
 unfolding openingOf tableOf
@@ -65,6 +69,5 @@ storing l work keyed key value = checking l work ++ (keyed ++ adding (headOf l) 
 
 -- "next key: 1 to 8, 9, 10, 14, 15"
 unfoldable pub nexting : List ℕ → List ℕ → List ℕ → ℕ → Option (List ℕ) → List Row
-unfolding checking
-nexting l work key lent found =
-    checking l work ++ (row9next (headOf l) key ∷ row10 (headOf l) key ∷ row14 (headOf l) lent ∷ row15 found ∷ [])
+unfolding checking byNext
+nexting l work key lent found = checking l work ++ (byNext (headOf l) key ++ (row14 (headOf l) lent ∷ row15 found ∷ []))

@@ -54,6 +54,23 @@ unfoldable pub firstMeeting : (List ℕ → Bool) → List (List ℕ) → Option
 firstMeeting p [] = none
 firstMeeting p (k ∷ ks) = cond (p k) (some k) (firstMeeting p ks)
 
+-- those keys of a list that meet the request
+unfoldable pub sift : (List ℕ → Bool) → List (List ℕ) → List (List ℕ)
+sift p [] = []
+sift p (k ∷ ks) = cond (p k) (k ∷ sift p ks) (sift p ks)
+
+-- nothing where there is no key, else what the key gives
+unfoldable pub withKey : Option (List ℕ) → (List ℕ → List (List ℕ)) → List (List ℕ)
+withKey none keys = []
+withKey (some k) keys = keys k
+
+-- What is heard when one asks for the key after k, then for the key after that one, and so on, `times` times in all or until there is
+-- none. `next` answers one question.
+unfoldable pub inTurn : (List ℕ → Option (List ℕ)) → ℕ → List ℕ → List (List ℕ)
+unfolding withKey
+inTurn next zero k = []
+inTurn next (suc times) k = withKey (next k) (λ m. m ∷ inTurn next times m)
+
 -- strictly rising: each key comes before every key that follows it in the list
 abbrev pub Ascending : List (List ℕ) → Type 0
 Ascending [] = Unit {0}

@@ -1,3 +1,4 @@
+pub mod Beyond
 pub mod Keys
 pub mod Lowest
 pub mod Rules
