@@ -2,15 +2,17 @@
 -- is said of a field follows from what is known of the bytes.
 use mathlib.Core.Path.{_≡_, refl, sym, ap, ap₂, _∙_}
 use mathlib.Core.Logic.{_⊎_, inl, inr, ⊎-elim}
-use Prim.Native.Nat.{ℕ, zero, suc, _+_, _*_, _/_, _%_, _^_, _≤_, _<_}
-use native.Mathlib.Nat.{add-zero, zero-add, add-assoc, pow-suc, pow-le-pow-right, one-le-pow, mod-one, mod-eq-of-lt, lt-of-lt-of-le, not-suc-le-zero}
+use Prim.Native.Nat.{ℕ, zero, suc, _+_, _-_, _*_, _/_, _%_, _^_, _≤_, _<_}
+use native.Mathlib.Nat.{add-zero, add-suc, zero-add, add-assoc, add-mul, mul-assoc, pow-suc, pow-le-pow-right, one-le-pow, mod-one, mod-eq-of-lt, lt-of-lt-of-le, not-suc-le-zero}
 use native.Mathlib.Omega.{arith}
+use native.Mathlib.Decide.{ℕ-discrete}
 use borrow.Author.Count.{below-more}
 use mathlib.Core.List.{List, [], _∷_, _++_}
+use lib.Bits.{bitAnd, and-mask}
 use lib.Arith.{digits-lt, digits-div, digits-mod, mod-mul}
 use lib.ListN.{length, getD, set, take, drop, replicate, length-append, length-drop, length-replicate, List·getD-append}
 use lib.Seq.{sets, getD-take, getD-drop, getD-append-add, getD-at, take-suc}
-use Rattle.field.specs.Field.{Bytes, fieldAt, digits, putField, cleared}
+use Rattle.field.specs.Field.{Bytes, Zeros, fieldAt, digits, putField, cleared}
 use Rattle.field.proofs.Laid.{getD-outside, getD-inside, sets-append, set-sets, sets-same}
 
 -- ---- a field is what its bytes are
@@ -29,6 +31,55 @@ field-bound l at (suc w) p = rw (pow-suc 256 w) (digits-lt (field-bound l at w p
 -- a narrower field is below the bound of a wider one
 pub field-fits : (l : List ℕ) (at w n : ℕ) → Bytes l → w ≤ n → fieldAt l at w < 256 ^ n
 field-fits l at w n p h = lt-of-lt-of-le (field-bound l at w p) (pow-le-pow-right (omega arith) h)
+
+-- where a field is 0, each of its bytes is
+pub field-zero : (l : List ℕ) (at w : ℕ) → fieldAt l at w ≡ 0 → (k : ℕ) → k < w → getD l (at + k) 0 ≡ 0
+unfolding fieldAt
+field-zero l at zero e k h = absurd (omega arith)
+field-zero l at (suc w) e k h = go (ℕ-discrete k w) (field-zero l at w (omega arith) k)
+  where
+    go : Dec (k ≡ w) → (k < w → getD l (at + k) 0 ≡ 0) → getD l (at + k) 0 ≡ 0
+    go (yes f) on = rw f (omega arith)
+    go (no other) on = on (omega arith)
+
+-- a field is what its first bytes and its last bytes are, and of bytes the last w are what is left by 256 ^ w
+pub field-join : (l : List ℕ) (at u w : ℕ) → fieldAt l at (u + w) ≡ fieldAt l at u * 256 ^ w + fieldAt l (at + u) w
+unfolding fieldAt
+field-join l at u zero = rw (add-zero u) (omega arith)
+field-join l at u (suc w) =
+    let e : (at + u) + w ≡ at + (u + w) = omega arith in
+    rw (add-suc u w)
+    (ap₂ (λ (x y : ℕ). x * 256 + getD l y 0) (field-join l at u w) (sym e)
+    ∙ last (fieldAt l at u) (256 ^ w) (fieldAt l (at + u) w) (getD l ((at + u) + w) 0)
+    ∙ ap (λ (x : ℕ). fieldAt l at u * x + (fieldAt l (at + u) w * 256 + getD l ((at + u) + w) 0)) (sym (pow-suc 256 w)))
+  where
+    last : (a p b c : ℕ) → (a * p + b) * 256 + c ≡ a * (p * 256) + (b * 256 + c)
+    last a p b c = rw (add-mul (a * p) b 256, mul-assoc a p 256) (add-assoc (a * (p * 256)) (b * 256) c)
+
+pub field-last : (l : List ℕ) (at u w : ℕ) → Bytes l → fieldAt l at (u + w) % 256 ^ w ≡ fieldAt l (at + u) w
+field-last l at u w p = rw (field-join l at u w) (digits-mod (fieldAt l at u) (field-bound l (at + u) w p))
+
+-- 256 ^ w - 1 is w bytes of ones
+low : (w : ℕ) → w ≤ 4 → 256 ^ w ≡ 2 ^ (8 * w)
+low zero h = refl
+low (suc zero) h = refl
+low (suc (suc zero)) h = refl
+low (suc (suc (suc zero))) h = refl
+low (suc (suc (suc (suc zero)))) h = refl
+low (suc (suc (suc (suc (suc w))))) h = absurd (omega arith)
+
+-- so of the four bytes that end at `end` such a mask leaves the last w
+pub field-masked : (l : List ℕ) (end w mask : ℕ) → Bytes l → w ≤ 4 → 4 ≤ end → mask + 1 ≡ 256 ^ w
+    → bitAnd (fieldAt l (end - 4) 4) mask ≡ fieldAt l (end - w) w
+field-masked l end w mask p h four e =
+    let m : mask ≡ 2 ^ (8 * w) - 1 = omega (arith, e ∙ low w h) in
+    let width : (4 - w) + w ≡ 4 = omega arith in
+    let from : (end - 4) + (4 - w) ≡ end - w = omega arith in
+    ap (λ (x : ℕ). bitAnd (fieldAt l (end - 4) 4) x) m
+    ∙ and-mask (fieldAt l (end - 4) 4) (8 * w)
+    ∙ ap₂ (λ (x y : ℕ). fieldAt l (end - 4) x % y) (sym width) (sym (low w h))
+    ∙ field-last l (end - 4) (4 - w) w p
+    ∙ ap (λ (x : ℕ). fieldAt l x w) from
 
 -- ---- of a part, of an append, of zeros
 
@@ -55,6 +106,10 @@ field-zeros n at zero = refl
 field-zeros n at (suc w) = omega (arith, field-zeros n at w, zero-at n (at + w))
 
 -- ---- after bytes were laid
+
+-- zeros make a field 0
+pub field-blank : (l : List ℕ) (from to at w : ℕ) → Zeros l from to → from ≤ at → at + w ≤ to → fieldAt l at w ≡ 0
+field-blank l from to at w z low high = field-same l [] at 0 w (λ k b. z (at + k) (omega arith) (omega arith)) ∙ field-zeros 0 0 w
 
 pub field-outside : (l vs : List ℕ) (at bt u : ℕ) → (bt + u ≤ at) ⊎ (at + length vs ≤ bt) → fieldAt (sets l at vs) bt u ≡ fieldAt l bt u
 field-outside l vs at bt u h =

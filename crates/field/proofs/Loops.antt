@@ -1,16 +1,17 @@
 -- What the loops keep. Reading, the number so far is that of the bytes so far. Laying from the front, a turn's store is one more element of
 -- the list (`sets-append`). Writing from the last byte, the rest of the number is still to be written in the width that is left (`put-last`).
-use mathlib.Core.Path.{_≡_, refl, sym, ap, ap₂, _∙_}
+use mathlib.Core.Path.{_≡_, refl, sym, ap, ap₂, _∙_, subst}
 use Prim.Native.Nat.{ℕ, zero, suc, _+_, _-_, _*_, _/_, _%_, _^_, _≤_, _<_}
-use native.Mathlib.Nat.{not-suc-le-zero}
+use native.Mathlib.Nat.{add-zero, not-suc-le-zero}
 use native.Mathlib.Numerals.{add-one, sub-one}
 use native.Mathlib.Omega.{arith}
+use native.Mathlib.Decide.{decLt}
 use mathlib.Core.List.{List, [], _∷_}
 use lib.ListN.{length, getD, set, take, length-set}
 use lib.Seq.{sets, take-all, take-suc, length-take-le}
-use Rattle.field.specs.Field.{Bytes, fieldAt, digits, putField}
+use Rattle.field.specs.Field.{Bytes, Zeros, fieldAt, digits, putField}
 use Rattle.field.proofs.Laid.{sets-append}
-use Rattle.field.proofs.Fields.{field-fits, put-last}
+use Rattle.field.proofs.Fields.{field-fits, field-zero, put-last}
 
 -- v is the number in the first i bytes of the field
 pub record Reading (l : List ℕ) (at w v i : ℕ) : Type 0 where
@@ -75,3 +76,56 @@ pub writing-all : {l : List ℕ} {at w v : ℕ} {s : List ℕ} {x i : ℕ} → W
 unfolding digits
 writing-all {i = zero} p h = p .left
 writing-all {i = suc i} p h = absurd (not-suc-le-zero h)
+
+-- `blank`: the bytes from `from` up to `at` are 0, of eight at least, and no turn goes past `to`
+pub record Blanking (l : List ℕ) (from to at : ℕ) : Type 0 where
+  pub long-enough : from + 8 ≤ to
+  pub below : from ≤ at
+  pub within : at ≤ to
+  pub zeros : Zeros l from at
+
+-- eight bytes whose number is 0, byte by byte
+eight-zeros : (l : List ℕ) (at : ℕ) → fieldAt l at 8 ≡ 0 → Zeros l at (at + 8)
+eight-zeros l at e k low high =
+    let f : at + (k - at) ≡ k = omega arith in
+    subst (λ (j : ℕ). getD l j 0 ≡ 0) f (field-zero l at 8 e (k - at) (omega arith))
+
+pub blanking-none : (l : List ℕ) (from to : ℕ) → from + 8 ≤ to → Blanking l from to from
+blanking-none l from to h = record { long-enough = h; below = omega arith; within = omega arith; zeros = λ k low high. absurd (omega arith) }
+
+pub blanking-more : {l : List ℕ} {from to at : ℕ} → Blanking l from to at → at + 8 ≤ to → fieldAt l at 8 ≡ 0 → Blanking l from to (at + 8)
+blanking-more {l} {from} {to} {at} p h e =
+    record {
+      long-enough = p .long-enough;
+      below = omega (arith, p .below);
+      within = h;
+      zeros = λ k low high. go k low high (decLt k at);
+    }
+  where
+    go : (k : ℕ) → from ≤ k → k < at + 8 → Dec (k < at) → getD l k 0 ≡ 0
+    go k low high (yes b) = p .zeros k low b
+    go k low high (no b) = eight-zeros l at e k (omega arith) high
+
+pub blanking-all : {l : List ℕ} {from to at : ℕ} → Blanking l from to at → to < at + 8 → fieldAt l (to - 8) 8 ≡ 0 → Zeros l from to
+blanking-all {l} {from} {to} {at} p h e k low high = go (decLt k (to - 8))
+  where
+    go : Dec (k < to - 8) → getD l k 0 ≡ 0
+    go (yes b) = p .zeros k low (omega (arith, p .within))
+    go (no b) = eight-zeros l (to - 8) e k (omega arith) (omega (arith, p .long-enough))
+
+-- `eight`: bytes whose number from the last on is 0 are zeros
+pub turned : (l : List ℕ) (at : ℕ) {a b c d e f g h : ℕ} → a ≡ getD l at 0 → b ≡ getD l (at + 1) 0 → c ≡ getD l (at + 2) 0
+    → d ≡ getD l (at + 3) 0 → e ≡ getD l (at + 4) 0 → f ≡ getD l (at + 5) 0 → g ≡ getD l (at + 6) 0 → h ≡ getD l (at + 7) 0
+    → ((((((h * 256 + g) * 256 + f) * 256 + e) * 256 + d) * 256 + c) * 256 + b) * 256 + a ≡ 0
+    → fieldAt l at 8 ≡ 0
+unfolding fieldAt
+turned l at ea eb ec ed ee ef eg eh z =
+    let za : getD l at 0 ≡ 0 = omega arith in
+    let zb : getD l (at + 1) 0 ≡ 0 = omega arith in
+    let zc : getD l (at + 2) 0 ≡ 0 = omega arith in
+    let zd : getD l (at + 3) 0 ≡ 0 = omega arith in
+    let ze : getD l (at + 4) 0 ≡ 0 = omega arith in
+    let zf : getD l (at + 5) 0 ≡ 0 = omega arith in
+    let zg : getD l (at + 6) 0 ≡ 0 = omega arith in
+    let zh : getD l (at + 7) 0 ≡ 0 = omega arith in
+    rw (add-zero at, za, zb, zc, zd, ze, zf, zg, zh) refl

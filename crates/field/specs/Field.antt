@@ -1,6 +1,7 @@
 -- 01, "The image": "All numbers are big-endian, here and in every later layout." A field is w bytes at a place of the image;
 -- the width is free, so that no law is stated for one width. Bytes are numbers below 256.
-use Prim.Native.Nat.{ℕ, zero, suc, _+_, _*_, _/_, _%_, _<_}
+use Prim.Native.Nat.{ℕ, zero, suc, _+_, _*_, _/_, _%_, _≤_, _<_}
+use mathlib.Core.Path.{_≡_}
 use mathlib.Core.List.{List, [], _∷_, _++_}
 use lib.ListN.{getD, replicate}
 use lib.Seq.{sets}
@@ -26,3 +27,7 @@ putField l at w v = sets l at (digits w v)
 -- the bytes with n zeros from place at on
 abbrev pub cleared : List ℕ → ℕ → ℕ → List ℕ
 cleared l at n = sets l at (replicate n 0)
+
+-- the bytes from one place up to another are 0
+abbrev pub Zeros : List ℕ → ℕ → ℕ → Type 0
+Zeros l from to = (k : ℕ) → from ≤ k → k < to → getD l k 0 ≡ 0

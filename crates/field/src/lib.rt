@@ -1,10 +1,11 @@
 // Big-endian fields in a slice of bytes: read, written and cleared at a place. Widths are 1 to 8 bytes, values 64 bits wide.
 // A caller shows that the field lies inside the slice; nothing is assumed beyond that.
 ghost use mathlib.Core.Path.{_≡_};
-ghost use Prim.Native.Nat.{_+_, _≤_};
+ghost use mathlib.Core.Bool.{true};
+ghost use Prim.Native.Nat.{ℕ, _+_, _-_, _^_, _≤_};
 ghost use lib.ListN.{length};
 ghost use lib.Seq.{sets};
-ghost use Rattle.field.specs.Field.{fieldAt, putField, cleared};
+ghost use Rattle.field.specs.Field.{fieldAt, putField, cleared, Zeros};
 
 // The number in the w bytes from `at` on.
 pub fn read(s: &[u8], at: usize, w: usize) -> u64
@@ -30,6 +31,50 @@ pub fn read4(s: &[u8], at: usize) -> u32
     let c = wide(s[at + 2]);
     let d = wide(s[at + 3]);
     (((a * 256 + b) * 256 + c) * 256 + d) as u32
+}
+
+// The number in the w bytes that end at `end`, by the mask 256^w - 1. Four bytes are loaded whatever the width is, so that no loop and no
+// choice stands in the way of a reader of many fields; the caller has four bytes in front of `end`.
+pub fn tail(s: &[u8], end: usize, mask: u32) -> u32
+    requires { ⌜ (4 ≤ end) × (end ≤ length (now s)) ⌝ }
+    ensures { λ r. ⌜ ((w : ℕ) → w ≤ 4 → mask + 1 ≡ 256 ^ w → r ≡ fieldAt (now (s .entry)) (end - w) w) ⌝ }
+{
+    read4(s, end - 4) & mask
+}
+
+// Are the bytes from `from` up to `to` all 0? Eight are looked at together. What is shorter than eight bytes is never said to be blank:
+// a caller then reads it.
+pub fn blank(s: &[u8], from: usize, to: usize) -> bool
+    requires { ⌜ (from ≤ to) × (to ≤ length (now s)) ⌝ }
+    ensures { λ r. ⌜ (r ≡ true → Zeros (now (s .entry)) from to) ⌝ }
+{
+    if to < from + 8 {
+        return false;
+    }
+    let mut at = from;
+    while at + 8 <= to {
+        if eight(s, at) != 0 {
+            return false;
+        }
+        at += 8;
+    }
+    eight(s, to - 8) == 0
+}
+
+// Eight bytes as one number, the last of them highest: the compiler makes one load of it. Only what 0 means is told.
+fn eight(s: &[u8], at: usize) -> u64
+    requires { ⌜ at + 8 ≤ length (now s) ⌝ }
+    ensures { λ r. ⌜ (r ≡ 0 → fieldAt (now (s .entry)) at 8 ≡ 0) ⌝ }
+{
+    let a = wide(s[at]);
+    let b = wide(s[at + 1]);
+    let c = wide(s[at + 2]);
+    let d = wide(s[at + 3]);
+    let e = wide(s[at + 4]);
+    let f = wide(s[at + 5]);
+    let g = wide(s[at + 6]);
+    let h = wide(s[at + 7]);
+    ((((((h * 256 + g) * 256 + f) * 256 + e) * 256 + d) * 256 + c) * 256 + b) * 256 + a
 }
 
 // Writes v into the w bytes from `at` on, the last byte first; what does not fit the width is lost.

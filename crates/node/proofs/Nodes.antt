@@ -1,6 +1,6 @@
 -- Whole nodes. A node whose bytes are all 0 has no link and no data, so a table with one such node more is the same table. The bytes of a
 -- new node are zeros with one number among them: they are laid as well by clearing the node and writing the number.
-use mathlib.Core.Path.{_≡_, refl, sym, ap, _∙_}
+use mathlib.Core.Path.{_≡_, refl, sym, ap, _∙_, subst}
 use mathlib.Core.Logic.{inl}
 use Prim.Native.Nat.{ℕ, suc, _+_, _-_, _*_, _≤_, _<_}
 use native.Mathlib.Nat.{add-zero, add-mul, suc-mul, suc-ne-zero}
@@ -9,52 +9,52 @@ use native.Mathlib.Omega.{arith}
 use mathlib.Core.List.{List, [], _∷_, _++_, append-nil}
 use lib.ListN.{length, getD, set, replicate, length-replicate, getD-replicate, replicate-append-replicate}
 use lib.Seq.{sets, set-set}
-use Rattle.field.specs.Field.{fieldAt, digits, putField, cleared}
+use Rattle.field.specs.Field.{Zeros, fieldAt, digits, putField, cleared}
 use Rattle.field.proofs.Laid.{getD-inside, set-sets, sets-append, sets-comm}
-use Rattle.field.proofs.Fields.{field-same, field-zeros, length-digits}
+use Rattle.field.proofs.Fields.{field-blank, length-digits}
 use Rattle.head.specs.declared.Head.{Head}
 use Rattle.head.specs.Fields.{nodeWidth, nodePlace}
 use Rattle.head.proofs.Places.{place-add}
 use Rattle.node.specs.Image.{linkPlace, dataPlace, tableOf}
 use Rattle.node.specs.Writes.{lastNode, pathNode}
-use Rattle.node.proofs.Places.{Inside, link-inside, data-inside}
+use Rattle.node.proofs.Places.{Inside, link-from, link-to, data-from, data-inside}
 use Rattle.node.proofs.Tables.{table-eq, child-in, value-in, framed}
 use Rattle.node.proofs.Heads.{withTotal, child-kept, value-kept}
 
 -- ---- a node of zeros
 
 abbrev pub Blank : Head → List ℕ → ℕ → Type 0
-Blank h l q = (k : ℕ) → k < nodeWidth h → getD l (nodePlace h q + k) 0 ≡ 0
+Blank h l q = Zeros l (nodePlace h q) (nodePlace h q + nodeWidth h)
 
-blank-field : (h : Head) (l : List ℕ) (q at w : ℕ) → Blank h l q → Inside h q at w → fieldAt l at w ≡ 0
-blank-field h l q at w z s = field-same l [] at 0 w zeros ∙ field-zeros 0 0 w
+-- links of zeros are empty
+pub blank-links : (h : Head) (l : List ℕ) (q : ℕ) → Zeros l (nodePlace h q) (dataPlace h q) → (i : ℕ) → tableOf h l .child q i ≡ 0
+blank-links h l q z i = go (decLe q (h .g)) (decLt i (h .n))
   where
-    zeros : (k : ℕ) → k < w → getD l (at + k) 0 ≡ getD [] (0 + k) 0
-    zeros k b =
-        let j : ℕ = at + k - nodePlace h q in
-        let e : nodePlace h q + j ≡ at + k = omega (arith, s) in
-        ap (λ (p : ℕ). getD l p 0) (sym e) ∙ z j (omega (arith, s, place-add h q 1))
+    go : Dec (q ≤ h .g) → Dec (i < h .n) → tableOf h l .child q i ≡ 0
+    go (yes b) (yes c) = child-in h l q i b c ∙ field-blank l (nodePlace h q) (dataPlace h q) (linkPlace h q i) (h .a) z (link-from h q i) (link-to h q c)
+    go (yes b) (no c) = framed h l .no-letter q i (omega arith)
+    go (no b) c = framed h l .no-node q i (omega arith)
 
 module _ (h : Head) (l : List ℕ) (q : ℕ) (z : Blank h l q) where
   pub blank-child : (i : ℕ) → tableOf h l .child q i ≡ 0
-  blank-child i = go (decLe q (h .g)) (decLt i (h .n))
-    where
-      go : Dec (q ≤ h .g) → Dec (i < h .n) → tableOf h l .child q i ≡ 0
-      go (yes b) (yes c) = child-in h l q i b c ∙ blank-field h l q (linkPlace h q i) (h .a) z (link-inside h q c)
-      go (yes b) (no c) = framed h l .no-letter q i (omega arith)
-      go (no b) c = framed h l .no-node q i (omega arith)
+  blank-child = blank-links h l q (λ k low high. z k low (omega (arith, data-inside h q, place-add h q 1)))
 
   pub blank-value : tableOf h l .value q ≡ 0
   blank-value = go (decLe q (h .g))
     where
       go : Dec (q ≤ h .g) → tableOf h l .value q ≡ 0
-      go (yes b) = value-in h l q b ∙ blank-field h l q (dataPlace h q) (h .d) z (data-inside h q)
+      go (yes b) =
+          value-in h l q b
+          ∙ field-blank l (nodePlace h q) (nodePlace h q + nodeWidth h) (dataPlace h q) (h .d) z (data-from h q) (omega (arith, data-inside h q, place-add h q 1))
       go (no b) = framed h l .no-data q (omega arith)
 
 pub blank-cleared : (h : Head) (l : List ℕ) (q : ℕ) → nodePlace h q + nodeWidth h ≤ length l → Blank h (cleared l (nodePlace h q) (nodeWidth h)) q
-blank-cleared h l q r k b =
+blank-cleared h l q r k low high =
+    let j : nodePlace h q + (k - nodePlace h q) ≡ k = omega arith in
     let n : length {A = ℕ} (replicate (nodeWidth h) 0) ≡ nodeWidth h = length-replicate (nodeWidth h) 0 in
-    getD-inside l (replicate (nodeWidth h) 0) (nodePlace h q) k 0 (omega arith) (omega arith) ∙ getD-replicate (nodeWidth h) k 0 0 b
+    subst (λ (p : ℕ). getD (cleared l (nodePlace h q) (nodeWidth h)) p 0 ≡ 0) j
+    (getD-inside l (replicate (nodeWidth h) 0) (nodePlace h q) (k - nodePlace h q) 0 (omega arith) (omega arith)
+    ∙ getD-replicate (nodeWidth h) (k - nodePlace h q) 0 0 (omega arith))
 
 -- one node more, all of it 0
 pub table-blank : (h : Head) (l : List ℕ) (g : ℕ) → Blank h l (suc g) → tableOf (withTotal h (suc g)) l ≡ tableOf (withTotal h g) l

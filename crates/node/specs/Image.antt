@@ -1,5 +1,5 @@
 -- 01, "The image": "A node takes W = N*A + D bytes: N links, then its data." From here on an image is its table of nodes.
-use Prim.Native.Nat.{ℕ, _+_, _*_, _≤_}
+use Prim.Native.Nat.{ℕ, _+_, _*_, _^_, _≤_}
 use mathlib.Core.Path.{_≡_}
 use mathlib.Core.Bool.{true, _&&_, cond}
 use mathlib.Core.List.{List}
@@ -14,6 +14,10 @@ use Rattle.head.specs.Fields.{permitted, nodePlace, usedLen}
 pub record Open (h : Head) (l : List ℕ) : Type 0 where
   pub head-permitted : permitted h ≡ true
   pub room : usedLen h ≤ length l
+
+-- the number whose bits are those of a link's A bytes
+abbrev pub Masks : Head → ℕ → Type 0
+Masks h mask = mask + 1 ≡ 256 ^ h .a
 
 -- where the link for letter i of node q stands
 unfoldable pub linkPlace : Head → ℕ → ℕ → ℕ

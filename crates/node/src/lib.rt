@@ -1,21 +1,47 @@
 // A node of an image: its links and its data, read and written where they stand. This is the one place that turns bytes into the
 // table of nodes; every floor above speaks of the table. A caller has opened the image (`Open`) and stays inside G and N.
 ghost use mathlib.Core.Path.{_≡_};
-ghost use Prim.Native.Nat.{_≤_, _<_, _^_};
+ghost use Prim.Native.Nat.{ℕ, _≤_, _<_, _^_};
 ghost use mathlib.Core.Bool.{true};
 ghost use mathlib.Core.List.{[], _∷_};
 ghost use Rattle.trie.specs.Storing.{put, grow};
 ghost use Rattle.head.specs.Fields.{permitted};
-ghost use Rattle.node.specs.Image.{Open, linkPlace, dataPlace, tableOf};
+ghost use Rattle.node.specs.Image.{Open, Masks, linkPlace, dataPlace, tableOf};
 ghost use Rattle.node.specs.Writes.{carriedOut, linkWrite, dataWrite};
 use head::Head;
 
+// The mask of a link's bytes. A reader of many links makes it once and hands it to `link`.
+pub fn mask(h: Head) -> u32
+    requires { ⌜ permitted h ≡ true ⌝ }
+    ensures { λ r. ⌜ Masks h r ⌝ }
+{
+    let a = h.a;
+    if a == 1 {
+        return 0xFF;
+    }
+    if a == 2 {
+        return 0xFFFF;
+    }
+    if a == 3 {
+        return 0xFFFFFF;
+    }
+    0xFFFFFFFF
+}
+
 // The link for letter i of node q.
-pub fn link(image: &[u8], h: Head, q: u32, i: u32) -> u32
-    requires { ⌜ Open h (now image) ⌝ ∗ ⌜ q ≤ h .g ⌝ ∗ ⌜ i < h .n ⌝ }
+pub fn link(image: &[u8], h: Head, mask: u32, q: u32, i: u32) -> u32
+    requires { ⌜ Open h (now image) ⌝ ∗ ⌜ Masks h mask ⌝ ∗ ⌜ q ≤ h .g ⌝ ∗ ⌜ i < h .n ⌝ }
     ensures { λ r. ⌜ r ≡ tableOf h (now (image .entry)) .child q i ⌝ }
 {
-    field::read(image, link_place(h, q, i), h.a as usize) as u32
+    field::tail(image, link_place(h, q, i) + (h.a as usize), mask)
+}
+
+// Has node q no links but empty ones? Links that take less than eight bytes are never said to be empty: a caller then reads them.
+pub fn childless(image: &[u8], h: Head, q: u32) -> bool
+    requires { ⌜ Open h (now image) ⌝ ∗ ⌜ q ≤ h .g ⌝ }
+    ensures { λ r. ⌜ (r ≡ true → (i : ℕ) → tableOf h (now (image .entry)) .child q i ≡ 0) ⌝ }
+{
+    field::blank(image, h.node_place(q as u64) as usize, data_place(h, q))
 }
 
 // The data of node q.

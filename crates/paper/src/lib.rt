@@ -2,6 +2,7 @@
 // call's outcome stand in specs/.
 ghost use mathlib.Core.Path.{_≡_};
 ghost use Rattle.paper.specs.Answers.{saidOf};
+ghost use Rattle.paper.specs.Rows.{badLink};
 
 // One variant for each number of 01's table from 1 on. Those whose place is a node or an address carry it.
 pub enum Refusal {
@@ -67,6 +68,13 @@ impl Refusal {
             Refusal::NoKey => 0,
         }
     }
+}
+
+// 01's first link rule, for the check and for the path of a lookup: does link c of node q break it, where the greatest address is g?
+pub fn bad_link(g: u32, q: u32, c: u32) -> bool
+    ensures { λ r. ⌜ r ≡ badLink g q c ⌝ }
+{
+    (c != 0) & ((g < c) | (c <= q))
 }
 
 // How far an order has come: nothing in it was given, or the first that was.

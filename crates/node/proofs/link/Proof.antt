@@ -1,46 +1,44 @@
--- `node::link` meets its contract: the number in the link's field is the table's entry. It has four bytes at most, so it fits 32 bits.
--- Assumes nothing.
+-- `node::link` meets its contract: the number in the link's field is the table's entry. The head stands before every link, so four bytes
+-- do before its end. Assumes nothing.
+use mathlib.Core.Path.{_≡_, sym, ap, _∙_}
+use Prim.Native.Nat.{ℕ, _+_, _-_}
 use native.Mathlib.Omega.{arith}
-use mathlib.Core.Path.{sym, ap, _∙_}
-use Prim.Native.Nat.{ℕ}
-use Rattle.head.proofs.Permitted.{bounds}
-use Rattle.field.specs.Field.{fieldAt}
-use Rattle.field.proofs.Fields.{field-fits}
-use Rattle.node.proofs.Places.{link-inside, inside-room}
-use Rattle.node.proofs.Tables.{child-in}
 use borrow.Author.Needs.{needs}
+use Rattle.field.specs.Field.{fieldAt}
+use Rattle.head.proofs.Permitted.{bounds}
+use Rattle.node.specs.Image.{linkPlace}
+use Rattle.node.proofs.Places.{link-inside, inside-least, inside-room}
+use Rattle.node.proofs.Tables.{child-in}
 use Rattle.node.proofs.link.Statement.{statement}
 use Rattle.node.proofs.link.Tie as tie
 
 link-place-requires : tie.Need-link-place-requires
 link-place-requires c κs = search needs
 
-cast-read : tie.Need-cast-read
-cast-read c = search needs
+cast-tail : tie.Need-cast-tail
+cast-tail c = search needs
 
-read-requires : tie.Need-read-requires
-read-requires c κs =
+add-tail : tie.Need-add-tail
+add-tail c =
     let a = c .before .before .before .args in
     let p = c .before .before .before .pre in
-    omega (arith, bounds (a .h) (p .0 .head-permitted), c .before .link-place .ensures, inside-room (link-inside (a .h) (a .q) (p .1 .1)) (p .0) (p .1 .0))
+    omega (arith, bounds (a .h) (p .0 .head-permitted), c .before .link-place .ensures, inside-room (link-inside (a .h) (a .q) (p .1 .1 .1)) (p .0) (p .1 .1 .0))
 
-cast-result : tie.Need-cast-result
-cast-result c =
-    let a = c .before .before .before .before .args in
-    let b = bounds (a .h) (c .before .before .before .before .pre .0 .head-permitted) in
-    record {
-      fits =
-          rw (c .read .ensures)
-          (field-fits (a .image .now) (c .before .before .link-place .result) (a .h .a) 4 (λ k. c .before .before .before .shared-slice-known .given k .fits) (b .a-most));
-    }
+tail-requires : tie.Need-tail-requires
+tail-requires c κs =
+    let a = c .before .before .before .args in
+    let p = c .before .before .before .pre in
+    let i = link-inside (a .h) (a .q) (p .1 .1 .1) in
+    omega (arith, bounds (a .h) (p .0 .head-permitted), c .before .link-place .ensures, inside-least i, inside-room i (p .0) (p .1 .1 .0))
 
 returns : tie.Need-returns
 returns c =
     let a = c .before .before .before .before .args in
     let p = c .before .before .before .before .pre in
-    c .read .ensures
-    ∙ ap (λ (k : ℕ). fieldAt (a .image .now) k (a .h .a)) (c .before .before .link-place .ensures)
-    ∙ sym (child-in (a .h) (a .image .now) (a .q) (a .i) (p .1 .0) (p .1 .1))
+    let place : c .before .before .link-place .result + a .h .a - a .h .a ≡ linkPlace (a .h) (a .q) (a .i) = omega (arith, c .before .before .link-place .ensures) in
+    c .tail .ensures (a .h .a) (omega (arith, bounds (a .h) (p .0 .head-permitted))) (p .1 .0)
+    ∙ ap (λ (k : ℕ). fieldAt (a .image .now) k (a .h .a)) place
+    ∙ sym (child-in (a .h) (a .image .now) (a .q) (a .i) (p .1 .1 .0) (p .1 .1 .1))
 
 pub link-spec : {M : Type 1} → statement M
-link-spec = tie.close (tie.spec link-place-requires cast-read read-requires cast-result returns)
+link-spec = tie.close (tie.spec link-place-requires cast-tail add-tail tail-requires returns)

@@ -1,0 +1,174 @@
+-- `field::eight` meets its contract: eight bytes whose number is 0, the last of them highest, are eight zeros, and so is their number with
+-- the first of them highest. Assumes nothing.
+use Prim.Native.Nat.{_+_, _<_}
+use native.Mathlib.Omega.{arith}
+use borrow.Author.Needs.{needs}
+use Rattle.field.proofs.Loops.{turned}
+use Rattle.field.proofs.eight.Statement.{statement}
+use Rattle.field.proofs.eight.Tie as tie
+
+shared-slice-read-wide : tie.Need-shared-slice-read-wide
+shared-slice-read-wide c = search needs
+
+wide-requires : tie.Need-wide-requires
+wide-requires c κs = search needs
+
+add-wide : tie.Need-add-wide
+add-wide c = search needs
+
+shared-slice-read-wide-2 : tie.Need-shared-slice-read-wide-2
+shared-slice-read-wide-2 c = search needs
+
+wide-requires-2 : tie.Need-wide-requires-2
+wide-requires-2 c κs = search needs
+
+add-wide-2 : tie.Need-add-wide-2
+add-wide-2 c = search needs
+
+shared-slice-read-wide-3 : tie.Need-shared-slice-read-wide-3
+shared-slice-read-wide-3 c = search needs
+
+wide-requires-3 : tie.Need-wide-requires-3
+wide-requires-3 c κs = search needs
+
+add-wide-3 : tie.Need-add-wide-3
+add-wide-3 c = search needs
+
+shared-slice-read-wide-4 : tie.Need-shared-slice-read-wide-4
+shared-slice-read-wide-4 c = search needs
+
+wide-requires-4 : tie.Need-wide-requires-4
+wide-requires-4 c κs = search needs
+
+add-wide-4 : tie.Need-add-wide-4
+add-wide-4 c = search needs
+
+shared-slice-read-wide-5 : tie.Need-shared-slice-read-wide-5
+shared-slice-read-wide-5 c = search needs
+
+wide-requires-5 : tie.Need-wide-requires-5
+wide-requires-5 c κs = search needs
+
+add-wide-5 : tie.Need-add-wide-5
+add-wide-5 c = search needs
+
+shared-slice-read-wide-6 : tie.Need-shared-slice-read-wide-6
+shared-slice-read-wide-6 c = search needs
+
+wide-requires-6 : tie.Need-wide-requires-6
+wide-requires-6 c κs = search needs
+
+add-wide-6 : tie.Need-add-wide-6
+add-wide-6 c = search needs
+
+shared-slice-read-wide-7 : tie.Need-shared-slice-read-wide-7
+shared-slice-read-wide-7 c = search needs
+
+wide-requires-7 : tie.Need-wide-requires-7
+wide-requires-7 c κs = search needs
+
+add-wide-7 : tie.Need-add-wide-7
+add-wide-7 c = search needs
+
+shared-slice-read-wide-8 : tie.Need-shared-slice-read-wide-8
+shared-slice-read-wide-8 c = search needs
+
+wide-requires-8 : tie.Need-wide-requires-8
+wide-requires-8 c κs = search needs
+
+-- the eight numbers that were read are bytes
+small : (c : tie.After-wide8)
+    → (c .before .before .before .before .before .before .before .before .before .before .before .before .before .before .wide .result < 256) × (c .before .before .before .before .before .before .before .before .before .before .before .before .wide2 .result < 256) × (c .before .before .before .before .before .before .before .before .before .before .wide3 .result < 256) × (c .before .before .before .before .before .before .before .before .wide4 .result < 256) × (c .before .before .before .before .before .before .wide5 .result < 256) × (c .before .before .before .before .wide6 .result < 256) × (c .before .before .wide7 .result < 256) × (c .wide8 .result < 256)
+small c =
+    let byte = c .before .shared-slice-known9 .given in
+    let at = c .before .before .before .before .before .before .before .before .before .before .before .before .before .before .before .before .before .args .at in
+    omega (arith, byte at, byte (at + 1), byte (at + 2), byte (at + 3), byte (at + 4), byte (at + 5), byte (at + 6), byte (at + 7))
+
+mul-result : tie.Need-mul-result
+mul-result c = omega (arith, small c)
+
+add-result : tie.Need-add-result
+add-result c = omega (arith, small c)
+
+mul-result-2 : tie.Need-mul-result-2
+mul-result-2 c = omega (arith, small c)
+
+add-result-2 : tie.Need-add-result-2
+add-result-2 c = omega (arith, small c)
+
+mul-result-3 : tie.Need-mul-result-3
+mul-result-3 c = omega (arith, small c)
+
+add-result-3 : tie.Need-add-result-3
+add-result-3 c = omega (arith, small c)
+
+mul-result-4 : tie.Need-mul-result-4
+mul-result-4 c = omega (arith, small c)
+
+add-result-4 : tie.Need-add-result-4
+add-result-4 c = omega (arith, small c)
+
+mul-result-5 : tie.Need-mul-result-5
+mul-result-5 c = omega (arith, small c)
+
+add-result-5 : tie.Need-add-result-5
+add-result-5 c = omega (arith, small c)
+
+mul-result-6 : tie.Need-mul-result-6
+mul-result-6 c = omega (arith, small c)
+
+add-result-6 : tie.Need-add-result-6
+add-result-6 c = omega (arith, small c)
+
+mul-result-7 : tie.Need-mul-result-7
+mul-result-7 c = omega (arith, small c)
+
+add-result-7 : tie.Need-add-result-7
+add-result-7 c = omega (arith, small c)
+
+returns : tie.Need-returns
+returns c e =
+    turned _ _ (c .before .before .before .before .before .before .before .before .before .before .before .before .before .before .wide .ensures) (c .before .before .before .before .before .before .before .before .before .before .before .before .wide2 .ensures) (c .before .before .before .before .before .before .before .before .before .before .wide3 .ensures) (c .before .before .before .before .before .before .before .before .wide4 .ensures) (c .before .before .before .before .before .before .wide5 .ensures) (c .before .before .before .before .wide6 .ensures) (c .before .before .wide7 .ensures) (c .wide8 .ensures) e
+
+pub eight-spec : {M : Type 1} → statement M
+eight-spec =
+    tie.close
+    (tie.spec
+    shared-slice-read-wide
+    wide-requires
+    add-wide
+    shared-slice-read-wide-2
+    wide-requires-2
+    add-wide-2
+    shared-slice-read-wide-3
+    wide-requires-3
+    add-wide-3
+    shared-slice-read-wide-4
+    wide-requires-4
+    add-wide-4
+    shared-slice-read-wide-5
+    wide-requires-5
+    add-wide-5
+    shared-slice-read-wide-6
+    wide-requires-6
+    add-wide-6
+    shared-slice-read-wide-7
+    wide-requires-7
+    add-wide-7
+    shared-slice-read-wide-8
+    wide-requires-8
+    mul-result
+    add-result
+    mul-result-2
+    add-result-2
+    mul-result-3
+    add-result-3
+    mul-result-4
+    add-result-4
+    mul-result-5
+    add-result-5
+    mul-result-6
+    add-result-6
+    mul-result-7
+    add-result-7
+    returns)

@@ -1,0 +1,19 @@
+-- `field::tail` meets its contract: of the four bytes that end at `end`, the mask leaves the last w. Assumes nothing.
+use borrow.Author.Needs.{needs}
+use Rattle.field.proofs.Fields.{field-masked}
+use Rattle.field.proofs.tail.Statement.{statement}
+use Rattle.field.proofs.tail.Tie as tie
+
+sub-read4 : tie.Need-sub-read4
+sub-read4 c = search needs
+
+read4-requires : tie.Need-read4-requires
+read4-requires c κs = search needs
+
+returns : tie.Need-returns
+returns c w h e =
+    let a = c .before .before .args in
+    rw (c .read4 .ensures) (field-masked (a .s .now) (a .end) w (a .mask) (λ k. c .before .shared-slice-known .given k .fits) h (c .before .before .pre .0) e)
+
+pub tail-spec : {M : Type 1} → statement M
+tail-spec = tie.close (tie.spec sub-read4 read4-requires returns)
