@@ -6,6 +6,8 @@ use mathlib.Core.Bool.{true, false}
 use mathlib.Core.Option.{Option, none, some}
 use mathlib.Core.List.{List, [], _∷_}
 use lib.ListN.{length, take}
+use Rattle.trie.specs.Table.{Letters}
+use Rattle.head.specs.declared.Head.{Head}
 use Rattle.head.specs.Fields.{mostLetters}
 use Rattle.key.specs.declared.Key.{Key}
 use Rattle.key.specs.declared.Typed.{Typed}
@@ -31,3 +33,12 @@ unfoldable pub typedAs : Option (List ℕ) → Typed
 unfolding inHand
 typedAs none = record { named = false; key = inHand [] }
 typedAs (some k) = record { named = true; key = inHand k }
+
+-- the letters of a key in hand
+abbrev pub lettersOf : Key → List ℕ
+lettersOf hand = take (hand .len) (hand .letters)
+
+-- what a key in hand is when 9 and 10 have passed: no longer than any max, of letters below N
+pub record Ready (h : Head) (hand : Key) : Type 0 where
+  pub short : hand .len ≤ mostLetters
+  pub letters : Letters (h .n) (lettersOf hand)

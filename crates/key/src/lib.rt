@@ -11,8 +11,8 @@ ghost use Rattle.head.specs.Fields.{permitted};
 ghost use Rattle.alphabet.specs.Letters.{keyOfText};
 ghost use Rattle.paper.specs.Hearing.{first};
 ghost use Rattle.paper.specs.Answers.{rowOf};
-ghost use Rattle.paper.specs.Rows.{allBelow};
-ghost use Rattle.paper.specs.Orders.{byLetters, byText};
+ghost use Rattle.paper.specs.Rows.{allBelow, row10};
+ghost use Rattle.paper.specs.Orders.{byLetters, byNext, byText};
 ghost use Rattle.key.specs.Hand.{inHand, Holds, typedAs};
 use head::Head;
 use paper::Refusal;
@@ -61,8 +61,27 @@ impl Key {
         if !length_allowed(len, h) {
             return Verdict::Refused(Refusal::KeyLength);
         }
+        self.spelled(h)
+    }
+
+    // 9, then 10, of the key from which the next one is sought: here only a key longer than max is 9.
+    pub fn judge_next(self, h: Head) -> Verdict
+        requires { ⌜ permitted h ≡ true ⌝ }
+        ensures { λ r. ⌜ ((k : List ℕ) → Holds self k → rowOf r ≡ first (byNext h k)) ⌝ }
+    {
+        if (h.max as usize) < self.len {
+            return Verdict::Refused(Refusal::KeyLength);
+        }
+        self.spelled(h)
+    }
+
+    // 10, of a key that is not too long.
+    fn spelled(self, h: Head) -> Verdict
+        requires { ⌜ self .len ≤ 64 ⌝ }
+        ensures { λ r. ⌜ ((k : List ℕ) → Holds self k → rowOf r ≡ row10 h k) ⌝ }
+    {
         let letters = self.letters;
-        if !all_below(letters, len, h.n) {
+        if !all_below(letters, self.len, h.n) {
             return Verdict::Refused(Refusal::Letter);
         }
         Verdict::Passed

@@ -1,0 +1,63 @@
+-- 01, "What the bench may hear", 1 to 8: what the check of an image tells and how it leaves the working numbers.
+use Prim.Native.Nat.{ℕ, _+_, _≤_, _<_, min}
+use mathlib.Core.Path.{_≡_}
+use mathlib.Core.Bool.{Bool, true, false}
+use mathlib.Core.Option.{none}
+use mathlib.Core.List.{List, _∷_}
+use lib.ListN.{length, getD, drop}
+use lib.Dec.{eqb}
+use Rattle.trie.specs.Table.{Table}
+use Rattle.trie.specs.Lowest.{lowest}
+use Rattle.head.specs.declared.Head.{Head}
+use Rattle.head.specs.Fields.{headOf}
+use Rattle.node.specs.Image.{tableOf}
+use Rattle.paper.specs.declared.Verdict.{Verdict}
+use Rattle.paper.specs.Hearing.{first}
+use Rattle.paper.specs.Answers.{rowOf}
+use Rattle.paper.specs.Orders.{alphabetIn, linking, checking}
+use Rattle.paper.specs.Rows.{row5, holdsBad, timesIn, times}
+use Rattle.paper.specs.Calls.{clearedBy, workAfter}
+use Rattle.opening.specs.declared.Opened.{Opened}
+use Rattle.opening.specs.Opened.{Decoded}
+
+-- 1 to 8 of an image, and what opening it tells where none is given
+pub record Checked (l work : List ℕ) (r : Opened) (work′ codes : List ℕ) : Type 0 where
+  pub verdict : rowOf (r .verdict) ≡ first (checking l work)
+  pub numbers : work′ ≡ workAfter l work
+  pub head : rowOf (r .verdict) ≡ none → r .head ≡ headOf l
+  pub decoded : rowOf (r .verdict) ≡ none → Decoded (alphabetIn (headOf l) l) r codes
+
+-- 5 to 8 of an image that is open
+pub record Audited (h : Head) (l work : List ℕ) (r : Verdict) (work′ : List ℕ) : Type 0 where
+  pub verdict : rowOf r ≡ first (row5 h (length work) ∷ linking h (tableOf h l))
+  pub numbers : work′ ≡ clearedBy (row5 h (length work)) (h .g + 1) work
+
+-- 6 to 8. What the first G+1 working numbers hold is not said.
+pub record Linked (h : Head) (l work : List ℕ) (r : Verdict) (work′ : List ℕ) : Type 0 where
+  pub verdict : rowOf r ≡ first (linking h (tableOf h l))
+  pub long : length work′ ≡ length work
+  pub rest : drop (h .g + 1) work′ ≡ drop (h .g + 1) work
+
+-- the tally of the addresses 1 to g over the first k nodes: how often each stands in a link, and 2 for more
+abbrev pub Tally : Table → ℕ → ℕ → ℕ → List ℕ → Type 0
+Tally t n g k work = (x : ℕ) → 1 ≤ x → x ≤ g → getD work x 0 ≡ min 2 (times t n x k)
+
+-- the lowest node that holds a bad link, and the tally where there is none
+pub record BadFrom (h : Head) (l work : List ℕ) (bad : ℕ) (work′ : List ℕ) : Type 0 where
+  pub lowest-bad : bad ≡ lowest (λ q. holdsBad (h .g) (tableOf h l) q (h .n)) 0 (h .g + 1)
+  pub tally : h .g < bad → Tally (tableOf h l) (h .n) (h .g) (h .g + 1) work′
+  pub long : length work′ ≡ length work
+  pub rest : drop (h .g + 1) work′ ≡ drop (h .g + 1) work
+
+-- one node's links: none is bad and each address has been met as often as it stands in them, or one is bad
+pub record Tallied (h : Head) (l : List ℕ) (q : ℕ) (work : List ℕ) (r : Bool) (work′ : List ℕ) : Type 0 where
+  pub good : r ≡ true → holdsBad (h .g) (tableOf h l) q (h .n) ≡ false
+  pub bad : r ≡ false → holdsBad (h .g) (tableOf h l) q (h .n) ≡ true
+  pub met : r ≡ true → (x : ℕ) → 1 ≤ x → x ≤ h .g → (m : ℕ) → getD work x 0 ≡ min 2 m
+      → getD work′ x 0 ≡ min 2 (m + timesIn (tableOf h l) x q (h .n))
+  pub long : length work′ ≡ length work
+  pub rest : drop (h .g + 1) work′ ≡ drop (h .g + 1) work
+
+-- the lowest address from 1 on, below `nodes`, whose working number is v
+abbrev pub FoundFrom : List ℕ → ℕ → ℕ → ℕ → Type 0
+FoundFrom work nodes v r = (k : ℕ) → nodes ≡ k + 1 → r ≡ lowest (λ x. eqb (getD work x 0) v) 1 k

@@ -1,0 +1,146 @@
+// The check of an image over lent working numbers: 1 to 8, in time linear in the image and with no recursion, since a chain of links may
+// be as long as the image. Working number x holds how often address x has been met in a link so far, and stops at 2.
+ghost use mathlib.Core.Path.{_≡_};
+ghost use Prim.Native.Nat.{_≤_, _+_};
+ghost use mathlib.Core.List.{_++_};
+ghost use lib.ListN.{length, drop, replicate};
+ghost use Rattle.node.specs.Image.{Open, Masks};
+ghost use Rattle.audit.specs.Audit.{Checked, Audited, Linked, BadFrom, Tallied, FoundFrom};
+use head::Head;
+use opening::Opened;
+use paper::Refusal;
+use paper::Verdict;
+
+// 1 to 8 of an image, with what opening it tells.
+pub fn check(image: &[u8], work: &mut [u32], codes: &mut [u32; 256]) -> Opened
+    ensures { λ r. ⌜ Checked (now (image .entry)) (now (work .entry)) r (now (work .exit)) (now (codes .exit)) ⌝ }
+{
+    let opened = opening::open(image, codes);
+    let verdict = opened.verdict;
+    match verdict {
+        Verdict::Refused(_) => opened,
+        Verdict::Passed => {
+            let h = opened.head;
+            Opened {
+                verdict: audit(image, h, work),
+                head: h,
+                count: opened.count,
+            }
+        }
+    }
+}
+
+// 5 to 8. The first G+1 working numbers are 0 in the end, the rest are kept; at 5 all are.
+fn audit(image: &[u8], h: Head, work: &mut [u32]) -> Verdict
+    requires { ⌜ Open h (now image) ⌝ }
+    ensures { λ r. ⌜ Audited h (now (image .entry)) (now (work .entry)) r (now (work .exit)) ⌝ }
+{
+    let nodes = (h.g as usize) + 1;
+    if work.len() < nodes {
+        return Verdict::Refused(Refusal::TooFewNumbers);
+    }
+    clear(work, nodes);
+    let verdict = links(image, h, work);
+    clear(work, nodes);
+    verdict
+}
+
+// 6 to 8, over working numbers of which the first G+1 are 0.
+fn links(image: &[u8], h: Head, work: &mut [u32]) -> Verdict
+    requires { ⌜ Open h (now image) ⌝ }
+    requires { ⌜ h .g + 1 ≤ length (now work) ⌝ }
+    requires { ⌜ now work ≡ replicate (h .g + 1) 0 ++ drop (h .g + 1) (now work) ⌝ }
+    ensures { λ r. ⌜ Linked h (now (image .entry)) (now (work .entry)) r (now (work .exit)) ⌝ }
+{
+    let nodes = (h.g as usize) + 1;
+    let bad = first_bad_node(image, h, work);
+    if bad < nodes {
+        return Verdict::Refused(Refusal::Link(bad as u32));
+    }
+    let twice = first_holding(work, nodes, 2);
+    if twice < nodes {
+        return Verdict::Refused(Refusal::LinkedTwice(twice as u32));
+    }
+    let missing = first_holding(work, nodes, 0);
+    if missing < nodes {
+        return Verdict::Refused(Refusal::NotLinked(missing as u32));
+    }
+    Verdict::Passed
+}
+
+// The lowest node that holds a bad link, G+1 where none does. Then the working numbers have the tally of every address from 1 on.
+fn first_bad_node(image: &[u8], h: Head, work: &mut [u32]) -> usize
+    requires { ⌜ Open h (now image) ⌝ }
+    requires { ⌜ h .g + 1 ≤ length (now work) ⌝ }
+    requires { ⌜ now work ≡ replicate (h .g + 1) 0 ++ drop (h .g + 1) (now work) ⌝ }
+    ensures { λ r. ⌜ BadFrom h (now (image .entry)) (now (work .entry)) r (now (work .exit)) ⌝ }
+{
+    let mask = node::mask(h);
+    let nodes = (h.g as usize) + 1;
+    let mut q: usize = 0;
+    while q < nodes {
+        if !tally(image, h, mask, q as u32, work) {
+            return q;
+        }
+        q += 1;
+    }
+    nodes
+}
+
+// Counts the links of node q into the working numbers and answers true, or stops at its first bad link and answers false. Most nodes of a
+// season have no links at all, and are passed over at once.
+fn tally(image: &[u8], h: Head, mask: u32, q: u32, work: &mut [u32]) -> bool
+    requires { ⌜ Open h (now image) ⌝ }
+    requires { ⌜ Masks h mask ⌝ }
+    requires { ⌜ q ≤ h .g ⌝ }
+    requires { ⌜ h .g + 1 ≤ length (now work) ⌝ }
+    ensures { λ r. ⌜ Tallied h (now (image .entry)) q (now (work .entry)) r (now (work .exit)) ⌝ }
+{
+    if node::childless(image, h, q) {
+        return true;
+    }
+    let mut i: u32 = 0;
+    while i < h.n {
+        let c = node::link(image, h, mask, q, i);
+        i += 1;
+        if c == 0 {
+            continue;
+        }
+        if paper::bad_link(h.g, q, c) {
+            return false;
+        }
+        let times = work[c as usize];
+        if times < 2 {
+            work[c as usize] = times + 1;
+        }
+    }
+    true
+}
+
+// The lowest address from 1 on, below `nodes`, whose working number is v; `nodes` where there is none.
+fn first_holding(work: &[u32], nodes: usize, v: u32) -> usize
+    requires { ⌜ 1 ≤ nodes ⌝ }
+    requires { ⌜ nodes ≤ length (now work) ⌝ }
+    ensures { λ r. ⌜ FoundFrom (now (work .entry)) nodes v r ⌝ }
+{
+    let mut x: usize = 1;
+    while x < nodes {
+        if work[x] == v {
+            return x;
+        }
+        x += 1;
+    }
+    nodes
+}
+
+// Sets the first n working numbers to 0.
+fn clear(work: &mut [u32], n: usize)
+    requires { ⌜ n ≤ length (now work) ⌝ }
+    ensures { λ _. ⌜ now (work .exit) ≡ replicate n 0 ++ drop n (now (work .entry)) ⌝ }
+{
+    let mut i: usize = 0;
+    while i < n {
+        work[i] = 0;
+        i += 1;
+    }
+}

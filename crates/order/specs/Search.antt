@@ -1,0 +1,43 @@
+-- 01, "Walking, storing, listing": "gives the first stored key that meets it". What a search tells of the key that it was to find, and the
+-- path that it leaves: the key's letters, and the nodes on its way, the root first.
+use Prim.Native.Nat.{ℕ, _≤_, _<_}
+use mathlib.Core.Path.{_≡_}
+use mathlib.Core.Bool.{cond}
+use mathlib.Core.Option.{Option, none, some}
+use mathlib.Core.List.{List}
+use lib.ListN.{length, getD, take}
+use lib.Dec.{ltb}
+use Rattle.trie.specs.Table.{Table, complete, descend, answer, Letters}
+use Rattle.head.specs.declared.Head.{Head}
+use Rattle.node.specs.Image.{tableOf}
+use Rattle.order.specs.declared.Search.{Search}
+
+-- the data of a node at a depth, where a key of so many letters is long enough to be stored
+unfoldable pub ownValue : Head → Table → ℕ → ℕ → ℕ
+ownValue h t q depth = cond (ltb depth (h .min)) 0 (t .value q)
+
+-- room for the longest key and for the nodes on its way
+pub record Room (h : Head) (path nodes : List ℕ) : Type 0 where
+  pub letters : h .max ≤ length path
+  pub ends : h .max < length nodes
+
+-- the first `depth` letters of the path lead from the root to the nodes that stand beside them
+pub record Along (h : Head) (l : List ℕ) (depth : ℕ) (path nodes : List ℕ) : Type 0 where
+  pub letters : Letters (h .n) (take depth path)
+  pub ends : (j : ℕ) → j ≤ depth → descend (tableOf h l) 0 (take j path) ≡ complete (getD nodes j 0)
+
+-- the path is that of a key
+pub record Reached (h : Head) (l k path nodes : List ℕ) : Type 0 where
+  pub short : length k ≤ h .max
+  pub letters : take (length k) path ≡ k
+  pub along : Along h l (length k) path nodes
+
+-- what is answered of a key that there is or is not
+unfoldable pub toldOf : Table → Option (List ℕ) → Search
+unfolding answer
+toldOf t none = Search.Missing
+toldOf t (some k) = Search.Found (length k) (answer t k)
+
+pub record Told (h : Head) (l : List ℕ) (sought : Option (List ℕ)) (r : Search) (path nodes : List ℕ) : Type 0 where
+  pub answers : r ≡ toldOf (tableOf h l) sought
+  pub reached : (k : List ℕ) → sought ≡ some k → Reached h l k path nodes

@@ -1,0 +1,180 @@
+// The stored keys of an image in order: how many there are, and the first at or after a key. A caller has checked the image once; from
+// then on every function here walks without a second check. The search remembers the path of the key that it found, letters and nodes, so
+// that the key after it is found from there and a whole listing is one walk through the image.
+ghost use mathlib.Core.Path.{_≡_};
+ghost use mathlib.Core.Bool.{true};
+ghost use Prim.Native.Nat.{_+_, _-_, _^_, _≤_, _<_};
+ghost use lib.ListN.{length, getD, take};
+ghost use Rattle.trie.specs.Rules.{Within};
+ghost use Rattle.trie.specs.Keys.{keysUnder, listing, meets, firstMeeting};
+ghost use Rattle.trie.specs.Beyond.{keysFrom, beyond, firstOf};
+ghost use Rattle.node.specs.Image.{Open, Masks, tableOf};
+ghost use Rattle.key.specs.Hand.{Ready, lettersOf};
+ghost use Rattle.order.specs.Search.{ownValue, Room, Along, Told};
+use head::Head;
+use key::Key;
+
+// A search found a key of so many letters, which stand at the front of the path, or there is none.
+pub enum Search {
+    Found { length: usize, value: u64 },
+    Missing,
+}
+
+// The number of stored keys.
+pub fn count(image: &[u8], h: Head) -> u32
+    requires { ⌜ Open h (now image) ⌝ ∗ ⌜ Within (tableOf h (now image)) (h .g) ⌝ }
+    requires { ⌜ length (listing (tableOf h (now image)) (h .n) (h .min) (h .max)) < 2 ^ 32 ⌝ }
+    ensures { λ r. ⌜ r ≡ length (listing (tableOf h (now (image .entry))) (h .n) (h .min) (h .max)) ⌝ }
+{
+    let own = if own_value(image, h, 0, 0) == 0 { 0 } else { 1 };
+    counted(image, h, node::mask(h), 0, 0, own)
+}
+
+// The stored keys below a node at a depth, its own left out, counted onto those counted before. It calls itself on each child; the depth
+// left to max falls.
+fn counted(image: &[u8], h: Head, mask: u32, node: u32, depth: usize, before: u32) -> u32
+    requires { ⌜ Open h (now image) ⌝ ∗ ⌜ Within (tableOf h (now image)) (h .g) ⌝ ∗ ⌜ Masks h mask ⌝ }
+    requires { ⌜ node ≤ h .g ⌝ ∗ ⌜ depth ≤ h .max ⌝ }
+    requires { ⌜ before + length (keysFrom (tableOf h (now image)) (h .n) (h .min - depth) (h .max - depth) node 0) < 2 ^ 32 ⌝ }
+    ensures { λ r. ⌜ r ≡ before + length (keysFrom (tableOf h (now (image .entry))) (h .n) (h .min - depth) (h .max - depth) node 0) ⌝ }
+{
+    if (h.max as usize) <= depth {
+        return before;
+    }
+    if node::childless(image, h, node) {
+        return before;
+    }
+    let mut sum = before;
+    let mut i: u32 = 0;
+    while i < h.n {
+        let c = node::link(image, h, mask, node, i);
+        if c != 0 {
+            if own_value(image, h, c, depth + 1) != 0 {
+                sum += 1;
+            }
+            sum = counted(image, h, mask, c, depth + 1, sum);
+        }
+        i += 1;
+    }
+    sum
+}
+
+// The first stored key at or after the key in hand, or after it. Its letters are at the front of the path then, and the nodes are those
+// on its way from the root on.
+pub fn next(image: &[u8], h: Head, key: Key, after: bool, path: &mut [u8], nodes: &mut [u32]) -> Search
+    requires { ⌜ Open h (now image) ⌝ ∗ ⌜ Within (tableOf h (now image)) (h .g) ⌝ }
+    requires { ⌜ Ready h key ⌝ ∗ ⌜ key .len ≤ h .max ⌝ ∗ ⌜ Room h (now path) (now nodes) ⌝ }
+    ensures { λ r. ⌜ Told h (now (image .entry)) (firstMeeting (meets after (lettersOf key)) (listing (tableOf h (now (image .entry))) (h .n) (h .min) (h .max))) r (now (path .exit)) (now (nodes .exit)) ⌝ }
+    ensures { λ r. ⌜ Room h (now (path .exit)) (now (nodes .exit)) ⌝ }
+{
+    let mask = node::mask(h);
+    let depth = along(image, h, mask, key, path, nodes);
+    if depth < key.len {
+        let letters = key.letters;
+        return climb(image, h, mask, depth, (letters[depth] as u32) + 1, path, nodes);
+    }
+    if !after {
+        let value = own_value(image, h, nodes[depth], depth);
+        if value != 0 {
+            return Search::Found { length: depth, value };
+        }
+    }
+    climb(image, h, mask, depth, 0, path, nodes)
+}
+
+// The first stored key after the one whose letters are the first `len` of the path, with its nodes. Over a whole listing each link is
+// looked at once.
+pub fn onward(image: &[u8], h: Head, len: usize, path: &mut [u8], nodes: &mut [u32]) -> Search
+    requires { ⌜ Open h (now image) ⌝ ∗ ⌜ Within (tableOf h (now image)) (h .g) ⌝ }
+    requires { ⌜ len ≤ h .max ⌝ ∗ ⌜ Room h (now path) (now nodes) ⌝ ∗ ⌜ Along h (now image) len (now path) (now nodes) ⌝ }
+    ensures { λ r. ⌜ Told h (now (image .entry)) (firstMeeting (meets true (take len (now (path .entry)))) (listing (tableOf h (now (image .entry))) (h .n) (h .min) (h .max))) r (now (path .exit)) (now (nodes .exit)) ⌝ }
+    ensures { λ r. ⌜ Room h (now (path .exit)) (now (nodes .exit)) ⌝ }
+{
+    climb(image, h, node::mask(h), len, 0, path, nodes)
+}
+
+// Follows a key as far as its links go, and answers how far that is.
+fn along(image: &[u8], h: Head, mask: u32, key: Key, path: &mut [u8], nodes: &mut [u32]) -> usize
+{
+    let letters = key.letters;
+    let len = key.len;
+    nodes[0] = 0;
+    let mut node: u32 = 0;
+    let mut depth: usize = 0;
+    while depth < len {
+        let letter = letters[depth];
+        let c = node::link(image, h, mask, node, letter as u32);
+        if c == 0 {
+            return depth;
+        }
+        path[depth] = letter;
+        nodes[depth + 1] = c;
+        node = c;
+        depth += 1;
+    }
+    depth
+}
+
+// The first stored key below the path's end from a letter on or, where there is none, behind the letter taken at each node on the way up.
+fn climb(image: &[u8], h: Head, mask: u32, end: usize, first: u32, path: &mut [u8], nodes: &mut [u32]) -> Search
+{
+    let mut depth = end;
+    let mut from = first;
+    loop {
+        let found = below(image, h, mask, nodes[depth], depth, from, path, nodes);
+        match found {
+            Search::Found { .. } => return found,
+            Search::Missing => {}
+        }
+        if depth == 0 {
+            return Search::Missing;
+        }
+        depth -= 1;
+        from = (path[depth] as u32) + 1;
+    }
+}
+
+// The first stored key below a node at a depth whose next letter is `from` or a later one. It calls itself on each child; the depth left to
+// max falls.
+fn below(image: &[u8], h: Head, mask: u32, node: u32, depth: usize, from: u32, path: &mut [u8], nodes: &mut [u32]) -> Search
+{
+    if (h.max as usize) <= depth {
+        return Search::Missing;
+    }
+    if node::childless(image, h, node) {
+        return Search::Missing;
+    }
+    let mut i = from;
+    while i < h.n {
+        let c = node::link(image, h, mask, node, i);
+        if c != 0 {
+            path[depth] = i as u8;
+            nodes[depth + 1] = c;
+            let value = own_value(image, h, c, depth + 1);
+            if value != 0 {
+                return Search::Found {
+                    length: depth + 1,
+                    value,
+                };
+            }
+            let deeper = below(image, h, mask, c, depth + 1, 0, path, nodes);
+            match deeper {
+                Search::Found { .. } => return deeper,
+                Search::Missing => {}
+            }
+        }
+        i += 1;
+    }
+    Search::Missing
+}
+
+// The data of a node at a depth, 0 where keys of that length are too short to be stored.
+fn own_value(image: &[u8], h: Head, node: u32, depth: usize) -> u64
+    requires { ⌜ Open h (now image) ⌝ ∗ ⌜ node ≤ h .g ⌝ }
+    ensures { λ r. ⌜ r ≡ ownValue h (tableOf h (now (image .entry))) node depth ⌝ }
+{
+    if depth < (h.min as usize) {
+        return 0;
+    }
+    node::data(image, h, node)
+}

@@ -1,0 +1,83 @@
+// The descent: a position is a node and a depth, each letter gives the next position. It follows the links of an image that was opened and
+// never checked, so that each link is judged where it is met; the first bad one ends the walk, with the node that holds it.
+ghost use mathlib.Core.Path.{_≡_};
+ghost use Prim.Native.Nat.{_≤_, _<_};
+ghost use Rattle.node.specs.Image.{Open, Masks, tableOf};
+ghost use Rattle.key.specs.Hand.{Ready, lettersOf};
+ghost use Rattle.walk.specs.Descent.{stepOf, walkedFrom, atRoot, lookedIn};
+use head::Head;
+use key::Key;
+use paper::Looked;
+use paper::Refusal;
+
+pub struct Position {
+    pub node: u32,
+    pub depth: usize,
+}
+
+// Where one letter leads: on, to an empty link, or to a bad one, which the node holds.
+pub enum Step {
+    At(Position),
+    Empty,
+    Bad(u32),
+}
+
+// Where a key leads: to its own node, to a position whose link for the next letter is empty, or to a node that holds a bad link.
+pub enum Walked {
+    Complete(u32),
+    Stopped(Position),
+    Bad(u32),
+}
+
+impl Position {
+    pub fn step(self, image: &[u8], h: Head, mask: u32, letter: u8) -> Step
+        requires { ⌜ Open h (now image) ⌝ ∗ ⌜ Masks h mask ⌝ ∗ ⌜ self .node ≤ h .g ⌝ ∗ ⌜ letter < h .n ⌝ ∗ ⌜ self .depth < 64 ⌝ }
+        ensures { λ r. ⌜ r ≡ stepOf (h .g) (tableOf h (now (image .entry))) self letter ⌝ }
+    {
+        let node = self.node;
+        let c = node::link(image, h, mask, node, letter as u32);
+        if c == 0 {
+            return Step::Empty;
+        }
+        if paper::bad_link(h.g, node, c) {
+            return Step::Bad(node);
+        }
+        Step::At(Position {
+            node: c,
+            depth: self.depth + 1,
+        })
+    }
+}
+
+// Walks from the root along a key that 9 and 10 have passed.
+pub fn walk(image: &[u8], h: Head, key: Key) -> Walked
+    requires { ⌜ Open h (now image) ⌝ ∗ ⌜ Ready h key ⌝ }
+    ensures { λ r. ⌜ r ≡ walkedFrom (h .g) (tableOf h (now (image .entry))) atRoot (lettersOf key) ⌝ }
+{
+    let mask = node::mask(h);
+    let letters = key.letters;
+    let mut here = Position { node: 0, depth: 0 };
+    while here.depth < key.len {
+        let next = here.step(image, h, mask, letters[here.depth]);
+        let Step::At(position) = next else {
+            let Step::Bad(node) = next else {
+                return Walked::Stopped(here);
+            };
+            return Walked::Bad(node);
+        };
+        here = position;
+    }
+    Walked::Complete(here.node)
+}
+
+// What a key answers, or 6 with the node that holds the bad link on its path.
+pub fn look(image: &[u8], h: Head, key: Key) -> Looked
+    requires { ⌜ Open h (now image) ⌝ ∗ ⌜ Ready h key ⌝ }
+    ensures { λ r. ⌜ r ≡ lookedIn (h .g) (tableOf h (now (image .entry))) (lettersOf key) ⌝ }
+{
+    match walk(image, h, key) {
+        Walked::Complete(node) => Looked::Value(node::data(image, h, node)),
+        Walked::Stopped(_) => Looked::Value(0),
+        Walked::Bad(node) => Looked::Refused(Refusal::Link(node)),
+    }
+}
