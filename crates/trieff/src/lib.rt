@@ -1,8 +1,18 @@
 // The public calls. None has a `requires`: any bytes, key, text or value may be handed over. Each promises one line, that the numbers of
 // its answer and every lent buffer's last content are the outcome that document 01 states (crate `paper`).
-ghost use Rattle.paper.specs.Promises.{Makes};
+ghost use mathlib.Core.Path.{_≡_};
+ghost use Rattle.head.specs.Fields.{headOf};
+ghost use Rattle.paper.specs.Accepted.{Accepted};
+ghost use Rattle.paper.specs.Promises.{Makes, Checks, Counts, LooksUp, LooksUpText, Nexts};
+ghost use Rattle.trieff.specs.Seeking.{Sought};
 use head::Head;
+use key::Key;
+use key::Typed;
+use order::Search;
+use paper::Counted;
 use paper::Done;
+use paper::Found;
+use paper::Looked;
 use paper::Refusal;
 use paper::Verdict;
 
@@ -35,6 +45,121 @@ pub fn make(image: &mut [u8], n: u32, a: u32, d: u32, alphabet: &[u8], min: u32,
         Verdict::Passed => {
             making::fresh(image, h, alphabet);
             Done::Done
+        }
+    }
+}
+
+// Checks an image over lent working numbers. Refusals: 1 to 8.
+pub fn check(image: &[u8], work: &mut [u32]) -> Done
+    ensures { λ r. ⌜ Checks (now (image .entry)) (now (work .entry)) r (now (work .exit)) ⌝ }
+{
+    let mut codes = [0u32; 256];
+    let checked = audit::check(image, work, &mut codes);
+    let verdict = checked.verdict;
+    match verdict {
+        Verdict::Refused(why) => Done::Refused(why),
+        Verdict::Passed => Done::Done,
+    }
+}
+
+// The number of stored keys of an image. Refusals: 1 to 8.
+pub fn count(image: &[u8], work: &mut [u32]) -> Counted
+    ensures { λ r. ⌜ Counts (now (image .entry)) (now (work .entry)) r (now (work .exit)) ⌝ }
+{
+    let mut codes = [0u32; 256];
+    let checked = audit::check(image, work, &mut codes);
+    let verdict = checked.verdict;
+    match verdict {
+        Verdict::Refused(why) => Counted::Refused(why),
+        Verdict::Passed => Counted::Keys(order::count(image, checked.head)),
+    }
+}
+
+// The value that is stored under a key given by its letters, 0 for none. It does not check the image: 6 is a bad link on the key's own path.
+// Refusals: 1 to 4, 9, 10, 6.
+pub fn look_up(image: &[u8], letters: &[u8]) -> Looked
+    ensures { λ r. ⌜ LooksUp (now (image .entry)) (now (letters .entry)) r ⌝ }
+{
+    let mut codes = [0u32; 256];
+    let opened = opening::open(image, &mut codes);
+    let verdict = opened.verdict;
+    match verdict {
+        Verdict::Refused(why) => Looked::Refused(why),
+        Verdict::Passed => {
+            let h = opened.head;
+            let key = Key::of(letters);
+            let judged = key.judge(h);
+            match judged {
+                Verdict::Refused(why) => Looked::Refused(why),
+                Verdict::Passed => walk::look(image, h, key),
+            }
+        }
+    }
+}
+
+// The same for a key given by its text. Refusals: 1 to 4, 10, 9, 6.
+pub fn look_up_text(image: &[u8], text: &[u8]) -> Looked
+    ensures { λ r. ⌜ LooksUpText (now (image .entry)) (now (text .entry)) r ⌝ }
+{
+    let mut codes = [0u32; 256];
+    let opened = opening::open(image, &mut codes);
+    let verdict = opened.verdict;
+    match verdict {
+        Verdict::Refused(why) => Looked::Refused(why),
+        Verdict::Passed => {
+            let h = opened.head;
+            let typed = Typed::of(text, &codes, opened.count);
+            let judged = typed.judge(h);
+            match judged {
+                Verdict::Refused(why) => Looked::Refused(why),
+                Verdict::Passed => walk::look(image, h, typed.key),
+            }
+        }
+    }
+}
+
+// The first stored key at or after the key given or, with `after`, after it: its letters at the front of the key buffer, its length and its
+// value. Refusals: 1 to 8, 9 for a key longer than max, 10, 14, 15.
+pub fn next_key(image: &[u8], work: &mut [u32], letters: &[u8], after: bool, buffer: &mut [u8]) -> Found
+    ensures { λ r. ⌜ Nexts (now (image .entry)) (now (work .entry)) (now (letters .entry)) after (now (buffer .entry)) r (now (work .exit)) (now (buffer .exit)) ⌝ }
+{
+    let mut codes = [0u32; 256];
+    let checked = audit::check(image, work, &mut codes);
+    let verdict = checked.verdict;
+    match verdict {
+        Verdict::Refused(why) => Found::Refused(why),
+        Verdict::Passed => sought(image, checked.head, letters, after, buffer),
+    }
+}
+
+// 9, 10, 14, 15 of next key, in an image that has been checked. The search writes to a path of its own, since a buffer that is refused
+// keeps what it held.
+fn sought(image: &[u8], h: Head, letters: &[u8], after: bool, buffer: &mut [u8]) -> Found
+    requires { ⌜ Accepted (now image) ⌝ }
+    requires { ⌜ h ≡ headOf (now image) ⌝ }
+    ensures { λ r. ⌜ Sought (now (image .entry)) (now (letters .entry)) after (now (buffer .entry)) r (now (buffer .exit)) ⌝ }
+{
+    let key = Key::of(letters);
+    let judged = key.judge_next(h);
+    match judged {
+        Verdict::Refused(why) => Found::Refused(why),
+        Verdict::Passed => {
+            if buffer.len() < (h.max as usize) {
+                return Found::Refused(Refusal::ShortBuffer);
+            }
+            let mut path = [0u8; 64];
+            let mut nodes = [0u32; 65];
+            let found = order::next(image, h, key, after, &mut path, &mut nodes);
+            match found {
+                Search::Missing => Found::Refused(Refusal::NoKey),
+                Search::Found { length, value } => {
+                    field::lay(buffer, 0, &path[..length]);
+                    Found::Key {
+                        length: length as u32,
+                        value,
+                    }
+                }
+            }
         }
     }
 }
