@@ -19,7 +19,7 @@ use Rattle.trie.proofs.Order.{before-cons, before-lower, before-extensi
 -- Which keys are listed.
 
 -- a key that is listed by its first letter x, with what follows it
-byLetter-cases : {k : List ℕ} (keys : ℕ → List (List ℕ)) (i m : ℕ)
+pub byLetter-cases : {k : List ℕ} (keys : ℕ → List (List ℕ)) (i m : ℕ)
     → List·Memᴰ k (byLetter keys i m)
     → (x : ℕ) × (r : List ℕ) × (k ≡ x ∷ r) × (i ≤ x) × (x < i + m) × List·Memᴰ r (keys x)
 unfolding byLetter
@@ -48,7 +48,7 @@ byLetter-holds keys i (suc m) x {r} low high h =
 abbrev pub Found : Table → ℕ → ℕ → ℕ → List ℕ → Type 0
 Found t short left q k = (short ≤ length k) × (length k ≤ left) × (valueAt t (descend t q k) ≢ 0)
 
-own-cases : {k : List ℕ} (t : Table) (short q : ℕ) → List·Memᴰ k (ownKey t short q) → (k ≡ []) × (short ≤ 0) × (t .value q ≢ 0)
+pub own-cases : {k : List ℕ} (t : Table) (short q : ℕ) → List·Memᴰ k (ownKey t short q) → (k ≡ []) × (short ≤ 0) × (t .value q ≢ 0)
 unfolding ownKey
 own-cases {k} t zero q h = go (t .value q) h
   where
@@ -74,7 +74,7 @@ own-found t short left q h =
 
 module _ (t : Table) (n : ℕ) where
   -- what follows letter i in the keys under node q
-  abbrev under : ℕ → ℕ → ℕ → ℕ → List (List ℕ)
+  abbrev pub under : ℕ → ℕ → ℕ → ℕ → List (List ℕ)
   under short left q i = follow (t .child q i) [] (λ c. keysUnder t n (pred short) left c)
 
   -- a key's first letter met the link c, and r follows
