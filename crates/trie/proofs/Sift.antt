@@ -22,7 +22,7 @@ unfolding sift
 sift-out p k l e = rw e
 
 -- what holds of a list's sifting whether its first key meets or not
-by-test {ℓ} : (X : Type ℓ) (p : List ℕ → Bool) (k : List ℕ) → (p k ≡ true → X) → (p k ≡ false → X) → X
+pub by-test {ℓ} : (X : Type ℓ) (p : List ℕ → Bool) (k : List ℕ) → (p k ≡ true → X) → (p k ≡ false → X) → X
 by-test X p k met unmet = go (p k) refl
   where
     go : (b : Bool) → p k ≡ b → X
