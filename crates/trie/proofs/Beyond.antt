@@ -6,8 +6,8 @@ use native.Mathlib.Decide.{ℕ-discrete}
 use native.Mathlib.Nat.{sub-zero}
 use mathlib.Core.Bool.{Bool, true, false}
 use mathlib.Core.List.{List, [], _∷_, _++_, map, append-nil, append-assoc, map-id, map-map, map-append, List·Memᴰ}
-use mathlib.Core.List.{List·Memᴰ·not-nil, List·Memᴰ·append-cases, Memᴰ·of-map}
-use mathlib.Core.Logic.{_≢_, ⊎-elim}
+use mathlib.Core.List.{List·Memᴰ·not-nil, Memᴰ·of-map}
+use mathlib.Core.Logic.{_≢_}
 use mathlib.Core.Option.{some}
 use mathlib.Core.Path.{_≡_, refl, sym, _∙_, ap, ap₂, subst}
 use lib.ListN.{length, length-append}
@@ -17,8 +17,8 @@ use Rattle.trie.specs.Beyond.{firstOf, keysFrom, beyond}
 use Rattle.trie.proofs.Letters.{letters-before, letters-after}
 use Rattle.trie.proofs.Order.{meets-empty, meets-lower, meets-cons, meets-higher, meets-none, meets-letter}
 use Rattle.trie.proofs.Sift.{sift-append, sift-map, sift-none, sift-every, sift-all, first-sift}
-use Rattle.trie.proofs.Listing.{under, byLetter-cases, own-cases}
-use Rattle.trie.proofs.Walk.{Walk, end, on, walk, follow-empty, follow-on, descend-nil, descend-on}
+use Rattle.trie.proofs.Listing.{under, byLetter-cases, own-cases, follow-cases, Listed, link-listed, under-listed}
+use Rattle.trie.proofs.Walk.{Walk, end, on, walk, follow-empty, follow-on}
 
 -- one letter in front of a path's keys, and what follows them
 lead : (y : ℕ) (k : List ℕ) (a b c : List (List ℕ)) {l : List (List ℕ)} → l ≡ map (k ++_) a ++ b
@@ -89,11 +89,6 @@ sift-letter after y k keys n i (suc m) size low high =
         ap (meets after (y ∷ k)) (sym e) ∙ meets-lower after i y k r (omega arith)) in
         sift-append _ (map (i ∷_) (keys i)) (byLetter keys (suc i) m) ∙ ap₂ _++_ lower (rest (omega arith))
 
-follow-cases : {r : List ℕ} (c : ℕ) (keys : ℕ → List (List ℕ)) → List·Memᴰ r (follow c [] keys) → (c ≢ 0) × List·Memᴰ r (keys c)
-unfolding follow
-follow-cases zero keys a = absurd (List·Memᴰ·not-nil a)
-follow-cases (suc c) keys a = (omega arith, a)
-
 module _ (t : Table) (n : ℕ) where
   -- The keys below a node from a letter on.
 
@@ -153,28 +148,18 @@ module _ (t : Table) (n : ℕ) where
       let (full, c) = follow-cases (t .child q y) _ b in
       (y, r, e, omega arith, omega arith, full, c)
 
+  -- a key from a letter on is a listed key
+  pub from-listed : (short left q x : ℕ) (k : List ℕ) → List·Memᴰ k (keysFrom t n short left q x) → Listed t n short left q k
+  from-listed short left q x k a =
+      let (y, r, e, low, room, linked, b) = from-cases short left q x a in
+      let f = under-listed t n (pred short) (pred left) (t .child q y) r b in
+      subst (Listed t n short left q) (sym e) (link-listed t n short left q y low room linked f)
+
   -- The keys behind a path.
 
   pub beyond-nil : (short left q x : ℕ) → beyond t n short left q [] x ≡ keysFrom t n short left q x
   unfolding beyond
   beyond-nil short left q x = refl
-
-  -- all of it: what comes below the path's end from a letter on, then what stands behind the path, which is what comes past the last letter
-  split : {q p : ℕ} {k : List ℕ} → Walk t q k (complete p) → (short left x : ℕ)
-      → beyond t n short left q k x
-      ≡ map (k ++_) (keysFrom t n (short - length k) (left - length k) p x) ++ beyond t n short left q k n
-  unfolding beyond
-  split (end {q}) short left x = rw (sub-zero short, sub-zero left, map-id, from-none short left q n (omega arith), append-nil)
-  split {p = p} (on {q} {x = y} {xs = k} h w) short left x =
-      let s : pred short - length k ≡ short - suc (length k) = omega arith in
-      let l : pred left - length k ≡ left - suc (length k) = omega arith in
-      lead
-      y
-      k
-      (keysFrom t n (short - suc (length k)) (left - suc (length k)) p x)
-      (beyond t n (pred short) (pred left) (t .child q y) k n)
-      (keysFrom t n short left q (suc y))
-      (rw (s, l) at (split w (pred short) (pred left) x))
 
   -- where nothing comes below a link any more, its node's later letters are next
   up : {q p : ℕ} {k : List ℕ} → Walk t q k (complete p) → (short left x y : ℕ)
@@ -196,6 +181,23 @@ module _ (t : Table) (n : ℕ) where
       → keysFrom t n (short - suc (length k)) (left - suc (length k)) c x ≡ []
       → beyond t n short left q (k ++ (y ∷ [])) x ≡ beyond t n short left q k (suc y)
   beyond-up short left q k x y e f empty = up (walk t q k e) short left x y (rw f empty)
+
+  -- all of it: what comes below the path's end from a letter on, then what stands behind the path, which is what comes past the last letter
+  split : {q p : ℕ} {k : List ℕ} → Walk t q k (complete p) → (short left x : ℕ)
+      → beyond t n short left q k x
+      ≡ map (k ++_) (keysFrom t n (short - length k) (left - length k) p x) ++ beyond t n short left q k n
+  unfolding beyond
+  split (end {q}) short left x = rw (sub-zero short, sub-zero left, map-id, from-none short left q n (omega arith), append-nil)
+  split {p = p} (on {q} {x = y} {xs = k} h w) short left x =
+      let s : pred short - length k ≡ short - suc (length k) = omega arith in
+      let l : pred left - length k ≡ left - suc (length k) = omega arith in
+      lead
+      y
+      k
+      (keysFrom t n (short - suc (length k)) (left - suc (length k)) p x)
+      (beyond t n (pred short) (pred left) (t .child q y) k n)
+      (keysFrom t n short left q (suc y))
+      (rw (s, l) at (split w (pred short) (pred left) x))
 
   -- where something comes below the path's end, that is next
   pub beyond-found : (short left q : ℕ) (k : List ℕ) (x : ℕ) {p : ℕ} {m : List ℕ} {ms : List (List ℕ)} → descend t q k ≡ complete p
@@ -323,52 +325,3 @@ module _ (t : Table) (n : ℕ) where
       → firstMeeting (meets after (k ++ (y ∷ ys))) (keysUnder t n short left q) ≡ firstOf (beyond t n short left q k (suc y))
   meets-stopped after short left q k y ys e f letters deep =
       first-sift _ _ ∙ ap firstOf (sift-stopped after short left q k y ys e f letters deep)
-
-  -- What a listed key is.
-
-  pub record Listed (short left q : ℕ) (k : List ℕ) : Type 0 where
-    pub node : ℕ
-    pub reaches : descend t q k ≡ complete node
-    pub full : t .value node ≢ 0
-    pub long : short ≤ length k
-    pub deep : length k ≤ left
-    pub letters : Letters n k
-
-  own-listed : {k : List ℕ} (short left q : ℕ) → List·Memᴰ k (ownKey t short q) → Listed short left q k
-  own-listed short left q a =
-      let (e, low, full) = own-cases t short q a in
-      subst
-      (Listed short left q)
-      (sym e)
-      (record { node = q; reaches = descend-nil t q; full = full; long = low; deep = omega arith; letters = tt })
-
-  -- by what follows the first letter
-  link-listed : {k : List ℕ} (short left q x : ℕ)
-      → ((p : ℕ) (r : List ℕ) → List·Memᴰ r (keysUnder t n (pred short) (pred left) p) → Listed (pred short) (pred left) p r)
-      → List·Memᴰ k (keysFrom t n short left q x) → Listed short left q k
-  link-listed short left q x rest a =
-      let (y, r, e, low, room, linked, b) = from-cases short left q x a in
-      let f = rest (t .child q y) r b in
-      subst
-      (Listed short left q)
-      (sym e)
-      (record {
-        node = f .node;
-        reaches = descend-on t q y r linked ∙ f .reaches;
-        full = f .full;
-        long = omega arith;
-        deep = omega arith;
-        letters = (low, f .letters);
-      })
-
-  pub under-listed : (short left q : ℕ) (k : List ℕ) → List·Memᴰ k (keysUnder t n short left q) → Listed short left q k
-  unfolding keysUnder
-  under-listed short zero q k a = own-listed short 0 q a
-  under-listed short (suc left) q k a =
-      ⊎-elim
-      (own-listed short (suc left) q)
-      (link-listed short (suc left) q 0 (under-listed (pred short) left))
-      (List·Memᴰ·append-cases (ownKey t short q) (rw (under-split short (suc left) q) at a))
-
-  pub from-listed : (short left q x : ℕ) (k : List ℕ) → List·Memᴰ k (keysFrom t n short left q x) → Listed short left q k
-  from-listed short left q x k a = link-listed short left q x (under-listed (pred short) (pred left)) a

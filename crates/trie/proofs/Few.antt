@@ -13,8 +13,7 @@ use Rattle.trie.specs.Keys.{listing, sift, Ascending}
 use Rattle.trie.specs.Rules.{Linked}
 use Rattle.trie.proofs.Order.{before-apart}
 use Rattle.trie.proofs.Sift.{by-test, sift-every, sift-holds, sift-ascending}
-use Rattle.trie.proofs.Listing.{keysUnder-ascending}
-use Rattle.trie.proofs.Beyond.{Listed, under-listed}
+use Rattle.trie.proofs.Listing.{under-listed, keysUnder-ascending}
 use Rattle.trie.proofs.Walk.{one-key, complete-within}
 
 -- a test that one key fails at most takes out one key at most

@@ -4,6 +4,7 @@ use Prim.Native.Nat.{ℕ, zero, suc, _≤_}
 use native.Mathlib.Omega.{arith}
 use mathlib.Core.Bool.{true, false}
 use mathlib.Core.List.{List, [], _∷_, List·Memᴰ, List·Memᴰ·head, nil≢cons, head-eq-of-cons-eq, tail-eq-of-cons-eq}
+use mathlib.Core.Option.{Option}
 use mathlib.Core.Path.{_≡_, refl, sym, _∙_, ap, subst}
 use lib.ListN.{length, drop-of-length-le}
 use Rattle.trie.specs.Keys.{before, meets, firstMeeting, sift, withKey, inTurn, Ascending}
@@ -36,13 +37,17 @@ sift-next (x ∷ l) k {m} {ms} up e = by-test _ (meets true k) x met (unmet (sif
         let held : List·Memᴰ m l = sift-holds (meets true k) l m .0 (rw f (List·Memᴰ·head refl)) .0 in
         sift-out (meets true m) x l (before-asym x m (up .0 m held)) ∙ rest f
 
+-- the answer to one question
+abbrev after : List (List ℕ) → List ℕ → Option (List ℕ)
+after keys k = firstMeeting (meets true k) keys
+
 module _ (keys : List (List ℕ)) (up : Ascending keys) where
   -- one question and the answers that follow it
   ask : (times : ℕ) (k : List ℕ) (l : List (List ℕ)) → sift (meets true k) keys ≡ l
       → ((m : List ℕ) → length (sift (meets true m) keys) ≤ times
-      → inTurn (λ j. firstMeeting (meets true j) keys) times m ≡ sift (meets true m) keys)
+      → inTurn (after keys) times m ≡ sift (meets true m) keys)
       → length l ≤ suc times
-      → inTurn (λ j. firstMeeting (meets true j) keys) (suc times) k ≡ l
+      → inTurn (after keys) (suc times) k ≡ l
   unfolding inTurn withKey firstOf
   ask times k [] e rest few = rw (first-sift (meets true k) keys, e)
   ask times k (m ∷ ms) e rest few =
@@ -50,7 +55,7 @@ module _ (keys : List (List ℕ)) (up : Ascending keys) where
       rw (first-sift (meets true k) keys, e) (ap (m ∷_) (rest m (rw f (omega arith)) ∙ f))
 
   answers : (times : ℕ) (k : List ℕ) → length (sift (meets true k) keys) ≤ times
-      → inTurn (λ j. firstMeeting (meets true j) keys) times k ≡ sift (meets true k) keys
+      → inTurn (after keys) times k ≡ sift (meets true k) keys
   unfolding inTurn
   answers zero k few = sym (drop-of-length-le (sift (meets true k) keys) few)
   answers (suc times) k few = ask times k (sift (meets true k) keys) refl (answers times) few
