@@ -78,6 +78,34 @@ module _ (t : Table) (n : ℕ) where
   abbrev pub under : ℕ → ℕ → ℕ → ℕ → List (List ℕ)
   under short left q i = follow (t .child q i) [] (λ c. keysUnder t n (pred short) left c)
 
+  -- a key's first letter met the link c, and r follows
+  link-holds : (short left q x : ℕ) (r : List ℕ) (c : ℕ)
+      → (n ≤ x → c ≡ 0)
+      → ((p : ℕ) → Found t short left p r → List·Memᴰ r (keysUnder t n short left p))
+      → short ≤ length r
+      → length r ≤ left
+      → valueAt t (follow c (stopped q x r) (λ p. descend t p r)) ≢ 0
+      → (x < n) × List·Memᴰ r (follow c [] (λ p. keysUnder t n short left p))
+  unfolding follow valueAt
+  link-holds short left q x r zero none-above on low high h = absurd (h refl)
+  link-holds short left q x r (suc c) none-above on low high h =
+      let within : ¬ (n ≤ x) = λ l. omega (arith, none-above l) in
+      (omega arith, on (suc c) (low, high, h))
+
+  pub keysUnder-holds : ((p i : ℕ) → n ≤ i → t .child p i ≡ 0)
+      → (short left q : ℕ) (k : List ℕ)
+      → Found t short left q k
+      → List·Memᴰ k (keysUnder t n short left q)
+  unfolding keysUnder descend valueAt
+  keysUnder-holds none-above short zero q [] h = own-holds t short q (h .0) (h .2)
+  keysUnder-holds none-above short zero q (x ∷ r) h = absurd (omega arith)
+  keysUnder-holds none-above short (suc left) q [] h = Memᴰ·append-left _ (own-holds t short q (h .0) (h .2))
+  keysUnder-holds none-above short (suc left) q (x ∷ r) h =
+      let on : (p : ℕ) → Found t (pred short) left p r → List·Memᴰ r (keysUnder t n (pred short) left p) =
+      λ p. keysUnder-holds none-above (pred short) left p r in
+      let f = link-holds (pred short) left q x r (t .child q x) (none-above q x) on (omega arith) (omega arith) (h .2) in
+      Memᴰ·append-right (ownKey t short q) (byLetter-holds _ 0 n x (omega arith) (omega (arith, f .0)) (f .1))
+
   -- what a key is that is listed at node q
   pub record Listed (short left q : ℕ) (k : List ℕ) : Type 0 where
     pub node : ℕ
@@ -122,36 +150,9 @@ module _ (t : Table) (n : ℕ) where
       subst (Listed short (suc left) q) (sym e) (link-listed short (suc left) q x (omega arith) (omega arith) linked f))
       (List·Memᴰ·append-cases (ownKey t short q) h)
 
-  link-holds : (short left q x : ℕ) (r : List ℕ) (c : ℕ)
-      → (n ≤ x → c ≡ 0)
-      → ((p : ℕ) → Found t short left p r → List·Memᴰ r (keysUnder t n short left p))
-      → short ≤ length r
-      → length r ≤ left
-      → valueAt t (follow c (stopped q x r) (λ p. descend t p r)) ≢ 0
-      → (x < n) × List·Memᴰ r (follow c [] (λ p. keysUnder t n short left p))
-  unfolding follow valueAt
-  link-holds short left q x r zero none-above on low high h = absurd (h refl)
-  link-holds short left q x r (suc c) none-above on low high h =
-      let within : ¬ (n ≤ x) = λ l. omega (arith, none-above l) in
-      (omega arith, on (suc c) (low, high, h))
-
   pub keysUnder-found : (short left q : ℕ) (k : List ℕ) → List·Memᴰ k (keysUnder t n short left q) → Found t short left q k
   unfolding valueAt
   keysUnder-found short left q k h = let f = under-listed short left q k h in (f .long, f .deep, rw (f .reaches) (f .full))
-
-  pub keysUnder-holds : ((p i : ℕ) → n ≤ i → t .child p i ≡ 0)
-      → (short left q : ℕ) (k : List ℕ)
-      → Found t short left q k
-      → List·Memᴰ k (keysUnder t n short left q)
-  unfolding keysUnder descend valueAt
-  keysUnder-holds none-above short zero q [] h = own-holds t short q (h .0) (h .2)
-  keysUnder-holds none-above short zero q (x ∷ r) h = absurd (omega arith)
-  keysUnder-holds none-above short (suc left) q [] h = Memᴰ·append-left _ (own-holds t short q (h .0) (h .2))
-  keysUnder-holds none-above short (suc left) q (x ∷ r) h =
-      let on : (p : ℕ) → Found t (pred short) left p r → List·Memᴰ r (keysUnder t n (pred short) left p) =
-      λ p. keysUnder-holds none-above (pred short) left p r in
-      let f = link-holds (pred short) left q x r (t .child q x) (none-above q x) on (omega arith) (omega arith) (h .2) in
-      Memᴰ·append-right (ownKey t short q) (byLetter-holds _ 0 n x (omega arith) (omega (arith, f .0)) (f .1))
 
 -- "A stored key is one with length in min..max whose data is not 0"
 pub listing-holds : {t : Table} {g n : ℕ} → Framed t g n → (least most : ℕ) (k : List ℕ)
