@@ -11,7 +11,7 @@ use mathlib.Core.Logic.{_≢_}
 use mathlib.Core.Option.{some}
 use mathlib.Core.Path.{_≡_, refl, sym, _∙_, ap, ap₂, subst}
 use lib.ListN.{length, length-append}
-use Rattle.trie.specs.Table.{Table, complete, follow, descend, Letters}
+use Rattle.trie.specs.Table.{Table, complete, descend, Letters}
 use Rattle.trie.specs.Keys.{present, ownKey, byLetter, keysUnder, firstMeeting, meets, sift}
 use Rattle.trie.specs.Beyond.{firstOf, keysFrom, beyond}
 use Rattle.trie.proofs.Letters.{letters-before, letters-after}
