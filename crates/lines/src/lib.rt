@@ -1,0 +1,118 @@
+// Document 01's lines, laid into lent bytes at a place: each function writes its text there and answers where it ends. A caller has room.
+ghost use mathlib.Core.Path.{_≡_};
+ghost use Prim.Native.Nat.{_+_, _≤_};
+ghost use lib.ListN.{length, take};
+ghost use Rattle.lines.specs.Lines.{Laid, decimal, entriesLine, entryLine, refusedLine, keyText};
+
+// "entries N"
+pub fn entries(out: &mut [u8], at: usize, n: u32) -> usize
+    requires { ⌜ at + 32 ≤ length (now out) ⌝ }
+    ensures { λ r. ⌜ Laid (now (out .entry)) at (entriesLine n) r (now (out .exit)) ⌝ }
+{
+    let mut end = word(out, at, b"entries ");
+    end = number(out, end, n as u64);
+    word(out, end, b"\n")
+}
+
+// "refused N at P"
+pub fn refused(out: &mut [u8], at: usize, n: u32, place: u32) -> usize
+    requires { ⌜ at + 64 ≤ length (now out) ⌝ }
+    ensures { λ r. ⌜ Laid (now (out .entry)) at (refusedLine n place) r (now (out .exit)) ⌝ }
+{
+    let mut end = word(out, at, b"refused ");
+    end = number(out, end, n as u64);
+    end = word(out, end, b" at ");
+    end = number(out, end, place as u64);
+    word(out, end, b"\n")
+}
+
+// A stored key, the first `len` letters of the path, and its value.
+pub fn entry(out: &mut [u8], at: usize, path: &[u8], len: usize, value: u64) -> usize
+    requires { ⌜ len ≤ length (now path) ⌝ }
+    requires { ⌜ at + (len * 4 + 32) ≤ length (now out) ⌝ }
+    ensures { λ r. ⌜ Laid (now (out .entry)) at (entryLine (take len (now (path .entry))) value) r (now (out .exit)) ⌝ }
+{
+    let mut end = letters(out, at, path, len);
+    out[end] = 32;
+    end = number(out, end + 1, value);
+    out[end] = 10;
+    end + 1
+}
+
+// Letter numbers joined by dots; the empty key is a dash.
+fn letters(out: &mut [u8], at: usize, path: &[u8], len: usize) -> usize
+    requires { ⌜ len ≤ length (now path) ⌝ }
+    requires { ⌜ at + (len * 4 + 1) ≤ length (now out) ⌝ }
+    ensures { λ r. ⌜ Laid (now (out .entry)) at (keyText (take len (now (path .entry)))) r (now (out .exit)) ⌝ }
+{
+    if len == 0 {
+        out[at] = 45;
+        return at + 1;
+    }
+    let mut end = letter(out, at, path[0]);
+    let mut i: usize = 1;
+    while i < len {
+        out[end] = 46;
+        end = letter(out, end + 1, path[i]);
+        i += 1;
+    }
+    end
+}
+
+// A letter number in decimal. It has three digits at most, and most lines are letters, so no loop is spent on it.
+fn letter(out: &mut [u8], at: usize, x: u8) -> usize
+    requires { ⌜ at + 3 ≤ length (now out) ⌝ }
+    ensures { λ r. ⌜ Laid (now (out .entry)) at (decimal x) r (now (out .exit)) ⌝ }
+{
+    if x < 10 {
+        out[at] = 48 + x;
+        return at + 1;
+    }
+    if x < 100 {
+        out[at] = 48 + x / 10;
+        out[at + 1] = 48 + x % 10;
+        return at + 2;
+    }
+    out[at] = 48 + x / 100;
+    out[at + 1] = 48 + x / 10 % 10;
+    out[at + 2] = 48 + x % 10;
+    at + 3
+}
+
+// A number in decimal, written from its last digit on.
+fn number(out: &mut [u8], at: usize, v: u64) -> usize
+    requires { ⌜ at + 20 ≤ length (now out) ⌝ }
+    ensures { λ r. ⌜ Laid (now (out .entry)) at (decimal v) r (now (out .exit)) ⌝ }
+{
+    let width = places(v);
+    let mut x = v;
+    let mut i = width;
+    while 0 < i {
+        i -= 1;
+        out[at + i] = 48 + ((x % 10) as u8);
+        x = x / 10;
+    }
+    at + width
+}
+
+// How many digits a number has.
+fn places(v: u64) -> usize
+    ensures { λ r. ⌜ r ≡ length (decimal v) ⌝ }
+{
+    let mut x = v;
+    let mut n: usize = 1;
+    while 10 <= x {
+        x = x / 10;
+        n += 1;
+    }
+    n
+}
+
+// Text as it stands.
+fn word(out: &mut [u8], at: usize, text: &[u8]) -> usize
+    requires { ⌜ at + length (now text) ≤ length (now out) ⌝ }
+    ensures { λ r. ⌜ Laid (now (out .entry)) at (now (text .entry)) r (now (out .exit)) ⌝ }
+{
+    field::lay(out, at, text);
+    at + text.len()
+}
