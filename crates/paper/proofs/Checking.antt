@@ -198,6 +198,7 @@ module _ (number : ℕ) (test : ℕ → Bool) (a k : ℕ) where
   passed-lowest e = none-lowest test a k (ltb-false (lowest test a k) (a + k) (was-false number _ _ e))
 
 module _ (h : Head) (t : Table) where
+  -- what rows 6 to 8 test: a node holds a bad link, an address stands in two links or more, or in none
   abbrev pub holds : ℕ → Bool
   holds q = holdsBad (h .g) t q (h .n)
 
@@ -248,7 +249,7 @@ module _ (h : Head) (t : Table) where
   unfolding row8
   none-row8 e x b c = eqb-false (count x) 0 (passed-lowest 8 nowhere 1 (h .g) e x b (omega arith))
 
--- ---- 6 to 8 are the rules on links
+-- ---- 6 to 8 are the rules on links: none of them is given exactly where the rules hold
 
 module _ (h : Head) (t : Table) (f : Framed t (h .g) (h .n)) where
   -- a link that is not empty stands in a node, at a letter
