@@ -1,3 +1,4 @@
+pub mod Checking
 pub mod Hearing
 pub mod Opening
 pub mod Tabulated

@@ -1,0 +1,480 @@
+-- 1 to 8 and the rules of `Accepted`: demand 2's theorem, both ways. Rows 6 to 8 ask of the nodes and letters what the rules ask of every
+-- link, since a table has no link outside them; how often an address stands in a link is a sum, above 0 where one link holds it.
+use Prim.Native.Nat.{ℕ, zero, suc, _+_, _≤_, _<_}
+use mathlib.Core.Path.{_≡_, refl, sym, _∙_}
+use mathlib.Core.Bool.{Bool, true, false, not, _&&_, _||_, cond, or-true, and-false}
+use mathlib.Core.Logic.{_↔_, _≢_, _⊎_, inl, inr, ⊎-elim}
+use mathlib.Core.Option.{none, some}
+use mathlib.Core.List.{List, [], _∷_}
+use native.Mathlib.Omega.{arith}
+use native.Mathlib.Numerals.{add-one}
+use native.Mathlib.Decide.{ℕ-discrete, decLe}
+use lib.ListN.{length, drop, length-drop}
+use lib.Seq.{length-take-le}
+use lib.Dec.{leb, ltb, eqb}
+use borrow.Author.Tests.{lt-ltb, le-ltb, le-leb, lt-leb, eq-eqb, ne-eqb, leb-true, leb-false, ltb-true, ltb-false, eqb-true, eqb-false, not-false}
+use Rattle.field.specs.Range.{between}
+use Rattle.field.proofs.Range.{both, between-true, true-between}
+use Rattle.trie.specs.Table.{Table}
+use Rattle.trie.specs.Lowest.{lowest}
+use Rattle.trie.specs.Rules.{Framed, Within, Rising, Named, Once, Linked}
+use Rattle.trie.proofs.Lowest.{NonePasses, lowest-at, lowest-none, none-lowest}
+use Rattle.trie.proofs.Counted.{Sums, one-part, two-parts, some-part, one-at-most}
+use Rattle.head.specs.declared.Head.{Head}
+use Rattle.head.specs.Fields.{shortestImage, longestImage, headOf, fieldsLen, permitted, usedLen}
+use Rattle.head.proofs.Places.{used-le, place-least}
+use Rattle.alphabet.specs.Letters.{goodAlphabet}
+use Rattle.node.specs.Image.{tableOf, Open}
+use Rattle.node.proofs.Tables.{framed}
+use Rattle.paper.specs.Hearing.{Row, Outcome, first, heard, given, refusedNumbers, doneNumbers}
+use Rattle.paper.specs.Answers.{said}
+use Rattle.paper.specs.Rows.{row1, row2, row3, row4, row5, badLink, holdsBad, givenLowest, row6, timesIn, times, row7, row8}
+use Rattle.paper.specs.Orders.{alphabetIn, opening, openingOf, linking, checking}
+use Rattle.paper.specs.Calls.{tableIn, checkOf}
+use Rattle.paper.specs.Accepted.{Accepted}
+use Rattle.paper.proofs.Hearing.{is-given, not-given, was-false, first-nil, first-none, yes-row, no-row, second-part, passed-row, passed-parts}
+use Rattle.paper.proofs.Opening.{spoilt, fits-4, left-4, Passed, passed, unspoilt-good}
+
+-- ---- a bad link, and a node that holds one
+
+pub not-bad : (g q c : ℕ) → (badLink g q c ≡ false) ↔ ((c ≡ 0) ⊎ ((c ≤ g) × (q < c)))
+unfolding badLink
+not-bad g q zero = (λ _. inl refl, λ _. refl)
+not-bad g q (suc c) = (to, from)
+  where
+    to : not (leb (suc c) g && ltb q (suc c)) ≡ false → (suc c ≡ 0) ⊎ ((suc c ≤ g) × (q < suc c))
+    to e = let u = both (leb (suc c) g) (ltb q (suc c)) (not-false _ e) in inr (leb-true (suc c) g (u .0), ltb-true q (suc c) (u .1))
+
+    from : (suc c ≡ 0) ⊎ ((suc c ≤ g) × (q < suc c)) → not (leb (suc c) g && ltb q (suc c)) ≡ false
+    from (inl z) = absurd (omega arith)
+    from (inr b) = rw (le-leb (suc c) g (b .0), lt-ltb q (suc c) (b .1))
+
+pub bad : (g q c : ℕ) → c ≢ 0 → (g < c) ⊎ (c ≤ q) → badLink g q c ≡ true
+unfolding badLink
+bad g q zero z b = absurd (z refl)
+bad g q (suc c) z (inl b) = rw (lt-leb (suc c) g b)
+bad g q (suc c) z (inr b) = rw (le-ltb q (suc c) b, and-false (leb (suc c) g))
+
+module _ (g : ℕ) (t : Table) (q : ℕ) where
+  pub bad-start : holdsBad g t q 0 ≡ false
+  unfolding holdsBad
+  bad-start = refl
+
+  -- one link more
+  pub bad-more : (m : ℕ) → holdsBad g t q (m + 1) ≡ (holdsBad g t q m || badLink g q (t .child q m))
+  unfolding holdsBad
+  bad-more m = rw (add-one m)
+
+  pub holds-bad : (m : ℕ) {i : ℕ} → i < m → badLink g q (t .child q i) ≡ true → holdsBad g t q m ≡ true
+  unfolding holdsBad
+  holds-bad zero h e = absurd (omega arith)
+  holds-bad (suc m) {i} h e = go (ℕ-discrete i m) (λ b. holds-bad m b e)
+    where
+      go : Dec (i ≡ m) → (i < m → holdsBad g t q m ≡ true) → (holdsBad g t q m || badLink g q (t .child q m)) ≡ true
+      go (yes s) on = let f : badLink g q (t .child q m) ≡ true = rw (← s) e in rw f (or-true (holdsBad g t q m))
+      go (no d) on = rw (on (omega arith))
+
+  pub holds-none : (m : ℕ) → ((i : ℕ) → i < m → badLink g q (t .child q i) ≡ false) → holdsBad g t q m ≡ false
+  unfolding holdsBad
+  holds-none zero good = refl
+  holds-none (suc m) good = rw (holds-none m (λ i h. good i (omega arith)), good m (omega arith))
+
+  pub none-held : (m : ℕ) → holdsBad g t q m ≡ false → (i : ℕ) → i < m → badLink g q (t .child q i) ≡ false
+  none-held m e i h = go (badLink g q (t .child q i)) refl
+    where
+      go : (b : Bool) → badLink g q (t .child q i) ≡ b → b ≡ false
+      go true f = sym (holds-bad m h f) ∙ e
+      go false f = refl
+
+-- ---- how often an address stands in a link
+
+hit : ℕ → ℕ → ℕ
+hit x c = cond (eqb c x) 1 0
+
+hit-one : {x c : ℕ} → c ≡ x → 1 ≤ hit x c
+unfolding hit
+hit-one {x} {c} e = rw (eq-eqb c x e) (omega arith)
+
+one-hit : (x c : ℕ) → 1 ≤ hit x c → c ≡ x
+unfolding hit
+one-hit x c h = go (eqb c x) refl h
+  where
+    go : (b : Bool) → eqb c x ≡ b → 1 ≤ cond b 1 0 → c ≡ x
+    go true e h = eqb-true c x e
+    go false e h = absurd (omega arith)
+
+hit-most : (x c : ℕ) → hit x c ≤ 1
+unfolding hit
+hit-most x c = go (eqb c x)
+  where
+    go : (b : Bool) → cond b 1 0 ≤ 1
+    go true = omega arith
+    go false = omega arith
+
+module _ (t : Table) (x : ℕ) where
+  in-node : (q : ℕ) → Sums (timesIn t x q) (λ i. hit x (t .child q i))
+  unfolding timesIn hit
+  in-node q = record { start = refl; more = λ m. refl }
+
+  in-nodes : (n : ℕ) → Sums (times t n x) (λ q. timesIn t x q n)
+  unfolding times
+  in-nodes n = record { start = refl; more = λ k. refl }
+
+  -- from none on: one link more, which holds x or another address; and one node more
+  pub times-in-start : (q : ℕ) → timesIn t x q 0 ≡ 0
+  times-in-start q = in-node q .start
+
+  pub times-start : (n : ℕ) → times t n x 0 ≡ 0
+  times-start n = in-nodes n .start
+
+  pub times-in-more : (q m : ℕ) → t .child q m ≡ x → timesIn t x q (m + 1) ≡ timesIn t x q m + 1
+  unfolding timesIn
+  times-in-more q m e = rw (add-one m, eq-eqb (t .child q m) x e)
+
+  pub times-in-other : (q m : ℕ) → t .child q m ≢ x → timesIn t x q (m + 1) ≡ timesIn t x q m
+  unfolding timesIn
+  times-in-other q m d = rw (add-one m, ne-eqb (t .child q m) x d) (omega arith)
+
+  pub times-more : (n k : ℕ) → times t n x (k + 1) ≡ times t n x k + timesIn t x k n
+  unfolding times
+  times-more n k = rw (add-one k)
+
+  -- a link that holds x counts; so do two, if they are not one
+  counted : (n : ℕ) {q i k : ℕ} → q < k → i < n → t .child q i ≡ x → 1 ≤ times t n x k
+  counted n {q} a b e = omega (arith, one-part (in-node q) b, hit-one e, one-part (in-nodes n) a)
+
+  counted-once : (n : ℕ) {q i p j k : ℕ} → q < k → i < n → p < k → j < n → t .child q i ≡ x → t .child p j ≡ x → times t n x k < 2
+      → (q ≡ p) × (i ≡ j)
+  counted-once n {q} {i} {p} {j} {k} a b c d e f few = go (ℕ-discrete q p) (ℕ-discrete i j)
+    where
+      go : Dec (q ≡ p) → Dec (i ≡ j) → (q ≡ p) × (i ≡ j)
+      go (no apart) _ =
+          absurd (omega (arith, one-part (in-node q) b, hit-one e, one-part (in-node p) d, hit-one f, two-parts (in-nodes n) a c apart))
+      go (yes s) (no apart) =
+          let there : t .child q j ≡ x = rw s f in
+          absurd (omega (arith, two-parts (in-node q) b d apart, hit-one e, hit-one there, one-part (in-nodes n) a))
+      go (yes s) (yes r) = (s, r)
+
+  -- what counts stands in a link, and in no other if no two links are one
+  stands : (n k : ℕ) → 1 ≤ times t n x k → (q : ℕ) × (i : ℕ) × (t .child q i ≡ x)
+  stands n k h =
+      let (q, a, u) = some-part (in-nodes n) k h in
+      let (i, b, v) = some-part (in-node q) n u in
+      (q, i, one-hit x (t .child q i) v)
+
+  stands-once : (n k : ℕ) → 1 ≤ x → Once t → times t n x k < 2
+  stands-once n k h once =
+      omega (
+        arith,
+        one-at-most (in-nodes n) k
+            (λ q. one-at-most (in-node q) n (λ i. hit-most x (t .child q i)) (λ i j u v. same q i q j u v .1))
+            (λ q p u v.
+            let (i, a, e) = some-part (in-node q) n u in
+            let (j, b, f) = some-part (in-node p) n v in
+            same q i p j e f .0),
+      )
+    where
+      same : (q i p j : ℕ) → 1 ≤ hit x (t .child q i) → 1 ≤ hit x (t .child p j) → (q ≡ p) × (i ≡ j)
+      same q i p j u v =
+          let e = one-hit x (t .child q i) u in
+          let f = one-hit x (t .child p j) v in
+          once q i p j (omega arith) (e ∙ sym f)
+
+-- ---- rows with a place
+
+-- the lowest that passes is heard; nothing is heard where none passes; and then none passed
+module _ (number : ℕ) (test : ℕ → Bool) (a k : ℕ) where
+  pub lowest-heard : {x : ℕ} → a ≤ x → x < a + k → test x ≡ true → ((y : ℕ) → a ≤ y → y < x → test y ≡ false)
+      → givenLowest number test a k ≡ some (said number x)
+  unfolding givenLowest
+  lowest-heard {x} low high e before = rw (lowest-at test a k low high e before) (is-given number x (lt-ltb x (a + k) high))
+
+  pub lowest-passed : NonePasses test a k → givenLowest number test a k ≡ none
+  unfolding givenLowest
+  lowest-passed h = not-given number _ (le-ltb (lowest test a k) (a + k) (omega (arith, lowest-none test a k h)))
+
+  pub passed-lowest : givenLowest number test a k ≡ none → NonePasses test a k
+  unfolding givenLowest
+  passed-lowest e = none-lowest test a k (ltb-false (lowest test a k) (a + k) (was-false number _ _ e))
+
+module _ (h : Head) (t : Table) where
+  -- what rows 6 to 8 test: a node holds a bad link, an address stands in two links or more, or in none
+  abbrev pub holds : ℕ → Bool
+  holds q = holdsBad (h .g) t q (h .n)
+
+  abbrev pub count : ℕ → ℕ
+  count x = times t (h .n) x (h .g + 1)
+
+  abbrev twice : ℕ → Bool
+  twice x = leb 2 (count x)
+
+  abbrev nowhere : ℕ → Bool
+  nowhere x = eqb (count x) 0
+
+  pub row6-heard : {q : ℕ} → q ≤ h .g → holds q ≡ true → ((p : ℕ) → p < q → holds p ≡ false) → row6 h t ≡ some (said 6 q)
+  unfolding row6
+  row6-heard b e before = lowest-heard 6 holds 0 (h .g + 1) (omega arith) (omega arith) e (λ p _. before p)
+
+  pub row6-none : ((q : ℕ) → q ≤ h .g → holds q ≡ false) → row6 h t ≡ none
+  unfolding row6
+  row6-none f = lowest-passed 6 holds 0 (h .g + 1) (λ q _ b. f q (omega arith))
+
+  pub none-row6 : row6 h t ≡ none → (q : ℕ) → q ≤ h .g → holds q ≡ false
+  unfolding row6
+  none-row6 e q b = passed-lowest 6 holds 0 (h .g + 1) e q (omega arith) (omega arith)
+
+  pub row7-heard : {x : ℕ} → 1 ≤ x → x ≤ h .g → 2 ≤ count x → ((y : ℕ) → 1 ≤ y → y < x → count y < 2) → row7 h t ≡ some (said 7 x)
+  unfolding row7
+  row7-heard {x} low high e before =
+      lowest-heard 7 twice 1 (h .g) low (omega arith) (le-leb 2 (count x) e) (λ y b c. lt-leb 2 (count y) (before y b c))
+
+  pub row7-none : ((x : ℕ) → 1 ≤ x → x ≤ h .g → count x < 2) → row7 h t ≡ none
+  unfolding row7
+  row7-none f = lowest-passed 7 twice 1 (h .g) (λ x b c. lt-leb 2 (count x) (f x b (omega arith)))
+
+  pub none-row7 : row7 h t ≡ none → (x : ℕ) → 1 ≤ x → x ≤ h .g → count x < 2
+  unfolding row7
+  none-row7 e x b c = leb-false 2 (count x) (passed-lowest 7 twice 1 (h .g) e x b (omega arith))
+
+  pub row8-heard : {x : ℕ} → 1 ≤ x → x ≤ h .g → count x ≡ 0 → ((y : ℕ) → 1 ≤ y → y < x → count y ≢ 0) → row8 h t ≡ some (said 8 x)
+  unfolding row8
+  row8-heard {x} low high e before =
+      lowest-heard 8 nowhere 1 (h .g) low (omega arith) (eq-eqb (count x) 0 e) (λ y b c. ne-eqb (count y) 0 (before y b c))
+
+  pub row8-none : ((x : ℕ) → 1 ≤ x → x ≤ h .g → count x ≢ 0) → row8 h t ≡ none
+  unfolding row8
+  row8-none f = lowest-passed 8 nowhere 1 (h .g) (λ x b c. ne-eqb (count x) 0 (f x b (omega arith)))
+
+  pub none-row8 : row8 h t ≡ none → (x : ℕ) → 1 ≤ x → x ≤ h .g → count x ≢ 0
+  unfolding row8
+  none-row8 e x b c = eqb-false (count x) 0 (passed-lowest 8 nowhere 1 (h .g) e x b (omega arith))
+
+-- ---- 6 to 8 are the rules on links: none of them is given exactly where the rules hold
+
+module _ (h : Head) (t : Table) (f : Framed t (h .g) (h .n)) where
+  -- a link that is not empty stands in a node, at a letter
+  inside : (q i : ℕ) → t .child q i ≢ 0 → (q ≤ h .g) × (i < h .n)
+  inside q i d = (node (decLe q (h .g)), letter (decLe (h .n) i))
+    where
+      node : Dec (q ≤ h .g) → q ≤ h .g
+      node (yes b) = b
+      node (no b) = absurd (d (f .no-node q i (omega arith)))
+
+      letter : Dec (h .n ≤ i) → i < h .n
+      letter (no b) = omega arith
+      letter (yes b) = absurd (d (f .no-letter q i b))
+
+  -- what row 6 asks of a link
+  abbrev Fair : ℕ → ℕ → Type 0
+  Fair q i = (t .child q i ≡ 0) ⊎ ((t .child q i ≤ h .g) × (q < t .child q i))
+
+  unless-empty : (q i : ℕ) → (t .child q i ≢ 0 → Fair q i) → Fair q i
+  unless-empty q i full = go (ℕ-discrete (t .child q i) 0)
+    where
+      go : Dec (t .child q i ≡ 0) → Fair q i
+      go (yes z) = inl z
+      go (no d) = full d
+
+  none-fair : row6 h t ≡ none → (q i : ℕ) → Fair q i
+  none-fair e q i =
+      unless-empty q i
+      (λ d.
+      let (a, b) = inside q i d in
+      not-bad (h .g) q (t .child q i) .0 (none-held (h .g) t q (h .n) (none-row6 h t e q a) i b))
+
+  none-within : row6 h t ≡ none → Within t (h .g)
+  none-within e q i = ⊎-elim (λ z. omega arith) (λ b. b .0) (none-fair e q i)
+
+  none-rising : row6 h t ≡ none → Rising t
+  none-rising e q i d = ⊎-elim (λ z. absurd (d z)) (λ b. b .1) (none-fair e q i)
+
+  rules-6 : Within t (h .g) → Rising t → row6 h t ≡ none
+  rules-6 w r = row6-none h t (λ q _. holds-none (h .g) t q (h .n) (λ i _. not-bad (h .g) q (t .child q i) .1 (fair q i)))
+    where
+      fair : (q i : ℕ) → Fair q i
+      fair q i = unless-empty q i (λ d. inr (w q i, r q i d))
+
+  none-once : Within t (h .g) → row7 h t ≡ none → Once t
+  none-once w e q i p j d s =
+      let x : ℕ = t .child q i in
+      let (a, b) = inside q i d in
+      let (a′, b′) = inside p j (rw (← s) d) in
+      counted-once t x (h .n) (omega arith) b (omega arith) b′ refl (sym s) (none-row7 h t e x (omega arith) (w q i))
+
+  rules-7 : Once t → row7 h t ≡ none
+  rules-7 once = row7-none h t (λ x b _. stands-once t x (h .n) (h .g + 1) b once)
+
+  none-named : row8 h t ≡ none → Named t (h .g)
+  none-named e x b c = stands t x (h .n) (h .g + 1) (omega (arith, none-row8 h t e x b c))
+
+  rules-8 : Named t (h .g) → row8 h t ≡ none
+  rules-8 named = row8-none h t (λ x b c z.
+      let (q, i, e) = named x b c in
+      let (a, b′) = inside q i (omega arith) in
+      omega (arith, counted t x (h .n) {q = q} {i = i} {k = h .g + 1} (omega arith) b′ e))
+
+-- ---- 1 to 5
+
+-- where what is used lies inside the image, so does the alphabet
+pub alphabet-whole : (h : Head) (l : List ℕ) → usedLen h ≤ length l → length (alphabetIn h l) ≡ h .f
+unfolding alphabetIn
+alphabet-whole h l b =
+    length-take-le (h .f) (drop fieldsLen l) (omega (arith, length-drop fieldsLen l, used-le h 0 (omega arith), place-least h 0))
+
+good-unspoilt : (h : Head) (alphabet : List ℕ) (len : ℕ) → (0 < h .f → goodAlphabet (h .n) alphabet ≡ true) → spoilt h alphabet len ≡ false
+good-unspoilt h alphabet len good = go (decLe 1 (h .f))
+  where
+    go : Dec (0 < h .f) → spoilt h alphabet len ≡ false
+    go (yes b) = rw (good b) (and-false (ltb 0 (h .f) && eqb (length alphabet) (h .f)))
+    go (no b) = rw (le-ltb 0 (h .f) (omega arith))
+
+pub accepted-opens : {l : List ℕ} → Accepted l → first (openingOf l) ≡ none
+unfolding openingOf
+accepted-opens {l} a =
+    let h : Head = headOf l in
+    let long = true-between (length l) shortestImage longestImage (a .long-enough) (a .short-enough) in
+    left-4 h (alphabetIn h l) (length l) long (a .head-permitted) (good-unspoilt h (alphabetIn h l) (length l) (a .alphabet-good))
+    ∙ fits-4 h (length l) (le-leb (usedLen h) (length l) (a .room))
+
+-- ---- a row says a number above 0, so that the number 0 is left to what is done
+
+data Numbered : Row → Type 0 where
+  silent : Numbered none
+  says : (number place : ℕ) → Numbered (some (said (suc number) place))
+
+infixr 5 _then_
+data AllNumbered : List Row → Type 0 where
+  end : AllNumbered []
+  _then_ : {r : Row} {rows : List Row} → Numbered r → AllNumbered rows → AllNumbered (r ∷ rows)
+
+given-numbered : (number place : ℕ) (test : Bool) → Numbered (given (suc number) place test)
+unfolding given
+given-numbered number place true = says number place
+given-numbered number place false = silent
+
+lowest-numbered : (number : ℕ) (test : ℕ → Bool) (a k : ℕ) → Numbered (givenLowest (suc number) test a k)
+unfolding givenLowest
+lowest-numbered number test a k = given-numbered number (lowest test a k) (ltb (lowest test a k) (a + k))
+
+first-numbered : {rows : List Row} → AllNumbered rows → Numbered (first rows)
+unfolding first
+first-numbered end = silent
+first-numbered (silent then a) = first-numbered a
+first-numbered (says number place then a) = says number place
+
+number-none : {r : Row} (kept : List (List ℕ)) (done : Outcome) → Numbered r → heard r kept done .numbers .number ≡ 0 → r ≡ none
+unfolding heard refusedNumbers
+number-none kept done silent z = refl
+number-none kept done (says number place) z = absurd (omega arith)
+
+-- ---- 1 to 8, of an image and the working numbers lent
+
+module _ (l work : List ℕ) where
+  pub heard-5 : first (openingOf l) ≡ none → length work < headOf l .g + 1 → first (checking l work) ≡ some (said 5 0)
+  unfolding checking row5
+  heard-5 e b = second-part (openingOf l) _ e ∙ yes-row 5 0 _ (lt-ltb (length work) (headOf l .g + 1) b)
+
+  -- where 1 to 5 have passed, what is heard is of 6 to 8
+  pub left-6 : first (openingOf l) ≡ none → headOf l .g + 1 ≤ length work
+      → first (checking l work) ≡ first (linking (headOf l) (tableOf (headOf l) l))
+  unfolding checking row5
+  left-6 e b = second-part (openingOf l) _ e ∙ no-row 5 0 _ (le-ltb (length work) (headOf l .g + 1) b)
+
+  -- what a check that passed tells, row by row
+  pub record Checked : Type 0 where
+    pub opened : Passed (headOf l) (alphabetIn (headOf l) l) (length l)
+    pub lent : headOf l .g + 1 ≤ length work
+    pub none-6 : row6 (headOf l) (tableOf (headOf l) l) ≡ none
+    pub none-7 : row7 (headOf l) (tableOf (headOf l) l) ≡ none
+    pub none-8 : row8 (headOf l) (tableOf (headOf l) l) ≡ none
+
+  pub checked : first (checking l work) ≡ none → Checked
+  unfolding checking openingOf linking row5
+  checked e =
+      let h : Head = headOf l in
+      let t : Table = tableOf h l in
+      let parts = passed-parts (openingOf l) (row5 h (length work) ∷ linking h t) e in
+      let after5 = passed-row (row5 h (length work)) (linking h t) (parts .1) in
+      let after6 = passed-row (row6 h t) (row7 h t ∷ row8 h t ∷ []) (after5 .1) in
+      let after7 = passed-row (row7 h t) (row8 h t ∷ []) (after6 .1) in
+      record {
+        opened = passed h (alphabetIn h l) (length l) (parts .0);
+        lent = ltb-false (length work) (h .g + 1) (was-false 5 0 _ (after5 .0));
+        none-6 = after6 .0;
+        none-7 = after7 .0;
+        none-8 = passed-row (row8 h t) [] (after7 .1) .0;
+      }
+
+  -- ---- the theorem
+
+  pub check-accepts : first (checking l work) ≡ none → Accepted l
+  unfolding tableIn
+  check-accepts e =
+      let h : Head = headOf l in
+      let t : Table = tableOf h l in
+      let c = checked e in
+      let long = between-true (length l) shortestImage longestImage (c .opened .allowed) in
+      let within : Within t (h .g) = none-within h t (framed h l) (c .none-6) in
+      record {
+        long-enough = long .0;
+        short-enough = long .1;
+        head-permitted = c .opened .head-permitted;
+        alphabet-good = λ b. unspoilt-good h (alphabetIn h l) (length l) (c .opened .unspoilt) b (alphabet-whole h l (c .opened .room));
+        room = c .opened .room;
+        within = within;
+        rising = none-rising h t (framed h l) (c .none-6);
+        named = none-named h t (framed h l) (c .none-8);
+        once = none-once h t (framed h l) within (c .none-7);
+      }
+
+  pub accepted-checks : Accepted l → headOf l .g + 1 ≤ length work → first (checking l work) ≡ none
+  unfolding tableIn linking
+  accepted-checks a b =
+      let h : Head = headOf l in
+      let t : Table = tableOf h l in
+      left-6 (accepted-opens a) b
+      ∙ first-none _ _ (rules-6 h t (framed h l) (a .within) (a .rising))
+      ∙ first-none _ _ (rules-7 h t (framed h l) (a .once))
+      ∙ first-none _ _ (rules-8 h t (framed h l) (a .named))
+      ∙ first-nil
+
+  -- ---- in the words of the outcome
+
+  numbered : Numbered (first (checking l work))
+  unfolding checking openingOf opening linking row1 row2 row3 row4 row5 row6 row7 row8
+  numbered =
+      let h : Head = headOf l in
+      let t : Table = tableOf h l in
+      first-numbered
+      (given-numbered _ _ (not (between (length l) shortestImage longestImage))
+      then given-numbered _ _ (not (permitted h))
+      then given-numbered _ _ (spoilt h (alphabetIn h l) (length l))
+      then given-numbered _ _ (ltb (length l) (usedLen h))
+      then given-numbered _ _ (ltb (length work) (h .g + 1))
+      then lowest-numbered _ (holds h t) 0 (h .g + 1)
+      then lowest-numbered _ (twice h t) 1 (h .g)
+      then lowest-numbered _ (nowhere h t) 1 (h .g)
+      then end)
+
+  pub check-exactly : headOf l .g + 1 ≤ length work → (checkOf l work .numbers .number ≡ 0) ↔ Accepted l
+  unfolding checkOf doneNumbers heard
+  check-exactly b = (λ z. check-accepts (number-none _ _ numbered z), λ a. rw (accepted-checks a b))
+
+  -- ---- what a check that passed leaves to count on
+
+  pub passed-lent : first (checking l work) ≡ none → headOf l .g + 1 ≤ length work
+  passed-lent e = checked e .lent
+
+pub accepted-open : {l : List ℕ} → Accepted l → Open (headOf l) l
+accepted-open a = record { head-permitted = a .head-permitted; room = a .room }
+
+pub accepted-linked : {l : List ℕ} → Accepted l → Linked (tableIn l) (headOf l .g) (headOf l .n)
+unfolding tableIn
+accepted-linked {l} a = record { framed = framed (headOf l) l; within = a .within; named = a .named; once = a .once }
+
+pub passed-open : (l work : List ℕ) → first (checking l work) ≡ none → Open (headOf l) l
+passed-open l work e = accepted-open (check-accepts l work e)
+
+pub passed-linked : (l work : List ℕ) → first (checking l work) ≡ none → Linked (tableOf (headOf l) l) (headOf l .g) (headOf l .n)
+unfolding tableIn
+passed-linked l work e = accepted-linked (check-accepts l work e)

@@ -1,0 +1,50 @@
+-- The lowest number that passes a test, told by what passes and what does not. Each law goes up from the first of the numbers: that one
+-- passes and is the lowest, or it does not and the rest is searched.
+use Prim.Native.Nat.{ℕ, zero, suc, _+_, _≤_, _<_}
+use mathlib.Core.Path.{_≡_, refl, _∙_}
+use mathlib.Core.Bool.{Bool, true, false}
+use native.Mathlib.Omega.{arith}
+use native.Mathlib.Decide.{ℕ-discrete}
+use Rattle.trie.specs.Lowest.{lowest}
+
+module _ (p : ℕ → Bool) where
+  -- none of the k numbers from a on passes
+  abbrev pub NonePasses : ℕ → ℕ → Type 0
+  NonePasses a k = (y : ℕ) → a ≤ y → y < a + k → p y ≡ false
+
+  lowest-here : (a k : ℕ) → p a ≡ true → lowest p a (suc k) ≡ a
+  unfolding lowest
+  lowest-here a k e = rw e
+
+  lowest-on : (a k : ℕ) → p a ≡ false → lowest p a (suc k) ≡ lowest p (suc a) k
+  unfolding lowest
+  lowest-on a k e = rw e
+
+  pub lowest-at : (a k : ℕ) {x : ℕ} → a ≤ x → x < a + k → p x ≡ true → ((y : ℕ) → a ≤ y → y < x → p y ≡ false) → lowest p a k ≡ x
+  lowest-at a zero low high e before = absurd (omega arith)
+  lowest-at a (suc k) {x} low high e before =
+      go (ℕ-discrete a x) (λ b. lowest-at (suc a) k b (omega arith) e (λ y l. before y (omega arith)))
+    where
+      go : Dec (a ≡ x) → (a < x → lowest p (suc a) k ≡ x) → lowest p a (suc k) ≡ x
+      go (yes s) on = lowest-here a k (rw s e) ∙ s
+      go (no d) on = let b : a < x = omega arith in lowest-on a k (before a (omega arith) b) ∙ on b
+
+  pub lowest-none : (a k : ℕ) → NonePasses a k → lowest p a k ≡ a + k
+  unfolding lowest
+  lowest-none a zero none = omega arith
+  lowest-none a (suc k) none =
+      let e : suc a + k ≡ a + suc k = omega arith in
+      lowest-on a k (none a (omega arith) (omega arith)) ∙ lowest-none (suc a) k (λ y l h. none y (omega arith) (omega arith)) ∙ e
+
+  -- what was not found does not pass
+  pub none-lowest : (a k : ℕ) → a + k ≤ lowest p a k → NonePasses a k
+  none-lowest a zero h y low high = absurd (omega arith)
+  none-lowest a (suc k) h y low high = go (p a) refl (λ e. none-lowest (suc a) k e y)
+    where
+      go : (b : Bool) → p a ≡ b → (suc a + k ≤ lowest p (suc a) k → suc a ≤ y → y < suc a + k → p y ≡ false) → p y ≡ false
+      go true e on = absurd (omega (arith, lowest-here a k e))
+      go false e on = at (ℕ-discrete a y)
+        where
+          at : Dec (a ≡ y) → p y ≡ false
+          at (yes s) = rw (← s) e
+          at (no d) = on (omega (arith, lowest-on a k e)) (omega arith) (omega arith)
