@@ -1,4 +1,5 @@
 pub mod Hearing
+pub mod Looking
 pub mod Opening
 pub mod Tabulated
 pub mod Unique
