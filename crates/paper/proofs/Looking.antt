@@ -162,13 +162,16 @@ letters-fit h key e =
       below = below-letters (h .n) key (not-false _ (was-false 10 0 _ (after10 .0)));
     }
 
+-- whichever of the two rows stands first
 text-fit : (h : Head) (named : Option (List ℕ)) → first (byText h named) ≡ none
     → (isNone named ≡ false) × (between (length (lettersIn named)) (h .min) (h .max) ≡ true)
 unfolding byText row10text row9
 text-fit h named e =
-    let after10 = passed-row (row10text named) (row9 h (lettersIn named) ∷ []) e in
-    let after9 = passed-row (row9 h (lettersIn named)) [] (after10 .1) in
-    (was-false 10 0 _ (after10 .0), not-false _ (was-false 9 0 _ (after9 .0)))
+    let one = passed-row _ _ e in
+    let other = passed-row _ _ (one .1) in
+    let ten : row10text named ≡ none = cc in
+    let nine : row9 h (lettersIn named) ≡ none = cc in
+    (was-false 10 0 _ ten, not-false _ (was-false 9 0 _ nine))
 
 -- ---- the key that a text names
 
@@ -261,7 +264,7 @@ letters-say h key = also (nine-says h key) (also (given-says 10 0 (not (allBelow
 
 pub text-says : (h : Head) (named : Option (List ℕ)) → AllSay lookUpNumbers (byText h named)
 unfolding byText row10text among
-text-says h named = also (given-says 10 0 (isNone named) refl) (also (nine-says h (lettersIn named)) end)
+text-says h named = let ten : Says lookUpNumbers (row10text named) = given-says 10 0 (isNone named) refl in search (also, end, nine-says)
 
 opening-says : (h : Head) (alphabet : List ℕ) (len : ℕ) → AllSay lookUpNumbers (opening h alphabet len)
 unfolding opening row1 row2 row3 row4 among
