@@ -1,0 +1,344 @@
+-- 01, "A lookup that is not refused answers what TRIEFF's walk answers", for letters and for text. Where no link on the key's path is bad,
+-- each is at most G: there an entry of the table is the field that 002 reads, and an empty link ends both walks with 0. A text that names
+-- a key names the one that 002 makes of it, since an opened image's alphabet has N letters or none.
+use Prim.Native.Nat.{ℕ, zero, suc, _+_, _*_, _≤_, _<_}
+use mathlib.Core.Path.{_≡_, refl, sym, _∙_, ap}
+use mathlib.Core.Logic.{_≢_}
+use mathlib.Core.Bool.{Bool, true, false, not, cond, true≢false}
+use mathlib.Core.Option.{Option, none, some}
+use mathlib.Core.List.{List, [], _∷_, _++_, map}
+use native.Mathlib.Decide.{ℕ-discrete}
+use native.Mathlib.Omega.{arith}
+use lib.Dec.{leb, ltb}
+use lib.ListN.{length, drop, length-drop}
+use lib.Seq.{length-take-le}
+use borrow.Author.Tests.{le-ltb, lt-leb, leb-true, ltb-true, not-false}
+use Rattle.field.specs.Field.{fieldAt}
+use Rattle.field.specs.Range.{between}
+use Rattle.field.proofs.Range.{both, between-true}
+use Rattle.utf8.specs.Text.{chars}
+use Rattle.trie.specs.Table.{Letters, follow, descend, valueAt, answer, fault}
+use Rattle.trie.proofs.Walk.{follow-empty, follow-on}
+use Rattle.trie.proofs.Faults.{fault-none, value-nil, value-empty, value-on}
+use Rattle.head.specs.declared.Head.{Head}
+use Rattle.head.specs.Fields.{fieldsLen, shortestImage, longestImage, headOf, permitted, nodeWidth, nodePlace, usedLen}
+use Rattle.head.proofs.Places.{used-le, place-least}
+use Rattle.alphabet.specs.Letters.{among, letters, lettersIn, letterOf, withLetter, lettersOf, keyOfChars, keyOfText}
+use Rattle.alphabet.proofs.Alphabets.{good-length, no-letters}
+use Rattle.node.specs.Image.{linkPlace, dataPlace, tableOf}
+use Rattle.node.proofs.Tables.{child-in, value-in}
+use Rattle.paper.specs.Hearing.{Said, Row, Outcome, given, first, heard, refusedNumbers, doneNumbers}
+use Rattle.paper.specs.Rows.{row1, row2, row3, row4, badLink, row9, allBelow, row10, isNone, row10text, rowAt, row6path}
+use Rattle.paper.specs.Orders.{alphabetIn, opening, openingOf, byLetters, byText, lookingUp}
+use Rattle.paper.specs.Calls.{tableIn, lookUpBy, lookUpOf, namedIn, lookUpTextOf}
+use Rattle.paper.specs.Walk002.{dataRead, linkRead, unlessEmpty, queryFrom, query002, indexOf, queryChars, queryText002}
+use Rattle.paper.proofs.Hearing.{was-false, passed-row, passed-parts, heard-done}
+use Rattle.paper.proofs.Opening.{spoilt, passed, unspoilt-good}
+
+-- ---- which numbers an order can say
+
+-- a row that is given says one of these numbers
+pub data Says (numbers : List ℕ) : Row → Type 0 where
+  silent : Says numbers none
+  saying : {s : Said} → among (s .number) numbers ≡ true → Says numbers (some s)
+
+pub data AllSay (numbers : List ℕ) : List Row → Type 0 where
+  end : AllSay numbers []
+  also : {r : Row} {rows : List Row} → Says numbers r → AllSay numbers rows → AllSay numbers (r ∷ rows)
+
+pub given-says : {numbers : List ℕ} (number place : ℕ) (test : Bool) → among number numbers ≡ true → Says numbers (given number place test)
+unfolding given
+given-says number place true e = saying e
+given-says number place false e = silent
+
+pub at-says : {numbers : List ℕ} (at : Option ℕ) → among 6 numbers ≡ true → Says numbers (rowAt at)
+unfolding rowAt
+at-says none e = silent
+at-says (some q) e = saying e
+
+pub parts-say : {numbers : List ℕ} {xs ys : List Row} → AllSay numbers xs → AllSay numbers ys → AllSay numbers (xs ++ ys)
+parts-say end q = q
+parts-say (also s p) q = also s (parts-say p q)
+
+pub first-says : {numbers : List ℕ} {rows : List Row} → AllSay numbers rows → Says numbers (first rows)
+unfolding first
+first-says end = silent
+first-says (also silent p) = first-says p
+first-says (also (saying e) p) = saying e
+
+pub one-of : {numbers : List ℕ} {r : Row} {s : Said} → Says numbers r → r ≡ some s → among (s .number) numbers ≡ true
+one-of silent e = let z : _≡_ {A = ℕ} 0 1 = cc in absurd (omega arith)
+one-of (saying p) e = cc
+
+-- where 0 is none of the numbers, an answer with number 0 is no refusal
+pub none-heard : {numbers : List ℕ} {r : Row} (kept : List (List ℕ)) (done : Outcome) → Says numbers r → among 0 numbers ≡ false
+    → heard r kept done .numbers .number ≡ 0 → r ≡ none
+unfolding heard refusedNumbers
+none-heard kept done silent z e = refl
+none-heard {numbers} kept done (saying p) z e = absurd (true≢false (sym p ∙ ap (λ (m : ℕ). among m numbers) e ∙ z))
+
+-- ---- 002's reads and the table
+
+-- a link that is not empty and not bad
+pub good-link : (g q c : ℕ) → c ≢ 0 → badLink g q c ≡ false → (c ≤ g) × (q < c)
+unfolding badLink
+good-link g q zero h b = absurd (h refl)
+good-link g q (suc c) h b =
+    let t = both (leb (suc c) g) (ltb q (suc c)) (not-false _ b) in
+    (leb-true (suc c) g (t .0), ltb-true q (suc c) (t .1))
+
+-- 002's test for an empty link is the walk's
+unless : (c : ℕ) (on : ℕ → ℕ) → unlessEmpty c on ≡ follow c 0 on
+unfolding unlessEmpty follow
+unless zero on = refl
+unless (suc c) on = refl
+
+module _ (h : Head) (l : List ℕ) where
+  data-read : (q : ℕ) → q ≤ h .g → dataRead h l q ≡ tableOf h l .value q
+  unfolding dataRead dataPlace nodePlace nodeWidth
+  data-read q b =
+      let same : q * (h .n * h .a + h .d) + h .f + 28 + h .n * h .a ≡ dataPlace h q = omega arith in
+      ap (λ (at : ℕ). fieldAt l at (h .d)) same ∙ sym (value-in h l q b)
+
+  link-read : (q x : ℕ) → q ≤ h .g → x < h .n → linkRead h l q x ≡ tableOf h l .child q x
+  unfolding linkRead linkPlace nodePlace nodeWidth
+  link-read q x b c =
+      let same : q * (h .n * h .a + h .d) + h .f + 28 + x * h .a ≡ linkPlace h q x = omega arith in
+      ap (λ (at : ℕ). fieldAt l at (h .a)) same ∙ sym (child-in h l q x b c)
+
+  -- one letter of 002's walk, from a node up to G
+  queried : (q x : ℕ) (xs : List ℕ) → q ≤ h .g → x < h .n
+      → queryFrom h l q (x ∷ xs) ≡ follow (tableOf h l .child q x) 0 (λ c. queryFrom h l c xs)
+  unfolding queryFrom
+  queried q x xs b c = rw (lt-leb (h .n) x c, link-read q x b c) (unless (tableOf h l .child q x) (λ c. queryFrom h l c xs))
+
+  -- from a node up to G on, the walks agree
+  abbrev Agree : ℕ → List ℕ → Type 0
+  Agree q k =
+      q ≤ h .g → Letters (h .n) k → fault (badLink (h .g)) (tableOf h l) q k ≡ none
+      → valueAt (tableOf h l) (descend (tableOf h l) q k) ≡ queryFrom h l q k
+
+  agree-nil : (q : ℕ) → Agree q []
+  unfolding queryFrom
+  agree-nil q b s f = value-nil (tableOf h l) q ∙ sym (data-read q b)
+
+  agree-more : (q x : ℕ) (xs : List ℕ) → ((c : ℕ) → Agree c xs) → Agree q (x ∷ xs)
+  agree-more q x xs next b s f = go (ℕ-discrete c 0) ∙ sym (queried q x xs b (s .0))
+    where
+      c : ℕ
+      c = tableOf h l .child q x
+
+      go : Dec (c ≡ 0) → valueAt (tableOf h l) (descend (tableOf h l) q (x ∷ xs)) ≡ follow c 0 (λ p. queryFrom h l p xs)
+      go (yes e) = value-empty (tableOf h l) q x xs e ∙ sym (follow-empty c 0 (λ p. queryFrom h l p xs) e)
+      go (no e) =
+          let on = fault-none (badLink (h .g)) (tableOf h l) q x xs refl e f in
+          value-on (tableOf h l) q x xs refl e
+          ∙ next c (good-link (h .g) q c e (on .0) .0) (s .1) (on .1)
+          ∙ sym (follow-on c 0 (λ p. queryFrom h l p xs) e)
+
+  agree : (q : ℕ) (k : List ℕ) → Agree q k
+  agree q [] = agree-nil q
+  agree q (x ∷ xs) = agree-more q x xs (λ c. agree c xs)
+
+-- ---- the key
+
+-- what the rows of a key tell, whether it came as letters or as text
+pub record Fit (h : Head) (key : List ℕ) : Type 0 where
+  pub allowed : between (length key) (h .min) (h .max) ≡ true
+  pub below : Letters (h .n) key
+
+below-letters : (n : ℕ) (k : List ℕ) → allBelow n k ≡ true → Letters n k
+unfolding allBelow
+below-letters n [] e = tt
+below-letters n (x ∷ k) e = let u = both (ltb x n) (allBelow n k) e in (ltb-true x n (u .0), below-letters n k (u .1))
+
+letters-fit : (h : Head) (key : List ℕ) → first (byLetters h key) ≡ none → Fit h key
+unfolding byLetters row9 row10
+letters-fit h key e =
+    let after9 = passed-row (row9 h key) (row10 h key ∷ []) e in
+    let after10 = passed-row (row10 h key) [] (after9 .1) in
+    record {
+      allowed = not-false _ (was-false 9 0 _ (after9 .0));
+      below = below-letters (h .n) key (not-false _ (was-false 10 0 _ (after10 .0)));
+    }
+
+-- whichever of the two rows stands first
+text-fit : (h : Head) (named : Option (List ℕ)) → first (byText h named) ≡ none
+    → (isNone named ≡ false) × (between (length (lettersIn named)) (h .min) (h .max) ≡ true)
+unfolding byText row10text row9
+text-fit h named e =
+    let one = passed-row _ _ e in
+    let other = passed-row _ _ (one .1) in
+    let ten : row10text named ≡ none = cc in
+    let nine : row9 h (lettersIn named) ≡ none = cc in
+    (was-false 10 0 _ ten, not-false _ (was-false 9 0 _ nine))
+
+-- ---- the key that a text names
+
+-- where characters have letters, those are what 002 finds for them
+abbrev Spells : Head → List ℕ → List ℕ → Option (List ℕ) → Type 0
+Spells h alphabet cs none = Unit {0}
+Spells h alphabet cs (some k) = (map (indexOf h alphabet) cs ≡ k) × Letters (length alphabet) k
+
+module _ (h : Head) (alphabet : List ℕ) where
+  index-in : (c : ℕ) → ltb (letterOf alphabet c) (length alphabet) ≡ true → indexOf h alphabet c ≡ letterOf alphabet c
+  unfolding indexOf
+  index-in c e = rw e
+
+  spells-more : (c : ℕ) (cs : List ℕ) (o : Option (List ℕ)) → Spells h alphabet cs o
+      → Spells h alphabet (c ∷ cs) (withLetter (length alphabet) (letterOf alphabet c) o)
+  unfolding withLetter
+  spells-more c cs none s = tt
+  spells-more c cs (some k) s = go (ltb x (length alphabet)) refl
+    where
+      x : ℕ
+      x = letterOf alphabet c
+
+      go : (t : Bool) → ltb x (length alphabet) ≡ t → Spells h alphabet (c ∷ cs) (cond (ltb x (length alphabet)) (some (x ∷ k)) none)
+      go true e = rw e (rw (index-in c e, s .0), (ltb-true x (length alphabet) e, s .1))
+      go false e = rw e tt
+
+  spells : (cs : List ℕ) → Spells h alphabet cs (lettersOf alphabet cs)
+  unfolding lettersOf
+  spells [] = (refl, tt)
+  spells (c ∷ cs) = spells-more c cs (lettersOf alphabet cs) (spells cs)
+
+letters-more : (m n : ℕ) (k : List ℕ) → m ≤ n → Letters m k → Letters n k
+letters-more m n [] b s = tt
+letters-more m n (x ∷ k) b s = (omega (arith, s .0), letters-more m n k b (s .1))
+
+-- the letters of the image's alphabet
+abbrev allowedIn : List ℕ → List ℕ
+allowedIn l = letters (alphabetIn (headOf l) l)
+
+-- the alphabet of an image that was opened is all there
+pub alphabet-whole : (l : List ℕ) → first (openingOf l) ≡ none → length (alphabetIn (headOf l) l) ≡ headOf l .f
+unfolding openingOf alphabetIn
+alphabet-whole l e =
+    let p = passed (headOf l) (alphabetIn (headOf l) l) (length l) e in
+    length-take-le (headOf l .f) (drop fieldsLen l)
+    (omega (arith, length-drop fieldsLen l, p .room, used-le (headOf l) 0 (omega arith), place-least (headOf l) 0))
+
+-- and has N letters, or none where F is 0
+pub alphabet-most : (l : List ℕ) → first (openingOf l) ≡ none → length (allowedIn l) ≤ headOf l .n
+unfolding openingOf
+alphabet-most l e = go (ℕ-discrete (headOf l .f) 0)
+  where
+    go : Dec (headOf l .f ≡ 0) → length (allowedIn l) ≤ headOf l .n
+    go (yes z) = rw (no-letters (alphabetIn (headOf l) l) (alphabet-whole l e ∙ z)) (omega arith)
+    go (no z) =
+        let p = passed (headOf l) (alphabetIn (headOf l) l) (length l) e in
+        omega (
+          arith,
+          good-length (headOf l .n) (alphabetIn (headOf l) l)
+              (unspoilt-good (headOf l) (alphabetIn (headOf l) l) (length l) (p .unspoilt) (omega arith) (alphabet-whole l e)),
+        )
+
+-- a text that names a key: 002 makes the same of it
+record Named (l : List ℕ) (cs : Option (List ℕ)) (named : Option (List ℕ)) : Type 0 where
+  asked : queryChars l cs ≡ query002 l (lettersIn named)
+  known : Letters (length (allowedIn l)) (lettersIn named)
+
+named-002 : (l : List ℕ) (cs : Option (List ℕ)) → isNone (keyOfChars (allowedIn l) cs) ≡ false → Named l cs (keyOfChars (allowedIn l) cs)
+unfolding keyOfChars queryChars isNone lettersIn
+named-002 l none e = let z : _≡_ {A = ℕ} 0 1 = cc in absurd (omega arith)
+named-002 l (some cs) e = go (lettersOf (allowedIn l) cs) (spells (headOf l) (allowedIn l) cs) e
+  where
+    go : (named : Option (List ℕ)) → Spells (headOf l) (allowedIn l) cs named → isNone named ≡ false → Named l (some cs) named
+    go none s f = let z : _≡_ {A = ℕ} 0 1 = cc in absurd (omega arith)
+    go (some k) s f = record { asked = ap (query002 l) (s .0); known = s .1 }
+
+-- ---- a lookup that is not refused
+
+-- the numbers of a lookup's refusals
+abbrev pub lookUpNumbers : List ℕ
+lookUpNumbers = 1 ∷ 2 ∷ 3 ∷ 4 ∷ 9 ∷ 10 ∷ 6 ∷ []
+
+nine-says : (h : Head) (key : List ℕ) → Says lookUpNumbers (row9 h key)
+unfolding row9 among
+nine-says h key = given-says 9 0 (not (between (length key) (h .min) (h .max))) refl
+
+pub letters-say : (h : Head) (key : List ℕ) → AllSay lookUpNumbers (byLetters h key)
+unfolding byLetters row10 among
+letters-say h key = also (nine-says h key) (also (given-says 10 0 (not (allBelow (h .n) key)) refl) end)
+
+pub text-says : (h : Head) (named : Option (List ℕ)) → AllSay lookUpNumbers (byText h named)
+unfolding byText row10text among
+text-says h named = let ten : Says lookUpNumbers (row10text named) = given-says 10 0 (isNone named) refl in search (also, end, nine-says)
+
+opening-says : (h : Head) (alphabet : List ℕ) (len : ℕ) → AllSay lookUpNumbers (opening h alphabet len)
+unfolding opening row1 row2 row3 row4 among
+opening-says h alphabet len =
+    also (given-says 1 0 (not (between len shortestImage longestImage)) refl)
+    (also (given-says 2 0 (not (permitted h)) refl)
+    (also (given-says 3 0 (spoilt h alphabet len) refl)
+    (also (given-says 4 0 (ltb len (usedLen h)) refl) end)))
+
+-- what a lookup that is not refused has passed
+pub record Unrefused (l : List ℕ) (keyed : List Row) (key : List ℕ) : Type 0 where
+  pub none-given : first (lookingUp l keyed key) ≡ none
+  pub opened : first (openingOf l) ≡ none
+  pub key-passed : first keyed ≡ none
+  pub path : fault (badLink (headOf l .g)) (tableIn l) 0 key ≡ none
+
+no-fault : (at : Option ℕ) → rowAt at ≡ none → at ≡ none
+unfolding rowAt
+no-fault none e = refl
+no-fault (some q) e = let z : _≡_ {A = ℕ} 0 1 = cc in absurd (omega arith)
+
+-- with any part for the key whose rows say a lookup's numbers
+module _ (l : List ℕ) (keyed : List Row) (key : List ℕ) where
+  pub looking-says : AllSay lookUpNumbers keyed → Says lookUpNumbers (first (lookingUp l keyed key))
+  unfolding lookingUp openingOf row6path among
+  looking-says p =
+      let path = at-says (fault (badLink (headOf l .g)) (tableOf (headOf l) l) 0 key) refl in
+      first-says (parts-say (opening-says (headOf l) (alphabetIn (headOf l) l) (length l)) (parts-say p (also path end)))
+
+  -- a lookup's refusals have these numbers alone
+  pub looking-refuses : {s : Said} → AllSay lookUpNumbers keyed → first (lookingUp l keyed key) ≡ some s
+      → among (s .number) lookUpNumbers ≡ true
+  looking-refuses p e = one-of (looking-says p) e
+
+  pub unrefused : AllSay lookUpNumbers keyed → lookUpBy l keyed key .numbers .number ≡ 0 → Unrefused l keyed key
+  unfolding lookUpBy lookingUp row6path tableIn among
+  unrefused p e =
+      let passes : first (lookingUp l keyed key) ≡ none = none-heard [] _ (looking-says p) refl e in
+      let last : List Row = row6path (headOf l) (tableOf (headOf l) l) key ∷ [] in
+      let after4 = passed-parts (openingOf l) (keyed ++ last) passes in
+      let after10 = passed-parts keyed last (after4 .1) in
+      record {
+        none-given = passes;
+        opened = after4 .0;
+        key-passed = after10 .0;
+        path = no-fault _ (passed-row _ [] (after10 .1) .0);
+      }
+
+  -- the core: guarded by the rows passed, our walk is 002's
+  pub answered : Unrefused l keyed key → Fit (headOf l) key → lookUpBy l keyed key .numbers .value ≡ query002 l key
+  unfolding lookUpBy query002 answer tableIn doneNumbers
+  answered o k =
+      let b = between-true (length key) (headOf l .min) (headOf l .max) (k .allowed) in
+      ap (λ (r : Outcome). r .numbers .value) (heard-done (first (lookingUp l keyed key)) [] _ (o .none-given))
+      ∙ agree (headOf l) l 0 key (omega arith) (k .below) (o .path)
+      ∙ sym (rw (le-ltb (length key) (headOf l .min) (b .0), le-ltb (headOf l .max) (length key) (b .1)))
+
+-- by letters
+pub looks-up-002 : (l key : List ℕ) → lookUpOf l key .numbers .number ≡ 0 → lookUpOf l key .numbers .value ≡ query002 l key
+unfolding lookUpOf
+looks-up-002 l key e =
+    let o = unrefused l (byLetters (headOf l) key) key (letters-say (headOf l) key) e in
+    answered l (byLetters (headOf l) key) key o (letters-fit (headOf l) key (o .key-passed))
+
+-- by text
+pub looks-up-text-002 : (l text : List ℕ) → lookUpTextOf l text .numbers .number ≡ 0
+    → lookUpTextOf l text .numbers .value ≡ queryText002 l text
+unfolding lookUpTextOf namedIn keyOfText queryText002
+looks-up-text-002 l text e =
+    let h : Head = headOf l in
+    let named : Option (List ℕ) = namedIn l text in
+    let o = unrefused l (byText h named) (lettersIn named) (text-says h named) e in
+    let t = text-fit h named (o .key-passed) in
+    let n = named-002 l (chars text) (t .0) in
+    answered l (byText h named) (lettersIn named) o
+    (record { allowed = t .1; below = letters-more _ _ (lettersIn named) (alphabet-most l (o .opened)) (n .known) })
+    ∙ sym (n .asked)
