@@ -77,40 +77,36 @@ unfolding digits
 writing-all {i = zero} p h = p .left
 writing-all {i = suc i} p h = absurd (not-suc-le-zero h)
 
--- `blank`: the bytes from `from` up to `at` are 0, of eight at least, and no turn goes past `to`
-pub record Blanking (l : List ℕ) (from to at : ℕ) : Type 0 where
-  pub long-enough : from + 8 ≤ to
-  pub below : from ≤ at
-  pub within : at ≤ to
-  pub zeros : Zeros l from at
-
 -- eight bytes whose number is 0, byte by byte
 eight-zeros : (l : List ℕ) (at : ℕ) → fieldAt l at 8 ≡ 0 → Zeros l at (at + 8)
 eight-zeros l at e k low high =
     let f : at + (k - at) ≡ k = omega arith in
     subst (λ (j : ℕ). getD l j 0 ≡ 0) f (field-zero l at 8 e (k - at) (omega arith))
 
-pub blanking-none : (l : List ℕ) (from to : ℕ) → from + 8 ≤ to → Blanking l from to from
-blanking-none l from to h = record { long-enough = h; below = omega arith; within = omega arith; zeros = λ k low high. absurd (omega arith) }
+-- `blank`: there are eight bytes at least and, if the number of the first eight is 0, those up to `at` are 0
+pub record Blanking (l : List ℕ) (from to first at : ℕ) : Type 0 where
+  pub long-enough : from + 8 ≤ to
+  pub within : at ≤ to
+  pub zeros : first ≡ 0 → Zeros l from at
 
-pub blanking-more : {l : List ℕ} {from to at : ℕ} → Blanking l from to at → at + 8 ≤ to → fieldAt l at 8 ≡ 0 → Blanking l from to (at + 8)
-blanking-more {l} {from} {to} {at} p h e =
-    record {
-      long-enough = p .long-enough;
-      below = omega (arith, p .below);
-      within = h;
-      zeros = λ k low high. go k low high (decLt k at);
-    }
+pub blanking-none : {l : List ℕ} {from to first : ℕ} → from + 8 ≤ to → (first ≡ 0 → fieldAt l from 8 ≡ 0) → Blanking l from to first (from + 8)
+blanking-none {l} {from} h e = record { long-enough = h; within = h; zeros = λ z. eight-zeros l from (e z) }
+
+pub blanking-more : {l : List ℕ} {from to first at : ℕ} → Blanking l from to first at → at + 8 ≤ to → (first ≡ 0 → fieldAt l at 8 ≡ 0)
+    → Blanking l from to first (at + 8)
+blanking-more {l} {from} {to} {first} {at} p h e =
+    record { long-enough = p .long-enough; within = h; zeros = λ z k low high. go z k low high (decLt k at) }
   where
-    go : (k : ℕ) → from ≤ k → k < at + 8 → Dec (k < at) → getD l k 0 ≡ 0
-    go k low high (yes b) = p .zeros k low b
-    go k low high (no b) = eight-zeros l at e k (omega arith) high
+    go : first ≡ 0 → (k : ℕ) → from ≤ k → k < at + 8 → Dec (k < at) → getD l k 0 ≡ 0
+    go z k low high (yes b) = p .zeros z k low b
+    go z k low high (no b) = eight-zeros l at (e z) k (omega arith) high
 
-pub blanking-all : {l : List ℕ} {from to at : ℕ} → Blanking l from to at → to < at + 8 → fieldAt l (to - 8) 8 ≡ 0 → Zeros l from to
-blanking-all {l} {from} {to} {at} p h e k low high = go (decLt k (to - 8))
+pub blanking-all : {l : List ℕ} {from to first at : ℕ} → Blanking l from to first at → to < at + 8 → first ≡ 0 → fieldAt l (to - 8) 8 ≡ 0
+    → Zeros l from to
+blanking-all {l} {from} {to} {first} {at} p h z e k low high = go (decLt k (to - 8))
   where
     go : Dec (k < to - 8) → getD l k 0 ≡ 0
-    go (yes b) = p .zeros k low (omega (arith, p .within))
+    go (yes b) = p .zeros z k low (omega (arith, p .within))
     go (no b) = eight-zeros l (to - 8) e k (omega arith) (omega (arith, p .long-enough))
 
 -- `eight`: bytes whose number from the last on is 0 are zeros

@@ -43,7 +43,8 @@ pub fn tail(s: &[u8], end: usize, mask: u32) -> u32
 }
 
 // Are the bytes from `from` up to `to` all 0? Eight are looked at together. What is shorter than eight bytes is never said to be blank:
-// a caller then reads it.
+// a caller then reads it. Each eight are held against the first eight and only these against 0, since a test for 0 alone is compiled to
+// eight loads of a byte.
 pub fn blank(s: &[u8], from: usize, to: usize) -> bool
     requires { ⌜ (from ≤ to) × (to ≤ length (now s)) ⌝ }
     ensures { λ r. ⌜ (r ≡ true → Zeros (now (s .entry)) from to) ⌝ }
@@ -51,14 +52,15 @@ pub fn blank(s: &[u8], from: usize, to: usize) -> bool
     if to < from + 8 {
         return false;
     }
-    let mut at = from;
+    let first = eight(s, from);
+    let mut at = from + 8;
     while at + 8 <= to {
-        if eight(s, at) != 0 {
+        if eight(s, at) != first {
             return false;
         }
         at += 8;
     }
-    eight(s, to - 8) == 0
+    (first == 0) & (eight(s, to - 8) == 0)
 }
 
 // Eight bytes as one number, the last of them highest: the compiler makes one load of it. Only what 0 means is told.

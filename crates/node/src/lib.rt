@@ -1,7 +1,7 @@
 // A node of an image: its links and its data, read and written where they stand. This is the one place that turns bytes into the
 // table of nodes; every floor above speaks of the table. A caller has opened the image (`Open`) and stays inside G and N.
 ghost use mathlib.Core.Path.{_≡_};
-ghost use Prim.Native.Nat.{ℕ, _≤_, _<_, _^_};
+ghost use Prim.Native.Nat.{ℕ, _+_, _≤_, _<_, _^_};
 ghost use mathlib.Core.Bool.{true};
 ghost use mathlib.Core.List.{[], _∷_};
 ghost use Rattle.trie.specs.Storing.{put, grow};
@@ -15,17 +15,7 @@ pub fn mask(h: Head) -> u32
     requires { ⌜ permitted h ≡ true ⌝ }
     ensures { λ r. ⌜ Masks h r ⌝ }
 {
-    let a = h.a;
-    if a == 1 {
-        return 0xFF;
-    }
-    if a == 2 {
-        return 0xFFFF;
-    }
-    if a == 3 {
-        return 0xFFFFFF;
-    }
-    0xFFFFFFFF
+    ones(h.a)
 }
 
 // The link for letter i of node q.
@@ -49,7 +39,7 @@ pub fn data(image: &[u8], h: Head, q: u32) -> u64
     requires { ⌜ Open h (now image) ⌝ ∗ ⌜ q ≤ h .g ⌝ }
     ensures { λ r. ⌜ r ≡ tableOf h (now (image .entry)) .value q ⌝ }
 {
-    field::read(image, data_place(h, q), h.d as usize)
+    field::tail(image, data_place(h, q) + (h.d as usize), ones(h.d)) as u64
 }
 
 // Writes the link for letter i of node q: on the table, node c is linked there.
@@ -84,4 +74,21 @@ fn data_place(h: Head, q: u32) -> usize
     ensures { λ r. ⌜ r ≡ dataPlace h q ⌝ }
 {
     (h.node_place(q as u64) as usize) + (h.n as usize) * (h.a as usize)
+}
+
+// 1 to 4 bytes of ones.
+fn ones(w: u32) -> u32
+    requires { ⌜ (1 ≤ w) × (w ≤ 4) ⌝ }
+    ensures { λ r. ⌜ r + 1 ≡ 256 ^ w ⌝ }
+{
+    if w == 4 {
+        return 0xFFFFFFFF;
+    }
+    if w == 3 {
+        return 0xFFFFFF;
+    }
+    if w == 2 {
+        return 0xFFFF;
+    }
+    0xFF
 }

@@ -1,34 +1,50 @@
--- `node::data` meets its contract: the number in the field of the data is the table's entry.
--- Assumes nothing.
+-- `node::data` meets its contract: the number in the data's field is the table's value. The head stands before all data, so four bytes
+-- do before its end. Assumes nothing.
+use mathlib.Core.Path.{_≡_, sym, ap, _∙_}
+use Prim.Native.Nat.{ℕ, _+_, _-_}
 use native.Mathlib.Omega.{arith}
-use mathlib.Core.Path.{sym, ap, _∙_}
-use Prim.Native.Nat.{ℕ}
-use Rattle.head.proofs.Permitted.{bounds}
-use Rattle.field.specs.Field.{fieldAt}
-use Rattle.node.proofs.Places.{data-inside, inside-room}
-use Rattle.node.proofs.Tables.{value-in}
 use borrow.Author.Needs.{needs}
+use Rattle.field.specs.Field.{fieldAt}
+use Rattle.head.proofs.Permitted.{bounds}
+use Rattle.node.specs.Image.{dataPlace}
+use Rattle.node.proofs.Places.{data-inside, inside-least, inside-room}
+use Rattle.node.proofs.Tables.{value-in}
 use Rattle.node.proofs.data.Statement.{statement}
 use Rattle.node.proofs.data.Tie as tie
 
 data-place-requires : tie.Need-data-place-requires
 data-place-requires c κs = search needs
 
-cast-read : tie.Need-cast-read
-cast-read c = search needs
+cast-tail : tie.Need-cast-tail
+cast-tail c = search needs
 
-read-requires : tie.Need-read-requires
-read-requires c κs =
+add-tail : tie.Need-add-tail
+add-tail c =
     let a = c .before .before .before .args in
     let p = c .before .before .before .pre in
     omega (arith, bounds (a .h) (p .0 .head-permitted), c .before .data-place .ensures, inside-room (data-inside (a .h) (a .q)) (p .0) (p .1))
 
+ones-requires : tie.Need-ones-requires
+ones-requires c κs = omega (arith, bounds (c .before .before .before .args .h) (c .before .before .before .pre .0 .head-permitted))
+
+tail-requires : tie.Need-tail-requires
+tail-requires c κs =
+    let a = c .before .before .before .before .args in
+    let p = c .before .before .before .before .pre in
+    let i = data-inside (a .h) (a .q) in
+    omega (arith, bounds (a .h) (p .0 .head-permitted), c .before .before .data-place .ensures, inside-least i, inside-room i (p .0) (p .1))
+
+cast-result : tie.Need-cast-result
+cast-result c = search needs
+
 returns : tie.Need-returns
 returns c =
-    let a = c .before .before .before .before .args in
-    c .read .ensures
-    ∙ ap (λ (k : ℕ). fieldAt (a .image .now) k (a .h .d)) (c .before .before .data-place .ensures)
-    ∙ sym (value-in (a .h) (a .image .now) (a .q) (c .before .before .before .before .pre .1))
+    let a = c .before .before .before .before .before .args in
+    let p = c .before .before .before .before .before .pre in
+    let place : c .before .before .before .data-place .result + a .h .d - a .h .d ≡ dataPlace (a .h) (a .q) = omega (arith, c .before .before .before .data-place .ensures) in
+    c .tail .ensures (a .h .d) (omega (arith, bounds (a .h) (p .0 .head-permitted))) (c .before .ones .ensures)
+    ∙ ap (λ (k : ℕ). fieldAt (a .image .now) k (a .h .d)) place
+    ∙ sym (value-in (a .h) (a .image .now) (a .q) (p .1))
 
 pub data-spec : {M : Type 1} → statement M
-data-spec = tie.close (tie.spec data-place-requires cast-read read-requires returns)
+data-spec = tie.close (tie.spec data-place-requires cast-tail add-tail ones-requires tail-requires cast-result returns)
