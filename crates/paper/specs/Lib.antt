@@ -3,6 +3,7 @@ pub mod Answers
 pub mod Calls
 pub mod Cases
 pub mod Hearing
+pub mod InTurn
 pub mod Orders
 pub mod Promises
 pub mod Rows
