@@ -1,9 +1,11 @@
 #!/usr/bin/env python3
-"""Makes the sample images of this folder, and the great ones that bench/ measures, by a store of its own.
+"""Makes images by a store of its own.
 
-make.py                 writes p3.trieff and season.trieff here
-make.py full FILE       a full image of 16 MiB for bench/: 16 letters, links of 3 bytes, data of 4
+make.py                 writes the samples p3.trieff and season.trieff beside this file, and what `list` must write of each, p3.txt and season.txt
+make.py bench FOLDER    writes the images that bench/run measures
 """
+import os
+import random
 import struct
 import sys
 
@@ -18,6 +20,7 @@ class Image:
         self.last = (room - self.first) // self.width - 1
         self.bytes = bytearray(room)
         self.g = 0
+        self.stored = {}
 
     def store(self, key, value):
         """False, and nothing stored, where there is no room."""
@@ -34,12 +37,20 @@ class Image:
             node = child
         at = self.first + node * self.width + self.n * self.a
         self.bytes[at:at + self.d] = value.to_bytes(self.d, "big")
+        self.stored[tuple(key)] = value
         return True
 
     def whole(self):
         head = struct.pack(">7I", self.g, self.n, self.a, self.d, len(self.alphabet), self.least, self.most)
         self.bytes[:self.first] = head + self.alphabet
         return bytes(self.bytes)
+
+    def listing(self):
+        """Document 01's lines, from what was stored and not from the bytes."""
+        lines = ["entries %d" % len(self.stored)]
+        for key, value in sorted(self.stored.items()):
+            lines.append("%s %d" % (".".join(map(str, key)) or "-", value))
+        return "".join(line + "\n" for line in lines).encode()
 
     def used(self):
         return self.whole()[:self.first + (self.g + 1) * self.width]
@@ -49,7 +60,7 @@ def p3():
     image = Image(43, 3, 1, 1, "ABC", 1, 3)
     image.store([1, 0], 9)
     image.store([1], 5)
-    return image.used()
+    return image
 
 
 LETTERS = "0123456789ABCDE-"
@@ -69,20 +80,52 @@ def season():
                     if not image.store([LETTERS.index(c) for c in label], record):
                         raise SystemExit("no room")
                     record += 1
+    return image
+
+
+def numbered(room, most):
+    """At most so many labels of nine digits to the base 16, counted up, with the number of labels. Their values have six digits."""
+    image = Image(room, 16, 3, 4, LETTERS, 1, 12)
+    stored = 0
+    while stored < most and image.store([(stored >> shift) & 15 for shift in range(32, -1, -4)], stored + 100000):
+        stored += 1
+    return image, stored
+
+
+def wide(alphabet, text):
+    """200 letters, and one label."""
+    image = Image(65536, len(alphabet), 3, 4, alphabet, 1, 12)
+    image.store([alphabet.index(c) for c in text], 2401)
     return image.used()
 
 
-def full():
-    image = Image(16777216, 16, 3, 4, LETTERS, 1, 12)
-    stored = 0
-    while image.store([(stored >> shift) & 15 for shift in range(32, -1, -4)], stored + 1):
-        stored += 1
-    print(stored, "labels,", image.g + 1, "nodes")
-    return image.whole()
+def write(folder, name, data):
+    with open(os.path.join(folder, name), "wb") as file:
+        file.write(data)
 
 
-if len(sys.argv) == 3 and sys.argv[1] == "full":
-    open(sys.argv[2], "wb").write(full())
+def samples(folder):
+    for name, image in (("p3", p3()), ("season", season())):
+        write(folder, name + ".trieff", image.used())
+        write(folder, name + ".txt", image.listing())
+
+
+def bench(folder):
+    write(folder, "full.trieff", numbered(16777216, 1 << 36)[0].whole())
+    write(folder, "twenty.trieff", numbered(16777216, 20000)[0].used())
+    for name, most in (("many", 1 << 36), ("few", 10)):
+        image, stored = numbered(65536, most)
+        write(folder, name + ".trieff", image.used())
+        write(folder, name + ".keys", str(stored).encode())
+    letters = [chr(0x400 + i) for i in range(200)]
+    text = "".join(letters[i] for i in (9, 31, 77, 120, 150, 163, 181, 190, 199))
+    write(folder, "ascending.trieff", wide("".join(letters), text))
+    random.Random(6).shuffle(letters)
+    write(folder, "shuffled.trieff", wide("".join(letters), text))
+    write(folder, "text", text.encode())
+
+
+if len(sys.argv) == 3 and sys.argv[1] == "bench":
+    bench(sys.argv[2])
 else:
-    open("p3.trieff", "wb").write(p3())
-    open("season.trieff", "wb").write(season())
+    samples(os.path.dirname(os.path.abspath(__file__)))
