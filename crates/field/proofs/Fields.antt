@@ -32,6 +32,15 @@ field-bound l at (suc w) p = rw (pow-suc 256 w) (digits-lt (field-bound l at w p
 pub field-fits : (l : List ℕ) (at w n : ℕ) → Bytes l → w ≤ n → fieldAt l at w < 256 ^ n
 field-fits l at w n p h = lt-of-lt-of-le (field-bound l at w p) (pow-le-pow-right (omega arith) h)
 
+-- a field of one byte, and of one byte more
+pub field-one : (l : List ℕ) (at : ℕ) → fieldAt l at 1 ≡ getD l at 0
+unfolding fieldAt
+field-one l at = let q : getD l (at + 0) 0 ≡ getD l at 0 = rw (add-zero at) in omega arith
+
+pub field-more : (l : List ℕ) (at i : ℕ) {v b : ℕ} → v ≡ fieldAt l at i → b ≡ getD l (at + i) 0 → v * 256 + b ≡ fieldAt l at (suc i)
+unfolding fieldAt
+field-more l at i e f = ap₂ (λ (x y : ℕ). x * 256 + y) e f
+
 -- where a field is 0, each of its bytes is
 pub field-zero : (l : List ℕ) (at w : ℕ) → fieldAt l at w ≡ 0 → (k : ℕ) → k < w → getD l (at + k) 0 ≡ 0
 unfolding fieldAt

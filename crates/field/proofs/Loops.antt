@@ -11,7 +11,7 @@ use lib.ListN.{length, getD, set, take, length-set}
 use lib.Seq.{sets, take-all, take-suc, length-take-le}
 use Rattle.field.specs.Field.{Bytes, Zeros, fieldAt, digits, putField}
 use Rattle.field.proofs.Laid.{sets-append}
-use Rattle.field.proofs.Fields.{field-fits, field-zero, put-last}
+use Rattle.field.proofs.Fields.{field-fits, field-more, field-zero, put-last}
 
 -- v is the number in the first i bytes of the field
 pub record Reading (l : List ℕ) (at w v i : ℕ) : Type 0 where
@@ -24,7 +24,7 @@ reading-none l at w = record { within = omega arith; read = refl }
 
 pub reading-more : {l : List ℕ} {at w v i b : ℕ} → Reading l at w v i → i < w → b ≡ getD l (at + i) 0 → Reading l at w (v * 256 + b) (i + 1)
 unfolding fieldAt
-reading-more {i} p h e = record { within = omega arith; read = rw (add-one i) (ap₂ (λ (x y : ℕ). x * 256 + y) (p .read) e) }
+reading-more {l} {at} {i} p h e = record { within = omega arith; read = rw (add-one i) (field-more l at i (p .read) e) }
 
 pub reading-all : {l : List ℕ} {at w v i : ℕ} → Reading l at w v i → w ≤ i → v ≡ fieldAt l at w
 reading-all {l} {at} {w} {i} p h =

@@ -33,6 +33,26 @@ pub fn read4(s: &[u8], at: usize) -> u32
     (((a * 256 + b) * 256 + c) * 256 + d) as u32
 }
 
+// The number in 1 to 4 bytes, with no loop: characters are read so.
+pub fn read_few(s: &[u8], at: usize, w: usize) -> u32
+    requires { ⌜ (1 ≤ w) × (w ≤ 4) × (at + w ≤ length (now s)) ⌝ }
+    ensures { λ r. ⌜ r ≡ fieldAt (now (s .entry)) at w ⌝ }
+{
+    let one = wide(s[at]);
+    if w == 1 {
+        return one as u32;
+    }
+    let two = one * 256 + wide(s[at + 1]);
+    if w == 2 {
+        return two as u32;
+    }
+    let three = two * 256 + wide(s[at + 2]);
+    if w == 3 {
+        return three as u32;
+    }
+    (three * 256 + wide(s[at + 3])) as u32
+}
+
 // The number in the w bytes that end at `end`, by the mask 256^w - 1. Four bytes are loaded whatever the width is, so that no loop and no
 // choice stands in the way of a reader of many fields; the caller has four bytes in front of `end`.
 pub fn tail(s: &[u8], end: usize, mask: u32) -> u32

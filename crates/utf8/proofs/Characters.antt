@@ -94,10 +94,6 @@ pub char-at : (l : List ℕ) (at n : ℕ) → n ≡ charLen l at → charAt l at
 unfolding charAt
 char-at l at n e = ap (fieldAt l at) (sym e)
 
-pub char-at-one : (l : List ℕ) (at : ℕ) → 1 ≡ charLen l at → charAt l at ≡ getD l at 0
-unfolding fieldAt
-char-at-one l at e = let q : getD l (at + 0) 0 ≡ getD l at 0 = rw (add-zero at) in char-at l at 1 e ∙ omega arith
-
 pub char-at-fits : (l : List ℕ) (at : ℕ) → Bytes l → charAt l at < 2 ^ 32
 unfolding charAt
 char-at-fits l at p = field-fits l at (charLen l at) 4 p (char-len-few l at)

@@ -34,8 +34,7 @@ pub fn char_len(s: &[u8], at: usize) -> usize
     0
 }
 
-// The character of n bytes at `at` as the number that its bytes make, 0 where none stands there. A single byte is read
-// straight, without the loop of a field.
+// The character of n bytes at `at` as the number that its bytes make, 0 where none stands there.
 pub fn char_at(s: &[u8], at: usize, n: usize) -> u32
     requires { ⌜ n ≡ charLen (now s) at ⌝ }
     ensures { λ r. ⌜ r ≡ charAt (now (s .entry)) at ⌝ }
@@ -43,10 +42,7 @@ pub fn char_at(s: &[u8], at: usize, n: usize) -> u32
     if n == 0 {
         return 0;
     }
-    if n == 1 {
-        return s[at] as u32;
-    }
-    field::read(s, at, n) as u32
+    field::read_few(s, at, n)
 }
 
 // Does a character of this row stand at `at`, whole?
