@@ -1,0 +1,32 @@
+-- The working numbers made 0 from the front, one a turn, and what a second clearing leaves: after the first, only what stands behind them is
+-- still as it was lent, and that is all the second keeps.
+use mathlib.Core.Path.{_≡_, refl, sym, ap, _∙_}
+use mathlib.Core.List.{List, _++_}
+use Prim.Native.Nat.{ℕ, _+_, _≤_, _<_}
+use native.Mathlib.Omega.{arith}
+use lib.ListN.{length, set, drop, replicate, length-replicate, length-append, length-drop, length-set}
+use lib.Seq.{drop-at}
+use borrow.Author.Fill.{fill-none, fill-more}
+
+-- the first i of n are 0
+pub record Filling (work : List ℕ) (n : ℕ) (work′ : List ℕ) (i : ℕ) : Type 0 where
+  pub within : i ≤ n
+  pub room : n ≤ length work
+  pub long : length work′ ≡ length work
+  pub filled : work′ ≡ replicate i 0 ++ drop i work
+
+pub filling-none : (work : List ℕ) (n : ℕ) → n ≤ length work → Filling work n work 0
+filling-none work n h = record { within = omega arith; room = h; long = refl; filled = fill-none work 0 }
+
+module _ {work work′ : List ℕ} {n i : ℕ} (p : Filling work n work′ i) where
+  pub filling-more : i < n → Filling work n (set work′ i 0) (i + 1)
+  filling-more h =
+      record {
+        within = omega arith;
+        room = p .room;
+        long = length-set work′ i 0 ∙ p .long;
+        filled = ap (λ (l : List ℕ). set l i 0) (p .filled) ∙ fill-more i 0 work (omega (arith, p .room));
+      }
+
+  pub filling-all : n ≤ i → work′ ≡ replicate n 0 ++ drop n work
+  filling-all h = let e : i ≡ n = omega (arith, p .within) in p .filled ∙ ap (λ (k : ℕ). replicate k 0 ++ drop k work) e
