@@ -1,3 +1,12 @@
+-- `audit::first_bad_node` meets its contract. Each turn counts the links of one more node, or stops at the node, which is then the lowest.
+-- The measure is how many nodes are left. Assumes nothing.
+use mathlib.Core.Path.{sym, _∙_}
+use Prim.Native.Nat.{_-_}
+use native.Mathlib.Omega.{arith}
+use borrow.Author.Needs.{needs}
+use borrow.Author.Tests.{not-true, not-false}
+use Rattle.node.specs.Image.{tableOf}
+use Rattle.audit.proofs.Tallying.{Counting, counting-none, counting-more, counting-bad, counting-all}
 use Rattle.audit.proofs.first_bad_node.Statement.{statement}
 use Rattle.audit.proofs.first_bad_node.Tie as tie
 use Rattle.audit.proofs.first_bad_node.Reads as reads
@@ -6,62 +15,49 @@ use Rattle.audit.proofs.tally.Reads as tally-reads
 use Rattle.node.proofs.mask.Reads as mask-reads
 
 abbrev Inv-loop : tie.InvT-loop
-Inv-loop image h work₀ mask nodes q₀ work q = ?
+Inv-loop image h work₀ mask nodes q₀ work q = Counting (h .g) (h .n) (tableOf h image) work₀ work q
 
 abbrev μ-loop : tie.MeasureT-loop
-μ-loop image h work₀ mask nodes q₀ work q = ?
+μ-loop image h work₀ mask nodes q₀ work q = nodes - q
 
--- src/lib.rt:78:9
 mask-requires : tie.Need-mask-requires Inv-loop μ-loop
-mask-requires c κs = ?
+mask-requires c κs = search needs
 
--- src/lib.rt:79:18
 cast-nodes : tie.Need-cast-nodes Inv-loop μ-loop
-cast-nodes c = ?
+cast-nodes c = omega arith
 
--- src/lib.rt:79:17
 add-nodes : tie.Need-add-nodes Inv-loop μ-loop
-add-nodes c = ?
+add-nodes c = omega arith
 
--- src/lib.rt:81:5
 loop-holds : tie.Need-loop-holds Inv-loop μ-loop
-loop-holds c = ?
+loop-holds c = counting-none _ _ _ _ (c .before .before .before .before .pre .1 .1)
 
--- src/lib.rt:82:35
 cast-tally : tie.Need-cast-tally Inv-loop μ-loop
-cast-tally c = ?
+cast-tally c = omega arith
 
--- src/lib.rt:82:13
 tally-requires : tie.Need-tally-requires Inv-loop μ-loop
-tally-requires c κs = ?
+tally-requires c κs = search needs
 
--- src/lib.rt:83:13
-same-length : tie.Need-same-length Inv-loop μ-loop
-same-length c = ?
-
--- src/lib.rt:83:13
 returns : tie.Need-returns Inv-loop μ-loop
-returns c = ?
+returns c = counting-bad (c .before .before .before .before .before .before .loop .inv) (omega arith) (not-true _ (c .if1 .taken)) (c .before .before .before .tally .ensures)
 
--- src/lib.rt:85:9
+same-length : tie.Need-same-length Inv-loop μ-loop
+same-length c = returns c .kept .long
+
 add-q : tie.Need-add-q Inv-loop μ-loop
-add-q c = ?
+add-q c = omega arith
 
--- src/lib.rt:81:5
 loop-less : tie.Need-loop-less Inv-loop μ-loop
-loop-less c = ?
+loop-less c = omega arith
 
--- src/lib.rt:81:5
 loop-again : tie.Need-loop-again Inv-loop μ-loop
-loop-again c = ?
+loop-again c = counting-more (c .before .before .before .before .before .before .loop .inv) (omega arith) (not-false _ (c .if1 .left)) (c .before .before .before .tally .ensures)
 
--- src/lib.rt:72:1
 same-length-2 : tie.Need-same-length-2 Inv-loop μ-loop
-same-length-2 c = ?
+same-length-2 c = c .before .loop .inv .kept .long
 
--- src/lib.rt:72:1
 returns-2 : tie.Need-returns-2 Inv-loop μ-loop
-returns-2 c = ?
+returns-2 c = counting-all (c .before .loop .inv) (c .loop-test .left)
 
 pub first-bad-node-spec : {M : Type 1} → statement M
 first-bad-node-spec =
