@@ -30,3 +30,11 @@ module _ {work work′ : List ℕ} {n i : ℕ} (p : Filling work n work′ i) wh
 
   pub filling-all : n ≤ i → work′ ≡ replicate n 0 ++ drop n work
   filling-all h = let e : i ≡ n = omega (arith, p .within) in p .filled ∙ ap (λ (k : ℕ). replicate k 0 ++ drop k work) e
+
+module _ (n : ℕ) (work : List ℕ) {work′ : List ℕ} (e : work′ ≡ replicate n 0 ++ drop n work) where
+  -- what stands behind the numbers that were made 0
+  pub cleared-rest : drop n work′ ≡ drop n work
+  cleared-rest = ap (drop n) e ∙ drop-at (replicate n 0) (drop n work) n (length-replicate n 0)
+
+  pub cleared-again : work′ ≡ replicate n 0 ++ drop n work′
+  cleared-again = e ∙ ap (λ (w : List ℕ). replicate n 0 ++ w) (sym cleared-rest)

@@ -3,7 +3,7 @@ use Prim.Native.Nat.{ℕ, _+_, _-_, _≤_, _<_, min}
 use mathlib.Core.Path.{_≡_}
 use mathlib.Core.Bool.{Bool, true, false}
 use mathlib.Core.Option.{none}
-use mathlib.Core.List.{List, _∷_}
+use mathlib.Core.List.{List, [], _∷_}
 use lib.ListN.{length, getD, drop}
 use lib.Dec.{eqb}
 use Rattle.trie.specs.Table.{Table}
@@ -30,7 +30,7 @@ pub record Checked (l work : List ℕ) (r : Opened) (work′ codes : List ℕ) :
 -- 5 to 8 of an image that is open
 pub record Audited (h : Head) (l work : List ℕ) (r : Verdict) (work′ : List ℕ) : Type 0 where
   pub verdict : rowOf r ≡ first (row5 h (length work) ∷ linking h (tableOf h l))
-  pub numbers : work′ ≡ clearedBy (row5 h (length work)) (h .g + 1) work
+  pub numbers : work′ ≡ clearedBy (first (row5 h (length work) ∷ [])) (h .g + 1) work
 
 -- the working numbers are as many as before and, but for the first G+1, what they were
 pub record Kept (g : ℕ) (work work′ : List ℕ) : Type 0 where
