@@ -1,10 +1,10 @@
--- The working numbers made 0 from the front, one a turn, and what a second clearing leaves: after the first, only what stands behind them is
--- still as it was lent, and that is all the second keeps.
+-- The working numbers made 0 from the front, one a turn. What stands behind them is kept, so that it is the same after a second clearing,
+-- whatever was counted into the first numbers between the two.
 use mathlib.Core.Path.{_≡_, refl, sym, ap, _∙_}
 use mathlib.Core.List.{List, _++_}
 use Prim.Native.Nat.{ℕ, _+_, _≤_, _<_}
 use native.Mathlib.Omega.{arith}
-use lib.ListN.{length, set, drop, replicate, length-replicate, length-append, length-drop, length-set}
+use lib.ListN.{length, set, drop, replicate, length-replicate, length-set}
 use lib.Seq.{drop-at}
 use borrow.Author.Fill.{fill-none, fill-more}
 

@@ -1,14 +1,14 @@
 -- Which row is heard at each way out, from what the stages returned. A tally that stops at 2 is 2 exactly where the address stands in two
 -- links or more, and 0 exactly where it stands in none: so a search in the working numbers finds the place of 7 and of 8.
-use mathlib.Core.Path.{_≡_, refl, sym, ap, _∙_}
-use mathlib.Core.Bool.{Bool, true, false}
+use mathlib.Core.Path.{_≡_, sym, ap, _∙_}
+use mathlib.Core.Bool.{Bool}
 use mathlib.Core.Option.{none, some}
 use mathlib.Core.List.{List, [], _∷_, _++_}
 use Prim.Native.Nat.{ℕ, _+_, _-_, _≤_, _<_, min}
 use native.Mathlib.Decide.{ℕ-discrete, decLe}
 use native.Mathlib.Omega.{arith}
-use lib.Dec.{leb, ltb, eqb}
-use lib.ListN.{length, getD, drop, replicate, length-replicate}
+use lib.Dec.{leb, eqb}
+use lib.ListN.{length, getD, drop, replicate}
 use borrow.Author.Tests.{lt-ltb, le-ltb, le-leb, lt-leb, eq-eqb, ne-eqb}
 use Rattle.trie.specs.Table.{Table}
 use Rattle.trie.specs.Lowest.{lowest}
@@ -17,26 +17,28 @@ use Rattle.head.specs.Fields.{headOf}
 use Rattle.node.specs.Image.{Open, tableOf}
 use Rattle.paper.specs.declared.Refusal.{Refusal}
 use Rattle.paper.specs.declared.Verdict.{Verdict}
-use Rattle.paper.specs.Hearing.{first}
+use Rattle.paper.specs.Hearing.{Row, first}
 use Rattle.paper.specs.Answers.{said, saidOf, rowOf}
 use Rattle.paper.specs.Rows.{givenLowest, row5, row6, row7, row8, times}
 use Rattle.paper.specs.Orders.{alphabetIn, openingOf, linking, checking}
 use Rattle.paper.specs.Calls.{clearedBy, workAfter}
-use Rattle.paper.proofs.Hearing.{is-given, not-given, first-nil, first-some, first-none, yes-row, no-row, first-part, second-part}
+use Rattle.paper.proofs.Hearing.{is-given, not-given, first-nil, first-some, first-none, first-part, second-part}
 use Rattle.paper.proofs.Opening.{passed}
 use Rattle.opening.specs.declared.Opened.{Opened}
 use Rattle.opening.specs.Opened.{Opens}
 use Rattle.audit.specs.Audit.{Checked, Audited, Linked, BadFrom, Tally, FoundFrom}
-use Rattle.audit.proofs.Clearing.{cleared-again, cleared-rest}
+use Rattle.audit.proofs.Clearing.{cleared-rest}
 use Rattle.audit.proofs.Seeking.{lowest-same}
 
 -- ---- 6 to 8
 
-given-at : (number : ℕ) (test : ℕ → Bool) (a k : ℕ) {x : ℕ} → x ≡ lowest test a k → x < a + k → givenLowest number test a k ≡ some (said number x)
+given-at : (number : ℕ) (test : ℕ → Bool) (a k : ℕ) {x : ℕ} → x ≡ lowest test a k → x < a + k
+    → givenLowest number test a k ≡ some (said number x)
 unfolding givenLowest
 given-at number test a k e b = rw (← e) (is-given number _ (lt-ltb _ _ b))
 
-given-nowhere : (number : ℕ) (test : ℕ → Bool) (a k : ℕ) {x : ℕ} → x ≡ lowest test a k → a + k ≤ x → givenLowest number test a k ≡ none
+given-nowhere : (number : ℕ) (test : ℕ → Bool) (a k : ℕ) {x : ℕ} → x ≡ lowest test a k → a + k ≤ x
+    → givenLowest number test a k ≡ none
 unfolding givenLowest
 given-nowhere number test a k e b = rw (← e) (not-given number _ (le-ltb _ _ b))
 
@@ -114,17 +116,27 @@ audited-few {h} {l} {work} few =
     let e = is-given 5 0 (lt-ltb (length work) (h .g + 1) few) in
     record { verdict = sym (first-some _ _ e); numbers = sym (ap (λ r. clearedBy r (h .g + 1) work) (first-some _ [] e)) }
 
-pub audited-linked : {h : Head} {l work clear work′ last : List ℕ} {r : Verdict} → h .g + 1 ≤ length work → clear ≡ replicate (h .g + 1) 0 ++ drop (h .g + 1) work
-    → Linked h l clear r work′ → last ≡ replicate (h .g + 1) 0 ++ drop (h .g + 1) work′ → Audited h l work r last
+pub audited-linked : {h : Head} {l work clear work′ last : List ℕ} {r : Verdict} → h .g + 1 ≤ length work
+    → clear ≡ replicate (h .g + 1) 0 ++ drop (h .g + 1) work → Linked h l clear r work′
+    → last ≡ replicate (h .g + 1) 0 ++ drop (h .g + 1) work′ → Audited h l work r last
 unfolding row5 clearedBy
-audited-linked {h} {l} {work} {clear} {work′} {last} enough e k f =
+audited-linked {h} {l} {work} enough e k f =
     let p = not-given 5 0 (le-ltb (length work) (h .g + 1) enough) in
     record {
       verdict = k .verdict ∙ sym (first-none _ _ p);
-      numbers = f ∙ ap (λ (w : List ℕ). replicate (h .g + 1) 0 ++ w) (k .kept .rest ∙ cleared-rest (h .g + 1) work e) ∙ sym (ap (λ r. clearedBy r (h .g + 1) work) (first-none _ [] p ∙ first-nil));
+      numbers = f
+          ∙ ap (λ (w : List ℕ). replicate (h .g + 1) 0 ++ w) (k .kept .rest ∙ cleared-rest (h .g + 1) work e)
+          ∙ sym (ap (λ r. clearedBy r (h .g + 1) work) (first-none _ [] p ∙ first-nil));
     }
 
 -- ---- 1 to 4
+
+-- what stands behind 1 to 4: 5 alone, by which the working numbers are left, and 5 to 8
+abbrev fifth : List ℕ → List ℕ → List Row
+fifth l work = row5 (headOf l) (length work) ∷ []
+
+abbrev others : List ℕ → List ℕ → List Row
+others l work = row5 (headOf l) (length work) ∷ linking (headOf l) (tableOf (headOf l) l)
 
 module _ {l : List ℕ} {r : Opened} {codes : List ℕ} (o : Opens l r codes) where
   module _ (work : List ℕ) {why : Refusal} (e : r .verdict ≡ Verdict.Refused why) where
@@ -136,8 +148,8 @@ module _ {l : List ℕ} {r : Opened} {codes : List ℕ} (o : Opens l r codes) wh
     unfolding checking workAfter clearedBy
     checked-refused =
         record {
-          verdict = o .verdict ∙ refused ∙ sym (first-part (openingOf l) (row5 (headOf l) (length work) ∷ linking (headOf l) (tableOf (headOf l) l)) refused);
-          numbers = sym (ap (λ s. clearedBy s (headOf l .g + 1) work) (first-part (openingOf l) (row5 (headOf l) (length work) ∷ []) refused));
+          verdict = o .verdict ∙ refused ∙ sym (first-part (openingOf l) (others l work) refused);
+          numbers = sym (ap (λ s. clearedBy s (headOf l .g + 1) work) (first-part (openingOf l) (fifth l work) refused));
           head = o .head;
           decoded = o .decoded;
         }
@@ -162,9 +174,8 @@ module _ {l : List ℕ} {r : Opened} {codes : List ℕ} (o : Opens l r codes) wh
         let b : Audited (headOf l) l work v work′ = rw same at a in
         let d = o .decoded none-given in
         record {
-          verdict = b .verdict ∙ sym (second-part (openingOf l) (row5 (headOf l) (length work) ∷ linking (headOf l) (tableOf (headOf l) l)) n);
-          numbers = b .numbers
-              ∙ sym (ap (λ s. clearedBy s (headOf l .g + 1) work) (second-part (openingOf l) (row5 (headOf l) (length work) ∷ []) n));
+          verdict = b .verdict ∙ sym (second-part (openingOf l) (others l work) n);
+          numbers = b .numbers ∙ sym (ap (λ s. clearedBy s (headOf l .g + 1) work) (second-part (openingOf l) (fifth l work) n));
           head = λ _. same;
           decoded = λ _. record { count = d .count; codes = d .codes };
         }

@@ -1,42 +1,41 @@
+-- `audit::audit` meets its contract: 5 is judged first, and what the last clearing leaves is what was lent with the first numbers 0, since
+-- neither the first clearing nor the stages between touch the rest. Assumes nothing.
+use Prim.Native.Nat.{_+_}
+use native.Mathlib.Omega.{arith}
 use borrow.Author.Needs.{needs}
+use Rattle.audit.proofs.Clearing.{cleared-again}
+use Rattle.audit.proofs.Verdicts.{audited-few, audited-linked}
 use Rattle.audit.proofs.audit.Statement.{statement}
 use Rattle.audit.proofs.audit.Tie as tie
-use Rattle.audit.proofs.audit.Reads as reads
-use Rattle.audit.proofs.audit.Lts as lts
-use Rattle.audit.proofs.clear.Reads as clear-reads
-use Rattle.audit.proofs.links.Reads as links-reads
 
--- src/lib.rt:38:18
 cast-nodes : tie.Need-cast-nodes
 cast-nodes c = search needs
 
--- src/lib.rt:38:17
 add-nodes : tie.Need-add-nodes
 add-nodes c = search needs
 
--- src/lib.rt:40:9
 returns : tie.Need-returns
-returns c = ?
+returns c = audited-few (c .if1 .taken)
 
--- src/lib.rt:42:5
 clear-requires : tie.Need-clear-requires
 clear-requires c κs = search needs
 
--- src/lib.rt:43:9
 links-requires : tie.Need-links-requires
-links-requires c κs = ?
+links-requires c κs =
+    let s = c .before .before .before .before .before .before .before .before .before in
+    (s .pre, (omega arith, cleared-again (s .args .h .g + 1) (s .args .work .now) (c .before .before .before .clear .ensures)))
 
--- src/lib.rt:44:5
 clear-requires-2 : tie.Need-clear-requires-2
 clear-requires-2 c κs = search needs
 
--- src/lib.rt:34:1
 same-length : tie.Need-same-length
 same-length c = search needs
 
--- src/lib.rt:34:1
 returns-2 : tie.Need-returns-2
-returns-2 c = ?
+returns-2 c =
+    let k = c .before .before .before .before .before .before in
+    let b = k .before .before .before .before in
+    audited-linked (b .before .before .if1 .left) (b .clear .ensures) (k .links .ensures) (c .before .before .clear2 .ensures)
 
 pub audit-spec : {M : Type 1} → statement M
 audit-spec =

@@ -1,38 +1,31 @@
+-- `audit::check` meets its contract: what opening tells stands where it refuses, and else 5 to 8 follow it. Assumes nothing.
 use borrow.Author.Needs.{needs}
+use Rattle.audit.proofs.Verdicts.{checked-refused, opened-open, checked-audited}
 use Rattle.audit.proofs.check.Statement.{statement}
 use Rattle.audit.proofs.check.Tie as tie
-use Rattle.audit.proofs.check.Reads as reads
-use Rattle.audit.proofs.check.Lts as lts
-use Rattle.audit.proofs.audit.Reads as audit-reads
-use Rattle.opening.proofs.open.Reads as open-reads
 
--- src/lib.rt:18:9
 open-requires : tie.Need-open-requires
 open-requires c κs = search needs
 
--- src/lib.rt:21:32
 enum-told : tie.Need-enum-told
 enum-told c = search needs
 
--- src/lib.rt:23:17
 enum-told-2 : tie.Need-enum-told-2
 enum-told-2 c = search needs
 
--- src/lib.rt:25:26
 audit-requires : tie.Need-audit-requires
-audit-requires c κs = ?
+audit-requires c κs = opened-open (c .before .before .before .before .«open» .ensures) (c .before .before .enum-told2 .given .1)
 
--- src/lib.rt:15:1
 returns : tie.Need-returns
-returns c = ?
+returns c = checked-refused (c .before .before .«open» .ensures) _ (c .enum-told .given .1)
 
--- src/lib.rt:15:1
 same-length : tie.Need-same-length
 same-length c = search needs
 
--- src/lib.rt:15:1
 returns-2 : tie.Need-returns-2
-returns-2 c = ?
+returns-2 c =
+    let t = c .before .before .before .before .before in
+    checked-audited (t .before .before .«open» .ensures) (t .enum-told2 .given .1) (c .before .before .audit .ensures)
 
 pub check-spec : {M : Type 1} → statement M
 check-spec =

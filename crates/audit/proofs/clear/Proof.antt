@@ -4,8 +4,6 @@ use native.Mathlib.Omega.{arith}
 use Rattle.audit.proofs.Clearing.{Filling, filling-none, filling-more, filling-all}
 use Rattle.audit.proofs.clear.Statement.{statement}
 use Rattle.audit.proofs.clear.Tie as tie
-use Rattle.audit.proofs.clear.Reads as reads
-use Rattle.audit.proofs.clear.Lts as lts
 
 abbrev Inv-loop : tie.InvT-loop
 Inv-loop work₀ n i₀ work i = Filling work₀ n work i

@@ -1,21 +1,16 @@
 -- `audit::first_bad_node` meets its contract. Each turn counts the links of one more node, or stops at the node, which is then the lowest.
 -- The measure is how many nodes are left. Assumes nothing.
-use mathlib.Core.Path.{sym, _∙_}
 use Prim.Native.Nat.{_-_}
 use native.Mathlib.Omega.{arith}
 use borrow.Author.Needs.{needs}
 use borrow.Author.Tests.{not-true, not-false}
 use Rattle.node.specs.Image.{tableOf}
-use Rattle.audit.proofs.Tallying.{Counting, counting-none, counting-more, counting-bad, counting-all}
+use Rattle.audit.proofs.Tallying.{Tallying, tallying-none, tallying-more, tallying-bad, tallying-all}
 use Rattle.audit.proofs.first_bad_node.Statement.{statement}
 use Rattle.audit.proofs.first_bad_node.Tie as tie
-use Rattle.audit.proofs.first_bad_node.Reads as reads
-use Rattle.audit.proofs.first_bad_node.Lts as lts
-use Rattle.audit.proofs.tally.Reads as tally-reads
-use Rattle.node.proofs.mask.Reads as mask-reads
 
 abbrev Inv-loop : tie.InvT-loop
-Inv-loop image h work₀ mask nodes q₀ work q = Counting (h .g) (h .n) (tableOf h image) work₀ work q
+Inv-loop image h work₀ mask nodes q₀ work q = Tallying (h .g) (h .n) (tableOf h image) work₀ work q
 
 abbrev μ-loop : tie.MeasureT-loop
 μ-loop image h work₀ mask nodes q₀ work q = nodes - q
@@ -30,7 +25,7 @@ add-nodes : tie.Need-add-nodes Inv-loop μ-loop
 add-nodes c = omega arith
 
 loop-holds : tie.Need-loop-holds Inv-loop μ-loop
-loop-holds c = counting-none _ _ _ _ (c .before .before .before .before .pre .1 .1)
+loop-holds c = tallying-none _ _ _ _ (c .before .before .before .before .pre .1 .1)
 
 cast-tally : tie.Need-cast-tally Inv-loop μ-loop
 cast-tally c = omega arith
@@ -39,7 +34,9 @@ tally-requires : tie.Need-tally-requires Inv-loop μ-loop
 tally-requires c κs = search needs
 
 returns : tie.Need-returns Inv-loop μ-loop
-returns c = counting-bad (c .before .before .before .before .before .before .loop .inv) (omega arith) (not-true _ (c .if1 .taken)) (c .before .before .before .tally .ensures)
+returns c =
+    let t = c .before .before .before in
+    tallying-bad (t .before .before .before .loop .inv) (omega arith) (not-true _ (c .if1 .taken)) (t .tally .ensures)
 
 same-length : tie.Need-same-length Inv-loop μ-loop
 same-length c = returns c .kept .long
@@ -51,13 +48,15 @@ loop-less : tie.Need-loop-less Inv-loop μ-loop
 loop-less c = omega arith
 
 loop-again : tie.Need-loop-again Inv-loop μ-loop
-loop-again c = counting-more (c .before .before .before .before .before .before .loop .inv) (omega arith) (not-false _ (c .if1 .left)) (c .before .before .before .tally .ensures)
+loop-again c =
+    let t = c .before .before .before in
+    tallying-more (t .before .before .before .loop .inv) (omega arith) (not-false _ (c .if1 .left)) (t .tally .ensures)
 
 same-length-2 : tie.Need-same-length-2 Inv-loop μ-loop
 same-length-2 c = c .before .loop .inv .kept .long
 
 returns-2 : tie.Need-returns-2 Inv-loop μ-loop
-returns-2 c = counting-all (c .before .loop .inv) (c .loop-test .left)
+returns-2 c = tallying-all (c .before .loop .inv) (c .loop-test .left)
 
 pub first-bad-node-spec : {M : Type 1} → statement M
 first-bad-node-spec =

@@ -1,5 +1,4 @@
 -- `audit::first_holding` meets its contract: a search upwards from address 1. The measure is how many addresses are left. Assumes nothing.
-use mathlib.Core.Path.{_≡_}
 use Prim.Native.Nat.{_-_}
 use native.Mathlib.Omega.{arith}
 use lib.Dec.{eqb}
@@ -8,8 +7,6 @@ use borrow.Author.Tests.{eq-eqb, ne-eqb}
 use Rattle.audit.proofs.Seeking.{Seeking, seeking-none, seeking-more, seeking-found, seeking-all}
 use Rattle.audit.proofs.first_holding.Statement.{statement}
 use Rattle.audit.proofs.first_holding.Tie as tie
-use Rattle.audit.proofs.first_holding.Reads as reads
-use Rattle.audit.proofs.first_holding.Lts as lts
 
 abbrev Inv-loop : tie.InvT-loop
 Inv-loop work nodes v x₀ x = Seeking (λ y. eqb (getD work y 0) v) 1 (nodes - 1) x
