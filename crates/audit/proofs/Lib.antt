@@ -1,0 +1,4 @@
+pub mod Clearing
+pub mod Seeking
+pub mod Tallying
+pub mod Verdicts

@@ -1,0 +1,79 @@
+-- `audit::first_bad_node` meets its contract. Each turn counts the links of one more node, or stops at the node, which is then the lowest.
+-- The measure is how many nodes are left. Assumes nothing.
+use Prim.Native.Nat.{_-_}
+use native.Mathlib.Omega.{arith}
+use borrow.Author.Needs.{needs}
+use borrow.Author.Tests.{not-true, not-false}
+use Rattle.node.specs.Image.{tableOf}
+use Rattle.audit.proofs.Tallying.{Tallying, tallying-none, tallying-more, tallying-bad, tallying-all}
+use Rattle.audit.proofs.first_bad_node.Statement.{statement}
+use Rattle.audit.proofs.first_bad_node.Tie as tie
+
+abbrev Inv-loop : tie.InvT-loop
+Inv-loop image h work₀ mask nodes q₀ work q = Tallying (h .g) (h .n) (tableOf h image) work₀ work q
+
+abbrev μ-loop : tie.MeasureT-loop
+μ-loop image h work₀ mask nodes q₀ work q = nodes - q
+
+mask-requires : tie.Need-mask-requires Inv-loop μ-loop
+mask-requires c κs = search needs
+
+cast-nodes : tie.Need-cast-nodes Inv-loop μ-loop
+cast-nodes c = omega arith
+
+add-nodes : tie.Need-add-nodes Inv-loop μ-loop
+add-nodes c = omega arith
+
+loop-holds : tie.Need-loop-holds Inv-loop μ-loop
+loop-holds c = tallying-none _ _ _ _ (c .before .before .before .before .pre .1 .1)
+
+cast-tally : tie.Need-cast-tally Inv-loop μ-loop
+cast-tally c = omega arith
+
+tally-requires : tie.Need-tally-requires Inv-loop μ-loop
+tally-requires c κs = search needs
+
+returns : tie.Need-returns Inv-loop μ-loop
+returns c =
+    let t = c .before .before .before in
+    tallying-bad (t .before .before .before .loop .inv) (omega arith) (not-true _ (c .if1 .taken)) (t .tally .ensures)
+
+same-length : tie.Need-same-length Inv-loop μ-loop
+same-length c = returns c .kept .long
+
+add-q : tie.Need-add-q Inv-loop μ-loop
+add-q c = omega arith
+
+loop-less : tie.Need-loop-less Inv-loop μ-loop
+loop-less c = omega arith
+
+loop-again : tie.Need-loop-again Inv-loop μ-loop
+loop-again c =
+    let t = c .before .before .before in
+    tallying-more (t .before .before .before .loop .inv) (omega arith) (not-false _ (c .if1 .left)) (t .tally .ensures)
+
+same-length-2 : tie.Need-same-length-2 Inv-loop μ-loop
+same-length-2 c = c .before .loop .inv .kept .long
+
+returns-2 : tie.Need-returns-2 Inv-loop μ-loop
+returns-2 c = tallying-all (c .before .loop .inv) (c .loop-test .left)
+
+pub first-bad-node-spec : {M : Type 1} → statement M
+first-bad-node-spec =
+    tie.close
+    (tie.spec
+    Inv-loop
+    μ-loop
+    mask-requires
+    cast-nodes
+    add-nodes
+    loop-holds
+    cast-tally
+    tally-requires
+    same-length
+    returns
+    add-q
+    loop-less
+    loop-again
+    same-length-2
+    returns-2)

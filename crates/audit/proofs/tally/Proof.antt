@@ -1,0 +1,127 @@
+-- `audit::tally` meets its contract. A node without links is counted as it stands; each turn counts one more link, or stops at a bad one.
+-- The measure is how many links are left. Assumes nothing.
+use mathlib.Core.Path.{sym, _∙_}
+use Prim.Native.Nat.{_-_}
+use native.Mathlib.Omega.{arith}
+use borrow.Author.Needs.{needs}
+use Rattle.node.specs.Image.{tableOf}
+use Rattle.audit.proofs.Tallying.{Counting, counting-none, counting-empty, counting-full, counting-more, counting-room}
+use Rattle.audit.proofs.Tallying.{tallied-all, tallied-bad, tallied-childless}
+use Rattle.audit.proofs.tally.Statement.{statement}
+use Rattle.audit.proofs.tally.Tie as tie
+
+abbrev Inv-loop : tie.InvT-loop
+Inv-loop image h mask q work₀ i₀ work i = Counting (h .g) (h .n) (tableOf h image) q work₀ work i
+
+abbrev μ-loop : tie.MeasureT-loop
+μ-loop image h mask q work₀ i₀ work i = h .n - i
+
+childless-requires : tie.Need-childless-requires Inv-loop μ-loop
+childless-requires c κs = search needs
+
+returns : tie.Need-returns Inv-loop μ-loop
+returns c = tallied-childless _ _ _ _ (c .before .childless .ensures (c .if1 .taken))
+
+loop-holds : tie.Need-loop-holds Inv-loop μ-loop
+loop-holds c = counting-none _ _ _ _ _
+
+link-requires : tie.Need-link-requires Inv-loop μ-loop
+link-requires c κs = search needs
+
+add-i : tie.Need-add-i Inv-loop μ-loop
+add-i c = omega arith
+
+loop-less : tie.Need-loop-less Inv-loop μ-loop
+loop-less c = omega arith
+
+loop-again : tie.Need-loop-again Inv-loop μ-loop
+loop-again c = counting-empty (c .before .before .before .before .loop .inv) (omega arith) (c .before .link .ensures) (c .if3 .taken)
+
+bad-link-requires : tie.Need-bad-link-requires Inv-loop μ-loop
+bad-link-requires c κs = search needs
+
+same-length : tie.Need-same-length Inv-loop μ-loop
+same-length c = c .before .before .before .before .before .before .loop .inv .kept .long
+
+returns-2 : tie.Need-returns-2 Inv-loop μ-loop
+returns-2 c =
+    let n = c .before .before .before in
+    tallied-bad (n .before .before .before .loop .inv) (omega arith) (n .link .ensures) (sym (c .before .bad-link .ensures) ∙ c .if4 .taken)
+
+cast-times : tie.Need-cast-times Inv-loop μ-loop
+cast-times c = omega arith
+
+mul-times : tie.Need-mul-times Inv-loop μ-loop
+mul-times c = omega arith
+
+slice-read-times : tie.Need-slice-read-times Inv-loop μ-loop
+slice-read-times c =
+    let a = c .before .before .before .before .before .before .before in
+    counting-room (a .loop .inv) (a .before .before .before .before .before .pre .1 .1 .1)
+    (sym (c .before .before .bad-link .ensures) ∙ c .before .if4 .left)
+
+add-work : tie.Need-add-work Inv-loop μ-loop
+add-work c = omega arith
+
+cast-work : tie.Need-cast-work Inv-loop μ-loop
+cast-work c = omega arith
+
+mul-work : tie.Need-mul-work Inv-loop μ-loop
+mul-work c = omega arith
+
+slice-write-work : tie.Need-slice-write-work Inv-loop μ-loop
+slice-write-work c = slice-read-times (c .before)
+
+loop-less-2 : tie.Need-loop-less-2 Inv-loop μ-loop
+loop-less-2 c = omega arith
+
+loop-again-2 : tie.Need-loop-again-2 Inv-loop μ-loop
+loop-again-2 c =
+    let b = c .before .before .before in
+    counting-more (b .before .before .before .before .before .loop .inv) (omega arith) (b .before .before .link .ensures)
+    (sym (b .bad-link .ensures) ∙ c .before .before .if4 .left) (slice-read-times (c .before)) (c .if5 .taken)
+
+loop-less-3 : tie.Need-loop-less-3 Inv-loop μ-loop
+loop-less-3 c = omega arith
+
+loop-again-3 : tie.Need-loop-again-3 Inv-loop μ-loop
+loop-again-3 c =
+    let b = c .before .before .before in
+    counting-full (b .before .before .before .before .before .loop .inv) (omega arith) (b .before .before .link .ensures)
+    (sym (b .bad-link .ensures) ∙ c .before .before .if4 .left) (c .if5 .left)
+
+same-length-2 : tie.Need-same-length-2 Inv-loop μ-loop
+same-length-2 c = c .before .before .loop .inv .kept .long
+
+returns-3 : tie.Need-returns-3 Inv-loop μ-loop
+returns-3 c = tallied-all (c .before .before .loop .inv) (omega arith)
+
+pub tally-spec : {M : Type 1} → statement M
+tally-spec =
+    tie.close
+    (tie.spec
+    Inv-loop
+    μ-loop
+    childless-requires
+    returns
+    loop-holds
+    link-requires
+    add-i
+    loop-less
+    loop-again
+    bad-link-requires
+    same-length
+    returns-2
+    cast-times
+    mul-times
+    slice-read-times
+    add-work
+    cast-work
+    mul-work
+    slice-write-work
+    loop-less-2
+    loop-again-2
+    loop-less-3
+    loop-again-3
+    same-length-2
+    returns-3)
