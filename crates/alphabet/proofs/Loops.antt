@@ -2,7 +2,7 @@
 -- different, and none is above `top`: so a code above `top` is new, and any other is new exactly if it is not among them.
 use mathlib.Core.Path.{_≡_, refl, sym, ap, _∙_, subst}
 use mathlib.Core.Logic.{_≢_}
-use mathlib.Core.Bool.{Bool, true, false, _||_, and-true, and-false}
+use mathlib.Core.Bool.{Bool, true, false, _||_, and-true, and-false, true≢false}
 use mathlib.Core.Option.{Option, none, some}
 use Prim.Native.Nat.{ℕ, suc, _+_, _≤_, _<_}
 use native.Mathlib.Numerals.{add-one}
@@ -11,7 +11,7 @@ use mathlib.Core.List.{List, [], _∷_, _++_}
 use lib.Dec.{eqb}
 use lib.ListN.{length, getD, set, take, drop, length-set, length-append}
 use lib.Seq.{split-at, take-take, getD-take, take-suc, take-suc-set, length-take-le}
-use borrow.Author.Tests.{eqb-true, ne-eqb, ltb-false}
+use borrow.Author.Tests.{eqb-true, eqb-false, ne-eqb, ltb-false}
 use Rattle.utf8.specs.Table37.{charLen}
 use Rattle.utf8.specs.Text.{charAt}
 use Rattle.utf8.proofs.Texts.{prepend, charsAt, Passed, passed-none, passed-more, passed-all, passed-ill}
@@ -60,6 +60,26 @@ module _ {codes : List ℕ} {n code i : ℕ} (p : Searching codes n code false i
       let none : among code (take n codes) ≡ false = sym (searching-all p room h) in
       let long : length (take n codes) ≡ n = length-take-le n codes room in
       omega (arith, letter-most (take n codes) code, ltb-false (letterOf (take n codes) code) (length (take n codes)) (letter-below (take n codes) code ∙ none))
+
+neither : (a b : Bool) → (a || b) ≡ false → (a ≡ false) × (b ≡ false)
+neither true b e = absurd (true≢false e)
+neither false b e = (refl, e)
+
+-- four codes at once, none of which is the one looked for
+pub searching-four : {codes : List ℕ} {n code i : ℕ} → Searching codes n code false i → n ≤ length codes → i + 4 ≤ n
+    → (((eqb (getD codes i 0) code || eqb (getD codes (i + 1) 0) code) || eqb (getD codes (i + 2) 0) code) || eqb (getD codes (i + 3) 0) code) ≡ false
+    → Searching codes n code false (i + 4)
+searching-four {codes} {n} {code} {i} p room h e =
+    let two : (i + 1) + 1 ≡ i + 2 = omega arith in
+    let three : (i + 2) + 1 ≡ i + 3 = omega arith in
+    let four : (i + 3) + 1 ≡ i + 4 = omega arith in
+    let (abc, d) = neither _ _ e in
+    let (ab, c) = neither _ _ abc in
+    let (a, b) = neither _ _ ab in
+    let p1 = searching-on p room (omega arith) (eqb-false _ _ a) in
+    let p2 = subst (Searching codes n code false) two (searching-on p1 room (omega arith) (eqb-false _ _ b)) in
+    let p3 = subst (Searching codes n code false) three (searching-on p2 room (omega arith) (eqb-false _ _ c)) in
+    subst (Searching codes n code false) four (searching-on p3 room (omega arith) (eqb-false _ _ d))
 
 -- ---- judging
 

@@ -1,6 +1,7 @@
 // An alphabet: N different characters, judged and decoded in one pass, and the letter number of a character.
 // A pass over characters that ascend is linear: one above all before it is new, and only another is searched for.
 ghost use mathlib.Core.Path.{_≡_};
+ghost use mathlib.Core.Bool.{false};
 ghost use Prim.Native.Nat.{_≤_};
 ghost use lib.ListN.{length, take};
 ghost use Rattle.alphabet.specs.Letters.{among, letterOf};
@@ -58,7 +59,7 @@ pub fn letter(codes: &[u32], n: usize, code: u32) -> usize
     requires { ⌜ n ≤ length (now codes) ⌝ }
     ensures { λ r. ⌜ r ≡ letterOf (take n (now (codes .entry))) code ⌝ }
 {
-    let mut i: usize = 0;
+    let mut i = near(codes, n, code);
     while i < n {
         if codes[i] == code {
             return i;
@@ -66,4 +67,23 @@ pub fn letter(codes: &[u32], n: usize, code: u32) -> usize
         i += 1;
     }
     n
+}
+
+// A place among the first n codes before which the code does not stand. Four codes are compared at once.
+fn near(codes: &[u32], n: usize, code: u32) -> usize
+    requires { ⌜ n ≤ length (now codes) ⌝ }
+    ensures { λ r. ⌜ (r ≤ n) × (among code (take r (now (codes .entry))) ≡ false) ⌝ }
+{
+    let mut i: usize = 0;
+    while i + 4 <= n {
+        if (codes[i] == code)
+            | (codes[i + 1] == code)
+            | (codes[i + 2] == code)
+            | (codes[i + 3] == code)
+        {
+            return i;
+        }
+        i += 4;
+    }
+    i
 }

@@ -42,7 +42,13 @@ pub extern "C" fn measure_look_up_text(image: &[u8], text: &[u8]) -> u64 {
 }
 
 #[no_mangle]
-pub extern "C" fn measure_next_key(image: &[u8], work: &mut [u32], letters: &[u8], after: bool, buffer: &mut [u8]) -> u64 {
+pub extern "C" fn measure_next_key(
+    image: &[u8],
+    work: &mut [u32],
+    letters: &[u8],
+    after: bool,
+    buffer: &mut [u8],
+) -> u64 {
     let answer = trieff::next_key(image, work, letters, after, buffer);
     match answer {
         Found::Key { value, .. } => value,

@@ -61,7 +61,14 @@ fn counted(image: &[u8], h: Head, mask: u32, node: u32, depth: usize, before: u3
 
 // The first stored key at or after the key in hand, or after it. Its letters are at the front of the path then, and the nodes are those
 // on its way from the root on.
-pub fn next(image: &[u8], h: Head, key: Key, after: bool, path: &mut [u8], nodes: &mut [u32]) -> Search
+pub fn next(
+    image: &[u8],
+    h: Head,
+    key: Key,
+    after: bool,
+    path: &mut [u8],
+    nodes: &mut [u32],
+) -> Search
     requires { ⌜ Open h (now image) ⌝ ∗ ⌜ Within (tableOf h (now image)) (h .g) ⌝ }
     requires { ⌜ Ready h key ⌝ ∗ ⌜ key .len ≤ h .max ⌝ ∗ ⌜ Room h (now path) (now nodes) ⌝ }
     ensures { λ r. ⌜ Told h (now (image .entry)) (firstMeeting (meets after (lettersOf key)) (listing (tableOf h (now (image .entry))) (h .n) (h .min) (h .max))) r (now (path .exit)) (now (nodes .exit)) ⌝ }
@@ -71,12 +78,23 @@ pub fn next(image: &[u8], h: Head, key: Key, after: bool, path: &mut [u8], nodes
     let depth = along(image, h, mask, key, path, nodes);
     if depth < key.len {
         let letters = key.letters;
-        return climb(image, h, mask, depth, (letters[depth] as u32) + 1, path, nodes);
+        return climb(
+            image,
+            h,
+            mask,
+            depth,
+            (letters[depth] as u32) + 1,
+            path,
+            nodes,
+        );
     }
     if !after {
         let value = own_value(image, h, nodes[depth], depth);
         if value != 0 {
-            return Search::Found { length: depth, value };
+            return Search::Found {
+                length: depth,
+                value,
+            };
         }
     }
     climb(image, h, mask, depth, 0, path, nodes)
@@ -94,8 +112,7 @@ pub fn onward(image: &[u8], h: Head, len: usize, path: &mut [u8], nodes: &mut [u
 }
 
 // Follows a key as far as its links go, and answers how far that is.
-fn along(image: &[u8], h: Head, mask: u32, key: Key, path: &mut [u8], nodes: &mut [u32]) -> usize
-{
+fn along(image: &[u8], h: Head, mask: u32, key: Key, path: &mut [u8], nodes: &mut [u32]) -> usize {
     let letters = key.letters;
     let len = key.len;
     nodes[0] = 0;
@@ -116,8 +133,15 @@ fn along(image: &[u8], h: Head, mask: u32, key: Key, path: &mut [u8], nodes: &mu
 }
 
 // The first stored key below the path's end from a letter on or, where there is none, behind the letter taken at each node on the way up.
-fn climb(image: &[u8], h: Head, mask: u32, end: usize, first: u32, path: &mut [u8], nodes: &mut [u32]) -> Search
-{
+fn climb(
+    image: &[u8],
+    h: Head,
+    mask: u32,
+    end: usize,
+    first: u32,
+    path: &mut [u8],
+    nodes: &mut [u32],
+) -> Search {
     let mut depth = end;
     let mut from = first;
     loop {
@@ -136,8 +160,16 @@ fn climb(image: &[u8], h: Head, mask: u32, end: usize, first: u32, path: &mut [u
 
 // The first stored key below a node at a depth whose next letter is `from` or a later one. It calls itself on each child; the depth left to
 // max falls.
-fn below(image: &[u8], h: Head, mask: u32, node: u32, depth: usize, from: u32, path: &mut [u8], nodes: &mut [u32]) -> Search
-{
+fn below(
+    image: &[u8],
+    h: Head,
+    mask: u32,
+    node: u32,
+    depth: usize,
+    from: u32,
+    path: &mut [u8],
+    nodes: &mut [u32],
+) -> Search {
     if (h.max as usize) <= depth {
         return Search::Missing;
     }

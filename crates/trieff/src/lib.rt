@@ -120,7 +120,13 @@ pub fn look_up_text(image: &[u8], text: &[u8]) -> Looked
 
 // The first stored key at or after the key given or, with `after`, after it: its letters at the front of the key buffer, its length and its
 // value. Refusals: 1 to 8, 9 for a key longer than max, 10, 14, 15.
-pub fn next_key(image: &[u8], work: &mut [u32], letters: &[u8], after: bool, buffer: &mut [u8]) -> Found
+pub fn next_key(
+    image: &[u8],
+    work: &mut [u32],
+    letters: &[u8],
+    after: bool,
+    buffer: &mut [u8],
+) -> Found
     ensures { λ r. ⌜ Nexts (now (image .entry)) (now (work .entry)) (now (letters .entry)) after (now (buffer .entry)) r (now (work .exit)) (now (buffer .exit)) ⌝ }
 {
     let mut codes = [0u32; 256];

@@ -50,10 +50,10 @@ fn fits(row: [u8; 5], s: &[u8], at: usize) -> bool
     ensures { λ r. ⌜ r ≡ fitsRow row (now (s .entry)) at ⌝ }
 {
     let n = row[4] as usize;
-    if s.len() < n {
+    if s.len() < at {
         return false;
     }
-    if s.len() - n < at {
+    if s.len() - at < n {
         return false;
     }
     let mut i: usize = 0;
