@@ -1,0 +1,64 @@
+-- The texts of keys and lines. A key one letter longer has a dot and that letter more; a letter takes three digits and a dot at most, a
+-- number twenty digits: so each line fits the room that its function asks for.
+use mathlib.Core.Path.{_≡_, refl, sym, ap, _∙_}
+use Prim.Native.Nat.{ℕ, zero, suc, _+_, _*_, _≤_, _<_}
+use native.Mathlib.Nat.{not-suc-le-zero}
+use native.Mathlib.Omega.{arith}
+use mathlib.Core.List.{List, [], _∷_, _++_, append-assoc, append-nil}
+use lib.ListN.{length, length-append}
+use Rattle.field.specs.Field.{Bytes}
+use Rattle.lines.specs.Lines.{decimal, dotted, keyText, entryLine, entriesLine, refusedLine}
+use Rattle.lines.proofs.Digits.{decimal-long, letter-long}
+
+-- ---- a key one letter longer
+
+dotted-more : (k : List ℕ) (x : ℕ) → dotted (k ++ (x ∷ [])) ≡ dotted k ++ (46 ∷ decimal x)
+unfolding dotted
+dotted-more [] x = ap (λ (d : List ℕ). 46 ∷ d) (append-nil (decimal x))
+dotted-more (y ∷ k) x =
+    ap (λ (d : List ℕ). 46 ∷ (decimal y ++ d)) (dotted-more k x)
+    ∙ ap (λ (d : List ℕ). 46 ∷ d) (sym (append-assoc (decimal y) (dotted k) (46 ∷ decimal x)))
+
+pub key-one : (x : ℕ) → keyText (x ∷ []) ≡ decimal x
+unfolding keyText dotted
+key-one x = append-nil (decimal x)
+
+pub key-more : (k : List ℕ) (x : ℕ) → 0 < length k → keyText (k ++ (x ∷ [])) ≡ keyText k ++ (46 ∷ decimal x)
+unfolding keyText
+key-more [] x h = absurd (not-suc-le-zero h)
+key-more (y ∷ k) x h =
+    ap (λ (d : List ℕ). decimal y ++ d) (dotted-more k x) ∙ sym (append-assoc (decimal y) (dotted k) (46 ∷ decimal x))
+
+-- ---- how long they are
+
+dotted-long : (k : List ℕ) → Bytes k → length (dotted k) ≤ length k * 4
+unfolding dotted
+dotted-long [] b = omega arith
+dotted-long (x ∷ k) b =
+    omega (arith, length-append (decimal x) (dotted k), letter-long x (b 0), dotted-long k (λ j. b (suc j)))
+
+pub key-long : (k : List ℕ) → Bytes k → length (keyText k) ≤ length k * 4 + 1
+unfolding keyText
+key-long [] b = omega arith
+key-long (x ∷ k) b =
+    omega (arith, length-append (decimal x) (dotted k), letter-long x (b 0), dotted-long k (λ j. b (suc j)))
+
+pub entry-long : (k : List ℕ) (v : ℕ) → Bytes k → length (entryLine k v) ≤ length k * 4 + 32
+unfolding entryLine
+entry-long k v b =
+    omega (arith, length-append (keyText k) (32 ∷ (decimal v ++ (10 ∷ []))), length-append (decimal v) (10 ∷ []), key-long k b, decimal-long v)
+
+pub entries-long : (n : ℕ) → length (entriesLine n) ≤ 32
+unfolding entriesLine
+entries-long n = omega (arith, length-append (decimal n) (10 ∷ []), decimal-long n)
+
+pub refused-long : (n place : ℕ) → length (refusedLine n place) ≤ 64
+unfolding refusedLine
+refused-long n place =
+    let rest : List ℕ = decimal place ++ (10 ∷ []) in
+    omega
+    (arith,
+    length-append (decimal n) (32 ∷ 97 ∷ 116 ∷ 32 ∷ rest),
+    length-append (decimal place) (10 ∷ []),
+    decimal-long n,
+    decimal-long place)
