@@ -6,14 +6,14 @@ use native.Mathlib.Nat.{not-suc-le-zero}
 use native.Mathlib.Numerals.{add-one, sub-one}
 use native.Mathlib.Omega.{arith}
 use mathlib.Core.List.{List, [], _∷_, _++_}
-use lib.ListN.{length, getD, set, take, length-set, length-append}
-use lib.Seq.{sets, take-suc, length-take-le}
+use lib.ListN.{length, getD, set, take, drop, length-set, length-append, length-drop}
+use lib.Seq.{sets, take-suc, length-take-le, drop-append-le, getD-take}
 use Rattle.field.specs.Field.{Bytes}
-use Rattle.field.proofs.Bytes.{bytes-take}
-use Rattle.lines.specs.Lines.{decimal, keyText, Laid}
-use Rattle.lines.proofs.Digits.{decimal-one, decimal-more, decimal-long, figures, length-figures, figures-all}
-use Rattle.lines.proofs.Laying.{laid-as, laid-one, laid-join, sets-last}
-use Rattle.lines.proofs.Texts.{key-one, key-more, key-long}
+use Rattle.field.proofs.Bytes.{bytes-take, bytes-drop}
+use Rattle.lines.specs.Lines.{decimal, dotted, keyText, Laid}
+use Rattle.lines.proofs.Digits.{decimal-one, decimal-more, decimal-long, letter-long, figures, length-figures, figures-all}
+use Rattle.lines.proofs.Laying.{laid-long, laid-as, laid-one, laid-join, sets-last}
+use Rattle.lines.proofs.Texts.{dotted-more, dotted-long, key-parts}
 
 -- `places`: n digits are counted, but for one, and x is left of v
 pub record Counting (v x n : ℕ) : Type 0 where
@@ -68,41 +68,60 @@ unfolding figures
 filling-all {i = zero} p h = p .left
 filling-all {i = suc i} p h = absurd (not-suc-le-zero h)
 
--- `letters`: the first i letters of the path, one at least, are laid
-pub record Spelling (l : List ℕ) (at : ℕ) (path : List ℕ) (s : List ℕ) (end i : ℕ) : Type 0 where
+-- `letters`: of the first i letters of the path, those behind the first are laid from `start` on
+pub record Spelling (l : List ℕ) (start : ℕ) (path : List ℕ) (len : ℕ) (s : List ℕ) (end i : ℕ) : Type 0 where
   pub some : 0 < i
-  pub within : i ≤ length path
-  pub laid : Laid l at (keyText (take i path)) end s
+  pub within : i ≤ len
+  pub inside : len ≤ length path
+  pub laid : Laid l start (dotted (drop 1 (take i path))) end s
 
-pub spelling-one : {l : List ℕ} {at : ℕ} {path s : List ℕ} {end : ℕ} → 0 < length path → Laid l at (decimal (getD path 0 0)) end s → Spelling l at path s end 1
-spelling-one {l} {at} {path} {s} {end} h p =
-    record {
-      some = omega arith;
-      within = h;
-      laid = laid-as (sym (ap keyText (take-suc path 0 0 h) ∙ key-one (getD path 0 0))) p;
-    }
+pub spelling-none : (l : List ℕ) (start : ℕ) (path : List ℕ) {len : ℕ} → 0 < len → len ≤ length path → Spelling l start path len l start 1
+unfolding dotted
+spelling-none l start [] h f = absurd (omega arith)
+spelling-none l start (x ∷ path) h f = record { some = omega arith; within = h; inside = f; laid = record { bytes = refl; ends = omega arith } }
 
-pub spelling-more : {l : List ℕ} {at : ℕ} {path s : List ℕ} {end i : ℕ} {s′ : List ℕ} {end′ : ℕ}
-    → Spelling l at path s end i
-    → i < length path
+pub spelling-more : {l : List ℕ} {start : ℕ} {path : List ℕ} {len : ℕ} {s : List ℕ} {end i : ℕ} {s′ : List ℕ} {end′ : ℕ}
+    → Spelling l start path len s end i
+    → i < len
     → Laid (set s end 46) (end + 1) (decimal (getD path i 0)) end′ s′
-    → Spelling l at path s′ end′ (i + 1)
-spelling-more {l} {at} {path} {s} {end} {i} {s′} {end′} p h q =
-    let n : length (take i path) ≡ i = length-take-le i path (p .within) in
-    let e : keyText (take (i + 1) path) ≡ keyText (take i path) ++ (46 ∷ decimal (getD path i 0)) =
-            ap (λ (k : ℕ). keyText (take k path)) (add-one i)
-            ∙ ap keyText (take-suc path i 0 h)
-            ∙ key-more (take i path) (getD path i 0) (omega (arith, p .some)) in
+    → Spelling l start path len s′ end′ (i + 1)
+spelling-more {path} {s} {end} {i} p h q =
+    let n : length (take i path) ≡ i = length-take-le i path (omega (arith, p .within, p .inside)) in
+    let e : dotted (drop 1 (take i path)) ++ (46 ∷ decimal (getD path i 0)) ≡ dotted (drop 1 (take (i + 1) path)) =
+            sym (dotted-more (drop 1 (take i path)) (getD path i 0))
+            ∙ ap dotted (sym (drop-append-le 1 (take i path) (getD path i 0 ∷ []) (omega (arith, p .some))))
+            ∙ ap (λ (k : List ℕ). dotted (drop 1 k)) (sym (take-suc path i 0 (omega (arith, p .inside))))
+            ∙ ap (λ (k : ℕ). dotted (drop 1 (take k path))) (sym (add-one i)) in
     record {
       some = omega arith;
       within = omega arith;
-      laid = laid-as (sym e) (laid-join (p .laid) (laid-join (laid-one s end 46 refl) q));
+      inside = p .inside;
+      laid = laid-as e (laid-join (p .laid) (laid-join (laid-one s end 46 refl) q));
     }
 
-pub spelling-room : {l : List ℕ} {at : ℕ} {path s : List ℕ} {end i : ℕ} → Spelling l at path s end i → Bytes path → end ≤ at + (i * 4 + 1)
-spelling-room {path} {i} p b =
-    let n : length (take i path) ≡ i = length-take-le i path (p .within) in
-    omega (arith, p .laid .ends, key-long (take i path) (bytes-take i path b))
+module _ {l′ : List ℕ} {at : ℕ} {l : List ℕ} {start : ℕ} {path : List ℕ} {len : ℕ} {s : List ℕ} {end i : ℕ} (first : Laid l′ at (decimal (getD path 0 0)) start l) (p : Spelling l start path len s end i) where
+  long : length (take i path) ≡ i
+  long = length-take-le i path (omega (arith, p .within, p .inside))
 
-pub spelling-all : {l : List ℕ} {at : ℕ} {path s : List ℕ} {end i len : ℕ} → Spelling l at path s end i → i ≡ len → Laid l at (keyText (take len path)) end s
-spelling-all {path} p e = laid-as (ap (λ (k : ℕ). keyText (take k path)) e) (p .laid)
+  -- a dot and a letter more have room
+  pub spelling-room : Bytes path → i < len → at + (len * 4 + 1) ≤ length l′ → end + 4 ≤ length s
+  spelling-room b h f =
+      omega
+      (arith,
+      long,
+      p .some,
+      p .laid .ends,
+      first .ends,
+      laid-long first,
+      laid-long (p .laid),
+      letter-long (getD path 0 0) (b 0),
+      length-drop 1 (take i path),
+      dotted-long (drop 1 (take i path)) (bytes-drop 1 (take i path) (bytes-take i path b)))
+
+  pub spelling-all : len ≤ i → Laid l′ at (keyText (take len path)) end s
+  spelling-all h =
+      let e : i ≡ len = omega (arith, p .within) in
+      let t : decimal (getD path 0 0) ++ dotted (drop 1 (take i path)) ≡ keyText (take i path) =
+              ap (λ (x : ℕ). decimal x ++ dotted (drop 1 (take i path))) (sym (getD-take i path 0 0 (p .some)))
+              ∙ sym (key-parts (take i path) (omega (arith, p .some, long))) in
+      laid-as (t ∙ ap (λ (k : ℕ). keyText (take k path)) e) (laid-join first (p .laid))

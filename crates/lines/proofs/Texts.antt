@@ -5,33 +5,32 @@ use Prim.Native.Nat.{ℕ, zero, suc, _+_, _*_, _≤_, _<_}
 use native.Mathlib.Nat.{not-suc-le-zero}
 use native.Mathlib.Omega.{arith}
 use mathlib.Core.List.{List, [], _∷_, _++_, append-assoc, append-nil}
-use lib.ListN.{length, length-append}
+use lib.ListN.{length, getD, take, drop, length-append}
 use Rattle.field.specs.Field.{Bytes}
 use Rattle.lines.specs.Lines.{decimal, dotted, keyText, entryLine, entriesLine, refusedLine}
 use Rattle.lines.proofs.Digits.{decimal-long, letter-long}
 
--- ---- a key one letter longer
+-- ---- a key is its first letter and the dotted others, and one more of these is a dot and that letter more
 
-dotted-more : (k : List ℕ) (x : ℕ) → dotted (k ++ (x ∷ [])) ≡ dotted k ++ (46 ∷ decimal x)
+pub dotted-more : (k : List ℕ) (x : ℕ) → dotted (k ++ (x ∷ [])) ≡ dotted k ++ (46 ∷ decimal x)
 unfolding dotted
 dotted-more [] x = ap (λ (d : List ℕ). 46 ∷ d) (append-nil (decimal x))
 dotted-more (y ∷ k) x =
     ap (λ (d : List ℕ). 46 ∷ (decimal y ++ d)) (dotted-more k x)
     ∙ ap (λ (d : List ℕ). 46 ∷ d) (sym (append-assoc (decimal y) (dotted k) (46 ∷ decimal x)))
 
-pub key-one : (x : ℕ) → keyText (x ∷ []) ≡ decimal x
-unfolding keyText dotted
-key-one x = append-nil (decimal x)
-
-pub key-more : (k : List ℕ) (x : ℕ) → 0 < length k → keyText (k ++ (x ∷ [])) ≡ keyText k ++ (46 ∷ decimal x)
+pub key-none : {n : ℕ} (path : List ℕ) → n ≡ 0 → 45 ∷ [] ≡ keyText (take n path)
 unfolding keyText
-key-more [] x h = absurd (not-suc-le-zero h)
-key-more (y ∷ k) x h =
-    ap (λ (d : List ℕ). decimal y ++ d) (dotted-more k x) ∙ sym (append-assoc (decimal y) (dotted k) (46 ∷ decimal x))
+key-none path e = sym (ap (λ (k : ℕ). keyText (take k path)) e)
+
+pub key-parts : (k : List ℕ) → 0 < length k → keyText k ≡ decimal (getD k 0 0) ++ dotted (drop 1 k)
+unfolding keyText
+key-parts [] h = absurd (not-suc-le-zero h)
+key-parts (x ∷ k) h = refl
 
 -- ---- how long they are
 
-dotted-long : (k : List ℕ) → Bytes k → length (dotted k) ≤ length k * 4
+pub dotted-long : (k : List ℕ) → Bytes k → length (dotted k) ≤ length k * 4
 unfolding dotted
 dotted-long [] b = omega arith
 dotted-long (x ∷ k) b =

@@ -1,3 +1,14 @@
+-- `lines::letters` meets its contract. Behind the first letter a turn lays a dot and the next one; each letter has four bytes of room.
+-- The measure is how many letters are left. Assumes nothing.
+use mathlib.Core.Path.{refl, _∙_}
+use Prim.Native.Nat.{_+_, _-_, _≤_}
+use native.Mathlib.Omega.{arith}
+use borrow.Author.Needs.{needs}
+use lib.ListN.{length, getD, length-set}
+use Rattle.lines.specs.Lines.{Laid, decimal}
+use Rattle.lines.proofs.Texts.{key-none}
+use Rattle.lines.proofs.Laying.{laid-long, laid-as, laid-one}
+use Rattle.lines.proofs.Loops.{Spelling, spelling-none, spelling-more, spelling-room, spelling-all}
 use Rattle.lines.proofs.letters.Statement.{statement}
 use Rattle.lines.proofs.letters.Tie as tie
 use Rattle.lines.proofs.letters.Reads as reads
@@ -5,74 +16,71 @@ use Rattle.lines.proofs.letters.Lts as lts
 use Rattle.lines.proofs.letter.Reads as letter-reads
 
 abbrev Inv-loop : tie.InvT-loop
-Inv-loop out₀ at path len end₀ i₀ out end i = ?
+Inv-loop out₀ at path len end₀ i₀ out end i = Spelling out₀ end₀ path len out end i
 
 abbrev μ-loop : tie.MeasureT-loop
-μ-loop out₀ at path len end₀ i₀ out end i = ?
+μ-loop out₀ at path len end₀ i₀ out end i = len - i
 
--- src/lib.rt:49:9
+first : (c : tie.At-loop Inv-loop μ-loop)
+    → Laid (c .before .before .before .before .before .before .before .before .before .args .out .now)
+    (c .before .before .before .before .before .before .before .before .before .args .at)
+    (decimal (getD (c .before .before .before .before .before .before .before .before .before .args .path .now) 0 0))
+    (c .before .before .before .letter .result)
+    (c .before .before .before .letter .last .0)
+first c = c .before .before .before .letter .ensures
+
+room : (c : tie.In-loop Inv-loop μ-loop) → c .before .loop .end + 4 ≤ length (c .before .loop .out)
+room c =
+    spelling-room (first (c .before)) (c .before .loop .inv) (λ k. c .before .before .before .before .before .shared-slice-known2 .given k .fits)
+    (omega arith) (omega arith)
+
 slice-write-out : tie.Need-slice-write-out Inv-loop μ-loop
-slice-write-out c = ?
+slice-write-out c = omega arith
 
--- src/lib.rt:50:16
 add-result : tie.Need-add-result Inv-loop μ-loop
-add-result c = ?
+add-result c = omega arith
 
--- src/lib.rt:50:9
 same-length : tie.Need-same-length Inv-loop μ-loop
-same-length c = ?
+same-length c = search needs
 
--- src/lib.rt:50:9
 returns : tie.Need-returns Inv-loop μ-loop
-returns c = ?
+returns c = laid-as (key-none _ (c .if1 .taken)) (laid-one _ _ _ refl)
 
--- src/lib.rt:52:35
 shared-slice-read-letter : tie.Need-shared-slice-read-letter Inv-loop μ-loop
-shared-slice-read-letter c = ?
+shared-slice-read-letter c = omega arith
 
--- src/lib.rt:52:9
 letter-requires : tie.Need-letter-requires Inv-loop μ-loop
-letter-requires c κs = ?
+letter-requires c κs = omega arith
 
--- src/lib.rt:54:5
 loop-holds : tie.Need-loop-holds Inv-loop μ-loop
-loop-holds c = ?
+loop-holds c = spelling-none _ _ _ (omega arith) (omega arith)
 
--- src/lib.rt:55:9
 slice-write-out-2 : tie.Need-slice-write-out-2 Inv-loop μ-loop
-slice-write-out-2 c = ?
+slice-write-out-2 c = omega (arith, room c)
 
--- src/lib.rt:56:27
 add-letter : tie.Need-add-letter Inv-loop μ-loop
-add-letter c = ?
+add-letter c = omega (arith, room (c .before), laid-long (c .before .before .loop .inv .laid))
 
--- src/lib.rt:56:36
 shared-slice-read-letter-2 : tie.Need-shared-slice-read-letter-2 Inv-loop μ-loop
-shared-slice-read-letter-2 c = ?
+shared-slice-read-letter-2 c = omega arith
 
--- src/lib.rt:56:9
 letter-requires-2 : tie.Need-letter-requires-2 Inv-loop μ-loop
-letter-requires-2 c κs = ?
+letter-requires-2 c κs = simp length-set (omega (arith, room (c .before .before)))
 
--- src/lib.rt:57:9
 add-i : tie.Need-add-i Inv-loop μ-loop
-add-i c = ?
+add-i c = omega arith
 
--- src/lib.rt:54:5
 loop-less : tie.Need-loop-less Inv-loop μ-loop
-loop-less c = ?
+loop-less c = omega arith
 
--- src/lib.rt:54:5
 loop-again : tie.Need-loop-again Inv-loop μ-loop
-loop-again c = ?
+loop-again c = spelling-more (c .before .before .before .before .before .before .loop .inv) (omega arith) (c .before .before .letter2 .ensures)
 
--- src/lib.rt:43:1
 same-length-2 : tie.Need-same-length-2 Inv-loop μ-loop
-same-length-2 c = ?
+same-length-2 c = laid-long (c .before .loop .inv .laid) ∙ laid-long (first (c .before))
 
--- src/lib.rt:43:1
 returns-2 : tie.Need-returns-2 Inv-loop μ-loop
-returns-2 c = ?
+returns-2 c = spelling-all (first (c .before)) (c .before .loop .inv) (omega arith)
 
 pub letters-spec : {M : Type 1} → statement M
 letters-spec =
