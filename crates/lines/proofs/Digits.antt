@@ -11,6 +11,10 @@ use borrow.Author.Tests.{lt-ltb, le-ltb}
 use lib.ListN.{length, length-append}
 use Rattle.lines.specs.Lines.{decimalBy, decimal}
 
+-- the same last digit behind the same text
+with-last : {d e : List ℕ} (v : ℕ) → d ≡ e → d ++ ((48 + v % 10) ∷ []) ≡ e ++ ((48 + v % 10) ∷ [])
+with-last v p = ap (λ (d : List ℕ). d ++ ((48 + v % 10) ∷ [])) p
+
 -- ---- by its steps
 
 by-one : (n v : ℕ) → v < 10 → decimalBy n v ≡ (48 + v) ∷ []
@@ -31,8 +35,7 @@ step-left (suc n) v h = go (decLt v 10) (step-left n (v / 10) (tenth n v h))
   where
     go : Dec (v < 10) → decimalBy (suc n) (v / 10) ≡ decimalBy n (v / 10) → decimalBy (suc (suc n)) v ≡ decimalBy (suc n) v
     go (yes s) e = by-one (suc (suc n)) v s ∙ sym (by-one (suc n) v s)
-    go (no b) e =
-        by-more (suc n) v (omega arith) ∙ ap (λ (d : List ℕ). d ++ ((48 + v % 10) ∷ [])) e ∙ sym (by-more n v (omega arith))
+    go (no b) e = by-more (suc n) v (omega arith) ∙ with-last v e ∙ sym (by-more n v (omega arith))
 
 steps-left : (k n v : ℕ) → v < 10 ^ suc n → decimalBy (k + n) v ≡ decimalBy n v
 steps-left zero n v h = rw (zero-add n)
@@ -48,18 +51,16 @@ decimal-one v h = by-one 19 v h
 
 pub decimal-more : (v : ℕ) → 10 ≤ v → v < 10 ^ 20 → decimal v ≡ decimal (v / 10) ++ ((48 + v % 10) ∷ [])
 unfolding decimal
-decimal-more v h b =
-    by-more 18 v h ∙ ap (λ (d : List ℕ). d ++ ((48 + v % 10) ∷ [])) (sym (step-left 18 (v / 10) (tenth 18 v b)))
+decimal-more v h b = by-more 18 v h ∙ with-last v (sym (step-left 18 (v / 10) (tenth 18 v b)))
 
 pub decimal-two : (v : ℕ) → 10 ≤ v → v < 100 → decimal v ≡ (48 + v / 10) ∷ (48 + v % 10) ∷ []
-decimal-two v h b =
-    decimal-more v h (omega arith) ∙ ap (λ (d : List ℕ). d ++ ((48 + v % 10) ∷ [])) (decimal-one (v / 10) (omega arith))
+decimal-two v h b = decimal-more v h (omega arith) ∙ with-last v (decimal-one (v / 10) (omega arith))
 
 pub decimal-three : (v : ℕ) → 100 ≤ v → v < 1000 → decimal v ≡ (48 + v / 100) ∷ (48 + v / 10 % 10) ∷ (48 + v % 10) ∷ []
 decimal-three v h b =
     let e : v / 10 / 10 ≡ v / 100 = omega arith in
     decimal-more v (omega arith) (omega arith)
-    ∙ ap (λ (d : List ℕ). d ++ ((48 + v % 10) ∷ [])) (decimal-two (v / 10) (omega arith) (omega arith))
+    ∙ with-last v (decimal-two (v / 10) (omega arith) (omega arith))
     ∙ ap (λ (q : ℕ). (48 + q) ∷ (48 + v / 10 % 10) ∷ (48 + v % 10) ∷ []) e
 
 -- ---- how long it is
@@ -102,13 +103,15 @@ figures-more : (n v : ℕ) → 10 ≤ v → figures (length (decimalBy n (v / 10
 unfolding figures
 figures-more n v h e =
     rw (by-more n v h, length-append (decimalBy n (v / 10)) ((48 + v % 10) ∷ []), add-one (length (decimalBy n (v / 10))))
-    (ap (λ (d : List ℕ). d ++ ((48 + v % 10) ∷ [])) e)
+    (with-last v e)
 
 figures-by : (n v : ℕ) → v < 10 ^ suc n → figures (length (decimalBy n v)) v ≡ decimalBy n v
 figures-by zero v h = figures-one zero v h
 figures-by (suc n) v h = go (decLt v 10) (figures-by n (v / 10) (tenth n v h))
   where
-    go : Dec (v < 10) → figures (length (decimalBy n (v / 10))) (v / 10) ≡ decimalBy n (v / 10) → figures (length (decimalBy (suc n) v)) v ≡ decimalBy (suc n) v
+    go : Dec (v < 10)
+        → figures (length (decimalBy n (v / 10))) (v / 10) ≡ decimalBy n (v / 10)
+        → figures (length (decimalBy (suc n) v)) v ≡ decimalBy (suc n) v
     go (yes s) e = figures-one (suc n) v s
     go (no b) e = figures-more n v (omega arith) e
 

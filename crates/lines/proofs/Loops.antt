@@ -15,7 +15,7 @@ use Rattle.lines.proofs.Digits.{decimal-one, decimal-more, decimal-long
 use Rattle.lines.proofs.Laying.{laid-long, laid-as, laid-one, laid-join, sets-last}
 use Rattle.lines.proofs.Texts.{dotted-more, dotted-long, key-parts}
 
--- `places`: n digits are counted, but for one, and x is left of v
+-- `places`: x is left of v, and n is one more than the digits passed
 pub record Counting (v x n : ℕ) : Type 0 where
   pub below : x ≤ v
   pub counted : n + length (decimal x) ≡ length (decimal v) + 1
@@ -26,7 +26,7 @@ counting-none v = record { below = omega arith; counted = omega arith }
 pub counting-more : {v x n : ℕ} → Counting v x n → 10 ≤ x → v < 2 ^ 64 → Counting v (x / 10) (n + 1)
 counting-more {v} {x} {n} p h b =
     let more : length (decimal x) ≡ length (decimal (x / 10)) + 1 =
-            ap length (decimal-more x h (omega (arith, p .below))) ∙ length-append (decimal (x / 10)) ((48 + x % 10) ∷ []) in
+    ap length (decimal-more x h (omega (arith, p .below))) ∙ length-append (decimal (x / 10)) ((48 + x % 10) ∷ []) in
     record { below = omega (arith, p .below); counted = omega (arith, p .counted) }
 
 pub counting-room : {v x n : ℕ} → Counting v x n → n ≤ 21
@@ -49,7 +49,10 @@ filling-none l at v e b =
       left = ap (λ (w : ℕ). sets l at (figures w v)) e ∙ ap (λ (d : List ℕ). sets l at d) (figures-all v (omega arith));
     }
 
-pub filling-more : {l : List ℕ} {at v : ℕ} {s : List ℕ} {x i : ℕ} → Filling l at v s x i → 0 < i → Filling l at v (set s (at + (i - 1)) (48 + x % 10)) (x / 10) (i - 1)
+pub filling-more : {l : List ℕ} {at v : ℕ} {s : List ℕ} {x i : ℕ}
+    → Filling l at v s x i
+    → 0 < i
+    → Filling l at v (set s (at + (i - 1)) (48 + x % 10)) (x / 10) (i - 1)
 unfolding figures
 filling-more {i = zero} p h = absurd (not-suc-le-zero h)
 filling-more {at} {s} {x} {i = suc i} p h =
@@ -78,7 +81,13 @@ pub record Spelling (l : List ℕ) (start : ℕ) (path : List ℕ) (len : ℕ) (
 pub spelling-none : (l : List ℕ) (start : ℕ) (path : List ℕ) {len : ℕ} → 0 < len → len ≤ length path → Spelling l start path len l start 1
 unfolding dotted
 spelling-none l start [] h f = absurd (omega arith)
-spelling-none l start (x ∷ path) h f = record { some = omega arith; within = h; inside = f; laid = record { bytes = refl; ends = omega arith } }
+spelling-none l start (x ∷ path) h f =
+    record { some = omega arith; within = h; inside = f; laid = record { bytes = refl; ends = omega arith } }
+
+taken : {l : List ℕ} {start : ℕ} {path : List ℕ} {len : ℕ} {s : List ℕ} {end i : ℕ}
+    → Spelling l start path len s end i
+    → length (take i path) ≡ i
+taken {path} {i} p = length-take-le i path (omega (arith, p .within, p .inside))
 
 pub spelling-more : {l : List ℕ} {start : ℕ} {path : List ℕ} {len : ℕ} {s : List ℕ} {end i : ℕ} {s′ : List ℕ} {end′ : ℕ}
     → Spelling l start path len s end i
@@ -86,12 +95,11 @@ pub spelling-more : {l : List ℕ} {start : ℕ} {path : List ℕ} {len : ℕ} {
     → Laid (set s end 46) (end + 1) (decimal (getD path i 0)) end′ s′
     → Spelling l start path len s′ end′ (i + 1)
 spelling-more {path} {s} {end} {i} p h q =
-    let n : length (take i path) ≡ i = length-take-le i path (omega (arith, p .within, p .inside)) in
     let e : dotted (drop 1 (take i path)) ++ (46 ∷ decimal (getD path i 0)) ≡ dotted (drop 1 (take (i + 1) path)) =
-            sym (dotted-more (drop 1 (take i path)) (getD path i 0))
-            ∙ ap dotted (sym (drop-append-le 1 (take i path) (getD path i 0 ∷ []) (omega (arith, p .some))))
-            ∙ ap (λ (k : List ℕ). dotted (drop 1 k)) (sym (take-suc path i 0 (omega (arith, p .inside))))
-            ∙ ap (λ (k : ℕ). dotted (drop 1 (take k path))) (sym (add-one i)) in
+    sym (dotted-more (drop 1 (take i path)) (getD path i 0))
+    ∙ ap dotted (sym (drop-append-le 1 (take i path) (getD path i 0 ∷ []) (omega (arith, p .some, taken p))))
+    ∙ ap (λ (k : List ℕ). dotted (drop 1 k)) (sym (take-suc path i 0 (omega (arith, p .inside))))
+    ∙ ap (λ (k : ℕ). dotted (drop 1 (take k path))) (sym (add-one i)) in
     record {
       some = omega arith;
       within = omega arith;
@@ -99,29 +107,29 @@ spelling-more {path} {s} {end} {i} p h q =
       laid = laid-as e (laid-join (p .laid) (laid-join (laid-one s end 46 refl) q));
     }
 
-module _ {l′ : List ℕ} {at : ℕ} {l : List ℕ} {start : ℕ} {path : List ℕ} {len : ℕ} {s : List ℕ} {end i : ℕ} (first : Laid l′ at (decimal (getD path 0 0)) start l) (p : Spelling l start path len s end i) where
-  long : length (take i path) ≡ i
-  long = length-take-le i path (omega (arith, p .within, p .inside))
-
+module _ {l′ : List ℕ} {at : ℕ} {l : List ℕ} {start : ℕ} {path : List ℕ} {len : ℕ} {s : List ℕ} {end i : ℕ}
+    (first : Laid l′ at (decimal (getD path 0 0)) start l)
+    (p : Spelling l start path len s end i) where
   -- a dot and a letter more have room
   pub spelling-room : Bytes path → i < len → at + (len * 4 + 1) ≤ length l′ → end + 4 ≤ length s
   spelling-room b h f =
-      omega
-      (arith,
-      long,
-      p .some,
-      p .laid .ends,
-      first .ends,
-      laid-long first,
-      laid-long (p .laid),
-      letter-long (getD path 0 0) (b 0),
-      length-drop 1 (take i path),
-      dotted-long (drop 1 (take i path)) (bytes-drop 1 (take i path) (bytes-take i path b)))
+      omega (
+        arith,
+        taken p,
+        p .some,
+        p .laid .ends,
+        first .ends,
+        laid-long first,
+        laid-long (p .laid),
+        letter-long (getD path 0 0) (b 0),
+        length-drop 1 (take i path),
+        dotted-long (drop 1 (take i path)) (bytes-drop 1 (take i path) (bytes-take i path b)),
+      )
 
   pub spelling-all : len ≤ i → Laid l′ at (keyText (take len path)) end s
   spelling-all h =
       let e : i ≡ len = omega (arith, p .within) in
       let t : decimal (getD path 0 0) ++ dotted (drop 1 (take i path)) ≡ keyText (take i path) =
-              ap (λ (x : ℕ). decimal x ++ dotted (drop 1 (take i path))) (sym (getD-take i path 0 0 (p .some)))
-              ∙ sym (key-parts (take i path) (omega (arith, p .some, long))) in
+      ap (λ (x : ℕ). decimal x ++ dotted (drop 1 (take i path))) (sym (getD-take i path 0 0 (p .some)))
+      ∙ sym (key-parts (take i path) (omega (arith, p .some, taken p))) in
       laid-as (t ∙ ap (λ (k : ℕ). keyText (take k path)) e) (laid-join first (p .laid))

@@ -1,5 +1,5 @@
--- 01, "The listing program": its lines, as text in ASCII. "Letter numbers are joined by dots; the empty key is `-`." "A refused image writes
--- one line".
+-- 01, "The listing program": its lines, as text in ASCII. "Letter numbers are joined by dots; the empty key is `-`." "A refused image
+-- writes one line".
 use Prim.Native.Nat.{ℕ, zero, suc, _+_, _/_, _%_}
 use mathlib.Core.Path.{_≡_}
 use mathlib.Core.Bool.{cond}

@@ -1,42 +1,60 @@
+-- `lines::entry` meets its contract: the key, a blank, the value and the line's end, laid one behind another, are the line.
+-- Assumes nothing.
+use mathlib.Core.Path.{_≡_, refl, _∙_}
+use Prim.Native.Nat.{_+_, _≤_}
+use native.Mathlib.Omega.{arith}
+use lib.ListN.{length, take, length-set}
+use Rattle.lines.specs.Lines.{Laid, keyText, entryLine}
+use Rattle.lines.proofs.Laying.{laid-long, laid-one, laid-join}
+use Rattle.lines.proofs.Texts.{decimal-end, letters-long}
 use borrow.Author.Needs.{needs}
 use Rattle.lines.proofs.entry.Statement.{statement}
 use Rattle.lines.proofs.entry.Tie as tie
-use Rattle.lines.proofs.entry.Reads as reads
-use Rattle.lines.proofs.entry.Lts as lts
-use Rattle.lines.proofs.letters.Reads as letters-reads
-use Rattle.lines.proofs.number.Reads as number-reads
 
--- src/lib.rt:35:9
 letters-requires : tie.Need-letters-requires
 letters-requires c κs = search needs
 
--- src/lib.rt:36:5
+key : (c : tie.After-letters)
+    → Laid (c .before .before .before .before .args .out .now) (c .before .before .before .before .args .at)
+    (keyText (take (c .before .before .before .before .args .len) (c .before .before .before .before .args .path .now)))
+    (c .letters .result) (c .letters .last .0)
+key c = c .letters .ensures
+
+room : (c : tie.After-letters) → c .letters .result + 31 ≤ length (c .letters .last .0)
+room c =
+    let a = c .before .before .before .before .args in
+    let bytes = c .before .before .shared-slice-known .given in
+    omega (arith, key c .ends, laid-long (key c), letters-long (a .path .now) (a .len) (λ k. bytes k .fits))
+
+long : (c : tie.After-number) → length (c .number .last .0) ≡ length (c .before .before .before .before .letters .last .0)
+long c = laid-long (c .number .ensures) ∙ simp length-set
+
+end : (c : tie.After-number) → c .number .result + 10 ≤ length (c .number .last .0)
+end c = omega (arith, room (c .before .before .before .before), long c, decimal-end _ (c .number .ensures))
+
 slice-write-out : tie.Need-slice-write-out
-slice-write-out c = ?
+slice-write-out c = omega (arith, room (c .before .before))
 
--- src/lib.rt:37:23
 add-number : tie.Need-add-number
-add-number c = ?
+add-number c = omega (arith, room (c .before .before .before))
 
--- src/lib.rt:37:5
 number-requires : tie.Need-number-requires
-number-requires c κs = ?
+number-requires c κs = simp length-set (omega (arith, room (c .before .before .before)))
 
--- src/lib.rt:38:5
 slice-write-out-2 : tie.Need-slice-write-out-2
-slice-write-out-2 c = ?
+slice-write-out-2 c = omega (arith, end (c .before .before))
 
--- src/lib.rt:39:5
 add-result : tie.Need-add-result
-add-result c = ?
+add-result c = omega (arith, end (c .before .before), long (c .before .before))
 
--- src/lib.rt:30:1
 same-length : tie.Need-same-length
-same-length c = ?
+same-length c = simp length-set (long (c .before .before) ∙ laid-long (key (c .before .before .before .before .before .before)))
 
--- src/lib.rt:30:1
 returns : tie.Need-returns
-returns c = ?
+unfolding entryLine
+returns c =
+    laid-join (key (c .before .before .before .before .before .before))
+    (laid-join (laid-one _ _ _ refl) (laid-join (c .before .before .number .ensures) (laid-one _ _ _ refl)))
 
 pub entry-spec : {M : Type 1} → statement M
 entry-spec =

@@ -8,8 +8,6 @@ use Rattle.lines.proofs.Laying.{laid-as, laid-one, laid-join}
 use borrow.Author.Needs.{needs}
 use Rattle.lines.proofs.letter.Statement.{statement}
 use Rattle.lines.proofs.letter.Tie as tie
-use Rattle.lines.proofs.letter.Reads as reads
-use Rattle.lines.proofs.letter.Lts as lts
 
 add-out : tie.Need-add-out
 add-out c = search needs

@@ -11,9 +11,6 @@ use Rattle.lines.proofs.Laying.{laid-long, laid-as, laid-one}
 use Rattle.lines.proofs.Loops.{Spelling, spelling-none, spelling-more, spelling-room, spelling-all}
 use Rattle.lines.proofs.letters.Statement.{statement}
 use Rattle.lines.proofs.letters.Tie as tie
-use Rattle.lines.proofs.letters.Reads as reads
-use Rattle.lines.proofs.letters.Lts as lts
-use Rattle.lines.proofs.letter.Reads as letter-reads
 
 abbrev Inv-loop : tie.InvT-loop
 Inv-loop out₀ at path len end₀ i₀ out end i = Spelling out₀ end₀ path len out end i
@@ -31,8 +28,8 @@ first c = c .before .before .before .letter .ensures
 
 room : (c : tie.In-loop Inv-loop μ-loop) → c .before .loop .end + 4 ≤ length (c .before .loop .out)
 room c =
-    spelling-room (first (c .before)) (c .before .loop .inv) (λ k. c .before .before .before .before .before .shared-slice-known2 .given k .fits)
-    (omega arith) (omega arith)
+    spelling-room (first (c .before)) (c .before .loop .inv)
+    (λ k. c .before .before .before .before .before .shared-slice-known2 .given k .fits) (omega arith) (omega arith)
 
 slice-write-out : tie.Need-slice-write-out Inv-loop μ-loop
 slice-write-out c = omega arith
@@ -74,7 +71,8 @@ loop-less : tie.Need-loop-less Inv-loop μ-loop
 loop-less c = omega arith
 
 loop-again : tie.Need-loop-again Inv-loop μ-loop
-loop-again c = spelling-more (c .before .before .before .before .before .before .loop .inv) (omega arith) (c .before .before .letter2 .ensures)
+loop-again c =
+    spelling-more (c .before .before .before .before .before .before .loop .inv) (omega arith) (c .before .before .letter2 .ensures)
 
 same-length-2 : tie.Need-same-length-2 Inv-loop μ-loop
 same-length-2 c = laid-long (c .before .loop .inv .laid) ∙ laid-long (first (c .before))

@@ -6,9 +6,6 @@ use Rattle.lines.proofs.Digits.{decimal-long}
 use Rattle.lines.proofs.Loops.{Filling, filling-none, filling-more, filling-all}
 use Rattle.lines.proofs.number.Statement.{statement}
 use Rattle.lines.proofs.number.Tie as tie
-use Rattle.lines.proofs.number.Reads as reads
-use Rattle.lines.proofs.number.Lts as lts
-use Rattle.lines.proofs.places.Reads as places-reads
 
 abbrev Inv-loop : tie.InvT-loop
 Inv-loop out₀ at v width x₀ i₀ out x i = Filling out₀ at v out x i

@@ -4,8 +4,6 @@ use native.Mathlib.Omega.{arith}
 use Rattle.lines.proofs.Loops.{Counting, counting-none, counting-more, counting-room, counting-all}
 use Rattle.lines.proofs.places.Statement.{statement}
 use Rattle.lines.proofs.places.Tie as tie
-use Rattle.lines.proofs.places.Reads as reads
-use Rattle.lines.proofs.places.Lts as lts
 
 abbrev Inv-loop : tie.InvT-loop
 Inv-loop v x₀ n₀ x n = Counting v x n
