@@ -31,8 +31,12 @@ slice-aggregate-word-3 c = search needs
 
 word-requires-3 : tie.Need-word-requires-3
 word-requires-3 c κs =
-    let done = c .before .before .before .before in
-    omega (arith, decimal-end _ (done .before .before .before .before .before .before .before .before .before .number .ensures), decimal-end _ (done .number2 .ensures))
+    omega (
+      arith,
+      decimal-end _
+          (c .before .before .before .before .before .before .before .before .before .before .before .before .before .number .ensures),
+      decimal-end _ (c .before .before .before .before .number2 .ensures),
+    )
 
 same-length : tie.Need-same-length
 same-length c = search needs
@@ -41,9 +45,11 @@ returns : tie.Need-returns
 unfolding refusedLine
 returns c =
     let done = c .before .before .before .before .before .before .before in
-    laid-join (done .before .before .before .before .before .before .before .before .before .before .before .before .before .word .ensures)
-    (laid-join (done .before .before .before .before .before .before .before .before .before .number .ensures)
-    (laid-join (done .before .before .before .before .word2 .ensures) (laid-join (done .number2 .ensures) (c .before .before .word3 .ensures))))
+    let first = done .before .before .before .before .before .before .before .before .before in
+    laid-join (first .before .before .before .before .word .ensures)
+    (laid-join (first .number .ensures)
+    (laid-join (done .before .before .before .before .word2 .ensures)
+    (laid-join (done .number2 .ensures) (c .before .before .word3 .ensures))))
 
 pub refused-spec : {M : Type 1} → statement M
 refused-spec =
