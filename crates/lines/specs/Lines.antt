@@ -1,5 +1,5 @@
--- 01, "The listing program": its lines, as text in ASCII. "Letter numbers are joined by dots; the empty key is `-`." "A refused image writes
--- one line".
+-- 01, "The listing program": its lines, as text in ASCII. "Letter numbers are joined by dots; the empty key is `-`." "A refused image
+-- writes one line".
 use Prim.Native.Nat.{ℕ, zero, suc, _+_, _/_, _%_}
 use mathlib.Core.Path.{_≡_}
 use mathlib.Core.Bool.{cond}
@@ -10,8 +10,8 @@ use lib.Seq.{sets}
 
 -- the digits of a number that has `more` besides its first at most
 unfoldable pub decimalBy : ℕ → ℕ → List ℕ
-decimalBy zero v = 48 + v ∷ []
-decimalBy (suc more) v = cond (ltb v 10) (48 + v ∷ []) (decimalBy more (v / 10) ++ (48 + v % 10 ∷ []))
+decimalBy zero v = (48 + v) ∷ []
+decimalBy (suc more) v = cond (ltb v 10) ((48 + v) ∷ []) (decimalBy more (v / 10) ++ ((48 + v % 10) ∷ []))
 
 -- a number in decimal, without zeros in front; one of 64 bits has twenty digits at most
 unfoldable pub decimal : ℕ → List ℕ
@@ -22,7 +22,7 @@ decimal v = decimalBy 19 v
 unfoldable pub dotted : List ℕ → List ℕ
 unfolding decimal
 dotted [] = []
-dotted (x ∷ k) = 46 ∷ decimal x ++ dotted k
+dotted (x ∷ k) = 46 ∷ (decimal x ++ dotted k)
 
 unfoldable pub keyText : List ℕ → List ℕ
 unfolding decimal dotted
@@ -32,7 +32,7 @@ keyText (x ∷ k) = decimal x ++ dotted k
 -- "letters value"
 unfoldable pub entryLine : List ℕ → ℕ → List ℕ
 unfolding keyText decimal
-entryLine k v = keyText k ++ (32 ∷ decimal v ++ (10 ∷ []))
+entryLine k v = keyText k ++ (32 ∷ (decimal v ++ (10 ∷ [])))
 
 -- "entries N"
 unfoldable pub entriesLine : ℕ → List ℕ

@@ -1,6 +1,6 @@
 // Document 01's lines, laid into lent bytes at a place: each function writes its text there and answers where it ends. A caller has room.
 ghost use mathlib.Core.Path.{_≡_};
-ghost use Prim.Native.Nat.{_+_, _≤_};
+ghost use Prim.Native.Nat.{_+_, _*_, _≤_};
 ghost use lib.ListN.{length, take};
 ghost use Rattle.lines.specs.Lines.{Laid, decimal, entriesLine, entryLine, refusedLine, keyText};
 
