@@ -15,7 +15,7 @@ add-nodes : tie.Need-add-nodes
 add-nodes c = search needs
 
 returns : tie.Need-returns
-returns c = audited-few (c .if1 .taken)
+returns c = audited-few (omega arith)
 
 clear-requires : tie.Need-clear-requires
 clear-requires c κs = search needs

@@ -79,7 +79,7 @@ loop-again-2 : tie.Need-loop-again-2 Inv-loop μ-loop
 loop-again-2 c =
     let b = c .before .before .before in
     counting-more (b .before .before .before .before .before .loop .inv) (omega arith) (b .before .before .link .ensures)
-    (sym (b .bad-link .ensures) ∙ c .before .before .if4 .left) (slice-read-times (c .before)) (c .if5 .taken)
+    (sym (b .bad-link .ensures) ∙ c .before .before .if4 .left) (slice-read-times (c .before)) (omega arith)
 
 loop-less-3 : tie.Need-loop-less-3 Inv-loop μ-loop
 loop-less-3 c = omega arith
@@ -88,7 +88,7 @@ loop-again-3 : tie.Need-loop-again-3 Inv-loop μ-loop
 loop-again-3 c =
     let b = c .before .before .before in
     counting-full (b .before .before .before .before .before .loop .inv) (omega arith) (b .before .before .link .ensures)
-    (sym (b .bad-link .ensures) ∙ c .before .before .if4 .left) (c .if5 .left)
+    (sym (b .bad-link .ensures) ∙ c .before .before .if4 .left) (omega arith)
 
 same-length-2 : tie.Need-same-length-2 Inv-loop μ-loop
 same-length-2 c = c .before .before .loop .inv .kept .long
