@@ -15,6 +15,7 @@ use Rattle.trie.specs.Keys.{present, ownKey, byLetter, keysUnder, listin
 use Rattle.trie.specs.Rules.{Framed, Linked}
 use Rattle.trie.specs.Storing.{put, grow, growPath, stored, storedBy, added, changeOf}
 use Rattle.trie.proofs.Listing.{listing-holds, keysUnder-ascending, held-once, same-keys}
+use Rattle.trie.proofs.Beyond.{own-none, under-split, from-childless}
 use Rattle.trie.proofs.Walk.{follow-empty, follow-on, answer-complete, complete-letters}
 use Rattle.trie.proofs.Grow.{Grown, new, old, grown, Fresh, Room, room-fresh, room-next}
 use Rattle.trie.proofs.Storing.{stored-answer, stored-answer-other, stored-linked}
@@ -166,22 +167,10 @@ put-count {t} {g} {n} l k e v least most low high =
 
 -- New nodes.
 
-byLetter-none : (keys : ℕ → List (List ℕ)) (i m : ℕ) → ((x : ℕ) → keys x ≡ []) → byLetter keys i m ≡ []
-unfolding byLetter
-byLetter-none keys i zero h = refl
-byLetter-none keys i (suc m) h = rw (h i) (byLetter-none keys (suc i) m h)
-
-own-none : (t : Table) (short q : ℕ) → t .value q ≡ 0 → ownKey t short q ≡ []
-unfolding ownKey
-own-none t zero q e = ap present e
-own-none t (suc short) q e = refl
-
 -- a node with no link and no data lists nothing
 pub blank-keys : (t : Table) (n short left c : ℕ) → ((i : ℕ) → t .child c i ≡ 0) → t .value c ≡ 0 → keysUnder t n short left c ≡ []
-unfolding keysUnder
-blank-keys t n short zero c no-links no-data = own-none t short c no-data
-blank-keys t n short (suc left) c no-links no-data =
-    ap₂ _++_ (own-none t short c no-data) (byLetter-none _ 0 n (λ x. follow-empty (t .child c x) [] _ (no-links x)))
+blank-keys t n short left c no-links no-data =
+    rw (under-split t n short left c, own-none t short c no-data, from-childless t n short left c 0 no-links)
 
 own-same : (t s : Table) (short q : ℕ) → s .value q ≡ t .value q → ownKey s short q ≡ ownKey t short q
 unfolding ownKey

@@ -17,3 +17,7 @@ letters-of n (x ∷ k) f = (f 0 (omega arith), letters-of n k (λ i h. f (suc i)
 pub letters-after : (n : ℕ) (k m : List ℕ) → Letters n (k ++ m) → Letters n m
 letters-after n [] m l = l
 letters-after n (x ∷ k) m l = letters-after n k m (l .1)
+
+pub letters-before : (n : ℕ) (k m : List ℕ) → Letters n (k ++ m) → Letters n k
+letters-before n [] m l = tt
+letters-before n (x ∷ k) m l = (l .0, letters-before n k m (l .1))

@@ -11,15 +11,16 @@ use mathlib.Core.Logic.{_↔_, _≢_, _⊎_, inl, inr, ⊎-elim}
 use mathlib.Core.Option.{none, some, Option·some-injective, Option·some-ne-none}
 use mathlib.Core.Path.{_≡_, refl, sym, _∙_, ap, ap₂, subst}
 use lib.ListN.{length}
-use Rattle.trie.specs.Table.{Table, stopped, follow, descend, valueAt, answer}
+use Rattle.trie.specs.Table.{Table, complete, stopped, follow, descend, valueAt, answer, Letters}
 use Rattle.trie.specs.Keys.{present, ownKey, byLetter, keysUnder, listing, before, firstMeeting, Ascending}
 use Rattle.trie.specs.Rules.{Framed}
+use Rattle.trie.proofs.Walk.{descend-nil, descend-on}
 use Rattle.trie.proofs.Order.{before-cons, before-lower, before-extension, before-apart, before-asym}
 
 -- Which keys are listed.
 
 -- a key that is listed by its first letter x, with what follows it
-byLetter-cases : {k : List ℕ} (keys : ℕ → List (List ℕ)) (i m : ℕ)
+pub byLetter-cases : {k : List ℕ} (keys : ℕ → List (List ℕ)) (i m : ℕ)
     → List·Memᴰ k (byLetter keys i m)
     → (x : ℕ) × (r : List ℕ) × (k ≡ x ∷ r) × (i ≤ x) × (x < i + m) × List·Memᴰ r (keys x)
 unfolding byLetter
@@ -48,7 +49,7 @@ byLetter-holds keys i (suc m) x {r} low high h =
 abbrev pub Found : Table → ℕ → ℕ → ℕ → List ℕ → Type 0
 Found t short left q k = (short ≤ length k) × (length k ≤ left) × (valueAt t (descend t q k) ≢ 0)
 
-own-cases : {k : List ℕ} (t : Table) (short q : ℕ) → List·Memᴰ k (ownKey t short q) → (k ≡ []) × (short ≤ 0) × (t .value q ≢ 0)
+pub own-cases : {k : List ℕ} (t : Table) (short q : ℕ) → List·Memᴰ k (ownKey t short q) → (k ≡ []) × (short ≤ 0) × (t .value q ≢ 0)
 unfolding ownKey
 own-cases {k} t zero q h = go (t .value q) h
   where
@@ -66,26 +67,18 @@ own-holds t zero q low h = go (t .value q) h
     go (suc v) h = List·Memᴰ·head refl
 own-holds t (suc short) q low h = absurd (omega arith)
 
-own-found : {k : List ℕ} (t : Table) (short left q : ℕ) → List·Memᴰ k (ownKey t short q) → Found t short left q k
-unfolding valueAt descend
-own-found t short left q h =
-    let (e, low, full) = own-cases t short q h in
-    subst (Found t short left q) (sym e) (low, omega arith, full)
+-- a link that leads to keys is not empty
+pub follow-cases : {r : List ℕ} (c : ℕ) (keys : ℕ → List (List ℕ)) → List·Memᴰ r (follow c [] keys) → (c ≢ 0) × List·Memᴰ r (keys c)
+unfolding follow
+follow-cases zero keys a = absurd (List·Memᴰ·not-nil a)
+follow-cases (suc c) keys a = (omega arith, a)
 
 module _ (t : Table) (n : ℕ) where
   -- what follows letter i in the keys under node q
-  abbrev under : ℕ → ℕ → ℕ → ℕ → List (List ℕ)
+  abbrev pub under : ℕ → ℕ → ℕ → ℕ → List (List ℕ)
   under short left q i = follow (t .child q i) [] (λ c. keysUnder t n (pred short) left c)
 
   -- a key's first letter met the link c, and r follows
-  link-found : (short left q x : ℕ) (r : List ℕ) (c : ℕ)
-      → ((p : ℕ) → List·Memᴰ r (keysUnder t n short left p) → Found t short left p r)
-      → List·Memᴰ r (follow c [] (λ p. keysUnder t n short left p))
-      → (short ≤ length r) × (length r ≤ left) × (valueAt t (follow c (stopped q x r) (λ p. descend t p r)) ≢ 0)
-  unfolding follow
-  link-found short left q x r zero on h = absurd (List·Memᴰ·not-nil h)
-  link-found short left q x r (suc c) on h = on (suc c) h
-
   link-holds : (short left q x : ℕ) (r : List ℕ) (c : ℕ)
       → (n ≤ x → c ≡ 0)
       → ((p : ℕ) → Found t short left p r → List·Memᴰ r (keysUnder t n short left p))
@@ -98,18 +91,6 @@ module _ (t : Table) (n : ℕ) where
   link-holds short left q x r (suc c) none-above on low high h =
       let within : ¬ (n ≤ x) = λ l. omega (arith, none-above l) in
       (omega arith, on (suc c) (low, high, h))
-
-  pub keysUnder-found : (short left q : ℕ) (k : List ℕ) → List·Memᴰ k (keysUnder t n short left q) → Found t short left q k
-  unfolding keysUnder descend
-  keysUnder-found short zero q k h = own-found t short 0 q h
-  keysUnder-found short (suc left) q k h =
-      ⊎-elim
-      (own-found t short (suc left) q)
-      (λ below.
-      let (x, r, e, low, high, hr) = byLetter-cases (under short left q) 0 n below in
-      let f = link-found (pred short) left q x r (t .child q x) (λ p. keysUnder-found (pred short) left p r) hr in
-      subst (Found t short (suc left) q) (sym e) (omega arith, omega arith, f .2))
-      (List·Memᴰ·append-cases (ownKey t short q) h)
 
   pub keysUnder-holds : ((p i : ℕ) → n ≤ i → t .child p i ≡ 0)
       → (short left q : ℕ) (k : List ℕ)
@@ -124,6 +105,54 @@ module _ (t : Table) (n : ℕ) where
       λ p. keysUnder-holds none-above (pred short) left p r in
       let f = link-holds (pred short) left q x r (t .child q x) (none-above q x) on (omega arith) (omega arith) (h .2) in
       Memᴰ·append-right (ownKey t short q) (byLetter-holds _ 0 n x (omega arith) (omega (arith, f .0)) (f .1))
+
+  -- what a key is that is listed at node q
+  pub record Listed (short left q : ℕ) (k : List ℕ) : Type 0 where
+    pub node : ℕ
+    pub reaches : descend t q k ≡ complete node
+    pub full : t .value node ≢ 0
+    pub long : short ≤ length k
+    pub deep : length k ≤ left
+    pub letters : Letters n k
+
+  own-listed : {k : List ℕ} (short left q : ℕ) → List·Memᴰ k (ownKey t short q) → Listed short left q k
+  own-listed short left q a =
+      let (e, low, full) = own-cases t short q a in
+      subst
+      (Listed short left q)
+      (sym e)
+      (record { node = q; reaches = descend-nil t q; full = full; long = low; deep = omega arith; letters = tt })
+
+  -- a letter in front of a key that is listed behind its link
+  pub link-listed : {r : List ℕ} (short left q x : ℕ) → x < n → 0 < left → t .child q x ≢ 0
+      → Listed (pred short) (pred left) (t .child q x) r
+      → Listed short left q (x ∷ r)
+  link-listed {r} short left q x low room linked f =
+      record {
+        node = f .node;
+        reaches = descend-on t q x r linked ∙ f .reaches;
+        full = f .full;
+        long = omega arith;
+        deep = omega arith;
+        letters = (low, f .letters);
+      }
+
+  pub under-listed : (short left q : ℕ) (k : List ℕ) → List·Memᴰ k (keysUnder t n short left q) → Listed short left q k
+  unfolding keysUnder
+  under-listed short zero q k h = own-listed short 0 q h
+  under-listed short (suc left) q k h =
+      ⊎-elim
+      (own-listed short (suc left) q)
+      (λ below.
+      let (x, r, e, low, high, hr) = byLetter-cases (under short left q) 0 n below in
+      let (linked, a) = follow-cases (t .child q x) _ hr in
+      let f : Listed (pred short) left (t .child q x) r = under-listed (pred short) left (t .child q x) r a in
+      subst (Listed short (suc left) q) (sym e) (link-listed short (suc left) q x (omega arith) (omega arith) linked f))
+      (List·Memᴰ·append-cases (ownKey t short q) h)
+
+  pub keysUnder-found : (short left q : ℕ) (k : List ℕ) → List·Memᴰ k (keysUnder t n short left q) → Found t short left q k
+  unfolding valueAt
+  keysUnder-found short left q k h = let f = under-listed short left q k h in (f .long, f .deep, rw (f .reaches) (f .full))
 
 -- "A stored key is one with length in min..max whose data is not 0"
 pub listing-holds : {t : Table} {g n : ℕ} → Framed t g n → (least most : ℕ) (k : List ℕ)

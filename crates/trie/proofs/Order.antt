@@ -92,3 +92,39 @@ meets-after given k = (λ h. (rw (before-asym given k h), λ e. before-apart giv
     go : not (before k given) ≡ true → k ≢ given → (b : Bool) → before given k ≡ b → before given k ≡ true
     go at-or-after other true e = e
     go at-or-after other false e = absurd (other (before-total k given (not-true (before k given) at-or-after) e))
+
+-- What decides a request at a key's first letter, "after" and "at or after" alike: the empty key comes before, a lower letter too, the
+-- same letter leaves it to what follows, and a higher one comes after.
+pub meets-empty : (after : Bool) (y : ℕ) (k : List ℕ) → meets after (y ∷ k) [] ≡ false
+unfolding meets before
+meets-empty true y k = refl
+meets-empty false y k = refl
+
+pub meets-lower : (after : Bool) (x y : ℕ) (k m : List ℕ) → x < y → meets after (y ∷ k) (x ∷ m) ≡ false
+unfolding meets
+meets-lower true x y k m h = before-asym (x ∷ m) (y ∷ k) (before-lower x y m k h)
+meets-lower false x y k m h = ap not (before-lower x y m k h)
+
+pub meets-cons : (after : Bool) (y : ℕ) (k m : List ℕ) → meets after (y ∷ k) (y ∷ m) ≡ meets after k m
+unfolding meets
+meets-cons true y k m = before-cons y k m
+meets-cons false y k m = ap not (before-cons y m k)
+
+pub meets-higher : (after : Bool) (x y : ℕ) (k m : List ℕ) → y < x → meets after (y ∷ k) (x ∷ m) ≡ true
+unfolding meets
+meets-higher true x y k m h = before-lower y x k m h
+meets-higher false x y k m h = ap not (before-asym (y ∷ k) (x ∷ m) (before-lower y x k m h))
+
+-- every key is at or after the empty key, and every other key after it
+pub meets-any : (k : List ℕ) → meets false [] k ≡ true
+unfolding meets before
+meets-any [] = refl
+meets-any (x ∷ k) = refl
+
+pub meets-none : meets true [] [] ≡ false
+unfolding meets before
+meets-none = refl
+
+pub meets-letter : (x : ℕ) (k : List ℕ) → meets true [] (x ∷ k) ≡ true
+unfolding meets before
+meets-letter x k = refl

@@ -1,0 +1,124 @@
+-- Those keys of a list that meet a request. Every law asks key by key whether it meets, so each goes down the list; the first key that
+-- meets is the first of those that meet.
+use Prim.Native.Nat.{ℕ, _≤_}
+use native.Mathlib.Omega.{arith}
+use mathlib.Core.Bool.{Bool, true, false, true≢false}
+use mathlib.Core.List.{List, [], _∷_, _++_, map, List·Memᴰ, List·Memᴰ·head, List·Memᴰ·tail}
+use mathlib.Core.List.{List·Memᴰ·not-nil, List·Memᴰ·cases-cons}
+use mathlib.Core.Logic.{_↔_, ⊎-elim}
+use mathlib.Core.Option.{some, Option·some-injective, Option·some-ne-none}
+use mathlib.Core.Path.{_≡_, refl, sym, _∙_, ap}
+use lib.ListN.{length}
+use Rattle.trie.specs.Keys.{firstMeeting, meets, sift, Ascending}
+use Rattle.trie.specs.Beyond.{firstOf}
+use Rattle.trie.proofs.Order.{meets-any, meets-letter}
+
+pub sift-in : (p : List ℕ → Bool) (k : List ℕ) (l : List (List ℕ)) → p k ≡ true → sift p (k ∷ l) ≡ k ∷ sift p l
+unfolding sift
+sift-in p k l e = rw e
+
+pub sift-out : (p : List ℕ → Bool) (k : List ℕ) (l : List (List ℕ)) → p k ≡ false → sift p (k ∷ l) ≡ sift p l
+unfolding sift
+sift-out p k l e = rw e
+
+-- what holds of a list's sifting whether its first key meets or not
+pub by-test {ℓ} : (X : Type ℓ) (p : List ℕ → Bool) (k : List ℕ) → (p k ≡ true → X) → (p k ≡ false → X) → X
+by-test X p k met unmet = go (p k) refl
+  where
+    go : (b : Bool) → p k ≡ b → X
+    go true e = met e
+    go false e = unmet e
+
+pub sift-append : (p : List ℕ → Bool) (l m : List (List ℕ)) → sift p (l ++ m) ≡ sift p l ++ sift p m
+unfolding sift
+sift-append p [] m = refl
+sift-append p (k ∷ l) m =
+    let on = sift-append p l m in
+    by-test _ p k (λ e. rw (e, on)) (λ e. rw (e, on))
+
+-- keys that begin with one letter, where the request leaves it to what follows
+pub sift-map : (p r : List ℕ → Bool) (x : ℕ) (l : List (List ℕ)) → ((k : List ℕ) → p (x ∷ k) ≡ r k)
+    → sift p (map (x ∷_) l) ≡ map (x ∷_) (sift r l)
+unfolding sift
+sift-map p r x [] same = refl
+sift-map p r x (k ∷ l) same =
+    let on = sift-map p r x l same in
+    by-test _ r k (λ e. rw (same k, e, on)) (λ e. rw (same k, e, on))
+
+pub sift-none : (p : List ℕ → Bool) (l : List (List ℕ)) → ((k : List ℕ) → List·Memᴰ k l → p k ≡ false) → sift p l ≡ []
+unfolding sift
+sift-none p [] h = refl
+sift-none p (k ∷ l) h = sift-out p k l (h k (List·Memᴰ·head refl)) ∙ sift-none p l (λ m a. h m (List·Memᴰ·tail a))
+
+pub sift-every : (p : List ℕ → Bool) (l : List (List ℕ)) → ((k : List ℕ) → List·Memᴰ k l → p k ≡ true) → sift p l ≡ l
+unfolding sift
+sift-every p [] h = refl
+sift-every p (k ∷ l) h =
+    sift-in p k l (h k (List·Memᴰ·head refl)) ∙ ap (k ∷_) (sift-every p l (λ m a. h m (List·Memᴰ·tail a)))
+
+pub first-sift : (p : List ℕ → Bool) (l : List (List ℕ)) → firstMeeting p l ≡ firstOf (sift p l)
+unfolding firstMeeting sift firstOf
+first-sift p [] = refl
+first-sift p (k ∷ l) =
+    let on = first-sift p l in
+    by-test _ p k (λ e. rw e) (λ e. rw (e, on))
+
+pub sift-holds : (p : List ℕ → Bool) (l : List (List ℕ)) (m : List ℕ) → List·Memᴰ m (sift p l) ↔ (List·Memᴰ m l × (p m ≡ true))
+unfolding sift
+sift-holds p [] m = (λ a. absurd (List·Memᴰ·not-nil a), λ h. h .0)
+sift-holds p (k ∷ l) m =
+    by-test _ p k
+    (λ e. (
+      λ a.
+          ⊎-elim
+          (λ f. (List·Memᴰ·head f, ap p f ∙ e))
+          (λ b. let h = sift-holds p l m .0 b in (List·Memᴰ·tail (h .0), h .1))
+          (List·Memᴰ·cases-cons (rw (sift-in p k l e) at a)),
+      λ h.
+          rw e
+          (⊎-elim List·Memᴰ·head (λ b. List·Memᴰ·tail (sift-holds p l m .1 (b, h .1))) (List·Memᴰ·cases-cons (h .0))),
+    ))
+    (λ e. (
+      λ a. let h = sift-holds p l m .0 (rw (sift-out p k l e) at a) in (List·Memᴰ·tail (h .0), h .1),
+      λ h.
+          rw e
+          (⊎-elim
+          (λ f. absurd (true≢false (sym (h .1) ∙ ap p f ∙ e)))
+          (λ b. sift-holds p l m .1 (b, h .1))
+          (List·Memᴰ·cases-cons (h .0))),
+    ))
+
+pub sift-ascending : (p : List ℕ → Bool) (l : List (List ℕ)) → Ascending l → Ascending (sift p l)
+unfolding sift
+sift-ascending p [] up = tt
+sift-ascending p (k ∷ l) up =
+    by-test _ p k
+    (λ e. rw e (λ m a. up .0 m (sift-holds p l m .0 a .0), sift-ascending p l (up .1)))
+    (λ e. rw e (sift-ascending p l (up .1)))
+
+pub sift-length : (p : List ℕ → Bool) (l : List (List ℕ)) → length (sift p l) ≤ length l
+unfolding sift
+sift-length p [] = omega arith
+sift-length p (k ∷ l) =
+    let on = sift-length p l in
+    by-test _ p k (λ e. rw e (omega arith)) (λ e. rw e (omega arith))
+
+-- a key that is found stands in the list, and meets
+pub first-listed : (p : List ℕ → Bool) (l : List (List ℕ)) {k : List ℕ} → firstMeeting p l ≡ some k → List·Memᴰ k l × (p k ≡ true)
+unfolding firstMeeting
+first-listed p [] {k} h = absurd (Option·some-ne-none k (sym h))
+first-listed p (x ∷ l) {k} h =
+    by-test _ p x
+    (λ e. let same : x ≡ k = Option·some-injective x k (rw e at h) in (List·Memᴰ·head (sym same), ap p (sym same) ∙ e))
+    (λ e. let f = first-listed p l (rw e at h) in (List·Memᴰ·tail (f .0), f .1))
+
+-- every key is at or after the empty key, and after it where it is another
+pub sift-all : (l : List (List ℕ)) → sift (meets false []) l ≡ l
+sift-all l = sift-every (meets false []) l (λ k a. meets-any k)
+
+pub sift-others : (l : List (List ℕ)) → ¬ List·Memᴰ [] l → sift (meets true []) l ≡ l
+sift-others l out = sift-every (meets true []) l met
+  where
+    met : (k : List ℕ) → List·Memᴰ k l → meets true [] k ≡ true
+    met [] a = absurd (out a)
+    met (x ∷ k) a = meets-letter x k
