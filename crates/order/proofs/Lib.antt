@@ -1,0 +1,4 @@
+pub mod Links
+pub mod Counting
+pub mod Paths
+pub mod Searching
