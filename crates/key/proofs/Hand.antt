@@ -8,11 +8,14 @@ use native.Mathlib.Nat.{le-of-suc-le-suc, not-suc-le-zero}
 use native.Mathlib.Numerals.{add-one}
 use native.Mathlib.Omega.{arith}
 use lib.Dec.{leb}
-use lib.ListN.{length, getD, take, set, replicate}
-use lib.Seq.{length-take-le, take-all, take-suc}
+use lib.ListN.{length, getD, take, drop, set, replicate}
+use lib.Seq.{length-take-le, take-all, take-suc, drop-cons, getD-take}
 use borrow.Author.Tests.{leb-true, leb-false}
+use Rattle.trie.specs.Table.{Letters}
+use Rattle.trie.proofs.Letters.{letters-at}
 use Rattle.head.specs.Fields.{mostLetters}
-use Rattle.key.specs.Hand.{padded, inHand, Holds}
+use Rattle.key.specs.declared.Key.{Key}
+use Rattle.key.specs.Hand.{padded, inHand, Holds, lettersOf}
 
 pub take-padded : (w : ℕ) (k : List ℕ) → length k ≤ w → take (length k) (padded w k) ≡ k
 unfolding padded
@@ -49,7 +52,8 @@ padded-take (suc w) (x ∷ k) = ap (λ (l : List ℕ). x ∷ l) (padded-take w k
 
 -- ---- letters copied one after the other
 
-pub copy-more : (w : ℕ) (l kept : List ℕ) (i : ℕ) → i < length l → i < w → kept ≡ padded w (take i l) → set kept i (getD l i 0) ≡ padded w (take (i + 1) l)
+pub copy-more : (w : ℕ) (l kept : List ℕ) (i : ℕ) → i < length l → i < w → kept ≡ padded w (take i l)
+    → set kept i (getD l i 0) ≡ padded w (take (i + 1) l)
 copy-more w l kept i h k e =
     let so : length (take i l) ≡ i = length-take-le i l (omega arith) in
     ap (λ (a : List ℕ). set a i (getD l i 0)) e
@@ -71,3 +75,19 @@ copy-all w l i e = go (leb (length l) w) refl
 pub hand-holds : (k : List ℕ) → Holds (inHand k) k
 unfolding inHand
 hand-holds k = record { len = refl; letters = λ h. take-padded mostLetters k h }
+
+-- ---- the letters of a key in hand that is not too long
+
+module _ (hand : Key) (w : length (hand .letters) ≡ mostLetters) (s : hand .len ≤ mostLetters) where
+  pub letters-count : length (lettersOf hand) ≡ hand .len
+  letters-count = length-take-le (hand .len) (hand .letters) (omega arith)
+
+  -- those from the i-th on
+  pub letters-from : (i : ℕ) → i < hand .len → drop i (lettersOf hand) ≡ getD (hand .letters) i 0 ∷ drop (suc i) (lettersOf hand)
+  letters-from i h =
+      drop-cons (lettersOf hand) i 0 (omega (arith, letters-count))
+      ∙ ap (λ (x : ℕ). x ∷ drop (suc i) (lettersOf hand)) (getD-take (hand .len) (hand .letters) i 0 h)
+
+  pub letter-below : (n i : ℕ) → Letters n (lettersOf hand) → i < hand .len → getD (hand .letters) i 0 < n
+  letter-below n i l h =
+      rw (getD-take (hand .len) (hand .letters) i 0 h) at (letters-at n (lettersOf hand) l i (omega (arith, letters-count)))

@@ -1,64 +1,79 @@
 -- 9 and 10, row by row, of a key in hand: a key whose length is allowed is at most max, which is at most 64 letters, so all of it is held.
+-- What neither refuses is ready for a walk: its letters are those of the array, and all below N.
 use Prim.Native.Nat.{ℕ, zero, suc, _≤_, _<_}
 use mathlib.Core.Path.{_≡_, refl, sym, _∙_, ap}
-use mathlib.Core.Bool.{Bool, true, false, true≢false, and-false}
+use mathlib.Core.Bool.{Bool, true, false, not, true≢false, and-false}
 use mathlib.Core.Option.{Option, none, some}
 use mathlib.Core.List.{List, [], _∷_}
 use native.Mathlib.Omega.{arith}
 use lib.Dec.{ltb}
 use lib.ListN.{length, getD, take}
-use borrow.Author.Tests.{lt-ltb, le-ltb}
+use borrow.Author.Tests.{lt-ltb, le-ltb, ltb-true, ltb-false, not-false}
 use Rattle.field.specs.Range.{between}
 use Rattle.field.proofs.Range.{both, between-true}
 use Rattle.head.specs.declared.Head.{Head}
 use Rattle.head.specs.Fields.{permitted, mostLetters}
 use Rattle.head.proofs.Permitted.{bounds}
-use Rattle.alphabet.specs.Letters.{lettersIn}
-use Rattle.paper.specs.Hearing.{first}
+use Rattle.trie.specs.Table.{Letters}
+use Rattle.trie.proofs.Letters.{letters-at, letters-of}
+use Rattle.alphabet.specs.Letters.{lettersIn, keyOfText}
+use Rattle.paper.specs.Hearing.{Row, given, first}
 use Rattle.paper.specs.Answers.{said}
-use Rattle.paper.specs.Rows.{row9, row10, row10text, allBelow, isNone}
-use Rattle.paper.specs.Orders.{byLetters, byText}
-use Rattle.paper.proofs.Hearing.{untrue, unfalse, yes-row, no-row, first-nil}
+use Rattle.paper.specs.Rows.{row9, row9next, row10, row10text, allBelow, isNone}
+use Rattle.paper.specs.Orders.{byLetters, byNext, byText}
+use Rattle.paper.proofs.Hearing.{was-false, yes-row, no-row, passed-row}
 use Rattle.key.specs.declared.Key.{Key}
 use Rattle.key.specs.declared.Typed.{Typed}
-use Rattle.key.specs.Hand.{inHand, Holds, typedAs}
+use Rattle.key.specs.Hand.{inHand, Holds, typedAs, lettersOf, Ready}
+use Rattle.key.proofs.Hand.{hand-holds}
+use Rattle.key.proofs.Named.{named-letters}
 
--- the letters of a key in hand whose length is allowed
-pub held : {hand : Key} {k : List ℕ} → Holds hand k → hand .len ≤ mostLetters → take (hand .len) (hand .letters) ≡ k
+-- the letters of a key in hand that is not too long
+pub held : {hand : Key} {k : List ℕ} → Holds hand k → hand .len ≤ mostLetters → lettersOf hand ≡ k
 held {hand} {k} o h = rw (o .len) (o .letters (rw (o .len) at h))
 
 -- a key whose length is allowed can be held
 pub short : (h : Head) {len : ℕ} → permitted h ≡ true → between len (h .min) (h .max) ≡ true → len ≤ mostLetters
 short h {len} p b = let m = bounds h p in let u = between-true len (h .min) (h .max) b in omega arith
 
-module _ (h : Head) {hand : Key} {k : List ℕ} (o : Holds hand k) where
-  pub letters-9 : between (hand .len) (h .min) (h .max) ≡ false → first (byLetters h k) ≡ some (said 9 0)
-  unfolding byLetters row9
-  letters-9 e = yes-row 9 0 _ (unfalse (rw (o .len) at e))
+-- 10, by the letters of such a key
+pub ten-by : (h : Head) {hand : Key} {k : List ℕ} {b : Bool} → Holds hand k → hand .len ≤ mostLetters → allBelow (h .n) (lettersOf hand) ≡ b
+    → row10 h k ≡ given 10 0 (not b)
+unfolding row10
+ten-by h o l e = ap (λ (t : Bool). given 10 0 (not t)) (rw (held o l) at e)
 
-  pub letters-10 : between (hand .len) (h .min) (h .max) ≡ true → allBelow (h .n) (take (hand .len) (hand .letters)) ≡ false → hand .len ≤ mostLetters
-      → first (byLetters h k) ≡ some (said 10 0)
-  unfolding byLetters row9 row10
-  letters-10 e b l = no-row 9 0 _ (untrue (rw (o .len) at e)) ∙ yes-row 10 0 _ (unfalse (rw (held o l) at b))
+-- ---- 9 by a test of the length, then 10, of a key given by its letters
 
-  pub letters-passed : between (hand .len) (h .min) (h .max) ≡ true → allBelow (h .n) (take (hand .len) (hand .letters)) ≡ true → hand .len ≤ mostLetters
-      → first (byLetters h k) ≡ none
-  unfolding byLetters row9 row10
-  letters-passed e b l = no-row 9 0 _ (untrue (rw (o .len) at e)) ∙ no-row 10 0 _ (untrue (rw (held o l) at b)) ∙ first-nil
+alone : (r : Row) → first (r ∷ []) ≡ r
+unfolding first
+alone none = refl
+alone (some s) = refl
+
+-- the test of a key, and the test of the key from which the next one is sought
+abbrev pub outside : Head → ℕ → Bool
+outside h len = not (between len (h .min) (h .max))
+
+abbrev pub longer : Head → ℕ → Bool
+longer h len = ltb (h .max) len
+
+module _ (h : Head) (test : ℕ → Bool) {hand : Key} {k : List ℕ} (o : Holds hand k) where
+  pub nine-given : test (hand .len) ≡ true → first (given 9 0 (test (length k)) ∷ row10 h k ∷ []) ≡ some (said 9 0)
+  nine-given e = yes-row 9 0 _ (sym (ap test (o .len)) ∙ e)
+
+  pub ten-decides : test (hand .len) ≡ false → first (given 9 0 (test (length k)) ∷ row10 h k ∷ []) ≡ row10 h k
+  ten-decides e = no-row 9 0 _ (sym (ap test (o .len)) ∙ e) ∙ alone (row10 h k)
+
+-- ---- 10, then 9, of a key given by its text
 
 -- a text that names no key
 pub text-10 : (h : Head) → first (byText h none) ≡ some (said 10 0)
 unfolding byText row10text isNone
 text-10 h = yes-row 10 0 _ refl
 
-module _ (h : Head) (k : List ℕ) where
-  pub text-9 : between (length k) (h .min) (h .max) ≡ false → first (byText h (some k)) ≡ some (said 9 0)
-  unfolding byText row10text isNone row9 lettersIn
-  text-9 e = no-row 10 0 _ refl ∙ yes-row 9 0 _ (unfalse e)
-
-  pub text-passed : between (length k) (h .min) (h .max) ≡ true → first (byText h (some k)) ≡ none
-  unfolding byText row10text isNone row9 lettersIn
-  text-passed e = no-row 10 0 _ refl ∙ no-row 9 0 _ (untrue e) ∙ first-nil
+-- one that names a key: 9 by its length
+text-by : (h : Head) (k : List ℕ) {b : Bool} → between (length k) (h .min) (h .max) ≡ b → first (byText h (some k)) ≡ given 9 0 (not b)
+unfolding byText row10text isNone row9 lettersIn
+text-by h k e = no-row 10 0 _ refl ∙ alone _ ∙ ap (λ (t : Bool). given 9 0 (not t)) e
 
 -- the same of a typed key
 module _ (h : Head) (t : Typed) where
@@ -67,15 +82,11 @@ module _ (h : Head) (t : Typed) where
   typed-10 none e f = text-10 h
   typed-10 (some k) e f = let z : _≡_ {A = Bool} true false = ap (λ (r : Typed). r .named) (sym e) ∙ f in absurd (true≢false z)
 
-  pub typed-9 : (named : Option (List ℕ)) → t ≡ typedAs named → t .named ≡ true → between (t .key .len) (h .min) (h .max) ≡ false → first (byText h named) ≡ some (said 9 0)
+  pub typed-by : (named : Option (List ℕ)) → t ≡ typedAs named → t .named ≡ true → {b : Bool}
+      → between (t .key .len) (h .min) (h .max) ≡ b → first (byText h named) ≡ given 9 0 (not b)
   unfolding typedAs inHand
-  typed-9 none e f b = let z : _≡_ {A = Bool} true false = sym f ∙ ap (λ (r : Typed). r .named) e in absurd (true≢false z)
-  typed-9 (some k) e f b = text-9 h k (rw (ap (λ (r : Typed). r .key .len) e) at b)
-
-  pub typed-passed : (named : Option (List ℕ)) → t ≡ typedAs named → t .named ≡ true → between (t .key .len) (h .min) (h .max) ≡ true → first (byText h named) ≡ none
-  unfolding typedAs inHand
-  typed-passed none e f b = let z : _≡_ {A = Bool} true false = sym f ∙ ap (λ (r : Typed). r .named) e in absurd (true≢false z)
-  typed-passed (some k) e f b = text-passed h k (rw (ap (λ (r : Typed). r .key .len) e) at b)
+  typed-by none e f b = let z : _≡_ {A = Bool} true false = sym f ∙ ap (λ (r : Typed). r .named) e in absurd (true≢false z)
+  typed-by (some k) e f b = text-by h k (rw (ap (λ (r : Typed). r .key .len) e) at b)
 
 -- ---- the letters looked through one after the other
 
@@ -95,3 +106,61 @@ below-not n [] i len k m h = absurd (omega arith)
 below-not n (x ∷ l) i zero k m h = absurd (omega arith)
 below-not n (x ∷ l) zero (suc len) k m h = rw (le-ltb x n h)
 below-not n (x ∷ l) (suc i) (suc len) k m h = rw (below-not n l i len (omega arith) (omega arith) h) (and-false (ltb x n))
+
+-- ---- what is known of a key that 9 and 10 have passed
+
+below-letters : (n : ℕ) (k : List ℕ) → allBelow n k ≡ true → Letters n k
+unfolding allBelow
+below-letters n [] e = tt
+below-letters n (x ∷ k) e = let u = both (ltb x n) (allBelow n k) e in (ltb-true x n (u .0), below-letters n k (u .1))
+
+ready : (h : Head) {hand : Key} {k : List ℕ} → Holds hand k → length k ≤ mostLetters → Letters (h .n) k
+    → Ready h hand × (lettersOf hand ≡ k)
+ready h {hand} {k} o s l =
+    let fits : hand .len ≤ mostLetters = rw (o .len) s in
+    let e = held o fits in
+    (record { short = fits; letters = rw e l }, e)
+
+-- of the two rows of a key given by its letters, neither is given
+neither : (h : Head) (k : List ℕ) {test : Bool} → first (given 9 0 test ∷ row10 h k ∷ []) ≡ none → (test ≡ false) × Letters (h .n) k
+unfolding row10
+neither h k {test} e =
+    let u = passed-row _ _ e in
+    let v = passed-row _ _ (u .1) in
+    (was-false 9 0 test (u .0), below-letters (h .n) k (not-false _ (was-false 10 0 _ (v .0))))
+
+module _ (h : Head) {hand : Key} {k : List ℕ} (p : permitted h ≡ true) (o : Holds hand k) where
+  pub letters-ready : first (byLetters h k) ≡ none → Ready h hand × (lettersOf hand ≡ k)
+  unfolding byLetters row9
+  letters-ready e = let u = neither h k e in ready h o (short h p (not-false _ (u .0))) (u .1)
+
+  pub next-ready : first (byNext h k) ≡ none → Ready h hand × (lettersOf hand ≡ k) × (hand .len ≤ h .max)
+  unfolding byNext row9next
+  next-ready e =
+      let u = neither h k e in
+      let most : length k ≤ h .max = ltb-false _ _ (u .0) in
+      let r = ready h o (omega (arith, bounds h p)) (u .1) in
+      (r .0, r .1, rw (o .len) most)
+
+-- a text that names no key does not pass, and the length of one that does is allowed
+text-passing : (h : Head) (named : Option (List ℕ)) → first (byText h named) ≡ none
+    → (k : List ℕ) × (named ≡ some k) × (between (length k) (h .min) (h .max) ≡ true)
+unfolding byText row10text isNone row9 lettersIn
+text-passing h none e = let z : _≡_ {A = ℕ} 0 1 = cc (text-10 h) in absurd (omega arith)
+text-passing h (some k) e =
+    let u = passed-row _ _ e in
+    let v = passed-row _ _ (u .1) in
+    (k, refl, not-false _ (was-false 9 0 _ (v .0)))
+
+-- the same of a text, whose letters are those of an alphabet of at most N
+pub typed-ready : (h : Head) (t : Typed) (alphabet text : List ℕ) {named : Option (List ℕ)} → permitted h ≡ true → t ≡ typedAs named
+    → named ≡ keyOfText alphabet text → length alphabet ≤ h .n → first (byText h named) ≡ none
+    → Ready h (t .key) × (named ≡ some (lettersOf (t .key)))
+unfolding typedAs
+typed-ready h t alphabet text {named} p e spelt few passed =
+    let (k, is, allowed) = text-passing h named passed in
+    let same : t .key ≡ inHand k = ap (λ (r : Typed). r .key) (e ∙ ap typedAs is) in
+    let among = named-letters alphabet text (sym spelt ∙ is) in
+    let o : Holds (t .key) k = rw same (hand-holds k) in
+    let r = ready h o (short h p allowed) (letters-of (h .n) k (λ i b. omega (arith, letters-at (length alphabet) k among i b))) in
+    (r .0, is ∙ ap some (sym (r .1)))

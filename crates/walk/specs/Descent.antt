@@ -25,12 +25,17 @@ unfoldable pub stepOf : ℕ → Table → Position → ℕ → Step
 unfolding follow badLink
 stepOf g t p x = follow (t .child (p .node) x) Step.Empty (λ c. cond (badLink g (p .node) c) (Step.Bad (p .node)) (Step.At (onTo p c)))
 
+-- The walk behind a step: it goes on from the next position, it stops at this one, or it ends with the node that holds the bad link.
+unfoldable pub stepTaken : Position → Step → (Position → Walked) → Walked
+stepTaken p (Step.At q) on = on q
+stepTaken p Step.Empty on = Walked.Stopped p
+stepTaken p (Step.Bad q) on = Walked.Bad q
+
 -- a key's letters, one after the other
 unfoldable pub walkedFrom : ℕ → Table → Position → List ℕ → Walked
-unfolding follow badLink
+unfolding stepOf stepTaken
 walkedFrom g t p [] = Walked.Complete (p .node)
-walkedFrom g t p (x ∷ xs) =
-    follow (t .child (p .node) x) (Walked.Stopped p) (λ c. cond (badLink g (p .node) c) (Walked.Bad (p .node)) (walkedFrom g t (onTo p c) xs))
+walkedFrom g t p (x ∷ xs) = stepTaken p (stepOf g t p x) (λ q. walkedFrom g t q xs)
 
 -- a fault on the way is 6 with its node; else the value is answered
 unfoldable pub lookedBy : Option ℕ → ℕ → Looked

@@ -58,7 +58,8 @@ pub fn walk(image: &[u8], h: Head, key: Key) -> Walked
     let letters = key.letters;
     let mut here = Position { node: 0, depth: 0 };
     while here.depth < key.len {
-        let next = here.step(image, h, mask, letters[here.depth]);
+        let depth = here.depth;
+        let next = here.step(image, h, mask, letters[depth]);
         let Step::At(position) = next else {
             let Step::Bad(node) = next else {
                 return Walked::Stopped(here);
@@ -75,7 +76,8 @@ pub fn look(image: &[u8], h: Head, key: Key) -> Looked
     requires { ⌜ Open h (now image) ⌝ ∗ ⌜ Ready h key ⌝ }
     ensures { λ r. ⌜ r ≡ lookedIn (h .g) (tableOf h (now (image .entry))) (lettersOf key) ⌝ }
 {
-    match walk(image, h, key) {
+    let walked = walk(image, h, key);
+    match walked {
         Walked::Complete(node) => Looked::Value(node::data(image, h, node)),
         Walked::Stopped(_) => Looked::Value(0),
         Walked::Bad(node) => Looked::Refused(Refusal::Link(node)),

@@ -3,8 +3,9 @@
 use mathlib.Core.Path.{sym, _∙_}
 use borrow.Author.Needs.{needs}
 use borrow.Author.Tests.{not-true, not-false}
+use Rattle.paper.specs.Hearing.{given}
 use Rattle.paper.specs.Answers.{rowOf}
-use Rattle.key.proofs.Judging.{typed-10, typed-9, typed-passed}
+use Rattle.key.proofs.Judging.{typed-10, typed-by}
 use Rattle.key.proofs.Typed.judge.Statement.{statement}
 use Rattle.key.proofs.Typed.judge.Tie as tie
 
@@ -16,12 +17,16 @@ length-allowed-requires : tie.Need-length-allowed-requires
 length-allowed-requires c κs = search needs
 
 returns-2 : tie.Need-returns-2
-unfolding rowOf
-returns-2 c = λ named e. sym (typed-9 _ _ named e (not-false _ (c .before .before .before .if1 .left)) (sym (c .before .length-allowed .ensures) ∙ not-true _ (c .if2 .taken)))
+unfolding rowOf given
+returns-2 c =
+    let one = c .before .before .before in
+    λ named e. sym (typed-by _ _ named e (not-false _ (one .if1 .left)) (sym (c .before .length-allowed .ensures) ∙ not-true _ (c .if2 .taken)))
 
 returns-3 : tie.Need-returns-3
-unfolding rowOf
-returns-3 c = λ named e. sym (typed-passed _ _ named e (not-false _ (c .before .before .before .if1 .left)) (sym (c .before .length-allowed .ensures) ∙ not-false _ (c .if2 .left)))
+unfolding rowOf given
+returns-3 c =
+    let one = c .before .before .before in
+    λ named e. sym (typed-by _ _ named e (not-false _ (one .if1 .left)) (sym (c .before .length-allowed .ensures) ∙ not-false _ (c .if2 .left)))
 
 pub judge-spec : {M : Type 1} → statement M
 judge-spec = tie.close (tie.spec returns length-allowed-requires returns-2 returns-3)
