@@ -2,3 +2,4 @@ pub mod Links
 pub mod Counting
 pub mod Paths
 pub mod Searching
+pub mod Following
