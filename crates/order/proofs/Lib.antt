@@ -3,3 +3,4 @@ pub mod Counting
 pub mod Paths
 pub mod Searching
 pub mod Following
+pub mod Climbing

@@ -59,7 +59,13 @@ kept-below {depth} {path = path} {nodes} {path₁} {nodes₁} k m =
       ends = fewer (suc depth) (suc (depth + 1)) nodes₁ nodes (omega arith) (m .ends) ∙ k .ends;
     }
 
--- the node at the depth
+-- the letters and nodes up to the depth, and the node at it
+pub kept-front : {depth : ℕ} {path₀ nodes₀ path nodes : List ℕ} (j : ℕ) → Kept depth path₀ nodes₀ path nodes → j ≤ depth → take j path ≡ take j path₀
+kept-front {depth} {path₀} {path = path} j k b = fewer j depth path path₀ b (k .letters)
+
+pub kept-letter : {depth : ℕ} {path₀ nodes₀ path nodes : List ℕ} (j : ℕ) → Kept depth path₀ nodes₀ path nodes → j < depth → getD path j 0 ≡ getD path₀ j 0
+kept-letter {depth} {path₀} {path = path} j k b = alike-at depth j path path₀ b (k .letters)
+
 pub kept-end : {depth : ℕ} {path₀ nodes₀ path nodes : List ℕ} → Kept depth path₀ nodes₀ path nodes → getD nodes depth 0 ≡ getD nodes₀ depth 0
 kept-end {depth} {nodes₀ = nodes₀} {nodes = nodes} k = alike-at (suc depth) depth nodes nodes₀ (omega arith) (k .ends)
 
@@ -75,13 +81,16 @@ module _ (h : Head) (l : List ℕ) where
             rw z (descend-nil (tableOf h l) 0 ∙ ap complete (sym e));
       }
 
+  pub along-root : {depth : ℕ} {path nodes : List ℕ} → Along h l depth path nodes → getD nodes 0 0 ≡ 0
+  along-root a = cc (a .ends 0 (omega arith), descend-nil (tableOf h l) 0)
+
   pub along-kept : {depth : ℕ} {path₀ nodes₀ path nodes : List ℕ} → Along h l depth path₀ nodes₀ → Kept depth path₀ nodes₀ path nodes
       → Along h l depth path nodes
   along-kept {depth} {path₀} {nodes₀} {path} {nodes} a k =
       record {
         letters = subst (Letters (h .n)) (sym (k .letters)) (a .letters);
         ends = λ j b.
-            ap (descend (tableOf h l) 0) (fewer j depth path path₀ b (k .letters))
+            ap (descend (tableOf h l) 0) (kept-front j k b)
             ∙ a .ends j b
             ∙ ap complete (sym (alike-at (suc depth) j nodes nodes₀ (omega arith) (k .ends)));
       }

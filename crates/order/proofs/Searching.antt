@@ -33,7 +33,7 @@ unfolding firstOf
 first-back [] b e = refl
 first-back (m ∷ a) b e = absurd (Option·some-ne-none m e)
 
-first-none : (a : List (List ℕ)) → a ≡ [] → firstOf a ≡ none
+pub first-none : (a : List (List ℕ)) → a ≡ [] → firstOf a ≡ none
 unfolding firstOf
 first-none a e = ap firstOf e
 
