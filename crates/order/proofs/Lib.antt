@@ -4,3 +4,4 @@ pub mod Paths
 pub mod Searching
 pub mod Following
 pub mod Climbing
+pub mod Requests
