@@ -4,24 +4,21 @@ use Prim.Native.Nat.{ℕ, zero, suc, _+_, _-_, _<_, _≤_}
 use native.Mathlib.Numerals.{add-one}
 use native.Mathlib.Nat.{sub-zero}
 use native.Mathlib.Omega.{arith}
-use mathlib.Core.Bool.{Bool, true, false}
 use mathlib.Core.List.{List, [], _∷_, _++_, map}
 use mathlib.Core.Logic.{_≢_}
-use mathlib.Core.Option.{Option, none, some, Option·some-ne-none, Option·some-injective}
+use mathlib.Core.Option.{none, some, Option·some-ne-none, Option·some-injective}
 use mathlib.Core.Path.{_≡_, refl, sym, _∙_, ap}
-use lib.ListN.{length, getD, take, drop}
-use lib.Seq.{take-suc, take-all, split-at, length-take-le}
-use Rattle.trie.specs.Table.{Letters}
-use Rattle.trie.specs.Keys.{listing, meets, firstMeeting}
+use lib.ListN.{length, getD, take}
+use lib.Seq.{take-suc, length-take-le}
 use Rattle.trie.specs.Beyond.{beyond, firstOf}
-use Rattle.trie.proofs.Beyond.{beyond-nil, beyond-up, beyond-found, meets-after-path, meets-at-none, meets-at-own, meets-stopped}
+use Rattle.trie.proofs.Beyond.{beyond-nil, beyond-up, beyond-found}
 use Rattle.head.specs.declared.Head.{Head}
 use Rattle.node.specs.Image.{tableOf}
 use Rattle.order.specs.declared.Search.{Search}
-use Rattle.order.specs.Search.{ownValue, ahead, coming, Room, Along, Kept, Followed, Told}
-use Rattle.order.proofs.Links.{own-empty, own-long, own-data, from}
+use Rattle.order.specs.Search.{ahead, coming, Room, Along, Kept, Told}
+use Rattle.order.proofs.Links.{from}
 use Rattle.order.proofs.Paths.{room-kept, kept-front, kept-letter, along-root, along-kept, along-less, along-last}
-use Rattle.order.proofs.Searching.{first-none, was-missing, was-found, told-same, told-here}
+use Rattle.order.proofs.Searching.{first-none, was-missing, was-found, told-same}
 
 -- ---- keys with letters in front
 

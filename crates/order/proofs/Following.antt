@@ -1,5 +1,5 @@
 -- A key followed letter by letter: the path so far is the key's beginning, and at the letter where it ends the key ends or the link is empty.
-use Prim.Native.Nat.{ℕ, suc, _+_, _<_, _≤_}
+use Prim.Native.Nat.{ℕ, _+_, _<_, _≤_}
 use native.Mathlib.Numerals.{add-one}
 use native.Mathlib.Omega.{arith}
 use mathlib.Core.List.{List, [], _∷_, _++_}

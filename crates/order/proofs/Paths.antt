@@ -1,6 +1,6 @@
 -- A path and its nodes, letter by letter. Nothing but the first letters and nodes counts, so what is written behind them changes nothing
 -- (`Kept`), and a letter more is one link more.
-use Prim.Native.Nat.{ℕ, zero, suc, _+_, _<_, _≤_}
+use Prim.Native.Nat.{ℕ, suc, _+_, _<_, _≤_}
 use native.Mathlib.Decide.{ℕ-discrete, decLe}
 use native.Mathlib.Numerals.{add-one}
 use native.Mathlib.Omega.{arith}
@@ -15,7 +15,7 @@ use Rattle.trie.proofs.Letters.{letters-before}
 use Rattle.trie.proofs.Walk.{descend-nil, descend-empty, descend-on, descend-append, complete-within}
 use Rattle.head.specs.declared.Head.{Head}
 use Rattle.node.specs.Image.{tableOf}
-use Rattle.order.specs.Search.{Room, Along, Kept, Followed}
+use Rattle.order.specs.Search.{Room, Along, Kept}
 
 letters-take : (n j : ℕ) (k : List ℕ) → Letters n k → Letters n (take j k)
 letters-take n j k l = letters-before n (take j k) (drop j k) (rw (take-append-drop j k) l)

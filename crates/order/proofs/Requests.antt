@@ -6,24 +6,18 @@ use native.Mathlib.Omega.{arith}
 use mathlib.Core.Bool.{Bool, true, false}
 use mathlib.Core.List.{List, _∷_, _++_}
 use mathlib.Core.Logic.{_≢_}
-use mathlib.Core.Option.{Option}
 use mathlib.Core.Path.{_≡_, sym, _∙_, ap, subst}
 use lib.ListN.{length, getD, take, drop}
 use lib.Seq.{take-all, split-at, length-take-le}
 use Rattle.trie.specs.Table.{Letters, complete, descend}
-use Rattle.trie.specs.Keys.{listing, meets, firstMeeting}
 use Rattle.trie.specs.Beyond.{beyond, firstOf}
 use Rattle.trie.proofs.Beyond.{meets-after-path, meets-at-none, meets-at-own, meets-stopped}
 use Rattle.head.specs.declared.Head.{Head}
 use Rattle.node.specs.Image.{tableOf}
 use Rattle.order.specs.declared.Search.{Search}
-use Rattle.order.specs.Search.{ownValue, coming, Room, Along, Followed, Told}
+use Rattle.order.specs.Search.{ownValue, coming, Room, Along, Followed, sought, Told}
 use Rattle.order.proofs.Links.{own-empty, own-long, own-data}
 use Rattle.order.proofs.Searching.{told-same, told-here}
-
--- the first key of an image's listing that meets a request
-abbrev pub sought : Head → List ℕ → Bool → List ℕ → Option (List ℕ)
-sought h l after k = firstMeeting (meets after k) (listing (tableOf h l) (h .n) (h .min) (h .max))
 
 -- at the end of a path
 module _ (h : Head) (l path nodes : List ℕ) {depth : ℕ} (deep : depth ≤ h .max) (room : Room h path nodes) (along : Along h l depth path nodes) where

@@ -1,23 +1,22 @@
 -- The search below a node, letter by letter, and the climb along a path. What is still to be searched begins with the keys below the
 -- node at hand: where there is one it is the key sought, and where there is none they drop out of what is left.
-use Prim.Native.Nat.{ℕ, zero, suc, _+_, _-_, _<_, _≤_}
+use Prim.Native.Nat.{ℕ, suc, _+_, _-_, _<_, _≤_}
 use native.Mathlib.Numerals.{add-one}
 use native.Mathlib.Omega.{arith}
-use mathlib.Core.Bool.{Bool, true, false}
-use mathlib.Core.List.{List, [], _∷_, _++_, map, map-append, map-map, append-assoc, append-nil}
+use mathlib.Core.List.{List, [], _∷_, _++_, map, map-append, map-map, append-assoc}
 use mathlib.Core.Logic.{_≢_}
 use mathlib.Core.Option.{Option, none, some, Option·some-ne-none, Option·some-injective}
 use mathlib.Core.Path.{_≡_, refl, sym, _∙_, ap, subst}
 use lib.ListN.{length, getD, take, set, length-set}
-use lib.Seq.{take-suc, take-suc-set, length-take-le, getD-set-same}
-use Rattle.trie.specs.Table.{Table, complete, descend, answer}
+use lib.Seq.{take-suc-set, length-take-le, getD-set-same}
+use Rattle.trie.specs.Table.{Table, answer}
 use Rattle.trie.specs.Beyond.{firstOf}
 use Rattle.trie.proofs.Beyond.{from-none, from-empty, from-childless}
 use Rattle.trie.proofs.Walk.{answer-complete}
 use Rattle.head.specs.declared.Head.{Head}
 use Rattle.node.specs.Image.{tableOf}
 use Rattle.order.specs.declared.Search.{Search}
-use Rattle.order.specs.Search.{ownValue, ahead, coming, Room, Along, Kept, Reached, toldOf, Told}
+use Rattle.order.specs.Search.{ownValue, ahead, Room, Along, Kept, Reached, toldOf, Told}
 use Rattle.order.proofs.Links.{own-data, own-long, own-empty, own-full, from, from-full, from-link}
 use Rattle.order.proofs.Paths.{room-kept, kept-all, kept-set, kept-below, kept-end, along-kept, along-more}
 
@@ -130,9 +129,10 @@ module _ (h : Head) (l : List ℕ) where
       → firstOf (ahead h l path depth q i) ≡ some (take depth path ++ (i ∷ []))
   unfolding ahead firstOf
   ahead-own path depth q i {c} deep b e full own some-value =
-      rw
-      (from-link h (tableOf h l) q depth i deep b (sym e) full,
-      own-full h (tableOf h l) c (suc depth) (λ z. some-value (own ∙ (rw (add-one depth) z))))
+      rw (
+        from-link h (tableOf h l) q depth i deep b (sym e) full,
+        own-full h (tableOf h l) c (suc depth) (λ z. some-value (own ∙ (rw (add-one depth) z))),
+      )
 
   -- and else the keys below the child, before those by later letters
   ahead-link : (path path′ : List ℕ) (depth q i : ℕ) {c v : ℕ} → depth < h .max → i < h .n → c ≡ tableOf h l .child q i → c ≢ 0

@@ -2,12 +2,13 @@
 -- path that it leaves: the key's letters, and the nodes on its way, the root first.
 use Prim.Native.Nat.{ℕ, suc, _-_, _≤_, _<_}
 use mathlib.Core.Path.{_≡_}
-use mathlib.Core.Bool.{cond}
+use mathlib.Core.Bool.{Bool, cond}
 use mathlib.Core.Option.{Option, none, some}
 use mathlib.Core.List.{List, _++_, map}
 use lib.ListN.{length, getD, take}
 use lib.Dec.{ltb}
 use Rattle.trie.specs.Table.{Table, complete, descend, answer, Letters}
+use Rattle.trie.specs.Keys.{listing, meets, firstMeeting}
 use Rattle.trie.specs.Beyond.{keysFrom, beyond}
 use Rattle.head.specs.declared.Head.{Head}
 use Rattle.node.specs.Image.{tableOf}
@@ -32,6 +33,10 @@ pub record Reached (h : Head) (l k path nodes : List ℕ) : Type 0 where
   pub short : length k ≤ h .max
   pub letters : take (length k) path ≡ k
   pub along : Along h l (length k) path nodes
+
+-- "the first stored key that meets it"
+abbrev pub sought : Head → List ℕ → Bool → List ℕ → Option (List ℕ)
+sought h l after k = firstMeeting (meets after k) (listing (tableOf h l) (h .n) (h .min) (h .max))
 
 -- what is answered of a key that there is or is not
 unfoldable pub toldOf : Table → Option (List ℕ) → Search

@@ -6,11 +6,11 @@ ghost use mathlib.Core.Bool.{true};
 ghost use Prim.Native.Nat.{_+_, _-_, _^_, _≤_, _<_};
 ghost use lib.ListN.{length, getD, take};
 ghost use Rattle.trie.specs.Rules.{Within};
-ghost use Rattle.trie.specs.Keys.{listing, meets, firstMeeting};
+ghost use Rattle.trie.specs.Keys.{listing};
 ghost use Rattle.trie.specs.Beyond.{keysFrom, firstOf};
 ghost use Rattle.node.specs.Image.{Open, Masks, tableOf};
 ghost use Rattle.key.specs.Hand.{Ready, lettersOf};
-ghost use Rattle.order.specs.Search.{ownValue, ahead, coming, Room, Along, Kept, Followed, Told};
+ghost use Rattle.order.specs.Search.{ownValue, ahead, coming, Room, Along, Kept, Followed, sought, Told};
 use head::Head;
 use key::Key;
 
@@ -60,22 +60,40 @@ fn counted(image: &[u8], h: Head, mask: u32, node: u32, depth: usize, before: u3
 
 // The first stored key at or after the key in hand, or after it. Its letters are at the front of the path then, and the nodes are those
 // on its way from the root on.
-pub fn next(image: &[u8], h: Head, key: Key, after: bool, path: &mut [u8], nodes: &mut [u32]) -> Search
+pub fn next(
+    image: &[u8],
+    h: Head,
+    key: Key,
+    after: bool,
+    path: &mut [u8],
+    nodes: &mut [u32],
+) -> Search
     requires { ⌜ Open h (now image) ⌝ ∗ ⌜ Within (tableOf h (now image)) (h .g) ⌝ }
     requires { ⌜ Ready h key ⌝ ∗ ⌜ key .len ≤ h .max ⌝ ∗ ⌜ Room h (now path) (now nodes) ⌝ }
-    ensures { λ r. ⌜ Told h (now (image .entry)) (firstMeeting (meets after (lettersOf key)) (listing (tableOf h (now (image .entry))) (h .n) (h .min) (h .max))) r (now (path .exit)) (now (nodes .exit)) ⌝ }
+    ensures { λ r. ⌜ Told h (now (image .entry)) (sought h (now (image .entry)) after (lettersOf key)) r (now (path .exit)) (now (nodes .exit)) ⌝ }
     ensures { λ r. ⌜ Room h (now (path .exit)) (now (nodes .exit)) ⌝ }
 {
     let mask = node::mask(h);
     let depth = along(image, h, mask, key, path, nodes);
     if depth < key.len {
         let letters = key.letters;
-        return climb(image, h, mask, depth, (letters[depth] as u32) + 1, path, nodes);
+        return climb(
+            image,
+            h,
+            mask,
+            depth,
+            (letters[depth] as u32) + 1,
+            path,
+            nodes,
+        );
     }
     if !after {
         let value = own_value(image, h, nodes[depth], depth);
         if value != 0 {
-            return Search::Found { length: depth, value };
+            return Search::Found {
+                length: depth,
+                value,
+            };
         }
     }
     climb(image, h, mask, depth, 0, path, nodes)
@@ -86,7 +104,7 @@ pub fn next(image: &[u8], h: Head, key: Key, after: bool, path: &mut [u8], nodes
 pub fn onward(image: &[u8], h: Head, len: usize, path: &mut [u8], nodes: &mut [u32]) -> Search
     requires { ⌜ Open h (now image) ⌝ ∗ ⌜ Within (tableOf h (now image)) (h .g) ⌝ }
     requires { ⌜ len ≤ h .max ⌝ ∗ ⌜ Room h (now path) (now nodes) ⌝ ∗ ⌜ Along h (now image) len (now path) (now nodes) ⌝ }
-    ensures { λ r. ⌜ Told h (now (image .entry)) (firstMeeting (meets true (take len (now (path .entry)))) (listing (tableOf h (now (image .entry))) (h .n) (h .min) (h .max))) r (now (path .exit)) (now (nodes .exit)) ⌝ }
+    ensures { λ r. ⌜ Told h (now (image .entry)) (sought h (now (image .entry)) true (take len (now (path .entry)))) r (now (path .exit)) (now (nodes .exit)) ⌝ }
     ensures { λ r. ⌜ Room h (now (path .exit)) (now (nodes .exit)) ⌝ }
 {
     climb(image, h, node::mask(h), len, 0, path, nodes)
@@ -118,7 +136,15 @@ fn along(image: &[u8], h: Head, mask: u32, key: Key, path: &mut [u8], nodes: &mu
 }
 
 // The first stored key below the path's end from a letter on or, where there is none, behind the letter taken at each node on the way up.
-fn climb(image: &[u8], h: Head, mask: u32, end: usize, first: u32, path: &mut [u8], nodes: &mut [u32]) -> Search
+fn climb(
+    image: &[u8],
+    h: Head,
+    mask: u32,
+    end: usize,
+    first: u32,
+    path: &mut [u8],
+    nodes: &mut [u32],
+) -> Search
     requires { ⌜ Open h (now image) ⌝ ∗ ⌜ Within (tableOf h (now image)) (h .g) ⌝ ∗ ⌜ Masks h mask ⌝ }
     requires { ⌜ end ≤ h .max ⌝ ∗ ⌜ Room h (now path) (now nodes) ⌝ ∗ ⌜ Along h (now image) end (now path) (now nodes) ⌝ }
     ensures { λ r. ⌜ Told h (now (image .entry)) (firstOf (coming h (now (image .entry)) (now (path .entry)) end first)) r (now (path .exit)) (now (nodes .exit)) ⌝ }
@@ -140,9 +166,19 @@ fn climb(image: &[u8], h: Head, mask: u32, end: usize, first: u32, path: &mut [u
 
 // The first stored key below a node at a depth whose next letter is `from` or a later one. It calls itself on each child; the depth left to
 // max falls.
-fn below(image: &[u8], h: Head, mask: u32, node: u32, depth: usize, from: u32, path: &mut [u8], nodes: &mut [u32]) -> Search
+fn below(
+    image: &[u8],
+    h: Head,
+    mask: u32,
+    node: u32,
+    depth: usize,
+    from: u32,
+    path: &mut [u8],
+    nodes: &mut [u32],
+) -> Search
     requires { ⌜ Open h (now image) ⌝ ∗ ⌜ Within (tableOf h (now image)) (h .g) ⌝ ∗ ⌜ Masks h mask ⌝ }
-    requires { ⌜ depth ≤ h .max ⌝ ∗ ⌜ Room h (now path) (now nodes) ⌝ ∗ ⌜ Along h (now image) depth (now path) (now nodes) ⌝ ∗ ⌜ node ≡ getD (now nodes) depth 0 ⌝ }
+    requires { ⌜ depth ≤ h .max ⌝ ∗ ⌜ Room h (now path) (now nodes) ⌝ }
+    requires { ⌜ Along h (now image) depth (now path) (now nodes) ⌝ ∗ ⌜ node ≡ getD (now nodes) depth 0 ⌝ }
     ensures { λ r. ⌜ Told h (now (image .entry)) (firstOf (ahead h (now (image .entry)) (now (path .entry)) depth node from)) r (now (path .exit)) (now (nodes .exit)) ⌝ }
     ensures { λ r. ⌜ Kept depth (now (path .entry)) (now (nodes .entry)) (now (path .exit)) (now (nodes .exit)) ⌝ }
 {

@@ -1,15 +1,13 @@
 -- The proof of the cycle of calls {below}: from letter to letter what is sought is what comes first of the rest, and the depth left to max
 -- falls at each call of itself. Assumes nothing.
 use Prim.Native.Nat.{ℕ, _+_, _-_, _<_, _≤_}
-use mathlib.Core.Path.{_≡_, sym, _∙_}
+use mathlib.Core.Path.{_∙_}
 use native.Mathlib.Omega.{arith}
-use lib.ListN.{length, length-set}
+use lib.ListN.{length-set}
 use borrow.Author.Needs.{needs}
 use borrow.Fn.Kinds.{In}
 use borrow.Fn.PlainCycle.{Measures, is, falls, and}
 use Rattle.head.proofs.Permitted.{bounds}
-use Rattle.node.specs.Image.{tableOf}
-use Rattle.order.specs.Search.{ahead}
 use Rattle.order.proofs.Paths.{kept-all, kept-below, along-within}
 use Rattle.order.proofs.Searching.{told-none, ahead-full, ahead-childless, Passing, Onto, passing-start, passing-empty, passing-end}
 use Rattle.order.proofs.Searching.{onto-room, onto-node, onto-along, onto-kept, onto-own, onto-found, onto-missing}
@@ -90,7 +88,9 @@ loop-less : (t : ℕ) → lts.Need-loop-less (claims t) (at t) below.Post Inv-lo
 loop-less t c = omega arith
 
 loop-again : (t : ℕ) → lts.Need-loop-again (claims t) (at t) below.Post Inv-loop μ-loop
-loop-again t c = let found = c .before in passing-empty (found .before .before .loop .inv) (found .before .loop-test .taken) (found .link .ensures) (c .if3 .taken)
+loop-again t c =
+    let found = c .before in
+    passing-empty (found .before .before .loop .inv) (found .before .loop-test .taken) (found .link .ensures) (c .if3 .taken)
 
 -- past an empty link
 onto : (t : ℕ) (c : lts.Else3 (claims t) (at t) below.Post Inv-loop μ-loop)

@@ -1,7 +1,7 @@
 -- `order::along` meets its contract: letter by letter the path is the key's beginning, down to its end or to an empty link.
 -- Assumes nothing.
 use Prim.Native.Nat.{_-_}
-use mathlib.Core.Path.{_≡_, sym, _∙_}
+use mathlib.Core.Path.{_≡_, _∙_}
 use native.Mathlib.Omega.{arith}
 use borrow.Author.Needs.{needs}
 use lib.ListN.{length, getD, take, length-set}
@@ -46,7 +46,9 @@ loop-holds c =
     following-start (a .h) (a .image .now) (lettersOf (a .key)) (a .path .now) (a .nodes .now) (start .pre .1 .1 .1 .1 .1)
 
 array-read-letter : tie.Need-array-read-letter Inv-loop μ-loop
-array-read-letter c = let start = c .before .before .before .before .before .before in omega (arith, c .loop-test .taken, start .pre .1 .1 .1 .0 .short)
+array-read-letter c =
+    let start = c .before .before .before .before .before .before in
+    omega (arith, c .loop-test .taken, start .pre .1 .1 .1 .0 .short)
 
 cast-link : tie.Need-cast-link Inv-loop μ-loop
 cast-link c =
@@ -58,8 +60,7 @@ link-requires : tie.Need-link-requires Inv-loop μ-loop
 link-requires c κs =
     let start = c .before .before .before .before .before .before in
     let p = start .pre in
-    let f = c .before .loop .inv in
-    (
+    let f = c .before .loop .inv in (
       p .0,
       (
         p .1 .1 .0,
@@ -77,7 +78,9 @@ same-length-2 : tie.Need-same-length-2 Inv-loop μ-loop
 same-length-2 c = c .before .before .before .loop .inv .ends ∙ length-set (c .before .before .before .before .before .before .before .before .args .nodes .now) 0 0
 
 returns : tie.Need-returns Inv-loop μ-loop
-returns c = let found = c .before in following-stop (found .before .before .loop .inv) (letter (found .before)) (found .link .ensures) (c .if1 .taken)
+returns c =
+    let found = c .before in
+    following-stop (found .before .before .loop .inv) (letter (found .before)) (found .link .ensures) (c .if1 .taken)
 
 slice-write-path : tie.Need-slice-write-path Inv-loop μ-loop
 slice-write-path c =

@@ -17,10 +17,15 @@ abbrev μ-loop : tie.MeasureT-loop
 μ-loop image h mask end first path₀ nodes₀ depth₀ from₀ path nodes depth from = depth
 
 loop-holds : tie.Need-loop-holds Inv-loop μ-loop
-loop-holds c = let start = c .before .before .before in let p = start .pre .1 .1 .1 in climbing-start (start .args .first) (p .0) (p .1 .0) (p .1 .1)
+loop-holds c =
+    let start = c .before .before .before in
+    let p = start .pre .1 .1 .1 in
+    climbing-start (start .args .first) (p .0) (p .1 .0) (p .1 .1)
 
 mul-below : tie.Need-mul-below Inv-loop μ-loop
-mul-below c = let start = c .before .before .before .before in omega (arith, bounds (start .args .h) (start .pre .0 .head-permitted), c .loop .inv .deep)
+mul-below c =
+    let start = c .before .before .before .before in
+    omega (arith, bounds (start .args .h) (start .pre .0 .head-permitted), c .loop .inv .deep)
 
 slice-read-below : tie.Need-slice-read-below Inv-loop μ-loop
 slice-read-below c = let at = c .before .loop .inv in omega (arith, at .deep, at .room .ends)
@@ -36,22 +41,32 @@ enum-told : tie.Need-enum-told Inv-loop μ-loop
 enum-told c = search needs
 
 same-length : tie.Need-same-length Inv-loop μ-loop
-same-length c = let under = c .before .before .before .before .before .before in under .below .kept .1 .1 .1 .1 .1 .1 .0 ∙ under .before .before .before .before .loop .inv .letters
+same-length c =
+    let under = c .before .before .before .before .before .before in
+    under .below .kept .1 .1 .1 .1 .1 .1 .0 ∙ under .before .before .before .before .loop .inv .letters
 
 same-length-2 : tie.Need-same-length-2 Inv-loop μ-loop
-same-length-2 c = let under = c .before .before .before .before .before .before in under .below .kept .1 .1 .1 .1 .1 .1 .1 .0 ∙ under .before .before .before .before .loop .inv .ends
+same-length-2 c =
+    let under = c .before .before .before .before .before .before in
+    under .below .kept .1 .1 .1 .1 .1 .1 .1 .0 ∙ under .before .before .before .before .loop .inv .ends
 
 returns : tie.Need-returns Inv-loop μ-loop
-returns c = let under = c .before .before .before .before .before .before in climbing-found (under .before .before .before .before .loop .inv) refl (under .below .ensures .0) (c .enum-told .given .1)
+returns c =
+    let under = c .before .before .before .before .before .before in
+    climbing-found (under .before .before .before .before .loop .inv) refl (under .below .ensures .0) (c .enum-told .given .1)
 
 enum-told-2 : tie.Need-enum-told-2 Inv-loop μ-loop
 enum-told-2 c = search needs
 
 same-length-3 : tie.Need-same-length-3 Inv-loop μ-loop
-same-length-3 c = let under = c .before .before .before .before .before .before .before in under .below .kept .1 .1 .1 .1 .1 .1 .0 ∙ under .before .before .before .before .loop .inv .letters
+same-length-3 c =
+    let under = c .before .before .before .before .before .before .before in
+    under .below .kept .1 .1 .1 .1 .1 .1 .0 ∙ under .before .before .before .before .loop .inv .letters
 
 same-length-4 : tie.Need-same-length-4 Inv-loop μ-loop
-same-length-4 c = let under = c .before .before .before .before .before .before .before in under .below .kept .1 .1 .1 .1 .1 .1 .1 .0 ∙ under .before .before .before .before .loop .inv .ends
+same-length-4 c =
+    let under = c .before .before .before .before .before .before .before in
+    under .below .kept .1 .1 .1 .1 .1 .1 .1 .0 ∙ under .before .before .before .before .loop .inv .ends
 
 returns-2 : tie.Need-returns-2 Inv-loop μ-loop
 returns-2 c =

@@ -3,7 +3,7 @@
 use Prim.Native.Nat.{ℕ, _+_, _<_, _≤_}
 use mathlib.Core.Bool.{Bool}
 use mathlib.Core.Logic.{⊎-elim}
-use mathlib.Core.Path.{_≡_, _∙_, ap, sym}
+use mathlib.Core.Path.{_≡_, _∙_, ap}
 use native.Mathlib.Omega.{arith}
 use lib.ListN.{length, getD}
 use lib.Seq.{getD-take}
@@ -13,10 +13,10 @@ use Rattle.trie.specs.Beyond.{firstOf}
 use Rattle.head.proofs.Permitted.{bounds}
 use Rattle.key.specs.Hand.{lettersOf}
 use Rattle.key.proofs.Hand.{letters-count, letter-below}
-use Rattle.order.specs.Search.{coming, Room}
+use Rattle.order.specs.Search.{coming, Room, sought}
 use Rattle.order.proofs.Paths.{room-kept, along-within}
 use Rattle.order.proofs.Searching.{told-same}
-use Rattle.order.proofs.Requests.{sought, stopped-key, after-key, at-key-none, at-key-own}
+use Rattle.order.proofs.Requests.{stopped-key, after-key, at-key-none, at-key-own}
 use Rattle.order.proofs.next.Statement.{statement}
 use Rattle.order.proofs.next.Tie as tie
 
@@ -33,7 +33,9 @@ room : (c : tie.After-along) → Room (c .before .before .before .before .before
 room c = room-kept (c .before .before .before .before .before .before .before .pre .1 .1 .1 .1) (c .along .kept .1 .1 .1 .1 .0) (c .along .kept .1 .1 .1 .1 .1 .0)
 
 deep : (c : tie.After-along) → c .along .result ≤ c .before .before .before .before .before .before .before .args .h .max
-deep c = let start = c .before .before .before .before .before .before .before in omega (arith, count start, c .along .ensures .short, start .pre .1 .1 .1 .0)
+deep c =
+    let start = c .before .before .before .before .before .before .before in
+    omega (arith, count start, c .along .ensures .short, start .pre .1 .1 .1 .0)
 
 -- the letter at an empty link
 letter : (c : tie.After-letters)
@@ -43,8 +45,7 @@ letter : (c : tie.After-letters)
 letter c =
     let start = c .before .before .before .before .before .before .before .before .before .before .before .before .before .before in
     let p = start .pre .1 .1 .0 in
-    let depth = c .before .before .before .before .before .before .before .along .result in
-    (
+    let depth = c .before .before .before .before .before .before .before .along .result in (
       letter-below (start .args .key) (whole start) (p .short) (start .args .h .n) depth (p .letters) (c .before .if1 .taken),
       getD-take (start .args .key .len) (start .args .key .letters) depth 0 (c .before .if1 .taken),
     )
@@ -82,16 +83,17 @@ returns c =
     let on = climbed .before .before .before .before .before .before .before .before .before .before in
     let start = on .before .before .before .before .before .before .before in
     let p = start .pre .1 .1 in
-    let e = stopped-key (on .along .ensures) (room on) (omega (arith, count start, p .1 .0)) (start .args .after) (p .0 .letters) (omega (arith, count start, climbed .before .before .before .before .if1 .taken)) in
-    (
+    let e = stopped-key (on .along .ensures) (room on) (omega (arith, count start, p .1 .0)) (start .args .after) (p .0 .letters) (omega (arith, count start, climbed .before .before .before .before .if1 .taken)) in (
       told-same (start .args .h) (start .args .image .now)
-      (e ∙ ap (λ (y : ℕ). firstOf (coming (start .args .h) (start .args .image .now) (on .along .last .1 .1 .1 .1 .0) (on .along .result) (y + 1))) (letter (climbed .before .before .before) .1))
-      (climbed .climb .ensures),
+          (e ∙ ap (λ (y : ℕ). firstOf (coming (start .args .h) (start .args .image .now) (on .along .last .1 .1 .1 .1 .0) (on .along .result) (y + 1))) (letter (climbed .before .before .before) .1))
+          (climbed .climb .ensures),
       room-kept (room on) (climbed .climb .kept .1 .1 .1 .1 .1 .0) (climbed .climb .kept .1 .1 .1 .1 .1 .1 .0),
     )
 
 mul-own-value : tie.Need-mul-own-value
-mul-own-value c = let on = c .before .before .before .before .before .before .before in omega (arith, deep on, bounds (on .before .before .before .before .before .before .before .args .h) (on .before .before .before .before .before .before .before .pre .0 .head-permitted))
+mul-own-value c =
+    let on = c .before .before .before .before .before .before .before in
+    omega (arith, deep on, bounds (on .before .before .before .before .before .before .before .args .h) (on .before .before .before .before .before .before .before .pre .0 .head-permitted))
 
 slice-read-own-value : tie.Need-slice-read-own-value
 slice-read-own-value c = let on = c .before .before .before .before .before .before .before .before in omega (arith, deep on, room on .ends)
@@ -113,11 +115,10 @@ returns-2 c =
     let on = c .before .before .before .before .before .before .before .before .before .before in
     let start = on .before .before .before .before .before .before .before in
     let end = c .before .before .before .before .if1 .left in
-    let not-after = not-true _ (c .before .before .before .if2 .taken) in
-    (
+    let not-after = not-true _ (c .before .before .before .if2 .taken) in (
       told-same (start .args .h) (start .args .image .now)
-      (ap (λ (after : Bool). sought (start .args .h) (start .args .image .now) after (lettersOf (start .args .key))) not-after)
-      (at-key-own (on .along .ensures) (room on) (omega (arith, count start, start .pre .1 .1 .1 .0)) (omega (arith, count start, end)) (c .before .own-value .ensures) (c .if3 .taken)),
+          (ap (λ (after : Bool). sought (start .args .h) (start .args .image .now) after (lettersOf (start .args .key))) not-after)
+          (at-key-own (on .along .ensures) (room on) (omega (arith, count start, start .pre .1 .1 .1 .0)) (omega (arith, count start, end)) (c .before .own-value .ensures) (c .if3 .taken)),
       room on,
     )
 
@@ -156,8 +157,7 @@ returns-3 : tie.Need-returns-3
 returns-3 c =
     let climbed = c .before .before .before .before in
     let on = climbed .before .before .before .before .before .before .before .before .before .before in
-    let a = on .before .before .before .before .before .before .before .args in
-    (
+    let a = on .before .before .before .before .before .before .before .args in (
       told-same (a .h) (a .image .now) (from-here (climbed .before .before .before)) (climbed .climb2 .ensures),
       room-kept (room on) (climbed .climb2 .kept .1 .1 .1 .1 .1 .0) (climbed .climb2 .kept .1 .1 .1 .1 .1 .1 .0),
     )

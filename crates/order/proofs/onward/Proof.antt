@@ -23,8 +23,7 @@ returns c =
     let climbed = c .before .before .before .before in
     let start = climbed .before .before .before .before .before .before .before in
     let a = start .args in
-    let p = start .pre .1 .1 in
-    (
+    let p = start .pre .1 .1 in (
       told-same (a .h) (a .image .now) (after-path (a .h) (a .image .now) (a .path .now) (a .nodes .now) (p .0) (p .1 .0) (p .1 .1)) (climbed .climb .ensures),
       room-kept (p .1 .0) (climbed .climb .kept .1 .1 .1 .1 .1 .0) (climbed .climb .kept .1 .1 .1 .1 .1 .1 .0),
     )
