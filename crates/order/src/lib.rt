@@ -6,11 +6,11 @@ ghost use mathlib.Core.Bool.{true};
 ghost use Prim.Native.Nat.{_+_, _-_, _^_, _≤_, _<_};
 ghost use lib.ListN.{length, getD, take};
 ghost use Rattle.trie.specs.Rules.{Within};
-ghost use Rattle.trie.specs.Keys.{keysUnder, listing, meets, firstMeeting};
-ghost use Rattle.trie.specs.Beyond.{keysFrom, beyond, firstOf};
+ghost use Rattle.trie.specs.Keys.{listing};
+ghost use Rattle.trie.specs.Beyond.{keysFrom, firstOf};
 ghost use Rattle.node.specs.Image.{Open, Masks, tableOf};
 ghost use Rattle.key.specs.Hand.{Ready, lettersOf};
-ghost use Rattle.order.specs.Search.{ownValue, Room, Along, Told};
+ghost use Rattle.order.specs.Search.{ownValue, ahead, coming, Room, Along, Kept, Followed, sought, Told};
 use head::Head;
 use key::Key;
 
@@ -45,16 +45,15 @@ fn counted(image: &[u8], h: Head, mask: u32, node: u32, depth: usize, before: u3
         return before;
     }
     let mut sum = before;
-    let mut i: u32 = 0;
-    while i < h.n {
+    for i in 0..h.n {
         let c = node::link(image, h, mask, node, i);
-        if c != 0 {
-            if own_value(image, h, c, depth + 1) != 0 {
-                sum += 1;
-            }
-            sum = counted(image, h, mask, c, depth + 1, sum);
+        if c == 0 {
+            continue;
         }
-        i += 1;
+        if own_value(image, h, c, depth + 1) != 0 {
+            sum += 1;
+        }
+        sum = counted(image, h, mask, c, depth + 1, sum);
     }
     sum
 }
@@ -71,7 +70,7 @@ pub fn next(
 ) -> Search
     requires { ⌜ Open h (now image) ⌝ ∗ ⌜ Within (tableOf h (now image)) (h .g) ⌝ }
     requires { ⌜ Ready h key ⌝ ∗ ⌜ key .len ≤ h .max ⌝ ∗ ⌜ Room h (now path) (now nodes) ⌝ }
-    ensures { λ r. ⌜ Told h (now (image .entry)) (firstMeeting (meets after (lettersOf key)) (listing (tableOf h (now (image .entry))) (h .n) (h .min) (h .max))) r (now (path .exit)) (now (nodes .exit)) ⌝ }
+    ensures { λ r. ⌜ Told h (now (image .entry)) (sought h (now (image .entry)) after (lettersOf key)) r (now (path .exit)) (now (nodes .exit)) ⌝ }
     ensures { λ r. ⌜ Room h (now (path .exit)) (now (nodes .exit)) ⌝ }
 {
     let mask = node::mask(h);
@@ -105,14 +104,18 @@ pub fn next(
 pub fn onward(image: &[u8], h: Head, len: usize, path: &mut [u8], nodes: &mut [u32]) -> Search
     requires { ⌜ Open h (now image) ⌝ ∗ ⌜ Within (tableOf h (now image)) (h .g) ⌝ }
     requires { ⌜ len ≤ h .max ⌝ ∗ ⌜ Room h (now path) (now nodes) ⌝ ∗ ⌜ Along h (now image) len (now path) (now nodes) ⌝ }
-    ensures { λ r. ⌜ Told h (now (image .entry)) (firstMeeting (meets true (take len (now (path .entry)))) (listing (tableOf h (now (image .entry))) (h .n) (h .min) (h .max))) r (now (path .exit)) (now (nodes .exit)) ⌝ }
+    ensures { λ r. ⌜ Told h (now (image .entry)) (sought h (now (image .entry)) true (take len (now (path .entry)))) r (now (path .exit)) (now (nodes .exit)) ⌝ }
     ensures { λ r. ⌜ Room h (now (path .exit)) (now (nodes .exit)) ⌝ }
 {
     climb(image, h, node::mask(h), len, 0, path, nodes)
 }
 
 // Follows a key as far as its links go, and answers how far that is.
-fn along(image: &[u8], h: Head, mask: u32, key: Key, path: &mut [u8], nodes: &mut [u32]) -> usize {
+fn along(image: &[u8], h: Head, mask: u32, key: Key, path: &mut [u8], nodes: &mut [u32]) -> usize
+    requires { ⌜ Open h (now image) ⌝ ∗ ⌜ Within (tableOf h (now image)) (h .g) ⌝ ∗ ⌜ Masks h mask ⌝ }
+    requires { ⌜ Ready h key ⌝ ∗ ⌜ key .len ≤ h .max ⌝ ∗ ⌜ Room h (now path) (now nodes) ⌝ }
+    ensures { λ r. ⌜ Followed h (now (image .entry)) (lettersOf key) (now (path .exit)) (now (nodes .exit)) r ⌝ }
+{
     let letters = key.letters;
     let len = key.len;
     nodes[0] = 0;
@@ -141,14 +144,17 @@ fn climb(
     first: u32,
     path: &mut [u8],
     nodes: &mut [u32],
-) -> Search {
+) -> Search
+    requires { ⌜ Open h (now image) ⌝ ∗ ⌜ Within (tableOf h (now image)) (h .g) ⌝ ∗ ⌜ Masks h mask ⌝ }
+    requires { ⌜ end ≤ h .max ⌝ ∗ ⌜ Room h (now path) (now nodes) ⌝ ∗ ⌜ Along h (now image) end (now path) (now nodes) ⌝ }
+    ensures { λ r. ⌜ Told h (now (image .entry)) (firstOf (coming h (now (image .entry)) (now (path .entry)) end first)) r (now (path .exit)) (now (nodes .exit)) ⌝ }
+{
     let mut depth = end;
     let mut from = first;
     loop {
         let found = below(image, h, mask, nodes[depth], depth, from, path, nodes);
-        match found {
-            Search::Found { .. } => return found,
-            Search::Missing => {}
+        if let Search::Found { .. } = found {
+            return found;
         }
         if depth == 0 {
             return Search::Missing;
@@ -169,33 +175,37 @@ fn below(
     from: u32,
     path: &mut [u8],
     nodes: &mut [u32],
-) -> Search {
+) -> Search
+    requires { ⌜ Open h (now image) ⌝ ∗ ⌜ Within (tableOf h (now image)) (h .g) ⌝ ∗ ⌜ Masks h mask ⌝ }
+    requires { ⌜ depth ≤ h .max ⌝ ∗ ⌜ Room h (now path) (now nodes) ⌝ }
+    requires { ⌜ Along h (now image) depth (now path) (now nodes) ⌝ ∗ ⌜ node ≡ getD (now nodes) depth 0 ⌝ }
+    ensures { λ r. ⌜ Told h (now (image .entry)) (firstOf (ahead h (now (image .entry)) (now (path .entry)) depth node from)) r (now (path .exit)) (now (nodes .exit)) ⌝ }
+    ensures { λ r. ⌜ Kept depth (now (path .entry)) (now (nodes .entry)) (now (path .exit)) (now (nodes .exit)) ⌝ }
+{
     if (h.max as usize) <= depth {
         return Search::Missing;
     }
     if node::childless(image, h, node) {
         return Search::Missing;
     }
-    let mut i = from;
-    while i < h.n {
+    for i in from..h.n {
         let c = node::link(image, h, mask, node, i);
-        if c != 0 {
-            path[depth] = i as u8;
-            nodes[depth + 1] = c;
-            let value = own_value(image, h, c, depth + 1);
-            if value != 0 {
-                return Search::Found {
-                    length: depth + 1,
-                    value,
-                };
-            }
-            let deeper = below(image, h, mask, c, depth + 1, 0, path, nodes);
-            match deeper {
-                Search::Found { .. } => return deeper,
-                Search::Missing => {}
-            }
+        if c == 0 {
+            continue;
         }
-        i += 1;
+        path[depth] = i as u8;
+        nodes[depth + 1] = c;
+        let value = own_value(image, h, c, depth + 1);
+        if value != 0 {
+            return Search::Found {
+                length: depth + 1,
+                value,
+            };
+        }
+        let deeper = below(image, h, mask, c, depth + 1, 0, path, nodes);
+        if let Search::Found { .. } = deeper {
+            return deeper;
+        }
     }
     Search::Missing
 }
