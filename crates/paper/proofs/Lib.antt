@@ -1,6 +1,7 @@
 pub mod Checking
 pub mod Hearing
 pub mod Looking
+pub mod Numbers
 pub mod Opening
 pub mod Tabulated
 pub mod Unique
