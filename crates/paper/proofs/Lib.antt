@@ -1,5 +1,6 @@
 pub mod Checking
 pub mod Hearing
+pub mod Keying
 pub mod Looking
 pub mod Numbers
 pub mod Opening

@@ -3,17 +3,16 @@
 -- a key names the one that 002 makes of it, since an opened image's alphabet has N letters or none.
 use Prim.Native.Nat.{ℕ, zero, suc, _+_, _*_, _≤_, _<_}
 use mathlib.Core.Path.{_≡_, refl, sym, _∙_, ap}
-use mathlib.Core.Bool.{Bool, true, false, not, cond}
+use mathlib.Core.Bool.{Bool, true, false, cond}
 use mathlib.Core.Option.{Option, none, some}
 use mathlib.Core.List.{List, [], _∷_, _++_, map}
 use native.Mathlib.Decide.{ℕ-discrete}
 use native.Mathlib.Omega.{arith}
 use lib.Dec.{ltb}
 use lib.ListN.{length}
-use borrow.Author.Tests.{le-ltb, lt-leb, ltb-true, not-false}
+use borrow.Author.Tests.{le-ltb, lt-leb, ltb-true}
 use Rattle.field.specs.Field.{fieldAt}
-use Rattle.field.specs.Range.{between}
-use Rattle.field.proofs.Range.{both, between-true}
+use Rattle.field.proofs.Range.{between-true}
 use Rattle.utf8.specs.Text.{chars}
 use Rattle.trie.specs.Table.{Letters, follow, descend, valueAt, answer, fault}
 use Rattle.trie.proofs.Walk.{follow-empty, follow-on}
@@ -25,13 +24,14 @@ use Rattle.alphabet.proofs.Alphabets.{good-length, no-letters}
 use Rattle.node.specs.Image.{linkPlace, dataPlace, tableOf}
 use Rattle.node.proofs.Tables.{child-in, value-in}
 use Rattle.paper.specs.Hearing.{Said, Row, Outcome, first, doneNumbers}
-use Rattle.paper.specs.Rows.{badLink, row9, allBelow, row10, isNone, row10text, rowAt, row6path}
+use Rattle.paper.specs.Rows.{badLink, isNone, rowAt, row6path}
 use Rattle.paper.specs.Orders.{alphabetIn, openingOf, byLetters, byText, lookingUp}
 use Rattle.paper.specs.Calls.{tableIn, lookUpBy, lookUpOf, namedIn, lookUpTextOf}
 use Rattle.paper.specs.Walk002.{dataRead, linkRead, unlessEmpty, queryFrom, query002, indexOf, queryChars, queryText002}
-use Rattle.paper.proofs.Hearing.{was-false, passed-row, passed-parts, heard-done}
-use Rattle.paper.proofs.Numbers.{Says, AllSay, end, _then_, given-says, at-says, parts-say, first-says, one-of, none-heard}
+use Rattle.paper.proofs.Hearing.{passed-row, passed-parts, heard-done}
+use Rattle.paper.proofs.Numbers.{Says, AllSay, end, _then_, at-says, parts-say, first-says, one-of, none-heard}
 use Rattle.paper.proofs.Opening.{Passed, passed, opening-says, unspoilt-good, alphabet-whole}
+use Rattle.paper.proofs.Keying.{keyNumbers, Fit, letters-fit, text-fit, letters-say, text-says}
 use Rattle.paper.proofs.Checking.{good-link}
 
 -- ---- 002's reads and the table
@@ -88,39 +88,6 @@ module _ (h : Head) (l : List ℕ) where
   agree : (q : ℕ) (k : List ℕ) → Agree q k
   agree q [] = agree-nil q
   agree q (x ∷ xs) = agree-more q x xs (λ c. agree c xs)
-
--- ---- the key
-
--- what the rows of a key tell, whether it came as letters or as text
-pub record Fit (h : Head) (key : List ℕ) : Type 0 where
-  pub allowed : between (length key) (h .min) (h .max) ≡ true
-  pub below : Letters (h .n) key
-
-below-letters : (n : ℕ) (k : List ℕ) → allBelow n k ≡ true → Letters n k
-unfolding allBelow
-below-letters n [] e = tt
-below-letters n (x ∷ k) e = let u = both (ltb x n) (allBelow n k) e in (ltb-true x n (u .0), below-letters n k (u .1))
-
-letters-fit : (h : Head) (key : List ℕ) → first (byLetters h key) ≡ none → Fit h key
-unfolding byLetters row9 row10
-letters-fit h key e =
-    let after9 = passed-row (row9 h key) (row10 h key ∷ []) e in
-    let after10 = passed-row (row10 h key) [] (after9 .1) in
-    record {
-      allowed = not-false _ (was-false 9 0 _ (after9 .0));
-      below = below-letters (h .n) key (not-false _ (was-false 10 0 _ (after10 .0)));
-    }
-
--- whichever of the two rows stands first
-text-fit : (h : Head) (named : Option (List ℕ)) → first (byText h named) ≡ none
-    → (isNone named ≡ false) × (between (length (lettersIn named)) (h .min) (h .max) ≡ true)
-unfolding byText row10text row9
-text-fit h named e =
-    let one = passed-row _ _ e in
-    let other = passed-row _ _ (one .1) in
-    let ten : row10text named ≡ none = cc in
-    let nine : row9 h (lettersIn named) ≡ none = cc in
-    (was-false 10 0 _ ten, not-false _ (was-false 9 0 _ nine))
 
 -- ---- the key that a text names
 
@@ -196,24 +163,9 @@ named-002 l (some cs) e = go (lettersOf (allowedIn l) cs) (spells (headOf l) (al
 
 -- ---- a lookup that is not refused
 
--- the numbers of a key's rows, and of a lookup's refusals
-abbrev pub keyNumbers : List ℕ
-keyNumbers = 9 ∷ 10 ∷ []
-
+-- the numbers of its refusals
 abbrev pub lookUpNumbers : List ℕ
 lookUpNumbers = 1 ∷ 2 ∷ 3 ∷ 4 ∷ 9 ∷ 10 ∷ 6 ∷ []
-
-nine-says : (h : Head) (key : List ℕ) → Says keyNumbers (row9 h key)
-unfolding row9 among
-nine-says h key = given-says 9 0 (not (between (length key) (h .min) (h .max))) refl
-
-pub letters-say : (h : Head) (key : List ℕ) → AllSay keyNumbers (byLetters h key)
-unfolding byLetters row10 among
-letters-say h key = nine-says h key then given-says 10 0 (not (allBelow (h .n) key)) refl then end
-
-pub text-says : (h : Head) (named : Option (List ℕ)) → AllSay keyNumbers (byText h named)
-unfolding byText row10text among
-text-says h named = let ten : Says keyNumbers (row10text named) = given-says 10 0 (isNone named) refl in search (_then_, end, nine-says)
 
 -- what a lookup that is not refused has passed
 pub record Unrefused (l : List ℕ) (keyed : List Row) (key : List ℕ) : Type 0 where
