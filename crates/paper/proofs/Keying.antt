@@ -57,11 +57,15 @@ text-fit h named e =
     let nine : row9 h (lettersIn named) ≡ none = cc in
     (was-false 10 0 _ ten, not-false _ (was-false 9 0 _ nine))
 
--- "For next key, 9 means only a key longer than max"
-pub next-fit : (h : Head) (key : List ℕ) → length key ≤ h .max → Letters (h .n) key → first (byNext h key) ≡ none
+-- the key from which the next one is sought: "For next key, 9 means only a key longer than max"
+pub record Askable (h : Head) (key : List ℕ) : Type 0 where
+  pub short : length key ≤ h .max
+  pub below : Letters (h .n) key
+
+pub askable-passes : (h : Head) (key : List ℕ) → Askable h key → first (byNext h key) ≡ none
 unfolding byNext row9next row10
-next-fit h key b s =
-    no-row 9 0 _ (le-ltb (h .max) (length key) b) ∙ no-row 10 0 _ (untrue (below-letters (h .n) key .1 s)) ∙ first-nil
+askable-passes h key a =
+    no-row 9 0 _ (le-ltb (h .max) (length key) (a .short)) ∙ no-row 10 0 _ (untrue (below-letters (h .n) key .1 (a .below))) ∙ first-nil
 
 -- ---- the numbers
 
