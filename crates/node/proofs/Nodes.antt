@@ -9,7 +9,7 @@ use native.Mathlib.Omega.{arith}
 use mathlib.Core.List.{List, [], _∷_, _++_, append-nil}
 use lib.ListN.{length, getD, set, replicate, length-replicate, getD-replicate, replicate-append-replicate}
 use lib.Seq.{sets, set-set}
-use Rattle.field.specs.Field.{Zeros, fieldAt, digits, putField, cleared}
+use Rattle.field.specs.Field.{Zeros, digits, putField, cleared}
 use Rattle.field.proofs.Laid.{getD-inside, set-sets, sets-append, sets-comm}
 use Rattle.field.proofs.Fields.{field-blank, length-digits}
 use Rattle.head.specs.declared.Head.{Head}
@@ -17,7 +17,7 @@ use Rattle.head.specs.Fields.{nodeWidth, nodePlace}
 use Rattle.head.proofs.Places.{place-add}
 use Rattle.node.specs.Image.{linkPlace, dataPlace, tableOf}
 use Rattle.node.specs.Writes.{lastNode, pathNode}
-use Rattle.node.proofs.Places.{Inside, link-from, link-to, data-from, data-inside}
+use Rattle.node.proofs.Places.{link-from, link-to, data-from, data-inside}
 use Rattle.node.proofs.Tables.{table-eq, child-in, value-in, framed}
 use Rattle.node.proofs.Heads.{withTotal, child-kept, value-kept}
 

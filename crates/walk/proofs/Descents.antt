@@ -1,6 +1,6 @@
 -- The descent from node to node. One letter meets an empty link, a bad one or one to go on by, and each law on a walk goes by these three
 -- (`Met`). So a walk along a key (`Walking`) keeps in step with the table's own descent and with its first fault.
-use Prim.Native.Nat.{ℕ, zero, suc, _+_, _≤_, _<_}
+use Prim.Native.Nat.{ℕ, _+_, _≤_, _<_}
 use mathlib.Core.Path.{_≡_, refl, sym, _∙_, ap, subst}
 use mathlib.Core.Logic.{_≢_}
 use mathlib.Core.Bool.{Bool, true, false, cond}
@@ -8,51 +8,19 @@ use mathlib.Core.Option.{none, some}
 use mathlib.Core.List.{List, [], _∷_}
 use native.Mathlib.Decide.{ℕ-discrete}
 use native.Mathlib.Omega.{arith}
-use lib.Dec.{leb, ltb}
 use lib.ListN.{length, drop, length-drop}
 use lib.Seq.{drop-length, drop-drop}
-use borrow.Author.Tests.{leb-true, ltb-true, not-false}
-use Rattle.field.proofs.Range.{both}
 use Rattle.trie.specs.Table.{Table, complete, stopped, descend, fault}
+use Rattle.trie.proofs.Faults.{fault-nil, fault-empty, fault-bad, fault-on}
 use Rattle.trie.proofs.Walk.{follow-empty, follow-on, descend-nil, descend-empty, descend-on, answer-complete, answer-stopped}
 use Rattle.paper.specs.declared.Looked.{Looked}
 use Rattle.paper.specs.declared.Refusal.the-variants.{Link}
 use Rattle.paper.specs.Rows.{badLink}
+use Rattle.paper.proofs.Checking.{good-link}
 use Rattle.walk.specs.declared.Position.{Position}
 use Rattle.walk.specs.declared.Step.{Step}
 use Rattle.walk.specs.declared.Walked.{Walked}
 use Rattle.walk.specs.Descent.{atRoot, onTo, stepOf, stepTaken, walkedFrom, lookedBy, lookedIn}
-
--- ---- the first bad link, one letter at a time
-
-module _ (bad : ℕ → ℕ → Bool) (t : Table) (q : ℕ) where
-  pub fault-nil : fault bad t q [] ≡ none
-  unfolding fault
-  fault-nil = refl
-
-  module _ (x : ℕ) (xs : List ℕ) where
-    pub fault-empty : t .child q x ≡ 0 → fault bad t q (x ∷ xs) ≡ none
-    unfolding fault
-    fault-empty e = follow-empty (t .child q x) none (λ c. cond (bad q c) (some q) (fault bad t c xs)) e
-
-    -- a link that is not empty
-    tested : {c : ℕ} → t .child q x ≡ c → c ≢ 0 → fault bad t q (x ∷ xs) ≡ cond (bad q c) (some q) (fault bad t c xs)
-    unfolding fault
-    tested {c} e h = rw e (follow-on c none (λ c. cond (bad q c) (some q) (fault bad t c xs)) h)
-
-    pub fault-bad : {c : ℕ} → t .child q x ≡ c → c ≢ 0 → bad q c ≡ true → fault bad t q (x ∷ xs) ≡ some q
-    fault-bad e h b = tested e h ∙ rw b
-
-    pub fault-on : {c : ℕ} → t .child q x ≡ c → c ≢ 0 → bad q c ≡ false → fault bad t q (x ∷ xs) ≡ fault bad t c xs
-    fault-on e h b = tested e h ∙ rw b
-
--- a link that is not empty and not bad
-pub good-link : (g q c : ℕ) → c ≢ 0 → badLink g q c ≡ false → (c ≤ g) × (q < c)
-unfolding badLink
-good-link g q zero h b = absurd (h refl)
-good-link g q (suc c) h b =
-    let t = both (leb (suc c) g) (ltb q (suc c)) (not-false _ b) in
-    (leb-true (suc c) g (t .0), ltb-true q (suc c) (t .1))
 
 -- ---- one letter
 

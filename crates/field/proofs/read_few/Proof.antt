@@ -4,8 +4,7 @@ use mathlib.Core.Path.{_≡_, sym, ap, _∙_}
 use Prim.Native.Nat.{ℕ, _+_, _*_, _<_, _^_}
 use native.Mathlib.Omega.{arith}
 use borrow.Author.Needs.{needs}
-use mathlib.Core.List.{List}
-use Rattle.field.specs.Field.{Bytes, fieldAt}
+use Rattle.field.specs.Field.{fieldAt}
 use Rattle.field.proofs.Fields.{field-one, field-more, field-bound}
 use Rattle.field.proofs.read_few.Statement.{statement}
 use Rattle.field.proofs.read_few.Tie as tie
