@@ -1,5 +1,5 @@
 /* Calls one public call of the library over an image in a file, so that callgrind can count what it takes. Usage:
-     measure IMAGE check|count
+     measure IMAGE check|count|walk
      measure IMAGE look_up_text|next_key TEXT
    It prints what the call answers. Next key takes letters: each byte of TEXT is sought in the image's alphabet of one-byte letters. */
 #include <stdbool.h>
@@ -10,6 +10,7 @@
 
 uint64_t measure_check(const uint8_t *image, size_t image_len, uint32_t *work, size_t work_len);
 uint64_t measure_count(const uint8_t *image, size_t image_len, uint32_t *work, size_t work_len);
+uint64_t measure_walk(const uint8_t *image, size_t image_len, uint32_t *work, size_t work_len);
 uint64_t measure_look_up_text(const uint8_t *image, size_t image_len, const uint8_t *text, size_t text_len);
 uint64_t measure_next_key(const uint8_t *image, size_t image_len, uint32_t *work, size_t work_len,
                           const uint8_t *letters, size_t letters_len, bool after, uint8_t *key, size_t key_len);
@@ -36,6 +37,8 @@ int main(int argc, char **argv)
         answer = measure_check(image, len, work, 8388608);
     else if (strcmp(call, "count") == 0)
         answer = measure_count(image, len, work, 8388608);
+    else if (strcmp(call, "walk") == 0)
+        answer = measure_walk(image, len, work, 8388608);
     else if (strcmp(call, "look_up_text") == 0)
         answer = measure_look_up_text(image, len, (const uint8_t *)text, strlen(text));
     else if (strcmp(call, "next_key") == 0)
