@@ -1,21 +1,21 @@
 -- What the two loops of the tally keep. Over a node's links: none so far is bad, and each address is counted as often as it stands in them,
 -- up to 2. Over the nodes: none so far holds a bad link, and the working numbers are the tally of the nodes so far.
 use mathlib.Core.Path.{_≡_, refl, sym, ap, _∙_}
-use mathlib.Core.Bool.{Bool, true, false, _||_, cond, or-true}
+use mathlib.Core.Bool.{Bool, true, false, cond}
 use mathlib.Core.List.{List, _++_}
 use Prim.Native.Nat.{ℕ, zero, suc, _+_, _≤_, _<_, min}
 use native.Mathlib.Decide.{ℕ-discrete}
 use native.Mathlib.Numerals.{add-one}
 use native.Mathlib.Omega.{arith}
-use lib.Dec.{leb, ltb, eqb}
+use lib.Dec.{eqb}
 use lib.ListN.{length, getD, set, drop, replicate, length-set, length-replicate, getD-replicate, List·getD-append}
 use lib.Seq.{getD-set-same, getD-set-other, drop-set-lt}
-use borrow.Author.Tests.{eq-eqb, ne-eqb, leb-true, not-false}
-use Rattle.field.proofs.Range.{both}
+use borrow.Author.Tests.{eq-eqb, ne-eqb}
 use Rattle.trie.specs.Table.{Table}
 use Rattle.head.specs.declared.Head.{Head}
 use Rattle.node.specs.Image.{tableOf}
 use Rattle.paper.specs.Rows.{badLink, holdsBad, timesIn, times}
+use Rattle.paper.proofs.Checking.{link-within, holds-bad}
 use Rattle.audit.specs.Audit.{Kept, Counted, Tallied, Tally, BadFrom}
 use Rattle.audit.proofs.Seeking.{Seeking, seeking-none, seeking-more, seeking-found, seeking-all}
 
@@ -31,21 +31,6 @@ kept-set : {g x : ℕ} (work : List ℕ) (v : ℕ) → x ≤ g → Kept g work (
 kept-set {g} {x} work v h = record { long = length-set work x v; rest = drop-set-lt (g + 1) work x v (omega arith) }
 
 -- ---- the links of a node
-
-link-within : (g q c : ℕ) → badLink g q c ≡ false → c ≤ g
-unfolding badLink
-link-within g q zero e = omega arith
-link-within g q (suc c) e = leb-true (suc c) g (both (leb (suc c) g) (ltb q (suc c)) (not-false _ e) .0)
-
--- a node with a bad link among its first n
-bad-among : (g : ℕ) (t : Table) (q n i : ℕ) → i < n → badLink g q (t .child q i) ≡ true → holdsBad g t q n ≡ true
-unfolding holdsBad
-bad-among g t q zero i h e = absurd (omega arith)
-bad-among g t q (suc n) i h e = go (ℕ-discrete i n) (λ b. bad-among g t q n i b e)
-  where
-    go : Dec (i ≡ n) → (i < n → holdsBad g t q n ≡ true) → (holdsBad g t q n || badLink g q (t .child q n)) ≡ true
-    go (yes s) before = rw (← s, e) (or-true (holdsBad g t q i))
-    go (no s) before = rw (before (omega arith))
 
 -- the first i of n links are counted
 pub record Counting (g n : ℕ) (t : Table) (q : ℕ) (work work′ : List ℕ) (i : ℕ) : Type 0 where
@@ -129,7 +114,7 @@ module _ {h : Head} {l : List ℕ} {q : ℕ} {work work′ : List ℕ} {i : ℕ}
   tallied-bad below e b =
       record {
         counted = λ z. let y : _≡_ {A = ℕ} 0 1 = cc in absurd (omega arith);
-        bad = λ _. bad-among (h .g) (tableOf h l) q (h .n) i below (rw (← e) b);
+        bad = λ _. holds-bad (h .g) (tableOf h l) q (h .n) below (rw (← e) b);
         kept = p .kept;
       }
 

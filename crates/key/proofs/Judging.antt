@@ -8,7 +8,7 @@ use mathlib.Core.List.{List, [], _∷_}
 use native.Mathlib.Omega.{arith}
 use lib.Dec.{ltb}
 use lib.ListN.{length, getD, take}
-use borrow.Author.Tests.{lt-ltb, le-ltb, ltb-true, ltb-false, not-false}
+use borrow.Author.Tests.{lt-ltb, le-ltb, ltb-false, not-false}
 use Rattle.field.specs.Range.{between}
 use Rattle.field.proofs.Range.{both, between-true}
 use Rattle.head.specs.declared.Head.{Head}
@@ -22,6 +22,7 @@ use Rattle.paper.specs.Answers.{said}
 use Rattle.paper.specs.Rows.{row9, row9next, row10, row10text, allBelow, isNone}
 use Rattle.paper.specs.Orders.{byLetters, byNext, byText}
 use Rattle.paper.proofs.Hearing.{was-false, yes-row, no-row, passed-row}
+use Rattle.paper.proofs.Keying.{below-letters}
 use Rattle.key.specs.declared.Key.{Key}
 use Rattle.key.specs.declared.Typed.{Typed}
 use Rattle.key.specs.Hand.{inHand, Holds, typedAs, lettersOf, Ready}
@@ -109,11 +110,6 @@ below-not n (x ∷ l) (suc i) (suc len) k m h = rw (below-not n l i len (omega a
 
 -- ---- what is known of a key that 9 and 10 have passed
 
-below-letters : (n : ℕ) (k : List ℕ) → allBelow n k ≡ true → Letters n k
-unfolding allBelow
-below-letters n [] e = tt
-below-letters n (x ∷ k) e = let u = both (ltb x n) (allBelow n k) e in (ltb-true x n (u .0), below-letters n k (u .1))
-
 ready : (h : Head) {hand : Key} {k : List ℕ} → Holds hand k → length k ≤ mostLetters → Letters (h .n) k
     → Ready h hand × (lettersOf hand ≡ k)
 ready h {hand} {k} o s l =
@@ -127,7 +123,7 @@ unfolding row10
 neither h k {test} e =
     let u = passed-row _ _ e in
     let v = passed-row _ _ (u .1) in
-    (was-false 9 0 test (u .0), below-letters (h .n) k (not-false _ (was-false 10 0 _ (v .0))))
+    (was-false 9 0 test (u .0), below-letters (h .n) k .0 (not-false _ (was-false 10 0 _ (v .0))))
 
 module _ (h : Head) {hand : Key} {k : List ℕ} (p : permitted h ≡ true) (o : Holds hand k) where
   pub letters-ready : first (byLetters h k) ≡ none → Ready h hand × (lettersOf hand ≡ k)

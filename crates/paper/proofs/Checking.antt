@@ -4,10 +4,9 @@ use Prim.Native.Nat.{ℕ, zero, suc, _+_, _≤_, _<_}
 use mathlib.Core.Path.{_≡_, refl, sym, _∙_}
 use mathlib.Core.Bool.{Bool, true, false, not, _&&_, _||_, cond, or-true}
 use mathlib.Core.Logic.{_↔_, _≢_, _⊎_, inl, inr, ⊎-elim}
-use mathlib.Core.Option.{none, some}
+use mathlib.Core.Option.{none}
 use mathlib.Core.List.{List, [], _∷_}
 use native.Mathlib.Omega.{arith}
-use native.Mathlib.Numerals.{add-one}
 use native.Mathlib.Decide.{ℕ-discrete, decLe}
 use lib.ListN.{length}
 use lib.Dec.{leb, ltb, eqb}
@@ -16,7 +15,7 @@ use Rattle.field.proofs.Range.{both, between-true, true-between}
 use Rattle.trie.specs.Table.{Table}
 use Rattle.trie.specs.Lowest.{lowest}
 use Rattle.trie.specs.Rules.{Framed, Within, Rising, Named, Once, Linked}
-use Rattle.trie.proofs.Lowest.{NonePasses, lowest-at, lowest-none, none-lowest}
+use Rattle.trie.proofs.Lowest.{NonePasses, lowest-none, none-lowest}
 use Rattle.trie.proofs.Counted.{Sums, one-part, two-parts, some-part, one-at-most}
 use Rattle.head.specs.declared.Head.{Head}
 use Rattle.head.specs.Fields.{shortestImage, longestImage, headOf, usedLen}
@@ -24,12 +23,11 @@ use Rattle.alphabet.specs.Letters.{among}
 use Rattle.node.specs.Image.{tableOf, Open}
 use Rattle.node.proofs.Tables.{framed}
 use Rattle.paper.specs.Hearing.{first, heard, doneNumbers}
-use Rattle.paper.specs.Answers.{said}
 use Rattle.paper.specs.Rows.{row5, badLink, holdsBad, givenLowest, row6, timesIn, times, row7, row8}
 use Rattle.paper.specs.Orders.{alphabetIn, openingOf, linking, checking}
 use Rattle.paper.specs.Calls.{tableIn, checkOf}
 use Rattle.paper.specs.Accepted.{Accepted}
-use Rattle.paper.proofs.Hearing.{is-given, not-given, was-false, first-nil, first-none, yes-row, no-row, second-part, passed-row, passed-parts}
+use Rattle.paper.proofs.Hearing.{not-given, was-false, first-nil, first-none, no-row, second-part, passed-row, passed-parts}
 use Rattle.paper.proofs.Numbers.{AllSay, end, _then_, given-says, lowest-says, parts-say, first-says, none-heard}
 use Rattle.paper.proofs.Opening.{fits-4, left-4, Passed, passed, opening-says, good-unspoilt, unspoilt-good, alphabet-whole}
 
@@ -50,16 +48,10 @@ not-bad g q (suc c) = (to, from)
 pub good-link : (g q c : ℕ) → c ≢ 0 → badLink g q c ≡ false → (c ≤ g) × (q < c)
 good-link g q c d e = ⊎-elim (λ z. absurd (d z)) (λ b. b) (not-bad g q c .0 e)
 
+pub link-within : (g q c : ℕ) → badLink g q c ≡ false → c ≤ g
+link-within g q c e = ⊎-elim (λ z. omega arith) (λ b. b .0) (not-bad g q c .0 e)
+
 module _ (g : ℕ) (t : Table) (q : ℕ) where
-  pub bad-start : holdsBad g t q 0 ≡ false
-  unfolding holdsBad
-  bad-start = refl
-
-  -- one link more
-  pub bad-more : (m : ℕ) → holdsBad g t q (m + 1) ≡ (holdsBad g t q m || badLink g q (t .child q m))
-  unfolding holdsBad
-  bad-more m = rw (add-one m)
-
   pub holds-bad : (m : ℕ) {i : ℕ} → i < m → badLink g q (t .child q i) ≡ true → holdsBad g t q m ≡ true
   unfolding holdsBad
   holds-bad zero h e = absurd (omega arith)
@@ -115,25 +107,6 @@ module _ (t : Table) (x : ℕ) where
   unfolding times
   in-nodes n = record { start = refl; more = λ k. refl }
 
-  -- from none on: one link more, which holds x or another address; and one node more
-  pub times-in-start : (q : ℕ) → timesIn t x q 0 ≡ 0
-  times-in-start q = in-node q .start
-
-  pub times-start : (n : ℕ) → times t n x 0 ≡ 0
-  times-start n = in-nodes n .start
-
-  pub times-in-more : (q m : ℕ) → t .child q m ≡ x → timesIn t x q (m + 1) ≡ timesIn t x q m + 1
-  unfolding timesIn
-  times-in-more q m e = rw (add-one m, eq-eqb (t .child q m) x e)
-
-  pub times-in-other : (q m : ℕ) → t .child q m ≢ x → timesIn t x q (m + 1) ≡ timesIn t x q m
-  unfolding timesIn
-  times-in-other q m d = rw (add-one m, ne-eqb (t .child q m) x d) (omega arith)
-
-  pub times-more : (n k : ℕ) → times t n x (k + 1) ≡ times t n x k + timesIn t x k n
-  unfolding times
-  times-more n k = rw (add-one k)
-
   -- a link that holds x counts; so do two, if they are not one
   counted : (n : ℕ) {q i k : ℕ} → q < k → i < n → t .child q i ≡ x → 1 ≤ times t n x k
   counted n {q} a b e = omega (arith, one-part (in-node q) b, hit-one e, one-part (in-nodes n) a)
@@ -179,11 +152,6 @@ module _ (t : Table) (x : ℕ) where
 
 -- the lowest that passes is heard; nothing is heard where none passes; and then none passed
 module _ (number : ℕ) (test : ℕ → Bool) (a k : ℕ) where
-  pub lowest-heard : {x : ℕ} → a ≤ x → x < a + k → test x ≡ true → ((y : ℕ) → a ≤ y → y < x → test y ≡ false)
-      → givenLowest number test a k ≡ some (said number x)
-  unfolding givenLowest
-  lowest-heard {x} low high e before = rw (lowest-at test a k low high e before) (is-given number x (lt-ltb x (a + k) high))
-
   pub lowest-passed : NonePasses test a k → givenLowest number test a k ≡ none
   unfolding givenLowest
   lowest-passed h = not-given number _ (le-ltb (lowest test a k) (a + k) (omega (arith, lowest-none test a k h)))
@@ -206,10 +174,6 @@ module _ (h : Head) (t : Table) where
   abbrev nowhere : ℕ → Bool
   nowhere x = eqb (count x) 0
 
-  pub row6-heard : {q : ℕ} → q ≤ h .g → holds q ≡ true → ((p : ℕ) → p < q → holds p ≡ false) → row6 h t ≡ some (said 6 q)
-  unfolding row6
-  row6-heard b e before = lowest-heard 6 holds 0 (h .g + 1) (omega arith) (omega arith) e (λ p _. before p)
-
   pub row6-none : ((q : ℕ) → q ≤ h .g → holds q ≡ false) → row6 h t ≡ none
   unfolding row6
   row6-none f = lowest-passed 6 holds 0 (h .g + 1) (λ q _ b. f q (omega arith))
@@ -218,11 +182,6 @@ module _ (h : Head) (t : Table) where
   unfolding row6
   none-row6 e q b = passed-lowest 6 holds 0 (h .g + 1) e q (omega arith) (omega arith)
 
-  pub row7-heard : {x : ℕ} → 1 ≤ x → x ≤ h .g → 2 ≤ count x → ((y : ℕ) → 1 ≤ y → y < x → count y < 2) → row7 h t ≡ some (said 7 x)
-  unfolding row7
-  row7-heard {x} low high e before =
-      lowest-heard 7 twice 1 (h .g) low (omega arith) (le-leb 2 (count x) e) (λ y b c. lt-leb 2 (count y) (before y b c))
-
   pub row7-none : ((x : ℕ) → 1 ≤ x → x ≤ h .g → count x < 2) → row7 h t ≡ none
   unfolding row7
   row7-none f = lowest-passed 7 twice 1 (h .g) (λ x b c. lt-leb 2 (count x) (f x b (omega arith)))
@@ -230,11 +189,6 @@ module _ (h : Head) (t : Table) where
   pub none-row7 : row7 h t ≡ none → (x : ℕ) → 1 ≤ x → x ≤ h .g → count x < 2
   unfolding row7
   none-row7 e x b c = leb-false 2 (count x) (passed-lowest 7 twice 1 (h .g) e x b (omega arith))
-
-  pub row8-heard : {x : ℕ} → 1 ≤ x → x ≤ h .g → count x ≡ 0 → ((y : ℕ) → 1 ≤ y → y < x → count y ≢ 0) → row8 h t ≡ some (said 8 x)
-  unfolding row8
-  row8-heard {x} low high e before =
-      lowest-heard 8 nowhere 1 (h .g) low (omega arith) (eq-eqb (count x) 0 e) (λ y b c. ne-eqb (count y) 0 (before y b c))
 
   pub row8-none : ((x : ℕ) → 1 ≤ x → x ≤ h .g → count x ≢ 0) → row8 h t ≡ none
   unfolding row8
@@ -326,10 +280,6 @@ abbrev pub checkNumbers : List ℕ
 checkNumbers = 1 ∷ 2 ∷ 3 ∷ 4 ∷ 5 ∷ 6 ∷ 7 ∷ 8 ∷ []
 
 module _ (l work : List ℕ) where
-  pub heard-5 : first (openingOf l) ≡ none → length work < headOf l .g + 1 → first (checking l work) ≡ some (said 5 0)
-  unfolding checking row5
-  heard-5 e b = second-part (openingOf l) _ e ∙ yes-row 5 0 _ (lt-ltb (length work) (headOf l .g + 1) b)
-
   -- where 1 to 5 have passed, what is heard is of 6 to 8
   pub left-6 : first (openingOf l) ≡ none → headOf l .g + 1 ≤ length work
       → first (checking l work) ≡ first (linking (headOf l) (tableOf (headOf l) l))

@@ -11,7 +11,7 @@ use lib.Dec.{T, leb, ltb, leb→le, ltb→lt}
 use lib.ListN.{length, getD, take, drop}
 use mir.Facts.{and-yes, or-yes}
 use Rattle.field.specs.Field.{Bytes, fieldAt}
-use Rattle.field.proofs.Fields.{field-bound, field-fits, same-part}
+use Rattle.field.proofs.Fields.{field-bound, same-part}
 use Rattle.utf8.specs.Table37.{rows, inRange, inRanges, fitsRow, lengthBy, charLen}
 use Rattle.utf8.specs.Text.{charAt}
 
@@ -93,10 +93,6 @@ char-len-few l at = go (charLen l at) refl
 pub char-at : (l : List ℕ) (at n : ℕ) → n ≡ charLen l at → charAt l at ≡ fieldAt l at n
 unfolding charAt
 char-at l at n e = ap (fieldAt l at) (sym e)
-
-pub char-at-fits : (l : List ℕ) (at : ℕ) → Bytes l → charAt l at < 2 ^ 32
-unfolding charAt
-char-at-fits l at p = field-fits l at (charLen l at) 4 p (char-len-few l at)
 
 -- ---- equal numbers are equal characters
 
