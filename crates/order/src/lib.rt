@@ -6,11 +6,11 @@ ghost use mathlib.Core.Bool.{true};
 ghost use Prim.Native.Nat.{_+_, _-_, _^_, _≤_, _<_};
 ghost use lib.ListN.{length, getD, take};
 ghost use Rattle.trie.specs.Rules.{Within};
-ghost use Rattle.trie.specs.Keys.{keysUnder, listing, meets, firstMeeting};
-ghost use Rattle.trie.specs.Beyond.{keysFrom, beyond, firstOf};
+ghost use Rattle.trie.specs.Keys.{listing, meets, firstMeeting};
+ghost use Rattle.trie.specs.Beyond.{keysFrom, firstOf};
 ghost use Rattle.node.specs.Image.{Open, Masks, tableOf};
 ghost use Rattle.key.specs.Hand.{Ready, lettersOf};
-ghost use Rattle.order.specs.Search.{ownValue, Room, Along, Told};
+ghost use Rattle.order.specs.Search.{ownValue, ahead, coming, Room, Along, Kept, Followed, Told};
 use head::Head;
 use key::Key;
 
@@ -45,30 +45,22 @@ fn counted(image: &[u8], h: Head, mask: u32, node: u32, depth: usize, before: u3
         return before;
     }
     let mut sum = before;
-    let mut i: u32 = 0;
-    while i < h.n {
+    for i in 0..h.n {
         let c = node::link(image, h, mask, node, i);
-        if c != 0 {
-            if own_value(image, h, c, depth + 1) != 0 {
-                sum += 1;
-            }
-            sum = counted(image, h, mask, c, depth + 1, sum);
+        if c == 0 {
+            continue;
         }
-        i += 1;
+        if own_value(image, h, c, depth + 1) != 0 {
+            sum += 1;
+        }
+        sum = counted(image, h, mask, c, depth + 1, sum);
     }
     sum
 }
 
 // The first stored key at or after the key in hand, or after it. Its letters are at the front of the path then, and the nodes are those
 // on its way from the root on.
-pub fn next(
-    image: &[u8],
-    h: Head,
-    key: Key,
-    after: bool,
-    path: &mut [u8],
-    nodes: &mut [u32],
-) -> Search
+pub fn next(image: &[u8], h: Head, key: Key, after: bool, path: &mut [u8], nodes: &mut [u32]) -> Search
     requires { ⌜ Open h (now image) ⌝ ∗ ⌜ Within (tableOf h (now image)) (h .g) ⌝ }
     requires { ⌜ Ready h key ⌝ ∗ ⌜ key .len ≤ h .max ⌝ ∗ ⌜ Room h (now path) (now nodes) ⌝ }
     ensures { λ r. ⌜ Told h (now (image .entry)) (firstMeeting (meets after (lettersOf key)) (listing (tableOf h (now (image .entry))) (h .n) (h .min) (h .max))) r (now (path .exit)) (now (nodes .exit)) ⌝ }
@@ -78,23 +70,12 @@ pub fn next(
     let depth = along(image, h, mask, key, path, nodes);
     if depth < key.len {
         let letters = key.letters;
-        return climb(
-            image,
-            h,
-            mask,
-            depth,
-            (letters[depth] as u32) + 1,
-            path,
-            nodes,
-        );
+        return climb(image, h, mask, depth, (letters[depth] as u32) + 1, path, nodes);
     }
     if !after {
         let value = own_value(image, h, nodes[depth], depth);
         if value != 0 {
-            return Search::Found {
-                length: depth,
-                value,
-            };
+            return Search::Found { length: depth, value };
         }
     }
     climb(image, h, mask, depth, 0, path, nodes)
@@ -112,7 +93,11 @@ pub fn onward(image: &[u8], h: Head, len: usize, path: &mut [u8], nodes: &mut [u
 }
 
 // Follows a key as far as its links go, and answers how far that is.
-fn along(image: &[u8], h: Head, mask: u32, key: Key, path: &mut [u8], nodes: &mut [u32]) -> usize {
+fn along(image: &[u8], h: Head, mask: u32, key: Key, path: &mut [u8], nodes: &mut [u32]) -> usize
+    requires { ⌜ Open h (now image) ⌝ ∗ ⌜ Within (tableOf h (now image)) (h .g) ⌝ ∗ ⌜ Masks h mask ⌝ }
+    requires { ⌜ Ready h key ⌝ ∗ ⌜ key .len ≤ h .max ⌝ ∗ ⌜ Room h (now path) (now nodes) ⌝ }
+    ensures { λ r. ⌜ Followed h (now (image .entry)) (lettersOf key) (now (path .exit)) (now (nodes .exit)) r ⌝ }
+{
     let letters = key.letters;
     let len = key.len;
     nodes[0] = 0;
@@ -133,22 +118,17 @@ fn along(image: &[u8], h: Head, mask: u32, key: Key, path: &mut [u8], nodes: &mu
 }
 
 // The first stored key below the path's end from a letter on or, where there is none, behind the letter taken at each node on the way up.
-fn climb(
-    image: &[u8],
-    h: Head,
-    mask: u32,
-    end: usize,
-    first: u32,
-    path: &mut [u8],
-    nodes: &mut [u32],
-) -> Search {
+fn climb(image: &[u8], h: Head, mask: u32, end: usize, first: u32, path: &mut [u8], nodes: &mut [u32]) -> Search
+    requires { ⌜ Open h (now image) ⌝ ∗ ⌜ Within (tableOf h (now image)) (h .g) ⌝ ∗ ⌜ Masks h mask ⌝ }
+    requires { ⌜ end ≤ h .max ⌝ ∗ ⌜ Room h (now path) (now nodes) ⌝ ∗ ⌜ Along h (now image) end (now path) (now nodes) ⌝ }
+    ensures { λ r. ⌜ Told h (now (image .entry)) (firstOf (coming h (now (image .entry)) (now (path .entry)) end first)) r (now (path .exit)) (now (nodes .exit)) ⌝ }
+{
     let mut depth = end;
     let mut from = first;
     loop {
         let found = below(image, h, mask, nodes[depth], depth, from, path, nodes);
-        match found {
-            Search::Found { .. } => return found,
-            Search::Missing => {}
+        if let Search::Found { .. } = found {
+            return found;
         }
         if depth == 0 {
             return Search::Missing;
@@ -160,42 +140,36 @@ fn climb(
 
 // The first stored key below a node at a depth whose next letter is `from` or a later one. It calls itself on each child; the depth left to
 // max falls.
-fn below(
-    image: &[u8],
-    h: Head,
-    mask: u32,
-    node: u32,
-    depth: usize,
-    from: u32,
-    path: &mut [u8],
-    nodes: &mut [u32],
-) -> Search {
+fn below(image: &[u8], h: Head, mask: u32, node: u32, depth: usize, from: u32, path: &mut [u8], nodes: &mut [u32]) -> Search
+    requires { ⌜ Open h (now image) ⌝ ∗ ⌜ Within (tableOf h (now image)) (h .g) ⌝ ∗ ⌜ Masks h mask ⌝ }
+    requires { ⌜ depth ≤ h .max ⌝ ∗ ⌜ Room h (now path) (now nodes) ⌝ ∗ ⌜ Along h (now image) depth (now path) (now nodes) ⌝ ∗ ⌜ node ≡ getD (now nodes) depth 0 ⌝ }
+    ensures { λ r. ⌜ Told h (now (image .entry)) (firstOf (ahead h (now (image .entry)) (now (path .entry)) depth node from)) r (now (path .exit)) (now (nodes .exit)) ⌝ }
+    ensures { λ r. ⌜ Kept depth (now (path .entry)) (now (nodes .entry)) (now (path .exit)) (now (nodes .exit)) ⌝ }
+{
     if (h.max as usize) <= depth {
         return Search::Missing;
     }
     if node::childless(image, h, node) {
         return Search::Missing;
     }
-    let mut i = from;
-    while i < h.n {
+    for i in from..h.n {
         let c = node::link(image, h, mask, node, i);
-        if c != 0 {
-            path[depth] = i as u8;
-            nodes[depth + 1] = c;
-            let value = own_value(image, h, c, depth + 1);
-            if value != 0 {
-                return Search::Found {
-                    length: depth + 1,
-                    value,
-                };
-            }
-            let deeper = below(image, h, mask, c, depth + 1, 0, path, nodes);
-            match deeper {
-                Search::Found { .. } => return deeper,
-                Search::Missing => {}
-            }
+        if c == 0 {
+            continue;
         }
-        i += 1;
+        path[depth] = i as u8;
+        nodes[depth + 1] = c;
+        let value = own_value(image, h, c, depth + 1);
+        if value != 0 {
+            return Search::Found {
+                length: depth + 1,
+                value,
+            };
+        }
+        let deeper = below(image, h, mask, c, depth + 1, 0, path, nodes);
+        if let Search::Found { .. } = deeper {
+            return deeper;
+        }
     }
     Search::Missing
 }

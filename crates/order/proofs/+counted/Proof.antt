@@ -1,0 +1,206 @@
+-- The proof of the cycle of calls {counted}: what was counted and what is still to come make up the whole, letter by letter, and the depth
+-- left to max falls at each call of itself. Assumes nothing.
+use Prim.Native.Nat.{ℕ, _+_, _-_, _<_}
+use mathlib.Core.Logic.{⊎-elim}
+use mathlib.Core.Path.{_≡_}
+use native.Mathlib.Omega.{arith}
+use borrow.Author.Needs.{needs}
+use borrow.Fn.Kinds.{In}
+use borrow.Fn.PlainCycle.{Measures, is, falls, and}
+use Rattle.head.proofs.Permitted.{bounds}
+use Rattle.node.specs.Image.{tableOf}
+use Rattle.order.proofs.Counting.{left, owned, owned-none, owned-one, left-full, left-childless, left-none, left-empty, left-link}
+use Rattle.order.proofs.counted.Reads as counted
+use Rattle.order.proofs.counted.Kinds as counted-kinds
+use Rattle.order.proofs.+counted.Lts-counted as lts
+use Rattle.node.proofs.childless.Reads as childless-reads
+use Rattle.node.proofs.link.Reads as link-reads
+use Rattle.order.proofs.own_value.Reads as own-value-reads
+use Rattle.order.proofs.+counted.{statement}
+use Rattle.order.proofs.+counted.Tie.{close}
+
+abbrev μ-counted : Measures 1 counted-kinds.ps ℕ
+μ-counted κs a = a .1 .0 .max - a .1 .1 .1 .1 .0
+
+abbrev at : ℕ → In 1 counted-kinds.ps
+at t = and 1 counted-kinds.ps (is 1 counted-kinds.ps μ-counted t) counted.Pre
+
+abbrev under : ℕ → In 1 counted-kinds.ps
+under t = and 1 counted-kinds.ps (falls 1 counted-kinds.ps _<_ μ-counted t) counted.Pre
+
+abbrev Inv-loop : lts.InvT-loop
+Inv-loop image h mask node depth before sum₀ i₀ i-end sum i =
+    sum + left h (tableOf h image) node depth i ≡ before + left h (tableOf h image) node depth 0
+
+abbrev μ-loop : lts.MeasureT-loop
+μ-loop image h mask node depth before sum₀ i₀ i-end sum i = h .n - i
+
+-- what the callees ask and ensure
+abbrev claims : ℕ → lts.Claims
+claims t = (
+  childless-reads.Asked,
+  childless-reads.Learnt,
+  link-reads.Asked,
+  link-reads.Learnt,
+  own-value-reads.Asked,
+  own-value-reads.Learnt,
+  under t,
+  counted.Post,
+)
+
+cast-if1 : (t : ℕ) → lts.Need-cast-if1 (claims t) (at t) counted.Post Inv-loop μ-loop
+cast-if1 t c = search needs
+
+returns : (t : ℕ) → lts.Need-returns (claims t) (at t) counted.Post Inv-loop μ-loop
+returns t c =
+    let a = c .before .before .before .args in
+    omega (arith, left-full (a .h) (tableOf (a .h) (a .image .now)) (a .node) (a .depth) 0 (c .if1 .taken))
+
+childless-requires : (t : ℕ) → lts.Need-childless-requires (claims t) (at t) counted.Post Inv-loop μ-loop
+childless-requires t c κs = search needs
+
+returns-2 : (t : ℕ) → lts.Need-returns-2 (claims t) (at t) counted.Post Inv-loop μ-loop
+returns-2 t c =
+    let a = c .before .before .before .before .before .args in
+    let e = c .before .childless .ensures (c .if2 .taken) in
+    omega (arith, left-childless (a .h) (tableOf (a .h) (a .image .now)) (a .node) (a .depth) 0 e)
+
+loop-holds : (t : ℕ) → lts.Need-loop-holds (claims t) (at t) counted.Post Inv-loop μ-loop
+loop-holds t c = search needs
+
+link-requires : (t : ℕ) → lts.Need-link-requires (claims t) (at t) counted.Post Inv-loop μ-loop
+link-requires t c κs = search needs
+
+add-i : (t : ℕ) → lts.Need-add-i (claims t) (at t) counted.Post Inv-loop μ-loop
+add-i t c = omega arith
+
+loop-less : (t : ℕ) → lts.Need-loop-less (claims t) (at t) counted.Post Inv-loop μ-loop
+loop-less t c = omega arith
+
+loop-again : (t : ℕ) → lts.Need-loop-again (claims t) (at t) counted.Post Inv-loop μ-loop
+loop-again t c =
+    let found = c .before in
+    let loop = found .before .before in
+    let a = loop .before .before .before .before .before .before .args in
+    omega (arith, left-empty (a .h) (tableOf (a .h) (a .image .now)) (a .node) (a .depth) (loop .loop .i) (found .before .loop-test .taken) (found .link .ensures) (c .if3 .taken))
+
+-- past an empty link: the child's keys come next
+by-link : (t : ℕ) (c : lts.Else3 (claims t) (at t) counted.Post Inv-loop μ-loop)
+    → (let found = c .before in
+    let loop = found .before .before in
+    let a = loop .before .before .before .before .before .before .args in
+    let table = tableOf (a .h) (a .image .now) in
+    left (a .h) table (a .node) (a .depth) (loop .loop .i)
+    ≡ owned (a .h) table (found .link .result) (a .depth + 1)
+    + left (a .h) table (found .link .result) (a .depth + 1) 0
+    + left (a .h) table (a .node) (a .depth) (loop .loop .i + 1))
+by-link t c =
+    let found = c .before in
+    let loop = found .before .before in
+    let a = loop .before .before .before .before .before .before .args in
+    left-link (a .h) (tableOf (a .h) (a .image .now)) (a .node) (a .depth) (loop .loop .i) (loop .before .before .before .if1 .left) (found .before .loop-test .taken)
+    (found .link .ensures) (c .if3 .left)
+
+add-own-value : (t : ℕ) → lts.Need-add-own-value (claims t) (at t) counted.Post Inv-loop μ-loop
+add-own-value t c =
+    let start = c .before .before .before .before .before .before .before .before .before in
+    omega (arith, bounds (start .args .h) (start .pre .1 .0 .head-permitted))
+
+own-value-requires : (t : ℕ) → lts.Need-own-value-requires (claims t) (at t) counted.Post Inv-loop μ-loop
+own-value-requires t c κs =
+    let found = c .before in
+    let loop = found .before .before in
+    let start = loop .before .before .before .before .before .before in
+    (start .pre .1 .0, omega (arith, found .link .ensures, start .pre .1 .1 .0 (start .args .node) (loop .loop .i)))
+
+add-sum : (t : ℕ) → lts.Need-add-sum (claims t) (at t) counted.Post Inv-loop μ-loop
+add-sum t c =
+    let own = c .before in
+    let found = own .before .before in
+    let loop = found .before .before in
+    let start = loop .before .before .before .before .before .before in
+    let a = start .args in
+    omega (arith, start .pre .1, loop .loop .inv, by-link t (own .before), owned-one (a .h) (tableOf (a .h) (a .image .now)) (found .link .result) (a .depth + 1) (own .own-value .ensures) (c .if4 .taken))
+
+-- the child's own key is counted
+own-counted : (t : ℕ) (c : lts.Joined4 (claims t) (at t) counted.Post Inv-loop μ-loop)
+    → (let found = c .before .before .before in
+    let loop = found .before .before in
+    let a = loop .before .before .before .before .before .before .args in
+    c .if4 .sum ≡ loop .loop .sum + owned (a .h) (tableOf (a .h) (a .image .now)) (found .link .result) (a .depth + 1))
+own-counted t c =
+    let own = c .before in
+    let found = own .before .before in
+    let loop = found .before .before in
+    let a = loop .before .before .before .before .before .before .args in
+    let table = tableOf (a .h) (a .image .now) in
+    ⊎-elim (λ w. omega (arith, w .1, owned-one (a .h) table (found .link .result) (a .depth + 1) (own .own-value .ensures) (w .0 .taken)))
+    (λ w. omega (arith, w .1, owned-none (a .h) table (found .link .result) (a .depth + 1) (own .own-value .ensures) (w .0 .left)))
+    (c .if4 .came)
+
+add-counted : (t : ℕ) → lts.Need-add-counted (claims t) (at t) counted.Post Inv-loop μ-loop
+add-counted t c =
+    let start = c .before .before .before .before .before .before .before .before .before .before .before in
+    omega (arith, bounds (start .args .h) (start .pre .1 .0 .head-permitted))
+
+counted-requires : (t : ℕ) → lts.Need-counted-requires (claims t) (at t) counted.Post Inv-loop μ-loop
+counted-requires t c κs =
+    let found = c .before .before .before in
+    let loop = found .before .before in
+    let start = loop .before .before .before .before .before .before in
+    let p = start .pre .1 in (
+      omega (arith, start .pre .0),
+      (
+        p .0,
+        (
+          p .1 .0,
+          (
+            p .1 .1 .0,
+            (
+              omega (arith, found .link .ensures, p .1 .0 (start .args .node) (loop .loop .i)),
+              (omega arith, omega (arith, p, loop .loop .inv, by-link t (c .before .before), own-counted t c)),
+            ),
+          ),
+        ),
+      ),
+    )
+
+add-i-2 : (t : ℕ) → lts.Need-add-i-2 (claims t) (at t) counted.Post Inv-loop μ-loop
+add-i-2 t c = omega arith
+
+loop-less-2 : (t : ℕ) → lts.Need-loop-less-2 (claims t) (at t) counted.Post Inv-loop μ-loop
+loop-less-2 t c = omega arith
+
+loop-again-2 : (t : ℕ) → lts.Need-loop-again-2 (claims t) (at t) counted.Post Inv-loop μ-loop
+loop-again-2 t c = omega (arith, c .counted .ensures, own-counted t (c .before), by-link t (c .before .before .before), c .before .before .before .before .before .before .loop .inv)
+
+returns-3 : (t : ℕ) → lts.Need-returns-3 (claims t) (at t) counted.Post Inv-loop μ-loop
+returns-3 t c =
+    let loop = c .before in
+    let a = loop .before .before .before .before .before .before .args in
+    omega (arith, left-none (a .h) (tableOf (a .h) (a .image .now)) (a .node) (a .depth) (loop .loop .i) (c .loop-test .left))
+
+pub +counted-spec : {M : Type 1} → statement M
++counted-spec = close μ-counted λ t. lts.spec (claims t)
+    (at t)
+    counted.Post
+    Inv-loop
+    μ-loop
+    (cast-if1 t)
+    (returns t)
+    (childless-requires t)
+    (returns-2 t)
+    (loop-holds t)
+    (link-requires t)
+    (add-i t)
+    (loop-less t)
+    (loop-again t)
+    (add-own-value t)
+    (own-value-requires t)
+    (add-sum t)
+    (add-counted t)
+    (counted-requires t)
+    (add-i-2 t)
+    (loop-less-2 t)
+    (loop-again-2 t)
+    (returns-3 t)

@@ -1,0 +1,54 @@
+-- The count of a node's keys from letter to letter: what was counted and what is still to come make up the whole. A link adds the
+-- child's own key, one or none, and what is counted below the child.
+use Prim.Native.Nat.{ℕ, _+_, _-_, _<_, _≤_}
+use native.Mathlib.Nat.{sub-zero}
+use native.Mathlib.Numerals.{add-one}
+use native.Mathlib.Omega.{arith}
+use mathlib.Core.List.{List, _∷_, _++_, map}
+use mathlib.Core.Logic.{_≢_}
+use mathlib.Core.Path.{_≡_, sym, _∙_, ap}
+use lib.ListN.{length, length-append, length-map}
+use Rattle.trie.specs.Table.{Table}
+use Rattle.trie.specs.Keys.{ownKey, listing}
+use Rattle.trie.proofs.Beyond.{under-split, from-none, from-empty, from-childless}
+use Rattle.head.specs.declared.Head.{Head}
+use Rattle.order.specs.Search.{ownValue}
+use Rattle.order.proofs.Links.{own-empty, own-full, from, from-full, from-link}
+
+module _ (h : Head) (t : Table) where
+  -- how many keys are still to come from letter i on, and how many are a node's own
+  abbrev pub left : ℕ → ℕ → ℕ → ℕ
+  left q depth i = length (from h t q depth i)
+
+  abbrev pub owned : ℕ → ℕ → ℕ
+  owned q depth = length (ownKey t (h .min - depth) q)
+
+  -- told by the value that was read
+  pub owned-none : (q depth : ℕ) {v : ℕ} → v ≡ ownValue h t q depth → v ≡ 0 → owned q depth ≡ 0
+  owned-none q depth e empty = ap length (own-empty h t q depth (sym e ∙ empty))
+
+  pub owned-one : (q depth : ℕ) {v : ℕ} → v ≡ ownValue h t q depth → v ≢ 0 → owned q depth ≡ 1
+  owned-one q depth e full = ap length (own-full h t q depth (λ z. full (e ∙ z)))
+
+  pub listed : length (listing t (h .n) (h .min) (h .max)) ≡ owned 0 0 + left 0 0 0
+  listed = rw (sub-zero (h .min), sub-zero (h .max)) (ap length (under-split t (h .n) (h .min) (h .max) 0) ∙ simp length-append)
+
+  -- there is nothing where no letter is allowed, where all links are empty and past the last letter
+  pub left-full : (q depth i : ℕ) → h .max ≤ depth → left q depth i ≡ 0
+  left-full q depth i b = ap length (from-full h t q depth i b)
+
+  pub left-childless : (q depth i : ℕ) → ((x : ℕ) → t .child q x ≡ 0) → left q depth i ≡ 0
+  left-childless q depth i e = ap length (from-childless t (h .n) (h .min - depth) (h .max - depth) q i e)
+
+  pub left-none : (q depth i : ℕ) → h .n ≤ i → left q depth i ≡ 0
+  left-none q depth i b = ap length (from-none t (h .n) (h .min - depth) (h .max - depth) q i b)
+
+  -- a letter more: nothing by an empty link, by any other the child's own key and those below the child
+  pub left-empty : (q depth i : ℕ) {c : ℕ} → i < h .n → c ≡ t .child q i → c ≡ 0 → left q depth i ≡ left q depth (i + 1)
+  left-empty q depth i b e empty =
+      rw add-one (ap length (from-empty t (h .n) (h .min - depth) (h .max - depth) q i b (sym e ∙ empty)))
+
+  pub left-link : (q depth i : ℕ) {c : ℕ} → depth < h .max → i < h .n → c ≡ t .child q i → c ≢ 0
+      → left q depth i ≡ owned c (depth + 1) + left c (depth + 1) 0 + left q depth (i + 1)
+  left-link q depth i deep b e full =
+      rw (add-one depth, add-one i) (ap length (from-link h t q depth i deep b (sym e) full) ∙ simp (length-append, length-map))

@@ -1,0 +1,7 @@
+pub mod Links
+pub mod Counting
+pub mod Paths
+pub mod Searching
+pub mod Following
+pub mod Climbing
+pub mod Requests
