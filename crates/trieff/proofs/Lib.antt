@@ -1,1 +1,3 @@
+mod Checking
 mod Making
+mod Told
