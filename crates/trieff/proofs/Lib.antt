@@ -1,3 +1,4 @@
 mod Checking
 mod Making
+mod Reading
 mod Told
