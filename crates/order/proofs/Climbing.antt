@@ -4,6 +4,7 @@ use Prim.Native.Nat.{ℕ, zero, suc, _+_, _-_, _<_, _≤_}
 use native.Mathlib.Numerals.{add-one}
 use native.Mathlib.Nat.{sub-zero}
 use native.Mathlib.Omega.{arith}
+use mathlib.Core.Bool.{Bool, true}
 use mathlib.Core.List.{List, [], _∷_, _++_, map}
 use mathlib.Core.Logic.{_≢_}
 use mathlib.Core.Option.{none, some, Option·some-ne-none, Option·some-injective}
@@ -15,10 +16,10 @@ use Rattle.trie.proofs.Beyond.{beyond-nil, beyond-up, beyond-found}
 use Rattle.head.specs.declared.Head.{Head}
 use Rattle.node.specs.Image.{tableOf}
 use Rattle.order.specs.declared.Search.{Search}
-use Rattle.order.specs.Search.{ahead, coming, Room, Along, Kept, Told}
+use Rattle.order.specs.Search.{Bearing, ahead, coming, Room, Along, Kept, Told}
 use Rattle.order.proofs.Links.{from}
-use Rattle.order.proofs.Paths.{room-kept, kept-front, kept-letter, along-root, along-kept, along-less, along-last}
-use Rattle.order.proofs.Searching.{first-none, was-missing, was-found, told-same}
+use Rattle.order.proofs.Paths.{room-kept, kept-all, kept-front, kept-letter, along-root, along-kept, along-less, along-last}
+use Rattle.order.proofs.Searching.{first-none, was-missing, was-found, told-same, ahead-fruitless}
 
 -- ---- keys with letters in front
 
@@ -85,48 +86,80 @@ pub record Climbing (h : Head) (l path₀ nodes₀ : List ℕ) (end first : ℕ)
   pub letters : length path ≡ length path₀
   pub ends : length nodes ≡ length nodes₀
   pub same : firstOf (coming h l path₀ end first) ≡ firstOf (coming h l path depth x)
+  -- behind a letter that was taken
+  pub deeper : 0 < x → depth < h .max
 
-pub climbing-start : {h : Head} {l path nodes : List ℕ} {end : ℕ} (first : ℕ) → end ≤ h .max → Room h path nodes → Along h l end path nodes
+-- Nothing lies below the path's end, and the path up to there is what it was.
+pub record Nothing (h : Head) (l path nodes : List ℕ) (depth x : ℕ) (path₁ nodes₁ : List ℕ) : Type 0 where
+  pub missing : firstOf (ahead h l path depth (getD nodes depth 0) x) ≡ none
+  pub kept : Kept depth path nodes path₁ nodes₁
+  pub letters : length path₁ ≡ length path
+  pub ends : length nodes₁ ≡ length nodes
+
+module _ {h : Head} {l path nodes : List ℕ} {depth x : ℕ} {path₂ nodes₂ : List ℕ} where
+  -- a search that found nothing tells so, and one that is spared because the node is fruitless
+  pub nothing-missing : {r : Search} {path₁ nodes₁ : List ℕ}
+      → Told h l (firstOf (ahead h l path depth (getD nodes depth 0) x)) r path₁ nodes₁ → r ≡ Search.Missing
+      → Kept depth path nodes path₁ nodes₁ → length path₁ ≡ length path → length nodes₁ ≡ length nodes
+      → path₂ ≡ path₁ → nodes₂ ≡ nodes₁
+      → Nothing h l path nodes depth x path₂ nodes₂
+  nothing-missing told f kept letters ends e g =
+      rw (e, g) (record { missing = was-missing h l told f; kept = kept; letters = letters; ends = ends })
+
+  pub nothing-fruitless : {r : Bool} → Bearing h (tableOf h l) (getD nodes depth 0) depth r → r ≡ true → path₂ ≡ path → nodes₂ ≡ nodes
+      → Nothing h l path nodes depth x path₂ nodes₂
+  nothing-fruitless b f e g =
+      rw (e, g)
+      (record {
+        missing = ahead-fruitless h l path depth (getD nodes depth 0) x b f;
+        kept = kept-all depth path nodes;
+        letters = refl;
+        ends = refl;
+      })
+
+pub climbing-start : {h : Head} {l path nodes : List ℕ} {end : ℕ} (first : ℕ) → end ≤ h .max → (0 < first → end < h .max)
+    → Room h path nodes → Along h l end path nodes
     → Climbing h l path nodes end first path nodes end first
-climbing-start first deep room along = record { deep = deep; room = room; along = along; letters = refl; ends = refl; same = refl }
+climbing-start first deep deeper room along =
+    record { deep = deep; room = room; along = along; letters = refl; ends = refl; same = refl; deeper = deeper }
 
 module _ {h : Head} {l path₀ nodes₀ : List ℕ} {end first : ℕ} {path nodes : List ℕ} {depth x : ℕ}
-    (c : Climbing h l path₀ nodes₀ end first path nodes depth x) {q : ℕ} (node : q ≡ getD nodes depth 0) {r : Search} {path₁ nodes₁ : List ℕ}
-    (told : Told h l (firstOf (ahead h l path depth q x)) r path₁ nodes₁) where
+    (c : Climbing h l path₀ nodes₀ end first path nodes depth x) {path₁ nodes₁ : List ℕ} where
   -- the first key below is the one sought
-  pub climbing-found : {n v : ℕ} → r ≡ Search.Found n v → Told h l (firstOf (coming h l path₀ end first)) r path₁ nodes₁
-  climbing-found f =
+  pub climbing-found : {r : Search} {n v : ℕ} → Told h l (firstOf (ahead h l path depth (getD nodes depth 0) x)) r path₁ nodes₁
+      → r ≡ Search.Found n v
+      → Told h l (firstOf (coming h l path₀ end first)) r path₁ nodes₁
+  climbing-found told f =
       let (k, e) = was-found h l told f in
-      told-same h l (c .same ∙ coming-found h l path nodes x (omega (arith, c .room .letters, c .deep)) (c .along) (rw (← node) e) ∙ sym e) told
+      told-same h l (c .same ∙ coming-found h l path nodes x (omega (arith, c .room .letters, c .deep)) (c .along) e ∙ sym e) told
 
   -- there is none below the root
-  pub climbing-end : r ≡ Search.Missing → depth ≡ 0 → firstOf (coming h l path₀ end first) ≡ none
-  climbing-end f z =
-      let none-here : firstOf (ahead h l path depth q x) ≡ none = was-missing h l told f in
-      let root : q ≡ 0 = node ∙ ap (λ (d : ℕ). getD nodes d 0) z ∙ along-root h l (c .along) in
-      c .same ∙ rw z (coming-none h l path nodes q x root (rw z at none-here))
+  pub climbing-end : Nothing h l path nodes depth x path₁ nodes₁ → depth ≡ 0 → firstOf (coming h l path₀ end first) ≡ none
+  climbing-end nothing z =
+      let none-here = nothing .missing in
+      let root : getD nodes depth 0 ≡ 0 = ap (λ (d : ℕ). getD nodes d 0) z ∙ along-root h l (c .along) in
+      c .same ∙ rw z (coming-none h l path nodes (getD nodes 0 0) x (rw z at root) (rw z at none-here))
 
 -- there is none below, and the node before is next
 pub climbing-up : {h : Head} {l path₀ nodes₀ : List ℕ} {end first : ℕ} {path nodes : List ℕ} (depth : ℕ) {x : ℕ}
-    → Climbing h l path₀ nodes₀ end first path nodes depth x
-    → {q : ℕ} → q ≡ getD nodes depth 0 → {r : Search} {path₁ nodes₁ : List ℕ}
-    → Told h l (firstOf (ahead h l path depth q x)) r path₁ nodes₁ → r ≡ Search.Missing → depth ≢ 0
-    → Kept depth path nodes path₁ nodes₁ → length path₁ ≡ length path → length nodes₁ ≡ length nodes
+    → {path₁ nodes₁ : List ℕ} → Climbing h l path₀ nodes₀ end first path nodes depth x → Nothing h l path nodes depth x path₁ nodes₁
+    → depth ≢ 0
     → Climbing h l path₀ nodes₀ end first path₁ nodes₁ (depth - 1) (getD path₁ (depth - 1) 0 + 1)
-climbing-up zero c node told f z kept letters ends = absurd (z refl)
-climbing-up {h} {l} {path = path} {nodes} (suc d) {x} c node {path₁ = path₁} told f z kept letters ends =
+climbing-up zero c n z = absurd (z refl)
+climbing-up {h} {l} {path = path} {nodes} (suc d) {x} {path₁} c n z =
     let less : suc d - 1 ≡ d = omega arith in
     rw (less, add-one (getD path₁ d 0))
     (record {
       deep = omega (arith, c .deep);
-      room = room-kept (c .room) letters ends;
-      along = along-less h l (along-kept h l (c .along) kept);
-      letters = letters ∙ c .letters;
-      ends = ends ∙ c .ends;
+      room = room-kept (c .room) (n .letters) (n .ends);
+      along = along-less h l (along-kept h l (c .along) (n .kept));
+      letters = n .letters ∙ c .letters;
+      ends = n .ends ∙ c .ends;
       same =
           c .same
           ∙ ap firstOf
-          (coming-up h l path nodes x (omega (arith, c .room .letters, c .deep)) (c .along) (rw (← node) (was-missing h l told f))
-          ∙ ap (λ (y : ℕ). coming h l path d (suc y)) (sym (kept-letter d kept (omega arith)))
-          ∙ coming-front h l path path₁ d (suc (getD path₁ d 0)) (sym (kept-front d kept (omega arith))));
+          (coming-up h l path nodes x (omega (arith, c .room .letters, c .deep)) (c .along) (n .missing)
+          ∙ ap (λ (y : ℕ). coming h l path d (suc y)) (sym (kept-letter d (n .kept) (omega arith)))
+          ∙ coming-front h l path path₁ d (suc (getD path₁ d 0)) (sym (kept-front d (n .kept) (omega arith))));
+      deeper = λ b. omega (arith, c .deep);
     })

@@ -3,15 +3,16 @@
 use Prim.Native.Nat.{ℕ, _+_, _-_, _<_, _≤_}
 use native.Mathlib.Nat.{sub-zero}
 use native.Mathlib.Numerals.{add-one}
+use mathlib.Core.Bool.{Bool, true}
 use mathlib.Core.Logic.{_≢_}
 use mathlib.Core.Path.{_≡_, sym, _∙_, ap}
 use lib.ListN.{length, length-append, length-map}
 use Rattle.trie.specs.Table.{Table}
 use Rattle.trie.specs.Keys.{ownKey, listing}
-use Rattle.trie.proofs.Beyond.{under-split, from-none, from-empty, from-childless}
+use Rattle.trie.proofs.Beyond.{under-split, from-none, from-empty}
 use Rattle.head.specs.declared.Head.{Head}
-use Rattle.order.specs.Search.{ownValue}
-use Rattle.order.proofs.Links.{own-empty, own-full, from, from-full, from-link}
+use Rattle.order.specs.Search.{ownValue, Bearing}
+use Rattle.order.proofs.Links.{own-empty, own-full, from, from-link}
 
 module _ (h : Head) (t : Table) where
   -- how many keys are still to come from letter i on, and how many are a node's own
@@ -31,12 +32,9 @@ module _ (h : Head) (t : Table) where
   pub listed : length (listing t (h .n) (h .min) (h .max)) ≡ owned 0 0 + left 0 0 0
   listed = rw (sub-zero (h .min), sub-zero (h .max)) (ap length (under-split t (h .n) (h .min) (h .max) 0) ∙ simp length-append)
 
-  -- there is nothing where no letter is allowed, where all links are empty and past the last letter
-  pub left-full : (q depth i : ℕ) → h .max ≤ depth → left q depth i ≡ 0
-  left-full q depth i b = ap length (from-full h t q depth i b)
-
-  pub left-childless : (q depth i : ℕ) → ((x : ℕ) → t .child q x ≡ 0) → left q depth i ≡ 0
-  left-childless q depth i e = ap length (from-childless t (h .n) (h .min - depth) (h .max - depth) q i e)
+  -- there is nothing below a fruitless node and past the last letter
+  pub left-fruitless : (q depth i : ℕ) {r : Bool} → Bearing h t q depth r → r ≡ true → left q depth i ≡ 0
+  left-fruitless q depth i b e = ap length (b .nothing e i)
 
   pub left-none : (q depth i : ℕ) → h .n ≤ i → left q depth i ≡ 0
   left-none q depth i b = ap length (from-none t (h .n) (h .min - depth) (h .max - depth) q i b)

@@ -3,6 +3,7 @@
 use Prim.Native.Nat.{ℕ, suc, pred, _-_, _<_, _≤_}
 use native.Mathlib.Omega.{arith}
 use native.Mathlib.Decide.{decLt}
+use mathlib.Core.Bool.{Bool, true, true≢false}
 use mathlib.Core.List.{List, [], _∷_, _++_, map}
 use mathlib.Core.Logic.{_≢_}
 use mathlib.Core.Path.{_≡_, sym, _∙_}
@@ -10,9 +11,9 @@ use borrow.Author.Tests.{lt-ltb, le-ltb}
 use Rattle.trie.specs.Table.{Table}
 use Rattle.trie.specs.Keys.{ownKey}
 use Rattle.trie.specs.Beyond.{keysFrom}
-use Rattle.trie.proofs.Beyond.{own-none, own-short, own-there, under-split, from-shallow, from-on}
+use Rattle.trie.proofs.Beyond.{own-none, own-short, own-there, under-split, from-shallow, from-childless, from-on}
 use Rattle.head.specs.declared.Head.{Head}
-use Rattle.order.specs.Search.{ownValue}
+use Rattle.order.specs.Search.{ownValue, Bearing}
 
 module _ (h : Head) (t : Table) where
   -- ---- the node's own key
@@ -51,8 +52,15 @@ module _ (h : Head) (t : Table) where
   abbrev pub from : ℕ → ℕ → ℕ → List (List ℕ)
   from q depth i = keysFrom t (h .n) (h .min - depth) (h .max - depth) q i
 
-  pub from-full : (q depth i : ℕ) → h .max ≤ depth → from q depth i ≡ []
-  from-full q depth i b = let e : h .max - depth ≡ 0 = omega arith in rw e (from-shallow t (h .n) (h .min - depth) q i)
+  -- there are none where no letter may follow, nor where all links are empty
+  pub bearing-full : (q depth : ℕ) → h .max ≤ depth → Bearing h t q depth true
+  bearing-full q depth b =
+      let e : h .max - depth ≡ 0 = omega arith in
+      record { nothing = λ z i. rw e (from-shallow t (h .n) (h .min - depth) q i); deep = λ z. absurd (true≢false z) }
+
+  pub bearing-asked : (q depth : ℕ) {r : Bool} → depth < h .max → (r ≡ true → (i : ℕ) → t .child q i ≡ 0) → Bearing h t q depth r
+  bearing-asked q depth deep childless =
+      record { nothing = λ z i. from-childless t (h .n) (h .min - depth) (h .max - depth) q i (childless z); deep = λ z. deep }
 
   pub from-link : (q depth i : ℕ) {c : ℕ} → depth < h .max → i < h .n → t .child q i ≡ c → c ≢ 0
       → from q depth i ≡ map (i ∷_) (ownKey t (h .min - suc depth) c ++ from c (suc depth) 0) ++ from q depth (suc i)

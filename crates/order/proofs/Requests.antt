@@ -1,6 +1,6 @@
 -- What a request leaves of the listing. A key that was followed ends at the path's end or goes on at an empty link there: what meets it is
 -- what is still to come from there, and the node's own key where "at or after" is asked.
-use Prim.Native.Nat.{ℕ, suc, _+_, _-_, _<_, _≤_}
+use Prim.Native.Nat.{ℕ, suc, _+_, _<_, _≤_}
 use native.Mathlib.Numerals.{add-one}
 use native.Mathlib.Omega.{arith}
 use mathlib.Core.Bool.{Bool, true, false}

@@ -3,6 +3,7 @@
 use Prim.Native.Nat.{ℕ, suc, _+_, _-_, _<_, _≤_}
 use native.Mathlib.Numerals.{add-one}
 use native.Mathlib.Omega.{arith}
+use mathlib.Core.Bool.{Bool, true}
 use mathlib.Core.List.{List, [], _∷_, _++_, map, map-append, map-map, append-assoc}
 use mathlib.Core.Logic.{_≢_}
 use mathlib.Core.Option.{Option, none, some, Option·some-ne-none, Option·some-injective}
@@ -11,13 +12,13 @@ use lib.ListN.{length, getD, take, set, length-set}
 use lib.Seq.{take-suc-set, length-take-le, getD-set-same}
 use Rattle.trie.specs.Table.{Table, answer}
 use Rattle.trie.specs.Beyond.{firstOf}
-use Rattle.trie.proofs.Beyond.{from-none, from-empty, from-childless}
+use Rattle.trie.proofs.Beyond.{from-none, from-empty}
 use Rattle.trie.proofs.Walk.{answer-complete}
 use Rattle.head.specs.declared.Head.{Head}
 use Rattle.node.specs.Image.{tableOf}
 use Rattle.order.specs.declared.Search.{Search}
-use Rattle.order.specs.Search.{ownValue, ahead, Room, Along, Kept, Reached, toldOf, Told}
-use Rattle.order.proofs.Links.{own-data, own-long, own-empty, own-full, from, from-full, from-link}
+use Rattle.order.specs.Search.{ownValue, Bearing, ahead, Room, Along, Kept, Reached, toldOf, Told}
+use Rattle.order.proofs.Links.{own-data, own-long, own-empty, own-full, from, from-link}
 use Rattle.order.proofs.Paths.{room-kept, kept-all, kept-set, kept-below, kept-end, along-kept, along-more}
 
 -- ---- the first of a list of keys
@@ -97,14 +98,10 @@ module _ (h : Head) (l : List ℕ) where
 
   -- ---- the keys ahead
 
-  pub ahead-full : (path : List ℕ) (depth q i : ℕ) → h .max ≤ depth → firstOf (ahead h l path depth q i) ≡ none
+  pub ahead-fruitless : (path : List ℕ) (depth q i : ℕ) {r : Bool} → Bearing h (tableOf h l) q depth r → r ≡ true
+      → firstOf (ahead h l path depth q i) ≡ none
   unfolding ahead
-  ahead-full path depth q i b = first-none _ (ap (map (take depth path ++_)) (from-full h (tableOf h l) q depth i b))
-
-  pub ahead-childless : (path : List ℕ) (depth q i : ℕ) → ((x : ℕ) → tableOf h l .child q x ≡ 0) → firstOf (ahead h l path depth q i) ≡ none
-  unfolding ahead
-  ahead-childless path depth q i e =
-      first-none _ (ap (map (take depth path ++_)) (from-childless (tableOf h l) (h .n) (h .min - depth) (h .max - depth) q i e))
+  ahead-fruitless path depth q i b e = first-none _ (ap (map (take depth path ++_)) (b .nothing e i))
 
   pub ahead-past : (path : List ℕ) (depth q i : ℕ) → h .n ≤ i → firstOf (ahead h l path depth q i) ≡ none
   unfolding ahead
@@ -242,22 +239,24 @@ module _ {h : Head} {l path₀ nodes₀ : List ℕ} {depth q first : ℕ} {path 
       told-here h l (omega (arith, p .deep)) onto-room onto-along (rw (← onto-node) e) full
       (p .passed ∙ ahead-own h l path depth q i (p .deep) (o .low) (o .link) (o .full) e full ∙ ap some (sym longer))
 
-  module _ {v : ℕ} (e : v ≡ ownValue h (tableOf h l) c (depth + 1)) (empty : v ≡ 0) {r : Search} {path₁ nodes₁ : List ℕ}
-      (told : Told h l (firstOf (ahead h l (set path depth i) (depth + 1) c 0)) r path₁ nodes₁) where
+  module _ {v : ℕ} (e : v ≡ ownValue h (tableOf h l) c (depth + 1)) (empty : v ≡ 0) where
     link-split : ahead h l path depth q i ≡ ahead h l (set path depth i) (depth + 1) c 0 ++ ahead h l path depth q (i + 1)
     link-split = ahead-link h l path (set path depth i) depth q i (o .passing .deep) (o .low) (o .link) (o .full) e empty longer
 
     -- else the first below the child, where there is one
-    pub onto-found : {n w : ℕ} → r ≡ Search.Found n w → Told h l (firstOf (ahead h l path₀ depth q first)) r path₁ nodes₁
-    onto-found f =
+    pub onto-found : {r : Search} {path₁ nodes₁ : List ℕ} {n w : ℕ}
+        → Told h l (firstOf (ahead h l (set path depth i) (depth + 1) c 0)) r path₁ nodes₁ → r ≡ Search.Found n w
+        → Told h l (firstOf (ahead h l path₀ depth q first)) r path₁ nodes₁
+    onto-found told f =
         let (k, g) = was-found h l told f in
         told-same h l (o .passing .passed ∙ ap firstOf link-split ∙ first-front _ _ g ∙ sym g) told
 
     -- and else the letter is passed
-    pub onto-missing : r ≡ Search.Missing → Kept (depth + 1) (set path depth i) (set nodes (depth + 1) c) path₁ nodes₁
+    onto-none : {path₁ nodes₁ : List ℕ} → firstOf (ahead h l (set path depth i) (depth + 1) c 0) ≡ none
+        → Kept (depth + 1) (set path depth i) (set nodes (depth + 1) c) path₁ nodes₁
         → length path₁ ≡ length (set path depth i) → length nodes₁ ≡ length (set nodes (depth + 1) c)
         → Passing h l path₀ nodes₀ depth q first path₁ nodes₁ (i + 1)
-    onto-missing f kept letters ends =
+    onto-none {path₁} {nodes₁} nothing kept letters ends =
         let p = o .passing in
         let here = kept-below (kept-set i c (kept-all depth path nodes)) kept in
         let m : length path₁ ≡ length path = letters ∙ length-set path depth i in
@@ -273,6 +272,19 @@ module _ {h : Head} {l path₀ nodes₀ : List ℕ} {depth q first : ℕ} {path 
           passed =
               p .passed
               ∙ ap firstOf link-split
-              ∙ first-back _ _ (was-missing h l told f)
+              ∙ first-back _ _ nothing
               ∙ ap firstOf (sym (ahead-kept h l depth q (i + 1) here));
         }
+
+    pub onto-missing : {r : Search} {path₁ nodes₁ : List ℕ}
+        → Told h l (firstOf (ahead h l (set path depth i) (depth + 1) c 0)) r path₁ nodes₁ → r ≡ Search.Missing
+        → Kept (depth + 1) (set path depth i) (set nodes (depth + 1) c) path₁ nodes₁
+        → length path₁ ≡ length (set path depth i) → length nodes₁ ≡ length (set nodes (depth + 1) c)
+        → Passing h l path₀ nodes₀ depth q first path₁ nodes₁ (i + 1)
+    onto-missing told f kept letters ends = onto-none (was-missing h l told f) kept letters ends
+
+    pub onto-fruitless : {r : Bool} → Bearing h (tableOf h l) c (depth + 1) r → r ≡ true
+        → Passing h l path₀ nodes₀ depth q first (set path depth i) (set nodes (depth + 1) c) (i + 1)
+    onto-fruitless b f =
+        onto-none (ahead-fruitless h l (set path depth i) (depth + 1) c 0 b f)
+        (kept-all (depth + 1) (set path depth i) (set nodes (depth + 1) c)) refl refl

@@ -2,9 +2,9 @@
 -- path that it leaves: the key's letters, and the nodes on its way, the root first.
 use Prim.Native.Nat.{ℕ, suc, _-_, _≤_, _<_}
 use mathlib.Core.Path.{_≡_}
-use mathlib.Core.Bool.{Bool, cond}
+use mathlib.Core.Bool.{Bool, true, false, cond}
 use mathlib.Core.Option.{Option, none, some}
-use mathlib.Core.List.{List, _++_, map}
+use mathlib.Core.List.{List, [], _++_, map}
 use lib.ListN.{length, getD, take}
 use lib.Dec.{ltb}
 use Rattle.trie.specs.Table.{Table, complete, descend, answer, Letters}
@@ -49,6 +49,11 @@ pub record Told (h : Head) (l : List ℕ) (sought : Option (List ℕ)) (r : Sear
   pub reached : (k : List ℕ) → sought ≡ some k → Reached h l k path nodes
 
 -- What the searches inside are told by.
+
+-- whether a node at a depth is fruitless: then no key lies below it, from any letter on; else a letter may follow there
+pub record Bearing (h : Head) (t : Table) (q depth : ℕ) (fruitless : Bool) : Type 0 where
+  pub nothing : fruitless ≡ true → (x : ℕ) → keysFrom t (h .n) (h .min - depth) (h .max - depth) q x ≡ []
+  pub deep : fruitless ≡ false → depth < h .max
 
 -- the stored keys below a node at a depth from a letter on, the letters of the path in front
 unfoldable pub ahead : Head → List ℕ → List ℕ → ℕ → ℕ → ℕ → List (List ℕ)

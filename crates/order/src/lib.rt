@@ -3,14 +3,15 @@
 // that the key after it is found from there and a whole listing is one walk through the image.
 ghost use mathlib.Core.Path.{_≡_};
 ghost use mathlib.Core.Bool.{true};
-ghost use Prim.Native.Nat.{_+_, _-_, _^_, _≤_, _<_};
+ghost use mathlib.Core.List.{List};
+ghost use Prim.Native.Nat.{ℕ, _+_, _-_, _^_, _≤_, _<_};
 ghost use lib.ListN.{length, getD, take};
 ghost use Rattle.trie.specs.Rules.{Within};
 ghost use Rattle.trie.specs.Keys.{listing};
 ghost use Rattle.trie.specs.Beyond.{keysFrom, firstOf};
 ghost use Rattle.node.specs.Image.{Open, Masks, tableOf};
 ghost use Rattle.key.specs.Hand.{Ready, lettersOf};
-ghost use Rattle.order.specs.Search.{ownValue, ahead, coming, Room, Along, Kept, Followed, sought, Told};
+ghost use Rattle.order.specs.Search.{ownValue, Bearing, ahead, coming, Room, Along, Kept, Followed, sought, Told};
 use head::Head;
 use key::Key;
 
@@ -27,6 +28,9 @@ pub fn count(image: &[u8], h: Head) -> u32
     ensures { λ r. ⌜ r ≡ length (listing (tableOf h (now (image .entry))) (h .n) (h .min) (h .max)) ⌝ }
 {
     let own = if own_value(image, h, 0, 0) == 0 { 0 } else { 1 };
+    if fruitless(image, h, 0, 0) {
+        return own;
+    }
     counted(image, h, node::mask(h), 0, 0, own)
 }
 
@@ -34,16 +38,10 @@ pub fn count(image: &[u8], h: Head) -> u32
 // left to max falls.
 fn counted(image: &[u8], h: Head, mask: u32, node: u32, depth: usize, before: u32) -> u32
     requires { ⌜ Open h (now image) ⌝ ∗ ⌜ Within (tableOf h (now image)) (h .g) ⌝ ∗ ⌜ Masks h mask ⌝ }
-    requires { ⌜ node ≤ h .g ⌝ ∗ ⌜ depth ≤ h .max ⌝ }
+    requires { ⌜ node ≤ h .g ⌝ ∗ ⌜ depth < h .max ⌝ }
     requires { ⌜ before + length (keysFrom (tableOf h (now image)) (h .n) (h .min - depth) (h .max - depth) node 0) < 2 ^ 32 ⌝ }
     ensures { λ r. ⌜ r ≡ before + length (keysFrom (tableOf h (now (image .entry))) (h .n) (h .min - depth) (h .max - depth) node 0) ⌝ }
 {
-    if (h.max as usize) <= depth {
-        return before;
-    }
-    if node::childless(image, h, node) {
-        return before;
-    }
     let mut sum = before;
     for i in 0..h.n {
         let c = node::link(image, h, mask, node, i);
@@ -52,6 +50,9 @@ fn counted(image: &[u8], h: Head, mask: u32, node: u32, depth: usize, before: u3
         }
         if own_value(image, h, c, depth + 1) != 0 {
             sum += 1;
+        }
+        if fruitless(image, h, c, depth + 1) {
+            continue;
         }
         sum = counted(image, h, mask, c, depth + 1, sum);
     }
@@ -110,6 +111,16 @@ pub fn onward(image: &[u8], h: Head, len: usize, path: &mut [u8], nodes: &mut [u
     climb(image, h, node::mask(h), len, 0, path, nodes)
 }
 
+// The root's own value, where the empty key is stored, else 0: the front of a listing. `onward` goes on from there with no letters.
+pub fn start(image: &[u8], h: Head, nodes: &mut [u32]) -> u64
+    requires { ⌜ Open h (now image) ⌝ ∗ ⌜ 0 < length (now nodes) ⌝ }
+    ensures { λ r. ⌜ r ≡ ownValue h (tableOf h (now (image .entry))) 0 0 ⌝ }
+    ensures { λ r. ⌜ ((path : List ℕ) → Along h (now (image .entry)) 0 path (now (nodes .exit))) ⌝ }
+{
+    nodes[0] = 0;
+    own_value(image, h, 0, 0)
+}
+
 // Follows a key as far as its links go, and answers how far that is.
 fn along(image: &[u8], h: Head, mask: u32, key: Key, path: &mut [u8], nodes: &mut [u32]) -> usize
     requires { ⌜ Open h (now image) ⌝ ∗ ⌜ Within (tableOf h (now image)) (h .g) ⌝ ∗ ⌜ Masks h mask ⌝ }
@@ -136,6 +147,7 @@ fn along(image: &[u8], h: Head, mask: u32, key: Key, path: &mut [u8], nodes: &mu
 }
 
 // The first stored key below the path's end from a letter on or, where there is none, behind the letter taken at each node on the way up.
+// Only a node from whose first letter on is sought can be fruitless: by every other a key led on.
 fn climb(
     image: &[u8],
     h: Head,
@@ -146,15 +158,23 @@ fn climb(
     nodes: &mut [u32],
 ) -> Search
     requires { ⌜ Open h (now image) ⌝ ∗ ⌜ Within (tableOf h (now image)) (h .g) ⌝ ∗ ⌜ Masks h mask ⌝ }
-    requires { ⌜ end ≤ h .max ⌝ ∗ ⌜ Room h (now path) (now nodes) ⌝ ∗ ⌜ Along h (now image) end (now path) (now nodes) ⌝ }
+    requires { ⌜ end ≤ h .max ⌝ ∗ ⌜ (0 < first → end < h .max) ⌝ }
+    requires { ⌜ Room h (now path) (now nodes) ⌝ ∗ ⌜ Along h (now image) end (now path) (now nodes) ⌝ }
     ensures { λ r. ⌜ Told h (now (image .entry)) (firstOf (coming h (now (image .entry)) (now (path .entry)) end first)) r (now (path .exit)) (now (nodes .exit)) ⌝ }
 {
     let mut depth = end;
     let mut from = first;
     loop {
-        let found = below(image, h, mask, nodes[depth], depth, from, path, nodes);
-        if let Search::Found { .. } = found {
-            return found;
+        let barren = if from == 0 {
+            fruitless(image, h, nodes[depth], depth)
+        } else {
+            false
+        };
+        if !barren {
+            let found = below(image, h, mask, nodes[depth], depth, from, path, nodes);
+            if let Search::Found { .. } = found {
+                return found;
+            }
         }
         if depth == 0 {
             return Search::Missing;
@@ -177,17 +197,11 @@ fn below(
     nodes: &mut [u32],
 ) -> Search
     requires { ⌜ Open h (now image) ⌝ ∗ ⌜ Within (tableOf h (now image)) (h .g) ⌝ ∗ ⌜ Masks h mask ⌝ }
-    requires { ⌜ depth ≤ h .max ⌝ ∗ ⌜ Room h (now path) (now nodes) ⌝ }
+    requires { ⌜ depth < h .max ⌝ ∗ ⌜ Room h (now path) (now nodes) ⌝ }
     requires { ⌜ Along h (now image) depth (now path) (now nodes) ⌝ ∗ ⌜ node ≡ getD (now nodes) depth 0 ⌝ }
     ensures { λ r. ⌜ Told h (now (image .entry)) (firstOf (ahead h (now (image .entry)) (now (path .entry)) depth node from)) r (now (path .exit)) (now (nodes .exit)) ⌝ }
     ensures { λ r. ⌜ Kept depth (now (path .entry)) (now (nodes .entry)) (now (path .exit)) (now (nodes .exit)) ⌝ }
 {
-    if (h.max as usize) <= depth {
-        return Search::Missing;
-    }
-    if node::childless(image, h, node) {
-        return Search::Missing;
-    }
     for i in from..h.n {
         let c = node::link(image, h, mask, node, i);
         if c == 0 {
@@ -201,6 +215,9 @@ fn below(
                 length: depth + 1,
                 value,
             };
+        }
+        if fruitless(image, h, c, depth + 1) {
+            continue;
         }
         let deeper = below(image, h, mask, c, depth + 1, 0, path, nodes);
         if let Search::Found { .. } = deeper {
@@ -219,4 +236,16 @@ fn own_value(image: &[u8], h: Head, node: u32, depth: usize) -> u64
         return 0;
     }
     node::data(image, h, node)
+}
+
+// Whether no key lies below a node at a depth: no letter may follow, or all its links are empty. Asked of each child before a search goes
+// there, it spares a call where a key ends, as most do at a node without links.
+fn fruitless(image: &[u8], h: Head, node: u32, depth: usize) -> bool
+    requires { ⌜ Open h (now image) ⌝ ∗ ⌜ node ≤ h .g ⌝ }
+    ensures { λ r. ⌜ Bearing h (tableOf h (now (image .entry))) node depth r ⌝ }
+{
+    if (h.max as usize) <= depth {
+        return true;
+    }
+    node::childless(image, h, node)
 }

@@ -1,1 +1,5 @@
+mod Checking
 mod Making
+mod Reading
+mod Seeking
+mod Told

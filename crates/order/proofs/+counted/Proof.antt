@@ -1,6 +1,6 @@
 -- The proof of the cycle of calls {counted}: what was counted and what is still to come make up the whole, letter by letter, and the depth
 -- left to max falls at each call of itself. Assumes nothing.
-use Prim.Native.Nat.{ℕ, _+_, _-_, _<_}
+use Prim.Native.Nat.{ℕ, _+_, _-_, _<_, _≤_}
 use mathlib.Core.Logic.{⊎-elim}
 use mathlib.Core.Path.{_≡_}
 use native.Mathlib.Omega.{arith}
@@ -9,12 +9,12 @@ use borrow.Fn.Kinds.{In}
 use borrow.Fn.PlainCycle.{Measures, is, falls, and}
 use Rattle.head.proofs.Permitted.{bounds}
 use Rattle.node.specs.Image.{tableOf}
-use Rattle.order.proofs.Counting.{left, owned, owned-none, owned-one, left-full, left-childless, left-none, left-empty, left-link}
+use Rattle.order.proofs.Counting.{left, owned, owned-none, owned-one, left-fruitless, left-none, left-empty, left-link}
 use Rattle.order.proofs.counted.Reads as counted
 use Rattle.order.proofs.counted.Kinds as counted-kinds
 use Rattle.order.proofs.+counted.Lts-counted as lts
-use Rattle.node.proofs.childless.Reads as childless-reads
 use Rattle.node.proofs.link.Reads as link-reads
+use Rattle.order.proofs.fruitless.Reads as fruitless-reads
 use Rattle.order.proofs.own_value.Reads as own-value-reads
 use Rattle.order.proofs.+counted.{statement}
 use Rattle.order.proofs.+counted.Tie.{close}
@@ -38,32 +38,15 @@ abbrev μ-loop : lts.MeasureT-loop
 -- what the callees ask and ensure
 abbrev claims : ℕ → lts.Claims
 claims t = (
-  childless-reads.Asked,
-  childless-reads.Learnt,
   link-reads.Asked,
   link-reads.Learnt,
   own-value-reads.Asked,
   own-value-reads.Learnt,
+  fruitless-reads.Asked,
+  fruitless-reads.Learnt,
   under t,
   counted.Post,
 )
-
-cast-if1 : (t : ℕ) → lts.Need-cast-if1 (claims t) (at t) counted.Post Inv-loop μ-loop
-cast-if1 t c = search needs
-
-returns : (t : ℕ) → lts.Need-returns (claims t) (at t) counted.Post Inv-loop μ-loop
-returns t c =
-    let a = c .before .before .before .args in
-    omega (arith, left-full (a .h) (tableOf (a .h) (a .image .now)) (a .node) (a .depth) 0 (c .if1 .taken))
-
-childless-requires : (t : ℕ) → lts.Need-childless-requires (claims t) (at t) counted.Post Inv-loop μ-loop
-childless-requires t c κs = search needs
-
-returns-2 : (t : ℕ) → lts.Need-returns-2 (claims t) (at t) counted.Post Inv-loop μ-loop
-returns-2 t c =
-    let a = c .before .before .before .before .before .args in
-    let e = c .before .childless .ensures (c .if2 .taken) in
-    omega (arith, left-childless (a .h) (tableOf (a .h) (a .image .now)) (a .node) (a .depth) 0 e)
 
 loop-holds : (t : ℕ) → lts.Need-loop-holds (claims t) (at t) counted.Post Inv-loop μ-loop
 loop-holds t c = search needs
@@ -81,14 +64,14 @@ loop-again : (t : ℕ) → lts.Need-loop-again (claims t) (at t) counted.Post In
 loop-again t c =
     let found = c .before in
     let loop = found .before .before in
-    let a = loop .before .before .before .before .before .before .args in
-    omega (arith, left-empty (a .h) (tableOf (a .h) (a .image .now)) (a .node) (a .depth) (loop .loop .i) (found .before .loop-test .taken) (found .link .ensures) (c .if3 .taken))
+    let a = loop .before .before .args in
+    omega (arith, left-empty (a .h) (tableOf (a .h) (a .image .now)) (a .node) (a .depth) (loop .loop .i) (found .before .loop-test .taken) (found .link .ensures) (c .if1 .taken))
 
 -- past an empty link: the child's keys come next
-by-link : (t : ℕ) (c : lts.Else3 (claims t) (at t) counted.Post Inv-loop μ-loop)
+by-link : (t : ℕ) (c : lts.Else1 (claims t) (at t) counted.Post Inv-loop μ-loop)
     → (let found = c .before in
     let loop = found .before .before in
-    let a = loop .before .before .before .before .before .before .args in
+    let a = loop .before .before .args in
     let table = tableOf (a .h) (a .image .now) in
     left (a .h) table (a .node) (a .depth) (loop .loop .i)
     ≡ owned (a .h) table (found .link .result) (a .depth + 1)
@@ -97,73 +80,55 @@ by-link : (t : ℕ) (c : lts.Else3 (claims t) (at t) counted.Post Inv-loop μ-lo
 by-link t c =
     let found = c .before in
     let loop = found .before .before in
-    let a = loop .before .before .before .before .before .before .args in
-    left-link (a .h) (tableOf (a .h) (a .image .now)) (a .node) (a .depth) (loop .loop .i) (loop .before .before .before .if1 .left) (found .before .loop-test .taken)
-    (found .link .ensures) (c .if3 .left)
+    let start = loop .before .before in
+    let a = start .args in
+    left-link (a .h) (tableOf (a .h) (a .image .now)) (a .node) (a .depth) (loop .loop .i) (start .pre .1 .1 .1 .1 .1 .0) (found .before .loop-test .taken)
+    (found .link .ensures) (c .if1 .left)
+
+-- the child stands in the table
+inside : (t : ℕ) (c : lts.After-link (claims t) (at t) counted.Post Inv-loop μ-loop) → c .link .result ≤ c .before .before .before .before .args .h .g
+inside t c =
+    let loop = c .before .before in
+    let start = loop .before .before in
+    omega (arith, c .link .ensures, start .pre .1 .1 .0 (start .args .node) (loop .loop .i))
 
 add-own-value : (t : ℕ) → lts.Need-add-own-value (claims t) (at t) counted.Post Inv-loop μ-loop
-add-own-value t c =
-    let start = c .before .before .before .before .before .before .before .before .before in
-    omega (arith, bounds (start .args .h) (start .pre .1 .0 .head-permitted))
+add-own-value t c = let start = c .before .before .before .before .before in omega (arith, bounds (start .args .h) (start .pre .1 .0 .head-permitted))
 
 own-value-requires : (t : ℕ) → lts.Need-own-value-requires (claims t) (at t) counted.Post Inv-loop μ-loop
-own-value-requires t c κs =
-    let found = c .before in
-    let loop = found .before .before in
-    let start = loop .before .before .before .before .before .before in
-    (start .pre .1 .0, omega (arith, found .link .ensures, start .pre .1 .1 .0 (start .args .node) (loop .loop .i)))
+own-value-requires t c κs = (c .before .before .before .before .before .pre .1 .0, inside t (c .before))
 
 add-sum : (t : ℕ) → lts.Need-add-sum (claims t) (at t) counted.Post Inv-loop μ-loop
 add-sum t c =
     let own = c .before in
     let found = own .before .before in
     let loop = found .before .before in
-    let start = loop .before .before .before .before .before .before in
+    let start = loop .before .before in
     let a = start .args in
-    omega (arith, start .pre .1, loop .loop .inv, by-link t (own .before), owned-one (a .h) (tableOf (a .h) (a .image .now)) (found .link .result) (a .depth + 1) (own .own-value .ensures) (c .if4 .taken))
+    omega (arith, start .pre .1, loop .loop .inv, by-link t (own .before), owned-one (a .h) (tableOf (a .h) (a .image .now)) (found .link .result) (a .depth + 1) (own .own-value .ensures) (c .if2 .taken))
 
 -- the child's own key is counted
-own-counted : (t : ℕ) (c : lts.Joined4 (claims t) (at t) counted.Post Inv-loop μ-loop)
+own-counted : (t : ℕ) (c : lts.Joined2 (claims t) (at t) counted.Post Inv-loop μ-loop)
     → (let found = c .before .before .before in
     let loop = found .before .before in
-    let a = loop .before .before .before .before .before .before .args in
-    c .if4 .sum ≡ loop .loop .sum + owned (a .h) (tableOf (a .h) (a .image .now)) (found .link .result) (a .depth + 1))
+    let a = loop .before .before .args in
+    c .if2 .sum ≡ loop .loop .sum + owned (a .h) (tableOf (a .h) (a .image .now)) (found .link .result) (a .depth + 1))
 own-counted t c =
     let own = c .before in
     let found = own .before .before in
-    let loop = found .before .before in
-    let a = loop .before .before .before .before .before .before .args in
+    let a = found .before .before .before .before .args in
     let table = tableOf (a .h) (a .image .now) in
     ⊎-elim (λ w. omega (arith, w .1, owned-one (a .h) table (found .link .result) (a .depth + 1) (own .own-value .ensures) (w .0 .taken)))
     (λ w. omega (arith, w .1, owned-none (a .h) table (found .link .result) (a .depth + 1) (own .own-value .ensures) (w .0 .left)))
-    (c .if4 .came)
+    (c .if2 .came)
 
-add-counted : (t : ℕ) → lts.Need-add-counted (claims t) (at t) counted.Post Inv-loop μ-loop
-add-counted t c =
-    let start = c .before .before .before .before .before .before .before .before .before .before .before in
+add-fruitless : (t : ℕ) → lts.Need-add-fruitless (claims t) (at t) counted.Post Inv-loop μ-loop
+add-fruitless t c =
+    let start = c .before .before .before .before .before .before .before in
     omega (arith, bounds (start .args .h) (start .pre .1 .0 .head-permitted))
 
-counted-requires : (t : ℕ) → lts.Need-counted-requires (claims t) (at t) counted.Post Inv-loop μ-loop
-counted-requires t c κs =
-    let found = c .before .before .before in
-    let loop = found .before .before in
-    let start = loop .before .before .before .before .before .before in
-    let p = start .pre .1 in (
-      omega (arith, start .pre .0),
-      (
-        p .0,
-        (
-          p .1 .0,
-          (
-            p .1 .1 .0,
-            (
-              omega (arith, found .link .ensures, p .1 .0 (start .args .node) (loop .loop .i)),
-              (omega arith, omega (arith, p, loop .loop .inv, by-link t (c .before .before), own-counted t c)),
-            ),
-          ),
-        ),
-      ),
-    )
+fruitless-requires : (t : ℕ) → lts.Need-fruitless-requires (claims t) (at t) counted.Post Inv-loop μ-loop
+fruitless-requires t c κs = let found = c .before .before .before in (found .before .before .before .before .pre .1 .0, inside t found)
 
 add-i-2 : (t : ℕ) → lts.Need-add-i-2 (claims t) (at t) counted.Post Inv-loop μ-loop
 add-i-2 t c = omega arith
@@ -171,13 +136,51 @@ add-i-2 t c = omega arith
 loop-less-2 : (t : ℕ) → lts.Need-loop-less-2 (claims t) (at t) counted.Post Inv-loop μ-loop
 loop-less-2 t c = omega arith
 
+-- nothing lies below the child
 loop-again-2 : (t : ℕ) → lts.Need-loop-again-2 (claims t) (at t) counted.Post Inv-loop μ-loop
-loop-again-2 t c = omega (arith, c .counted .ensures, own-counted t (c .before), by-link t (c .before .before .before), c .before .before .before .before .before .before .loop .inv)
+loop-again-2 t c =
+    let joined = c .before .before in
+    let found = joined .before .before .before in
+    let loop = found .before .before in
+    let a = loop .before .before .args in
+    omega (arith, left-fruitless (a .h) (tableOf (a .h) (a .image .now)) (found .link .result) (a .depth + 1) 0 (c .before .fruitless .ensures) (c .if3 .taken), own-counted t joined, by-link t (joined .before .before), loop .loop .inv)
 
-returns-3 : (t : ℕ) → lts.Need-returns-3 (claims t) (at t) counted.Post Inv-loop μ-loop
-returns-3 t c =
+add-counted : (t : ℕ) → lts.Need-add-counted (claims t) (at t) counted.Post Inv-loop μ-loop
+add-counted t c =
+    let start = c .before .before .before .before .before .before .before .before .before in
+    omega (arith, bounds (start .args .h) (start .pre .1 .0 .head-permitted))
+
+counted-requires : (t : ℕ) → lts.Need-counted-requires (claims t) (at t) counted.Post Inv-loop μ-loop
+counted-requires t c κs =
+    let joined = c .before .before in
+    let found = joined .before .before .before in
+    let loop = found .before .before in
+    let start = loop .before .before in
+    let p = start .pre .1 in
+    let deep = c .before .fruitless .ensures .deep (c .if3 .left) in (
+      omega (arith, start .pre .0),
+      (
+        p .0,
+        (p .1 .0, (p .1 .1 .0, (inside t found, (deep, omega (arith, p, loop .loop .inv, by-link t (joined .before .before), own-counted t joined))))),
+      ),
+    )
+
+add-i-3 : (t : ℕ) → lts.Need-add-i-3 (claims t) (at t) counted.Post Inv-loop μ-loop
+add-i-3 t c = omega arith
+
+loop-less-3 : (t : ℕ) → lts.Need-loop-less-3 (claims t) (at t) counted.Post Inv-loop μ-loop
+loop-less-3 t c = omega arith
+
+loop-again-3 : (t : ℕ) → lts.Need-loop-again-3 (claims t) (at t) counted.Post Inv-loop μ-loop
+loop-again-3 t c =
+    let joined = c .before .before .before in
+    let found = joined .before .before .before in
+    omega (arith, c .counted .ensures, own-counted t joined, by-link t (joined .before .before), found .before .before .loop .inv)
+
+returns : (t : ℕ) → lts.Need-returns (claims t) (at t) counted.Post Inv-loop μ-loop
+returns t c =
     let loop = c .before in
-    let a = loop .before .before .before .before .before .before .args in
+    let a = loop .before .before .args in
     omega (arith, left-none (a .h) (tableOf (a .h) (a .image .now)) (a .node) (a .depth) (loop .loop .i) (c .loop-test .left))
 
 pub +counted-spec : {M : Type 1} → statement M
@@ -186,10 +189,6 @@ pub +counted-spec : {M : Type 1} → statement M
     counted.Post
     Inv-loop
     μ-loop
-    (cast-if1 t)
-    (returns t)
-    (childless-requires t)
-    (returns-2 t)
     (loop-holds t)
     (link-requires t)
     (add-i t)
@@ -198,9 +197,14 @@ pub +counted-spec : {M : Type 1} → statement M
     (add-own-value t)
     (own-value-requires t)
     (add-sum t)
-    (add-counted t)
-    (counted-requires t)
+    (add-fruitless t)
+    (fruitless-requires t)
     (add-i-2 t)
     (loop-less-2 t)
     (loop-again-2 t)
-    (returns-3 t)
+    (add-counted t)
+    (counted-requires t)
+    (add-i-3 t)
+    (loop-less-3 t)
+    (loop-again-3 t)
+    (returns t)

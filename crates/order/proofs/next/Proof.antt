@@ -69,7 +69,8 @@ climb-requires : tie.Need-climb-requires
 climb-requires c κs =
     let on = c .before .before .before .before .before .before .before .before .before in
     let p = on .before .before .before .before .before .before .before .pre in
-    (p .0, (p .1 .0, (on .before .before .before .mask .ensures, (deep on, (room on, on .along .ensures .along)))))
+    let stops = c .before .before .before .if1 .taken in
+    (p .0, (p .1 .0, (on .before .before .before .mask .ensures, (deep on, ((λ b. omega (arith, stops, p .1 .1 .1 .0)), (room on, on .along .ensures .along))))))
 
 same-length : tie.Need-same-length
 same-length c = search needs
@@ -145,7 +146,7 @@ climb-requires-2 : tie.Need-climb-requires-2
 climb-requires-2 c κs =
     let on = c .before .before .before .before .before .before .before .before .before in
     let p = on .before .before .before .before .before .before .before .pre in
-    (p .0, (p .1 .0, (on .before .before .before .mask .ensures, (deep on, (room on, on .along .ensures .along)))))
+    (p .0, (p .1 .0, (on .before .before .before .mask .ensures, (deep on, ((λ b. omega arith), (room on, on .along .ensures .along))))))
 
 same-length-5 : tie.Need-same-length-5
 same-length-5 c = search needs

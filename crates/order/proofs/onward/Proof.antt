@@ -1,4 +1,5 @@
 -- `order::onward` meets its contract: what meets "after" the path's key is what is still to come from the path's end. Assumes nothing.
+use native.Mathlib.Omega.{arith}
 use borrow.Author.Needs.{needs}
 use Rattle.order.proofs.Paths.{room-kept}
 use Rattle.order.proofs.Searching.{told-same}
@@ -10,7 +11,10 @@ mask-requires : tie.Need-mask-requires
 mask-requires c κs = search needs
 
 climb-requires : tie.Need-climb-requires
-climb-requires c κs = search needs
+climb-requires c κs =
+    let masked = c .before .before in
+    let p = masked .before .before .before .before .pre in
+    (p .0, (p .1 .0, (masked .mask .ensures, (p .1 .1 .0, ((λ b. omega arith), p .1 .1 .1)))))
 
 same-length : tie.Need-same-length
 same-length c = search needs

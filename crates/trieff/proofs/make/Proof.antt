@@ -1,12 +1,12 @@
 -- `trieff::make` meets its contract: 1 and the part of 2 that a 32-bit F cannot say are judged here, the rest of 1 to 4 by the opening.
 -- Assumes nothing.
-use mathlib.Core.Path.{_≡_, refl, sym, _∙_, ap}
+use mathlib.Core.Path.{_≡_, refl, sym, _∙_}
 use mathlib.Core.Option.{none}
 use borrow.Author.Needs.{needs}
 use borrow.Author.Tests.{not-true, not-false}
-use Rattle.paper.specs.Answers.{rowOf}
 use Rattle.paper.proofs.Opening.{heard-1, passed}
 use Rattle.trieff.proofs.Making.{heardOf, makes-refused, makes-done, too-many}
+use Rattle.trieff.proofs.Told.{told-refused, told-passed}
 use Rattle.trieff.proofs.make.Statement.{statement}
 use Rattle.trieff.proofs.make.Tie as tie
 
@@ -24,7 +24,8 @@ returns-2 c =
     let one = c .before in
     let s = one .before .before .before .before .args in
     makes-refused _ _ _ _ _ _ _ _
-    (too-many (s .image .now) (s .n) (s .a) (s .d) (s .alphabet .now) (s .min) (s .max) (sym (one .before .length-allowed .ensures) ∙ not-false _ (one .if1 .left)) (c .if2 .taken))
+    (too-many (s .image .now) (s .n) (s .a) (s .d) (s .alphabet .now) (s .min) (s .max)
+    (sym (one .before .length-allowed .ensures) ∙ not-false _ (one .if1 .left)) (c .if2 .taken))
 
 cast-t20 : tie.Need-cast-t20
 cast-t20 c = search needs
@@ -42,8 +43,7 @@ enum-told c = search needs
 unheard : (c : tie.After-enum-told)
     → let s = c .before .before .before .before .before .before .before .before .before .args in
     heardOf (s .image .now) (s .n) (s .a) (s .d) (s .alphabet .now) (s .min) (s .max) ≡ none
-unfolding rowOf
-unheard c = sym (c .before .before .judge .ensures .verdict) ∙ ap rowOf (c .enum-told .given .1)
+unheard c = told-passed (c .before .before .judge .ensures .verdict) (c .enum-told .given .1)
 
 fresh-requires : tie.Need-fresh-requires
 fresh-requires c κs =
@@ -51,10 +51,9 @@ fresh-requires c κs =
     (p .head-permitted, (refl, (refl, p .room)))
 
 returns-3 : tie.Need-returns-3
-unfolding rowOf
 returns-3 c =
     let judge = c .before .before .before in
-    makes-refused _ _ _ _ _ _ _ _ (sym (judge .judge .ensures .verdict) ∙ ap rowOf (c .before .verdict .given .1))
+    makes-refused _ _ _ _ _ _ _ _ (told-refused (judge .judge .ensures .verdict) (c .before .verdict .given .1))
 
 same-length : tie.Need-same-length
 same-length c = search needs

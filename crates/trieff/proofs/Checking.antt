@@ -1,0 +1,89 @@
+-- The outcome of check and of number of keys, at each way out: the audit's verdict is what is heard of 1 to 8, and in an image that passed
+-- them the keys are few enough to be counted.
+use Prim.Native.Nat.{ℕ, _+_, _^_, _<_}
+use mathlib.Core.Path.{_≡_, sym, _∙_, ap}
+use mathlib.Core.List.{List, [], _∷_}
+use native.Mathlib.Nat.{mul-le-mul-left}
+use native.Mathlib.Omega.{arith}
+use lib.ListN.{length}
+use lib.IntN.{pos}
+use Rattle.trie.specs.Rules.{Within}
+use Rattle.trie.specs.Keys.{listing}
+use Rattle.trie.proofs.Few.{listing-few}
+use Rattle.head.specs.declared.Head.{Head}
+use Rattle.head.specs.Fields.{headOf}
+use Rattle.head.proofs.Permitted.{bounds}
+use Rattle.head.proofs.Places.{used, width-least}
+use Rattle.node.specs.Image.{Open, tableOf}
+use Rattle.paper.specs.declared.Refusal.{Refusal}
+use Rattle.paper.specs.declared.Verdict.{Verdict}
+use Rattle.paper.specs.declared.Done.{Done}
+use Rattle.paper.specs.declared.Counted.{Counted}
+use Rattle.paper.specs.Hearing.{Numbers, outcome, doneNumbers}
+use Rattle.paper.specs.Answers.{rowOf, refusalNumbers, doneOf, countedOf}
+use Rattle.paper.specs.Calls.{tableIn, storedKeys, workAfter, checkOf, countOf}
+use Rattle.paper.specs.Promises.{Checks, Counts}
+use Rattle.paper.specs.Accepted.{Accepted}
+use Rattle.paper.proofs.Hearing.{heard-refused, heard-done}
+use Rattle.paper.proofs.Checking.{check-accepts, accepted-open, accepted-linked}
+use Rattle.opening.specs.declared.Opened.{Opened}
+use Rattle.audit.specs.Audit.{Checked}
+use Rattle.trieff.proofs.Told.{told-refused, told-passed}
+
+module _ {l work : List ℕ} {r : Opened} {work′ codes : List ℕ} (o : Checked l work r work′ codes) where
+  -- whatever the numbers of the answer, the working numbers are left as 01 says
+  left : (n : Numbers) → outcome n (work′ ∷ []) ≡ outcome n (workAfter l work ∷ [])
+  left n = ap (λ (w : List ℕ). outcome n (w ∷ [])) (o .numbers)
+
+  pub checks-refused : {why : Refusal} → r .verdict ≡ Verdict.Refused why → Checks l work (Done.Refused why) work′
+  unfolding checkOf doneOf refusalNumbers
+  checks-refused e = left _ ∙ sym (heard-refused _ _ _ (told-refused (o .verdict) e))
+
+  pub checks-done : r .verdict ≡ Verdict.Passed → Checks l work Done.Done work′
+  unfolding checkOf doneOf
+  checks-done e = left _ ∙ sym (heard-done _ _ _ (told-passed (o .verdict) e))
+
+  pub counts-refused : {why : Refusal} → r .verdict ≡ Verdict.Refused why → Counts l work (Counted.Refused why) work′
+  unfolding countOf countedOf refusalNumbers
+  counts-refused e = left _ ∙ sym (heard-refused _ _ _ (told-refused (o .verdict) e))
+
+  module _ (e : r .verdict ≡ Verdict.Passed) where
+    pub checked-head : r .head ≡ headOf l
+    unfolding rowOf
+    checked-head = o .head (ap rowOf e)
+
+    pub checked-accepted : Accepted l
+    checked-accepted = check-accepts l work (told-passed (o .verdict) e)
+
+    pub checked-open : Open (r .head) l
+    checked-open = rw checked-head (accepted-open checked-accepted)
+
+    pub checked-within : Within (tableOf (r .head) l) (r .head .g)
+    unfolding tableIn
+    checked-within = rw checked-head (checked-accepted .within)
+
+    abbrev keys : List (List ℕ)
+    keys = listing (tableOf (r .head) l) (r .head .n) (r .head .min) (r .head .max)
+
+    -- each stored key has a node of its own, and the nodes stand in the image
+    pub keys-few : length keys < 2 ^ 32
+    unfolding tableIn
+    keys-few =
+        let a = checked-accepted in
+        let h : Head = headOf l in
+        rw checked-head
+        (omega (
+          arith,
+          a .room,
+          a .short-enough,
+          listing-few (accepted-linked a) (h .min) (h .max),
+          used h,
+          mul-le-mul-left (h .g + 1) (width-least (bounds h (a .head-permitted))),
+        ))
+
+    pub counts-done : {n : ℕ} → n ≡ length keys → Counts l work (Counted.Keys n) work′
+    unfolding countOf countedOf storedKeys tableIn
+    counts-done c =
+        let same : length keys ≡ length (storedKeys l) = rw checked-head in
+        left _ ∙ ap (λ (m : ℕ). outcome (doneNumbers 0 (pos 0) m) (workAfter l work ∷ [])) (c ∙ same)
+        ∙ sym (heard-done _ _ _ (told-passed (o .verdict) e))

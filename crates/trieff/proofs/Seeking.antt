@@ -1,0 +1,211 @@
+-- The outcome of next key, at each way out. Behind the check its order goes on with 9, 10, 14 and 15. The search tells the first stored key
+-- that meets the request, whose letters are then at the front of the path.
+use Prim.Native.Nat.{ℕ, _+_, _≤_, _<_}
+use mathlib.Core.Path.{_≡_, refl, sym, _∙_, ap}
+use mathlib.Core.Bool.{Bool, true}
+use mathlib.Core.Option.{Option, none, some}
+use mathlib.Core.List.{List, [], _∷_, _++_}
+use native.Mathlib.Omega.{arith}
+use borrow.Author.Tests.{lt-ltb, le-ltb}
+use lib.ListN.{length, take}
+use lib.Seq.{sets, length-take-le}
+use Rattle.trie.specs.Table.{Table, answer}
+use Rattle.trie.specs.Rules.{Within}
+use Rattle.trie.specs.Keys.{listing, meets, firstMeeting}
+use Rattle.head.specs.declared.Head.{Head}
+use Rattle.head.specs.Fields.{headOf, permitted}
+use Rattle.alphabet.specs.Letters.{lettersIn}
+use Rattle.node.specs.Image.{Open, tableOf}
+use Rattle.paper.specs.declared.Refusal.{Refusal}
+use Rattle.paper.specs.declared.Verdict.{Verdict}
+use Rattle.paper.specs.declared.Found.{Found}
+use Rattle.paper.specs.Hearing.{Row, Outcome, first, heard}
+use Rattle.paper.specs.Answers.{saidOf, rowOf, refusalNumbers, foundOf}
+use Rattle.paper.specs.Rows.{row14, row15, isNone}
+use Rattle.paper.specs.Orders.{checking, byNext, nexting}
+use Rattle.paper.specs.Calls.{tableIn, storedKeys, nextIn, foundIn, workAfter, nextKeyOf}
+use Rattle.paper.specs.Promises.{Nexts}
+use Rattle.paper.specs.Accepted.{Accepted}
+use Rattle.paper.proofs.Hearing.{first-part, second-part, yes-row, no-row, first-nil, heard-refused, heard-done}
+use Rattle.paper.proofs.Checking.{accepted-open}
+use Rattle.key.specs.declared.Key.{Key}
+use Rattle.key.specs.Hand.{inHand, Holds, lettersOf, Ready}
+use Rattle.key.proofs.Hand.{hand-holds}
+use Rattle.key.proofs.Judging.{next-ready}
+use Rattle.opening.specs.declared.Opened.{Opened}
+use Rattle.audit.specs.Audit.{Checked}
+use Rattle.order.specs.declared.Search.{Search}
+use Rattle.order.specs.Search.{toldOf, Room, Told}
+use Rattle.trieff.specs.Seeking.{Sought}
+use Rattle.trieff.proofs.Told.{told-refused, told-passed}
+
+-- ---- over the rows
+
+module _ (l work key : List ℕ) (after : Bool) (buffer : List ℕ) where
+  abbrev rest : List Row
+  rest = row14 (headOf l) (length buffer) ∷ row15 (nextIn l key after) ∷ []
+
+  abbrev order : List Row
+  order = checking l work ++ (byNext (headOf l) key ++ rest)
+
+  abbrev sought : Outcome
+  sought = foundIn l work buffer (lettersIn (nextIn l key after))
+
+  asked : nextKeyOf l work key after buffer ≡ heard (first order) (workAfter l work ∷ buffer ∷ []) sought
+  unfolding nextKeyOf nexting
+  asked = refl
+
+  abbrev Leaves : Found → List ℕ → Type 0
+  Leaves r buffer′ = Nexts l work key after buffer r (workAfter l work) buffer′
+
+  refuses : (why : Refusal) → first order ≡ some (saidOf why) → Leaves (Found.Refused why) buffer
+  unfolding foundOf refusalNumbers
+  refuses why e = sym (asked ∙ heard-refused _ _ _ e)
+
+  -- behind the check, behind 9 and 10, and behind 14
+  module _ (checked : first (checking l work) ≡ none) where
+    unkeyed : {v : Verdict} {why : Refusal} → rowOf v ≡ first (byNext (headOf l) key) → v ≡ Verdict.Refused why
+        → Leaves (Found.Refused why) buffer
+    unkeyed {why = why} told e =
+        refuses why (second-part (checking l work) _ checked ∙ first-part (byNext (headOf l) key) _ (told-refused told e))
+
+    module _ (keyed : first (byNext (headOf l) key) ≡ none) where
+      left : first order ≡ first rest
+      left = second-part (checking l work) _ checked ∙ second-part (byNext (headOf l) key) _ keyed
+
+      short : length buffer < headOf l .max → Leaves (Found.Refused Refusal.ShortBuffer) buffer
+      unfolding row14
+      short b = refuses Refusal.ShortBuffer (left ∙ yes-row 14 0 _ (lt-ltb (length buffer) (headOf l .max) b))
+
+      module _ (room : headOf l .max ≤ length buffer) where
+        left-15 : first order ≡ first (row15 (nextIn l key after) ∷ [])
+        unfolding row14
+        left-15 = left ∙ no-row 14 0 _ (le-ltb (length buffer) (headOf l .max) room)
+
+        missing : nextIn l key after ≡ none → Leaves (Found.Refused Refusal.NoKey) buffer
+        unfolding row15 isNone
+        missing e = refuses Refusal.NoKey (left-15 ∙ yes-row 15 0 [] (ap isNone e))
+
+        module _ (k : List ℕ) (e : nextIn l key after ≡ some k) where
+          done : nextKeyOf l work key after buffer ≡ foundIn l work buffer k
+          unfolding row15 isNone lettersIn
+          done =
+              asked
+              ∙ heard-done _ _ _ (left-15 ∙ no-row 15 0 [] (ap isNone e) ∙ first-nil)
+              ∙ ap (λ (f : Option (List ℕ)). foundIn l work buffer (lettersIn f)) e
+
+          found : {n x : ℕ} {buffer′ : List ℕ} → n ≡ length k → x ≡ answer (tableIn l) k → buffer′ ≡ sets buffer 0 k
+              → Leaves (Found.Key n x) buffer′
+          unfolding foundOf foundIn
+          found count value laid = rw (count, value, laid) (sym done)
+
+-- ---- what the search told
+
+told-missing : (t : Table) (o : Option (List ℕ)) → Search.Missing ≡ toldOf t o → o ≡ none
+unfolding toldOf
+told-missing t none e = refl
+told-missing t (some k) e = let z : _≡_ {A = ℕ} 0 1 = cc in absurd (omega arith)
+
+told-found : (t : Table) (o : Option (List ℕ)) {n x : ℕ} → Search.Found n x ≡ toldOf t o
+    → (k : List ℕ) × (o ≡ some k) × (n ≡ length k) × (x ≡ answer t k)
+unfolding toldOf
+told-found t none e = let z : _≡_ {A = ℕ} 0 1 = cc in absurd (omega arith)
+told-found t (some k) e = (k, refl, cc, cc)
+
+module _ {h : Head} {l : List ℕ} {o : Option (List ℕ)} {r : Search} {path nodes : List ℕ} (t : Told h l o r path nodes)
+    {n x : ℕ} (f : r ≡ Search.Found n x) where
+  -- the key found, whose letters are the first n of the path
+  key-found : (k : List ℕ) × (o ≡ some k) × (n ≡ length k) × (x ≡ answer (tableOf h l) k) × (take n path ≡ k)
+  key-found =
+      let (k, is, count, value) = told-found (tableOf h l) o (sym f ∙ t .answers) in
+      (k, is, count, value, ap (λ (m : ℕ). take m path) count ∙ t .reached k is .letters)
+
+  -- is no longer than max, and so stands in the path and has room in a buffer that 14 passed
+  pub found-short : n ≤ h .max
+  found-short = let (k, is, count, _, _) = key-found in omega (arith, t .reached k is .short)
+
+  module _ (room : Room h path nodes) where
+    pub found-within : n ≤ length path
+    found-within = omega (arith, found-short, room .letters)
+
+    pub found-front : n ≡ length (take n path)
+    found-front = sym (length-take-le n path found-within)
+
+    pub found-room : {most : ℕ} → h .max ≤ most → 0 + length (take n path) ≤ most
+    found-room b = omega (arith, found-short, found-front)
+
+-- ---- behind the check, by a head that is the image's and a key in hand
+
+-- what the search asks for and rests on, where 9 and 10 have passed the key
+pub record Behind (l : List ℕ) (h : Head) (key : List ℕ) (hand : Key) : Type 0 where
+  pub same : h ≡ headOf l
+  pub image : Open h l
+  pub within : Within (tableOf h l) (h .g)
+  pub unheard : first (byNext (headOf l) key) ≡ none
+  pub ready : Ready h hand
+  pub letters : lettersOf hand ≡ key
+  pub short : hand .len ≤ h .max
+
+module _ {l : List ℕ} {h : Head} (a : Accepted l) (same : h ≡ headOf l) where
+  pub head-permitted : permitted h ≡ true
+  head-permitted = rw same (a .head-permitted)
+
+  module _ (key : List ℕ) {hand : Key} (v : Verdict) (made : hand ≡ inHand key)
+      (told : (k : List ℕ) → Holds hand k → rowOf v ≡ first (byNext h k)) where
+    holds : Holds hand key
+    holds = rw made (hand-holds key)
+
+    judged : rowOf v ≡ first (byNext (headOf l) key)
+    judged = rw same at (told key holds)
+
+    pub sought-unkeyed : (after : Bool) (buffer : List ℕ) {why : Refusal} → v ≡ Verdict.Refused why
+        → Sought l key after buffer (Found.Refused why) buffer
+    sought-unkeyed after buffer e work checked = unkeyed l work key after buffer checked judged e
+
+    pub behind : v ≡ Verdict.Passed → Behind l h key hand
+    unfolding tableIn
+    behind e =
+        let r = next-ready h head-permitted holds (told-passed (told key holds) e) in
+        record {
+          same = same;
+          image = rw same (accepted-open a);
+          within = rw same (a .within);
+          unheard = told-passed judged e;
+          ready = r .0;
+          letters = r .1;
+          short = r .2;
+        }
+
+module _ {l : List ℕ} {h : Head} {key : List ℕ} {hand : Key} (p : Behind l h key hand) (after : Bool) (buffer : List ℕ) where
+  pub sought-short : length buffer < h .max → Sought l key after buffer (Found.Refused Refusal.ShortBuffer) buffer
+  sought-short b work checked = short l work key after buffer checked (p .unheard) (rw (p .same) at b)
+
+  module _ (room : h .max ≤ length buffer) {r : Search} {path nodes : List ℕ}
+      (t : Told h l (firstMeeting (meets after (lettersOf hand)) (listing (tableOf h l) (h .n) (h .min) (h .max))) r path nodes) where
+    told-next : Told (headOf l) l (nextIn l key after) r path nodes
+    unfolding nextIn storedKeys tableIn
+    told-next = rw (p .same, p .letters) at t
+
+    pub sought-missing : r ≡ Search.Missing → Sought l key after buffer (Found.Refused Refusal.NoKey) buffer
+    sought-missing f work checked =
+        missing l work key after buffer checked (p .unheard) (rw (p .same) at room)
+        (told-missing (tableOf (headOf l) l) (nextIn l key after) (sym f ∙ told-next .answers))
+
+    pub sought-found : {n x : ℕ} {buffer′ : List ℕ} → r ≡ Search.Found n x → buffer′ ≡ sets buffer 0 (take n path)
+        → Sought l key after buffer (Found.Key n x) buffer′
+    unfolding tableIn
+    sought-found f laid work checked =
+        let (k, is, count, value, front) = key-found told-next f in
+        found l work key after buffer checked (p .unheard) (rw (p .same) at room) k is count value (rw front at laid)
+
+-- ---- the whole call, by what the check told
+
+module _ {l work : List ℕ} {r : Opened} {work′ codes : List ℕ} (o : Checked l work r work′ codes)
+    (key : List ℕ) (after : Bool) (buffer : List ℕ) where
+  pub nexts-refused : {why : Refusal} → r .verdict ≡ Verdict.Refused why → Nexts l work key after buffer (Found.Refused why) work′ buffer
+  nexts-refused {why} e =
+      rw (o .numbers) (refuses l work key after buffer why (first-part (checking l work) _ (told-refused (o .verdict) e)))
+
+  pub nexts-sought : (f : Found) {buffer′ : List ℕ} → r .verdict ≡ Verdict.Passed → Sought l key after buffer f buffer′
+      → Nexts l work key after buffer f work′ buffer′
+  nexts-sought f e s = rw (o .numbers) (s work (told-passed (o .verdict) e))

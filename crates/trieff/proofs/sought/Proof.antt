@@ -1,0 +1,127 @@
+-- `trieff::sought` meets its contract: 9 and 10 by the key in hand, 14 here, 15 or the key by the search; the buffer is written only where
+-- a key was found. Assumes nothing.
+use native.Mathlib.Omega.{arith}
+use borrow.Author.Needs.{needs}
+use Rattle.head.proofs.Permitted.{bounds}
+use Rattle.trieff.proofs.Seeking.{head-permitted, Behind, behind, found-short, found-within, found-front, found-room}
+use Rattle.trieff.proofs.Seeking.{sought-unkeyed, sought-short, sought-missing, sought-found}
+use Rattle.trieff.proofs.sought.Statement.{statement}
+use Rattle.trieff.proofs.sought.Tie as tie
+
+of-requires : tie.Need-of-requires
+of-requires c κs = search needs
+
+judge-next-requires : tie.Need-judge-next-requires
+judge-next-requires c κs = let p = c .before .before .before .before .pre in head-permitted (p .0) (p .1)
+
+enum-known-judged : tie.Need-enum-known-judged
+enum-known-judged c = search needs
+
+enum-told : tie.Need-enum-told
+enum-told c = search needs
+
+-- where 9 and 10 have passed
+known : (c : tie.After-enum-told)
+    → let of = c .before .before .before in
+    let args = of .before .before .before .before .args in
+    Behind (args .image .now) (args .h) (args .letters .now) (of .of .result)
+known c =
+    let judge = c .before .before in
+    let p = judge .before .before .before .before .before .pre in
+    behind (p .0) (p .1) _ _ (judge .before .of .ensures) (judge .judge-next .ensures) (c .enum-told .given .1)
+
+cast-if1 : tie.Need-cast-if1
+cast-if1 c = search needs
+
+returns : tie.Need-returns
+returns c = sought-short (known (c .before .before)) _ _ (c .if1 .taken)
+
+slice-aggregate-next : tie.Need-slice-aggregate-next
+slice-aggregate-next c = search needs
+
+slice-aggregate-next-2 : tie.Need-slice-aggregate-next-2
+slice-aggregate-next-2 c = search needs
+
+next-requires : tie.Need-next-requires
+next-requires c κs =
+    let k = known (c .before .before .before .before) in
+    let b = bounds _ (k .image .head-permitted) in
+    (k .image, (k .within, (k .ready, (k .short, record { letters = b .max-most; ends = omega arith }))))
+
+enum-told-2 : tie.Need-enum-told-2
+enum-told-2 c = search needs
+
+enum-known-found : tie.Need-enum-known-found
+enum-known-found c = search needs
+
+array-share-prefix-path : tie.Need-array-share-prefix-path
+array-share-prefix-path c =
+    let found = c .before .before in
+    let told = found .before .before .before .before .next .ensures in
+    found-within (told .0) (found .found .given .1) (told .1)
+
+slice-aggregate-lay : tie.Need-slice-aggregate-lay
+slice-aggregate-lay c =
+    let found = c .before .before .before in
+    let told = found .before .before .before .before .next .ensures in
+    found-front (told .0) (found .found .given .1) (told .1)
+
+lay-requires : tie.Need-lay-requires
+lay-requires c κs =
+    let found = c .before .before .before in
+    let next = found .before .before .before .before in
+    found-room (next .next .ensures .0) (found .found .given .1) (next .next .ensures .1) (next .before .before .before .if1 .left)
+
+cast-t30 : tie.Need-cast-t30
+cast-t30 c =
+    let found = c .before .before .before .before .before .before in
+    let next = found .before .before .before .before in
+    let k = known (next .before .before .before .before .before) in
+    omega (arith, found-short (next .next .ensures .0) (found .found .given .1), bounds _ (k .image .head-permitted) .max-most)
+
+returns-2 : tie.Need-returns-2
+returns-2 c =
+    let judge = c .before .before .before in
+    let p = judge .before .before .before .before .before .pre in
+    sought-unkeyed (p .0) (p .1) _ _ (judge .before .of .ensures) (judge .judge-next .ensures) _ _ (c .before .judged .given .1)
+
+returns-3 : tie.Need-returns-3
+returns-3 c =
+    let next = c .before .before .before .before in
+    let room = next .before .before .before in
+    sought-missing (known (room .before .before)) _ _ (room .if1 .left) (next .next .ensures .0) (c .enum-told2 .given .1)
+
+same-length : tie.Need-same-length
+same-length c = search needs
+
+returns-4 : tie.Need-returns-4
+returns-4 c =
+    let lay = c .before .before in
+    let found = lay .before .before .before .before in
+    let next = found .before .before .before .before in
+    let room = next .before .before .before in
+    sought-found (known (room .before .before)) _ _ (room .if1 .left) (next .next .ensures .0) (found .found .given .1) (lay .lay .ensures)
+
+pub sought-spec : {M : Type 1} → statement M
+sought-spec =
+    tie.close
+    (tie.spec
+    of-requires
+    judge-next-requires
+    enum-known-judged
+    enum-told
+    cast-if1
+    returns
+    slice-aggregate-next
+    slice-aggregate-next-2
+    next-requires
+    enum-told-2
+    enum-known-found
+    array-share-prefix-path
+    slice-aggregate-lay
+    lay-requires
+    cast-t30
+    returns-2
+    returns-3
+    same-length
+    returns-4)
