@@ -31,6 +31,7 @@ pub fn entry(out: &mut [u8], at: usize, path: &[u8], len: usize, value: u64) -> 
     requires { ⌜ len ≤ length (now path) ⌝ }
     requires { ⌜ at + (len * 4 + 32) ≤ length (now out) ⌝ }
     ensures { λ r. ⌜ Laid (now (out .entry)) at (entryLine (take len (now (path .entry))) value) r (now (out .exit)) ⌝ }
+    ensures { λ r. ⌜ r ≤ at + (len * 4 + 32) ⌝ }
 {
     let mut end = letters(out, at, path, len);
     out[end] = 32;

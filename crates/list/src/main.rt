@@ -1,10 +1,11 @@
 // The listing program: reads an image of at most 65,536 bytes from standard input and writes its stored keys in order, a line for each, or
 // the one line of a refusal. It checks the image once and then walks through it; lines are written many at a time.
 ghost use mathlib.Core.Path.{_≡_};
+ghost use Prim.Native.Nat.{_+_, _≤_};
+ghost use lib.ListN.{length};
 ghost use Rattle.head.specs.Fields.{headOf};
 ghost use Rattle.paper.specs.Accepted.{Accepted};
 use head::Head;
-use key::Key;
 use libc::STDIN_FILENO;
 use libc::STDOUT_FILENO;
 use order::Search;
@@ -36,8 +37,7 @@ fn refuse(number: u32, place: u32) {
     io::write_all(STDOUT_FILENO, &out[..end]);
 }
 
-// How many keys are stored, then each of them. What is laid into the buffer is written before a line might not fit; no line is longer than
-// 288 bytes.
+// How many keys are stored, then each of them: the root's own, where it is one, and those that follow.
 fn list(image: &[u8], h: Head)
     requires { ⌜ Accepted (now image) ⌝ }
     requires { ⌜ h ≡ headOf (now image) ⌝ }
@@ -46,19 +46,43 @@ fn list(image: &[u8], h: Head)
     let mut path = [0u8; 64];
     let mut nodes = [0u32; 65];
     let mut left = order::count(image, h);
-    let mut end = lines::entries(&mut out, 0, left);
-    let mut found = order::next(image, h, Key::of(b""), false, &mut path, &mut nodes);
+    let head = lines::entries(&mut out, 0, left);
+    let root = order::start(image, h, &mut nodes);
+    let mut end = root_line(&mut out, head, root);
+    let mut len: usize = 0;
     while 0 < left {
+        let found = order::onward(image, h, len, &mut path, &mut nodes);
         let Search::Found { length, value } = found else {
             break;
         };
-        if 65248 < end {
-            io::write_all(STDOUT_FILENO, &out[..end]);
-            end = 0;
-        }
-        end = lines::entry(&mut out, end, &path, length, value);
-        found = order::onward(image, h, length, &mut path, &mut nodes);
+        let at = room(&out, end);
+        end = lines::entry(&mut out, at, &path, length, value);
+        len = length;
         left -= 1;
     }
     io::write_all(STDOUT_FILENO, &out[..end]);
+}
+
+// The line of the root's own key, where there is one.
+fn root_line(out: &mut [u8], at: usize, value: u64) -> usize
+    requires { ⌜ at + 32 ≤ length (now out) ⌝ }
+    ensures { λ r. ⌜ r ≤ at + 32 ⌝ }
+{
+    if value == 0 {
+        return at;
+    }
+    lines::entry(out, at, b"", 0, value)
+}
+
+// Where the next line goes: behind the last one or, if it might not fit there, at the front, when the lines so far have been written. No line
+// is longer than 288 bytes.
+fn room(out: &[u8], end: usize) -> usize
+    requires { ⌜ end ≤ length (now out) ⌝ }
+    ensures { λ r. ⌜ r ≤ 65248 ⌝ }
+{
+    if end <= 65248 {
+        return end;
+    }
+    io::write_all(STDOUT_FILENO, &out[..end]);
+    0
 }

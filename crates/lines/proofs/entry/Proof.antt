@@ -6,7 +6,7 @@ use native.Mathlib.Omega.{arith}
 use lib.ListN.{length, take, length-set}
 use Rattle.lines.specs.Lines.{Laid, keyText, entryLine}
 use Rattle.lines.proofs.Laying.{laid-long, laid-one, laid-join}
-use Rattle.lines.proofs.Texts.{decimal-end, letters-long}
+use Rattle.lines.proofs.Texts.{decimal-end, letters-long, entry-long}
 use borrow.Author.Needs.{needs}
 use Rattle.lines.proofs.entry.Statement.{statement}
 use Rattle.lines.proofs.entry.Tie as tie
@@ -53,8 +53,11 @@ same-length c = simp length-set (long (c .before .before) ∙ laid-long (key (c 
 returns : tie.Need-returns
 unfolding entryLine
 returns c =
-    laid-join (key (c .before .before .before .before .before .before))
-    (laid-join (laid-one _ _ _ refl) (laid-join (c .before .before .number .ensures) (laid-one _ _ _ refl)))
+    let told = c .before .before .before .before .before .before in
+    let a = told .before .before .before .before .args in
+    let bytes = told .before .before .shared-slice-known .given in
+    let line = laid-join (key told) (laid-join (laid-one _ _ _ refl) (laid-join (c .before .before .number .ensures) (laid-one _ _ _ refl))) in
+    (line, omega (arith, line .ends, entry-long (a .path .now) (a .len) (a .value) (λ k. bytes k .fits)))
 
 pub entry-spec : {M : Type 1} → statement M
 entry-spec =
