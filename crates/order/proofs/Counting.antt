@@ -10,13 +10,13 @@ use Rattle.trie.specs.Table.{Table}
 use Rattle.trie.specs.Keys.{ownKey, listing}
 use Rattle.trie.proofs.Beyond.{under-split, from-none, from-empty, from-childless}
 use Rattle.head.specs.declared.Head.{Head}
-use Rattle.order.specs.Search.{ownValue}
-use Rattle.order.proofs.Links.{own-empty, own-full, from, from-full, from-link}
+use Rattle.order.specs.Search.{ownValue, ahead}
+use Rattle.order.proofs.Links.{own-empty, own-full, ahead-full, ahead-link}
 
 module _ (h : Head) (t : Table) where
   -- how many keys are still to come from letter i on, and how many are a node's own
   abbrev pub left : ℕ → ℕ → ℕ → ℕ
-  left q depth i = length (from h t q depth i)
+  left q depth i = length (ahead h t q depth i)
 
   abbrev pub owned : ℕ → ℕ → ℕ
   owned q depth = length (ownKey t (h .min - depth) q)
@@ -33,7 +33,7 @@ module _ (h : Head) (t : Table) where
 
   -- there is nothing where no letter is allowed, where all links are empty and past the last letter
   pub left-full : (q depth i : ℕ) → h .max ≤ depth → left q depth i ≡ 0
-  left-full q depth i b = ap length (from-full h t q depth i b)
+  left-full q depth i b = ap length (ahead-full h t q depth i b)
 
   pub left-childless : (q depth i : ℕ) → ((x : ℕ) → t .child q x ≡ 0) → left q depth i ≡ 0
   left-childless q depth i e = ap length (from-childless t (h .n) (h .min - depth) (h .max - depth) q i e)
@@ -49,4 +49,4 @@ module _ (h : Head) (t : Table) where
   pub left-link : (q depth i : ℕ) {c : ℕ} → depth < h .max → i < h .n → c ≡ t .child q i → c ≢ 0
       → left q depth i ≡ owned c (depth + 1) + left c (depth + 1) 0 + left q depth (i + 1)
   left-link q depth i deep b e full =
-      rw (add-one depth, add-one i) (ap length (from-link h t q depth i deep b (sym e) full) ∙ simp (length-append, length-map))
+      rw (add-one depth, add-one i) (ap length (ahead-link h t q depth i deep b (sym e) full) ∙ simp (length-append, length-map))

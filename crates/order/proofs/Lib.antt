@@ -1,7 +1,9 @@
 pub mod Links
 pub mod Counting
+pub mod Passing
 pub mod Paths
-pub mod Searching
+pub mod Telling
 pub mod Following
-pub mod Climbing
+pub mod Turns
+pub mod Seeking
 pub mod Requests

@@ -17,7 +17,7 @@ use Rattle.node.specs.Image.{tableOf}
 use Rattle.order.specs.declared.Search.{Search}
 use Rattle.order.specs.Search.{ownValue, coming, Room, Along, Followed, sought, Told}
 use Rattle.order.proofs.Links.{own-empty, own-long, own-data}
-use Rattle.order.proofs.Searching.{told-same, told-here}
+use Rattle.order.proofs.Telling.{told-same, told-here}
 
 -- at the end of a path
 module _ (h : Head) (l path nodes : List ℕ) {depth : ℕ} (deep : depth ≤ h .max) (room : Room h path nodes) (along : Along h l depth path nodes) where

@@ -15,7 +15,7 @@ use Rattle.key.specs.Hand.{lettersOf}
 use Rattle.key.proofs.Hand.{letters-count, letter-below}
 use Rattle.order.specs.Search.{coming, Room, sought}
 use Rattle.order.proofs.Paths.{room-kept, along-within}
-use Rattle.order.proofs.Searching.{told-same}
+use Rattle.order.proofs.Telling.{told-same}
 use Rattle.order.proofs.Requests.{stopped-key, after-key, at-key-none, at-key-own}
 use Rattle.order.proofs.next.Statement.{statement}
 use Rattle.order.proofs.next.Tie as tie
@@ -56,17 +56,17 @@ mask-requires c κs = search needs
 along-requires : tie.Need-along-requires
 along-requires c κs = search needs
 
-array-read-climb : tie.Need-array-read-climb
-array-read-climb c = search needs
+array-read-seek : tie.Need-array-read-seek
+array-read-seek c = search needs
 
-cast-climb : tie.Need-cast-climb
-cast-climb c = omega (arith, bounds (c .before .before .before .before .before .before .before .before .before .before .before .before .before .before .args .h) (c .before .before .before .before .before .before .before .before .before .before .before .before .before .before .pre .0 .head-permitted), letter c .0)
+cast-seek : tie.Need-cast-seek
+cast-seek c = omega (arith, bounds (c .before .before .before .before .before .before .before .before .before .before .before .before .before .before .args .h) (c .before .before .before .before .before .before .before .before .before .before .before .before .before .before .pre .0 .head-permitted), letter c .0)
 
-add-climb : tie.Need-add-climb
-add-climb c = omega (arith, bounds (c .before .before .before .before .before .before .before .before .before .before .before .before .before .before .args .h) (c .before .before .before .before .before .before .before .before .before .before .before .before .before .before .pre .0 .head-permitted), letter c .0)
+add-seek : tie.Need-add-seek
+add-seek c = omega (arith, bounds (c .before .before .before .before .before .before .before .before .before .before .before .before .before .before .args .h) (c .before .before .before .before .before .before .before .before .before .before .before .before .before .before .pre .0 .head-permitted), letter c .0)
 
-climb-requires : tie.Need-climb-requires
-climb-requires c κs =
+seek-requires : tie.Need-seek-requires
+seek-requires c κs =
     let on = c .before .before .before .before .before .before .before .before .before in
     let p = on .before .before .before .before .before .before .before .pre in
     (p .0, (p .1 .0, (on .before .before .before .mask .ensures, (deep on, (room on, on .along .ensures .along)))))
@@ -79,15 +79,15 @@ same-length-2 c = search needs
 
 returns : tie.Need-returns
 returns c =
-    let climbed = c .before .before .before .before in
-    let on = climbed .before .before .before .before .before .before .before .before .before .before in
+    let sought-on = c .before .before .before .before in
+    let on = sought-on .before .before .before .before .before .before .before .before .before .before in
     let start = on .before .before .before .before .before .before .before in
     let p = start .pre .1 .1 in
-    let e = stopped-key (on .along .ensures) (room on) (omega (arith, count start, p .1 .0)) (start .args .after) (p .0 .letters) (omega (arith, count start, climbed .before .before .before .before .if1 .taken)) in (
+    let e = stopped-key (on .along .ensures) (room on) (omega (arith, count start, p .1 .0)) (start .args .after) (p .0 .letters) (omega (arith, count start, sought-on .before .before .before .before .if1 .taken)) in (
       told-same (start .args .h) (start .args .image .now)
-          (e ∙ ap (λ (y : ℕ). firstOf (coming (start .args .h) (start .args .image .now) (on .along .last .1 .1 .1 .1 .0) (on .along .result) (y + 1))) (letter (climbed .before .before .before) .1))
-          (climbed .climb .ensures),
-      room-kept (room on) (climbed .climb .kept .1 .1 .1 .1 .1 .0) (climbed .climb .kept .1 .1 .1 .1 .1 .1 .0),
+          (e ∙ ap (λ (y : ℕ). firstOf (coming (start .args .h) (start .args .image .now) (on .along .last .1 .1 .1 .1 .0) (on .along .result) (y + 1))) (letter (sought-on .before .before .before) .1))
+          (sought-on .seek .ensures),
+      room-kept (room on) (sought-on .seek .kept .1 .1 .1 .1 .1 .0) (sought-on .seek .kept .1 .1 .1 .1 .1 .1 .0),
     )
 
 mul-own-value : tie.Need-mul-own-value
@@ -141,8 +141,8 @@ from-here c =
     ap (λ (after : Bool). sought (a .h) (a .image .now) after (lettersOf (a .key))) (not-false _ (w .left)) ∙ after-key (on .along .ensures) (room on) short end)
     (c .if2 .came)
 
-climb-requires-2 : tie.Need-climb-requires-2
-climb-requires-2 c κs =
+seek-requires-2 : tie.Need-seek-requires-2
+seek-requires-2 c κs =
     let on = c .before .before .before .before .before .before .before .before .before in
     let p = on .before .before .before .before .before .before .before .pre in
     (p .0, (p .1 .0, (on .before .before .before .mask .ensures, (deep on, (room on, on .along .ensures .along)))))
@@ -155,11 +155,11 @@ same-length-6 c = search needs
 
 returns-3 : tie.Need-returns-3
 returns-3 c =
-    let climbed = c .before .before .before .before in
-    let on = climbed .before .before .before .before .before .before .before .before .before .before in
+    let sought-on = c .before .before .before .before in
+    let on = sought-on .before .before .before .before .before .before .before .before .before .before in
     let a = on .before .before .before .before .before .before .before .args in (
-      told-same (a .h) (a .image .now) (from-here (climbed .before .before .before)) (climbed .climb2 .ensures),
-      room-kept (room on) (climbed .climb2 .kept .1 .1 .1 .1 .1 .0) (climbed .climb2 .kept .1 .1 .1 .1 .1 .1 .0),
+      told-same (a .h) (a .image .now) (from-here (sought-on .before .before .before)) (sought-on .seek2 .ensures),
+      room-kept (room on) (sought-on .seek2 .kept .1 .1 .1 .1 .1 .0) (sought-on .seek2 .kept .1 .1 .1 .1 .1 .1 .0),
     )
 
 pub next-spec : {M : Type 1} → statement M
@@ -168,10 +168,10 @@ next-spec =
     (tie.spec
     mask-requires
     along-requires
-    array-read-climb
-    cast-climb
-    add-climb
-    climb-requires
+    array-read-seek
+    cast-seek
+    add-seek
+    seek-requires
     same-length
     same-length-2
     returns
@@ -181,7 +181,7 @@ next-spec =
     same-length-3
     same-length-4
     returns-2
-    climb-requires-2
+    seek-requires-2
     same-length-5
     same-length-6
     returns-3)
