@@ -1,5 +1,4 @@
 pub mod Links
-pub mod Counting
 pub mod Passing
 pub mod Paths
 pub mod Telling
@@ -7,3 +6,4 @@ pub mod Following
 pub mod Turns
 pub mod Seeking
 pub mod Requests
+pub mod Counting

@@ -5,7 +5,7 @@ use native.Mathlib.Omega.{arith}
 use mathlib.Core.List.{List}
 use mathlib.Core.Logic.{_≢_}
 use mathlib.Core.Option.{Option, none, some, Option·some-ne-none, Option·some-injective}
-use mathlib.Core.Path.{_≡_, sym, _∙_, ap, subst}
+use mathlib.Core.Path.{_≡_, refl, sym, _∙_, ap, subst}
 use lib.ListN.{length, getD, take}
 use lib.Seq.{length-take-le}
 use Rattle.trie.specs.Table.{answer}
@@ -53,3 +53,23 @@ module _ (h : Head) (l : List ℕ) where
           e
           ∙ own-data h (tableOf h l) (getD nodes depth 0) depth (own-long h (tableOf h l) (getD nodes depth 0) depth (λ z. full (e ∙ z)))
           ∙ sym (answer-complete (tableOf h l) (take depth path) (along .ends depth (omega arith)))
+
+-- ---- what an answer says of the key that was sought
+
+pub was-missing : (h : Head) (l : List ℕ) {s : Option (List ℕ)} {r : Search} {path nodes : List ℕ} → Told h l s r path nodes
+    → r ≡ Search.Missing → s ≡ none
+unfolding toldOf
+was-missing h l {s} {r} told e = go s (sym e ∙ told .answers)
+  where
+    go : (s : Option (List ℕ)) → Search.Missing ≡ toldOf (tableOf h l) s → s ≡ none
+    go none f = refl
+    go (some k) f = let z : _≡_ {A = ℕ} 0 1 = cc in absurd (omega arith)
+
+pub was-found : (h : Head) (l : List ℕ) {s : Option (List ℕ)} {r : Search} {path nodes : List ℕ} {n v : ℕ} → Told h l s r path nodes
+    → r ≡ Search.Found n v → (k : List ℕ) × (s ≡ some k) × (n ≡ length k)
+unfolding toldOf
+was-found h l {s} {r} {n = n} {v} told e = go s (sym e ∙ told .answers)
+  where
+    go : (s : Option (List ℕ)) → Search.Found n v ≡ toldOf (tableOf h l) s → (k : List ℕ) × (s ≡ some k) × (n ≡ length k)
+    go none f = let z : _≡_ {A = ℕ} 0 1 = cc in absurd (omega arith)
+    go (some k) f = (k, refl, cc)

@@ -26,36 +26,18 @@ pub fn count(image: &[u8], h: Head) -> u32
     requires { ⌜ length (listing (tableOf h (now image)) (h .n) (h .min) (h .max)) < 2 ^ 32 ⌝ }
     ensures { λ r. ⌜ r ≡ length (listing (tableOf h (now (image .entry))) (h .n) (h .min) (h .max)) ⌝ }
 {
-    let own = if own_value(image, h, 0, 0) == 0 { 0 } else { 1 };
-    counted(image, h, node::mask(h), 0, 0, own)
-}
-
-// The stored keys below a node at a depth, its own left out, counted onto those counted before. It calls itself on each child; the depth
-// left to max falls.
-fn counted(image: &[u8], h: Head, mask: u32, node: u32, depth: usize, before: u32) -> u32
-    requires { ⌜ Open h (now image) ⌝ ∗ ⌜ Within (tableOf h (now image)) (h .g) ⌝ ∗ ⌜ Masks h mask ⌝ }
-    requires { ⌜ node ≤ h .g ⌝ ∗ ⌜ depth ≤ h .max ⌝ }
-    requires { ⌜ before + length (ahead h (tableOf h (now image)) node depth 0) < 2 ^ 32 ⌝ }
-    ensures { λ r. ⌜ r ≡ before + length (ahead h (tableOf h (now (image .entry))) node depth 0) ⌝ }
-{
-    if (h.max as usize) <= depth {
-        return before;
+    let mut path = [0u8; 64];
+    let mut nodes = [0u32; 65];
+    let mut sum: u32 = if own_value(image, h, 0, 0) == 0 { 0 } else { 1 };
+    let mut len: usize = 0;
+    loop {
+        let found = onward(image, h, len, &mut path, &mut nodes);
+        let Search::Found { length, value: _ } = found else {
+            return sum;
+        };
+        sum += 1;
+        len = length;
     }
-    if node::childless(image, h, node) {
-        return before;
-    }
-    let mut sum = before;
-    for i in 0..h.n {
-        let c = node::link(image, h, mask, node, i);
-        if c == 0 {
-            continue;
-        }
-        if own_value(image, h, c, depth + 1) != 0 {
-            sum += 1;
-        }
-        sum = counted(image, h, mask, c, depth + 1, sum);
-    }
-    sum
 }
 
 // The first stored key at or after the key in hand, or after it. Its letters are at the front of the path then, and the nodes are those
