@@ -1,5 +1,5 @@
--- The stored keys counted one after the other: those counted and those after the last one make up the listing, and each key found leaves one
--- key fewer after it.
+-- The stored keys counted one after the other: those counted and those after the last one make up the listing, and each key found leaves
+-- one key fewer after it.
 use Prim.Native.Nat.{ℕ, suc, _+_, _-_, _<_, _≤_}
 use native.Mathlib.Nat.{sub-zero}
 use native.Mathlib.Omega.{arith}
@@ -86,7 +86,8 @@ module _ {h : Head} {l path nodes : List ℕ} {len sum : ℕ} (c : Counting h l 
     (told : Told h l (sought h l true (take len path)) r path₁ nodes₁) where
   pub counting-end : r ≡ Search.Missing → sum ≡ length (stored h l)
   counting-end e =
-      let f : after h l (take len path) ≡ [] = first-none _ (sym (first-sift (meets true (take len path)) (stored h l)) ∙ was-missing h l told e) in
+      let f : after h l (take len path) ≡ [] =
+      first-none _ (sym (first-sift (meets true (take len path)) (stored h l)) ∙ was-missing h l told e) in
       omega (arith, c .total, ap length f)
 
   module _ {n v : ℕ} (e : r ≡ Search.Found n v) where
@@ -100,7 +101,8 @@ module _ {h : Head} {l path nodes : List ℕ} {len sum : ℕ} (c : Counting h l 
     fewer : length (after h l (take len path)) ≡ suc (length (after h l (take n path₁)))
     fewer =
         let (rest, f) = first-some (after h l (take len path)) (sym (first-sift (meets true (take len path)) (stored h l)) ∙ key .1) in
-        let g : after h l (key .0) ≡ rest = sift-next (stored h l) (take len path) (keysUnder-ascending (tableOf h l) (h .n) (h .min) (h .max) 0) f in
+        let up = keysUnder-ascending (tableOf h l) (h .n) (h .min) (h .max) 0 in
+        let g : after h l (key .0) ≡ rest = sift-next (stored h l) (take len path) up f in
         ap length f ∙ ap suc (ap length (sym g) ∙ ap (λ (k : List ℕ). length (after h l k)) (sym here))
 
     pub counting-more : length path₁ ≡ length path → length nodes₁ ≡ length nodes → Counting h l path₁ nodes₁ n (sum + 1)

@@ -1,9 +1,10 @@
-pub mod Links
-pub mod Passing
+-- For the crates above: `Telling` on what a search tells of the key that it was to find, `Paths` on a path and its nodes.
+mod Counting
+mod Following
+mod Links
+mod Passing
 pub mod Paths
+mod Requests
+mod Seeking
 pub mod Telling
-pub mod Following
-pub mod Turns
-pub mod Seeking
-pub mod Requests
-pub mod Counting
+mod Turns

@@ -24,7 +24,8 @@ letters-more : (n : ℕ) (k : List ℕ) (x : ℕ) → Letters n k → x < n → 
 letters-more n [] x l b = (b, tt)
 letters-more n (y ∷ k) x l b = (l .0, letters-more n k x (l .1) b)
 
-pub room-kept : {h : Head} {path₀ nodes₀ path nodes : List ℕ} → Room h path₀ nodes₀ → length path ≡ length path₀ → length nodes ≡ length nodes₀
+pub room-kept : {h : Head} {path₀ nodes₀ path nodes : List ℕ} → Room h path₀ nodes₀
+    → length path ≡ length path₀ → length nodes ≡ length nodes₀
     → Room h path nodes
 room-kept r e f = record { letters = rw e (r .letters); ends = rw f (r .ends) }
 
@@ -106,5 +107,6 @@ module _ (h : Head) (l : List ℕ) where
       go (yes e) = let z : _≡_ {A = ℕ} 0 1 = cc (one, descend-empty (tableOf h l) q x [] e) in absurd (omega arith)
       go (no e) = cc (one, descend-on (tableOf h l) q x [] e, descend-nil (tableOf h l) (tableOf h l .child q x))
 
-  pub along-within : {depth : ℕ} {path nodes : List ℕ} → Within (tableOf h l) (h .g) → Along h l depth path nodes → getD nodes depth 0 ≤ h .g
+  pub along-within : {depth : ℕ} {path nodes : List ℕ} → Within (tableOf h l) (h .g) → Along h l depth path nodes
+      → getD nodes depth 0 ≤ h .g
   along-within {depth} {path} within a = complete-within (tableOf h l) (h .g) (take depth path) within (a .ends depth (omega arith))

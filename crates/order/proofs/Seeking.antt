@@ -32,7 +32,8 @@ module _ (h : Head) (l path nodes : List ℕ) where
   unfolding coming
   coming-found depth x {m} {ms} room along e =
       let size : length (take depth path) ≡ depth = length-take-le depth path room in
-      beyond-found (tableOf h l) (h .n) (h .min) (h .max) 0 (take depth path) x {m = m} {ms = ms} (along .ends depth (omega arith)) (rw size e)
+      beyond-found (tableOf h l) (h .n) (h .min) (h .max) 0 (take depth path) x {m = m} {ms = ms} (along .ends depth (omega arith))
+      (rw size e)
 
   -- nothing is, at the root
   coming-none : (x : ℕ) → Along h l 0 path nodes → ahead h (tableOf h l) (getD nodes 0 0) 0 x ≡ [] → firstOf (coming h l path 0 x) ≡ none
@@ -109,6 +110,9 @@ module _ {h : Head} {l path₀ nodes₀ : List ℕ} {end first : ℕ} {path node
     inside : depth < length path
     inside = omega (arith, p .deep low, s .room .letters)
 
+    within : depth + 1 ≤ length (set path depth i)
+    within = omega (arith, length-set path depth i, inside)
+
     below : depth + 1 < length nodes
     below = omega (arith, p .deep low, s .room .ends)
 
@@ -144,7 +148,8 @@ module _ {h : Head} {l path₀ nodes₀ : List ℕ} {end first : ℕ} {path node
       onto empty = go (ahead h (tableOf h l) c (depth + 1) 0) refl
         where
           children : (ms : List (List ℕ)) → ahead h (tableOf h l) c (depth + 1) 0 ≡ ms
-              → ahead h (tableOf h l) (getD nodes depth 0) depth i ≡ map (i ∷_) ms ++ ahead h (tableOf h l) (getD nodes depth 0) depth (suc i)
+              → ahead h (tableOf h l) (getD nodes depth 0) depth i
+              ≡ map (i ∷_) ms ++ ahead h (tableOf h l) (getD nodes depth 0) depth (suc i)
           children ms e = rw (← e) (ahead-child h (tableOf h l) (getD nodes depth 0) depth i (p .deep low) low link full value empty)
 
           go : (ms : List (List ℕ)) → ahead h (tableOf h l) c (depth + 1) 0 ≡ ms
@@ -153,7 +158,7 @@ module _ {h : Head} {l path₀ nodes₀ : List ℕ} {end first : ℕ} {path node
               coming-found h l path nodes depth i reach (s .along) (children (m ∷ ms) e)
               ∙ ap some (sym (append-assoc (take depth path) (i ∷ []) m) ∙ ap (_++ m) (sym longer))
               ∙ sym
-              (coming-found h l (set path depth i) (set nodes (depth + 1) c) (depth + 1) 0 (omega (arith, length-set path depth i, inside)) down-along
+              (coming-found h l (set path depth i) (set nodes (depth + 1) c) (depth + 1) 0 within down-along
               (down-ahead ∙ e))
           go [] e =
               coming-same h l path nodes depth i (suc i) reach (s .along) (children [] e)
@@ -161,7 +166,7 @@ module _ {h : Head} {l path₀ nodes₀ : List ℕ} {end first : ℕ} {path node
               (sym (ap (λ (y : ℕ). coming h l (set path depth i) depth (suc y)) (getD-set-same path depth i 0 inside)
               ∙ coming-front h l (set path depth i) path depth (suc i) (take-set-le depth path depth i (omega arith)))
               ∙ sym
-              (coming-up h l (set path depth i) (set nodes (depth + 1) c) depth 0 (add-one depth) (omega (arith, length-set path depth i, inside)) down-along
+              (coming-up h l (set path depth i) (set nodes (depth + 1) c) depth 0 (add-one depth) (omega (arith, within)) down-along
               (down-ahead ∙ e)))
 
       pub seeking-down : v ≡ 0

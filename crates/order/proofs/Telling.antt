@@ -1,5 +1,5 @@
--- What a search tells: there is no key, or it is the one whose letters stand at the front of the path. Then its nodes stand beside them, and
--- its value is the data of the last.
+-- What a search tells: there is no key, or it is the one whose letters stand at the front of the path. Then its nodes stand beside them,
+-- and its value is the data of the last.
 use Prim.Native.Nat.{ℕ, _≤_}
 use native.Mathlib.Omega.{arith}
 use mathlib.Core.List.{List}
@@ -25,7 +25,8 @@ module _ (h : Head) (l : List ℕ) where
   told-none e = record { answers = rw e; reached = λ k f. absurd (Option·some-ne-none k (sym f ∙ e)) }
 
   -- the key whose letters are the path's first, where its node has data and it is long enough
-  pub told-here : {s : Option (List ℕ)} {path nodes : List ℕ} {depth v : ℕ} → depth ≤ h .max → Room h path nodes → Along h l depth path nodes
+  pub told-here : {s : Option (List ℕ)} {path nodes : List ℕ} {depth v : ℕ} → depth ≤ h .max → Room h path nodes
+      → Along h l depth path nodes
       → v ≡ ownValue h (tableOf h l) (getD nodes depth 0) depth → v ≢ 0
       → s ≡ some (take depth path)
       → Told h l s (Search.Found depth v) path nodes

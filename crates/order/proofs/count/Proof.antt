@@ -5,7 +5,8 @@ use native.Mathlib.Omega.{arith}
 use borrow.Author.Needs.{needs}
 use lib.ListN.{length, take}
 use Rattle.head.proofs.Permitted.{bounds}
-use Rattle.order.proofs.Counting.{Counting, after, rooted, rooted-none, rooted-one, counting-start, counting-more, counting-less, counting-room, counting-end, counting-lent}
+use Rattle.order.proofs.Counting.{Counting, after, rooted, rooted-none, rooted-one}
+use Rattle.order.proofs.Counting.{counting-start, counting-lent, counting-more, counting-less, counting-room, counting-end}
 use Rattle.order.proofs.count.Statement.{statement}
 use Rattle.order.proofs.count.Tie as tie
 
@@ -19,7 +20,7 @@ own-value-requires : tie.Need-own-value-requires Inv-loop μ-loop
 own-value-requires c κs = search needs
 
 -- the root's own key is counted
-root-counted : (c : tie.Joined1 Inv-loop μ-loop) → c .if1 .sum ≡ rooted (c .before .before .before .args .h) (c .before .before .before .args .image .now)
+root-counted : (c : tie.Joined1 Inv-loop μ-loop) → (let a = c .before .before .before .args in c .if1 .sum ≡ rooted (a .h) (a .image .now))
 root-counted c =
     let a = c .before .before .before .args in
     let e = c .before .own-value .ensures in
@@ -50,22 +51,29 @@ enum-told : tie.Need-enum-told Inv-loop μ-loop
 enum-told c = search needs
 
 returns : tie.Need-returns Inv-loop μ-loop
-returns c = let on = c .before .before .before .before in counting-end (on .before .before .before .loop .inv) (on .onward .ensures .0) (c .enum-told .given .1)
+returns c =
+    let on = c .before .before .before .before in
+    counting-end (on .before .before .before .loop .inv) (on .onward .ensures .0) (c .enum-told .given .1)
 
 add-sum : tie.Need-add-sum Inv-loop μ-loop
 add-sum c =
     let on = c .before .before .before .before .before .before in
-    omega (arith, counting-room (on .before .before .before .loop .inv) (on .onward .ensures .0) (c .before .before .found .given .1), on .before .before .before .before .before .before .before .pre .1 .1)
+    let loop = on .before .before .before in
+    let more = counting-room (loop .loop .inv) (on .onward .ensures .0) (c .before .before .found .given .1) in
+    omega (arith, more, loop .before .before .before .before .pre .1 .1)
 
 loop-less : tie.Need-loop-less Inv-loop μ-loop
 loop-less c =
     let on = c .before .before .before .before .before .before in
-    counting-less (on .before .before .before .loop .inv) (on .onward .ensures .0) (c .before .before .found .given .1)
+    let loop = on .before .before .before in
+    counting-less (loop .loop .inv) (on .onward .ensures .0) (c .before .before .found .given .1)
 
 loop-again : tie.Need-loop-again Inv-loop μ-loop
 loop-again c =
     let on = c .before .before .before .before .before .before in
-    counting-more (on .before .before .before .loop .inv) (on .onward .ensures .0) (c .before .before .found .given .1) (on .onward .kept .1 .1 .1 .0) (on .onward .kept .1 .1 .1 .1 .0)
+    let loop = on .before .before .before in
+    counting-more (loop .loop .inv) (on .onward .ensures .0) (c .before .before .found .given .1)
+    (on .onward .kept .1 .1 .1 .0) (on .onward .kept .1 .1 .1 .1 .0)
 
 pub count-spec : {M : Type 1} → statement M
 count-spec =

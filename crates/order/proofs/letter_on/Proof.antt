@@ -47,7 +47,9 @@ loop-less : tie.Need-loop-less Inv-loop μ-loop
 loop-less c = omega arith
 
 loop-again : tie.Need-loop-again Inv-loop μ-loop
-loop-again c = passing-empty (c .before .before .before .loop .inv) (c .before .link .ensures) (c .before .before .loop-test .taken) (c .if4 .left)
+loop-again c =
+    let at = c .before .before in
+    passing-empty (at .before .loop .inv) (c .before .link .ensures) (at .loop-test .taken) (c .if4 .left)
 
 returns-4 : tie.Need-returns-4 Inv-loop μ-loop
 returns-4 c = passed-end (c .before .loop .inv) (c .loop-test .left)

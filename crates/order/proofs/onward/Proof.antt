@@ -20,12 +20,13 @@ same-length-2 c = search needs
 
 returns : tie.Need-returns
 returns c =
-    let sought-on = c .before .before .before .before in
-    let start = sought-on .before .before .before .before .before .before .before in
+    let end = c .before .before .before .before in
+    let start = end .before .before .before .before .before .before .before in
     let a = start .args in
-    let p = start .pre .1 .1 in (
-      told-same (a .h) (a .image .now) (after-path (a .h) (a .image .now) (a .path .now) (a .nodes .now) (p .0) (p .1 .0) (p .1 .1)) (sought-on .seek .ensures),
-      room-kept (p .1 .0) (sought-on .seek .kept .1 .1 .1 .1 .1 .0) (sought-on .seek .kept .1 .1 .1 .1 .1 .1 .0),
+    let p = start .pre .1 .1 in
+    let e = after-path (a .h) (a .image .now) (a .path .now) (a .nodes .now) (p .0) (p .1 .0) (p .1 .1) in (
+      told-same (a .h) (a .image .now) e (end .seek .ensures),
+      room-kept (p .1 .0) (end .seek .kept .1 .1 .1 .1 .1 .0) (end .seek .kept .1 .1 .1 .1 .1 .1 .0),
     )
 
 pub onward-spec : {M : Type 1} → statement M

@@ -9,7 +9,8 @@ use Rattle.head.specs.declared.Head.{Head}
 use Rattle.head.proofs.Permitted.{Bounds, bounds}
 use Rattle.order.proofs.Paths.{along-within}
 use Rattle.order.proofs.Telling.{told-none}
-use Rattle.order.proofs.Seeking.{Seeking, left, seeking-start, seeking-own, seeking-down, down-less, seeking-end, seeking-up, up-less}
+use Rattle.order.proofs.Seeking.{Seeking, left, seeking-start, seeking-own, seeking-down, down-less}
+use Rattle.order.proofs.Seeking.{seeking-end, seeking-up, up-less}
 use Rattle.order.proofs.seek.Statement.{statement}
 use Rattle.order.proofs.seek.Tie as tie
 
@@ -20,12 +21,15 @@ Inv-loop image h mask end first path₀ nodes₀ depth₀ from₀ path nodes dep
 abbrev μ-loop : tie.MeasureT-loop
 μ-loop image h mask end first path₀ nodes₀ depth₀ from₀ path nodes depth from = left h path depth from
 
--- the head's bounds, and that the path's end stands in the table
+-- the head's bounds
 ceilings : (c : tie.Start Inv-loop μ-loop) → Bounds (c .args .h)
 ceilings c = bounds (c .args .h) (c .pre .0 .head-permitted)
 
 loop-holds : tie.Need-loop-holds Inv-loop μ-loop
-loop-holds c = let start = c .before .before .before in let p = start .pre .1 .1 .1 in seeking-start (start .args .first) (p .0) (p .1 .0) (p .1 .1)
+loop-holds c =
+    let start = c .before .before .before in
+    let p = start .pre .1 .1 .1 in
+    seeking-start (start .args .first) (p .0) (p .1 .0) (p .1 .1)
 
 mul-node : tie.Need-mul-node Inv-loop μ-loop
 mul-node c = omega (arith, ceilings (c .before .before .before .before), c .loop .inv .deep)
@@ -56,10 +60,14 @@ slice-write-path c =
     omega (arith, turn .letter-on .ensures .deep (c .before .if1 .taken), s .room .letters)
 
 add-depth : tie.Need-add-depth Inv-loop μ-loop
-add-depth c = omega (arith, ceilings (c .before .before .before .before .before .before .before .before .before), c .before .before .before .before .before .loop .inv .deep)
+add-depth c =
+    let loop = c .before .before .before .before .before in
+    omega (arith, ceilings (loop .before .before .before .before), loop .loop .inv .deep)
 
 mul-nodes : tie.Need-mul-nodes Inv-loop μ-loop
-mul-nodes c = omega (arith, ceilings (c .before .before .before .before .before .before .before .before .before), c .before .before .before .before .before .loop .inv .deep)
+mul-nodes c =
+    let loop = c .before .before .before .before .before in
+    omega (arith, ceilings (loop .before .before .before .before), loop .loop .inv .deep)
 
 slice-write-nodes : tie.Need-slice-write-nodes Inv-loop μ-loop
 slice-write-nodes c =
@@ -70,21 +78,27 @@ slice-write-nodes c =
 own-value-requires : tie.Need-own-value-requires Inv-loop μ-loop
 own-value-requires c κs =
     let loop = c .before .before .before .before .before in
-    let start = loop .before .before .before .before in
-    (start .pre .0, omega (arith, c .link .ensures, start .pre .1 .0 (getD (loop .loop .nodes) (loop .loop .depth) 0) (c .before .before .before .letter-on .result)))
+    let p = loop .before .before .before .before .pre in
+    let child = p .1 .0 (getD (loop .loop .nodes) (loop .loop .depth) 0) (c .before .before .before .letter-on .result) in
+    (p .0, omega (arith, c .link .ensures, child))
 
 same-length : tie.Need-same-length Inv-loop μ-loop
-same-length c = let loop = c .before .before .before .before .before .before .before .loop in length-set (loop .path) _ _ ∙ loop .inv .letters
+same-length c =
+    let loop = c .before .before .before .before .before .before .before .loop in
+    length-set (loop .path) _ _ ∙ loop .inv .letters
 
 same-length-2 : tie.Need-same-length-2 Inv-loop μ-loop
-same-length-2 c = let loop = c .before .before .before .before .before .before .before .loop in length-set (loop .nodes) _ _ ∙ loop .inv .ends
+same-length-2 c =
+    let loop = c .before .before .before .before .before .before .before .loop in
+    length-set (loop .nodes) _ _ ∙ loop .inv .ends
 
 returns : tie.Need-returns Inv-loop μ-loop
 returns c =
     let own = c .before in
     let on = own .before in
     let turn = on .before .before .before in
-    seeking-own (turn .before .before .loop .inv) (turn .letter-on .ensures) (on .before .if1 .taken) (on .link .ensures) (own .own-value .ensures) (c .if2 .taken)
+    seeking-own (turn .before .before .loop .inv) (turn .letter-on .ensures) (on .before .if1 .taken) (on .link .ensures)
+    (own .own-value .ensures) (c .if2 .taken)
 
 loop-less : tie.Need-loop-less Inv-loop μ-loop
 loop-less c =
@@ -98,7 +112,8 @@ loop-again c =
     let own = c .before in
     let on = own .before in
     let turn = on .before .before .before in
-    seeking-down (turn .before .before .loop .inv) (turn .letter-on .ensures) (on .before .if1 .taken) (on .link .ensures) (own .own-value .ensures) (c .if2 .left)
+    seeking-down (turn .before .before .loop .inv) (turn .letter-on .ensures) (on .before .if1 .taken) (on .link .ensures)
+    (own .own-value .ensures) (c .if2 .left)
 
 same-length-3 : tie.Need-same-length-3 Inv-loop μ-loop
 same-length-3 c = c .before .before .before .before .before .loop .inv .letters
@@ -110,13 +125,16 @@ returns-2 : tie.Need-returns-2 Inv-loop μ-loop
 returns-2 c =
     let turn = c .before .before .before in
     let a = turn .before .before .before .before .before .before .args in
-    told-none (a .h) (a .image .now) (seeking-end (turn .before .before .loop .inv) (turn .letter-on .ensures) (c .before .if1 .left) (c .if3 .taken))
+    let e = seeking-end (turn .before .before .loop .inv) (turn .letter-on .ensures) (c .before .if1 .left) (c .if3 .taken) in
+    told-none (a .h) (a .image .now) e
 
 sub-depth : tie.Need-sub-depth Inv-loop μ-loop
 sub-depth c = omega (arith, c .if3 .left)
 
 slice-read-from : tie.Need-slice-read-from Inv-loop μ-loop
-slice-read-from c = let s = c .before .before .before .before .before .before .loop .inv in omega (arith, c .before .if3 .left, s .deep, s .room .letters)
+slice-read-from c =
+    let s = c .before .before .before .before .before .before .loop .inv in
+    omega (arith, c .before .if3 .left, s .deep, s .room .letters)
 
 cast-from : tie.Need-cast-from Inv-loop μ-loop
 cast-from c = omega (arith, c .slice-known4 .given (c .before .before .before .before .before .before .loop .depth - 1))
