@@ -1,54 +1,124 @@
--- The count of a node's keys from letter to letter: what was counted and what is still to come make up the whole. A link adds the
--- child's own key, one or none, and what is counted below the child.
-use Prim.Native.Nat.{ℕ, _+_, _-_, _<_, _≤_}
+-- The stored keys counted one after the other: those counted and those after the last one make up the listing, and each key found leaves
+-- one key fewer after it.
+use Prim.Native.Nat.{ℕ, suc, _+_, _-_, _<_, _≤_}
 use native.Mathlib.Nat.{sub-zero}
-use native.Mathlib.Numerals.{add-one}
 use native.Mathlib.Omega.{arith}
-use mathlib.Core.List.{List, _∷_, _++_, map}
+use mathlib.Core.Bool.{true}
+use mathlib.Core.List.{List, [], _∷_}
 use mathlib.Core.Logic.{_≢_}
-use mathlib.Core.Path.{_≡_, sym, _∙_, ap}
-use lib.ListN.{length, length-append, length-map}
+use mathlib.Core.Option.{none, some, Option·some-ne-none, Option·some-injective}
+use mathlib.Core.Path.{_≡_, refl, sym, _∙_, ap, subst}
+use lib.ListN.{length, take, replicate, length-append, length-replicate}
 use Rattle.trie.specs.Table.{Table}
-use Rattle.trie.specs.Keys.{ownKey, listing}
-use Rattle.trie.proofs.Beyond.{under-split, from-none, from-empty, from-childless}
+use Rattle.trie.specs.Keys.{ownKey, listing, meets, sift}
+use Rattle.trie.specs.Beyond.{firstOf, keysFrom}
+use Rattle.trie.proofs.Beyond.{under-split, beyond-nil, sift-after}
+use Rattle.trie.proofs.InTurn.{sift-next}
+use Rattle.trie.proofs.Listing.{keysUnder-ascending}
+use Rattle.trie.proofs.Sift.{first-sift}
+use Rattle.trie.proofs.Walk.{descend-nil}
 use Rattle.head.specs.declared.Head.{Head}
-use Rattle.order.specs.Search.{ownValue}
-use Rattle.order.proofs.Links.{own-empty, own-full, from, from-full, from-link}
+use Rattle.head.specs.Fields.{mostLetters}
+use Rattle.head.proofs.Permitted.{Bounds}
+use Rattle.node.specs.Image.{tableOf}
+use Rattle.order.specs.declared.Search.{Search}
+use Rattle.order.specs.Search.{ownValue, Room, Along, sought, Told}
+use Rattle.order.proofs.Links.{own-empty, own-full}
+use Rattle.order.proofs.Paths.{along-none}
+use Rattle.order.proofs.Telling.{was-missing, was-found}
 
-module _ (h : Head) (t : Table) where
-  -- how many keys are still to come from letter i on, and how many are a node's own
-  abbrev pub left : ℕ → ℕ → ℕ → ℕ
-  left q depth i = length (from h t q depth i)
+-- a list of keys by its first
+first-none : (ms : List (List ℕ)) → firstOf ms ≡ none → ms ≡ []
+unfolding firstOf
+first-none [] e = refl
+first-none (m ∷ ms) e = absurd (Option·some-ne-none m e)
 
-  abbrev pub owned : ℕ → ℕ → ℕ
-  owned q depth = length (ownKey t (h .min - depth) q)
+first-some : (ms : List (List ℕ)) {k : List ℕ} → firstOf ms ≡ some k → (rest : List (List ℕ)) × (ms ≡ k ∷ rest)
+unfolding firstOf
+first-some [] {k} e = absurd (Option·some-ne-none k (sym e))
+first-some (m ∷ ms) {k} e = (ms, ap (_∷ ms) (Option·some-injective m k e))
 
-  -- told by the value that was read
-  pub owned-none : (q depth : ℕ) {v : ℕ} → v ≡ ownValue h t q depth → v ≡ 0 → owned q depth ≡ 0
-  owned-none q depth e empty = ap length (own-empty h t q depth (sym e ∙ empty))
+module _ (h : Head) (l : List ℕ) where
+  abbrev pub stored : List (List ℕ)
+  stored = listing (tableOf h l) (h .n) (h .min) (h .max)
 
-  pub owned-one : (q depth : ℕ) {v : ℕ} → v ≡ ownValue h t q depth → v ≢ 0 → owned q depth ≡ 1
-  owned-one q depth e full = ap length (own-full h t q depth (λ z. full (e ∙ z)))
+  -- the stored keys after a key
+  abbrev pub after : List ℕ → List (List ℕ)
+  after k = sift (meets true k) stored
 
-  pub listed : length (listing t (h .n) (h .min) (h .max)) ≡ owned 0 0 + left 0 0 0
-  listed = rw (sub-zero (h .min), sub-zero (h .max)) (ap length (under-split t (h .n) (h .min) (h .max) 0) ∙ simp length-append)
+  -- the root's own key, told by the data that was read
+  abbrev pub rooted : ℕ
+  rooted = length (ownKey (tableOf h l) (h .min - 0) 0)
 
-  -- there is nothing where no letter is allowed, where all links are empty and past the last letter
-  pub left-full : (q depth i : ℕ) → h .max ≤ depth → left q depth i ≡ 0
-  left-full q depth i b = ap length (from-full h t q depth i b)
+  pub rooted-none : {v : ℕ} → v ≡ ownValue h (tableOf h l) 0 0 → v ≡ 0 → rooted ≡ 0
+  rooted-none e empty = ap length (own-empty h (tableOf h l) 0 0 (sym e ∙ empty))
 
-  pub left-childless : (q depth i : ℕ) → ((x : ℕ) → t .child q x ≡ 0) → left q depth i ≡ 0
-  left-childless q depth i e = ap length (from-childless t (h .n) (h .min - depth) (h .max - depth) q i e)
+  pub rooted-one : {v : ℕ} → v ≡ ownValue h (tableOf h l) 0 0 → v ≢ 0 → rooted ≡ 1
+  rooted-one e full = ap length (own-full h (tableOf h l) 0 0 (λ z. full (e ∙ z)))
 
-  pub left-none : (q depth i : ℕ) → h .n ≤ i → left q depth i ≡ 0
-  left-none q depth i b = ap length (from-none t (h .n) (h .min - depth) (h .max - depth) q i b)
+pub record Counting (h : Head) (l path nodes : List ℕ) (len sum : ℕ) : Type 0 where
+  pub letters : length path ≡ mostLetters
+  pub ends : length nodes ≡ suc mostLetters
+  pub deep : len ≤ h .max
+  pub along : Along h l len path nodes
+  pub total : sum + length (after h l (take len path)) ≡ length (stored h l)
 
-  -- a letter more: nothing by an empty link, by any other the child's own key and those below the child
-  pub left-empty : (q depth i : ℕ) {c : ℕ} → i < h .n → c ≡ t .child q i → c ≡ 0 → left q depth i ≡ left q depth (i + 1)
-  left-empty q depth i b e empty =
-      rw add-one (ap length (from-empty t (h .n) (h .min - depth) (h .max - depth) q i b (sym e ∙ empty)))
+pub counting-start : (h : Head) (l : List ℕ) {sum : ℕ} → sum ≡ rooted h l → Counting h l (replicate 64 0) (replicate 65 0) 0 sum
+counting-start h l e =
+    let t = tableOf h l in
+    let others : after h l [] ≡ keysFrom t (h .n) (h .min) (h .max) 0 0 =
+    sift-after t (h .n) (h .min) (h .max) 0 [] (descend-nil t 0) tt (omega arith) ∙ beyond-nil t (h .n) (h .min) (h .max) 0 0 in
+    let all : length (stored h l) ≡ length (ownKey t (h .min) 0) + length (keysFrom t (h .n) (h .min) (h .max) 0 0) =
+    ap length (under-split t (h .n) (h .min) (h .max) 0) ∙ simp length-append in
+    record {
+      letters = length-replicate {A = ℕ} 64 0;
+      ends = length-replicate {A = ℕ} 65 0;
+      deep = omega arith;
+      along = along-none h l (replicate 64 0) (replicate 65 0) refl;
+      total = omega (arith, rw (sub-zero (h .min)) at e, all, ap length others);
+    }
 
-  pub left-link : (q depth i : ℕ) {c : ℕ} → depth < h .max → i < h .n → c ≡ t .child q i → c ≢ 0
-      → left q depth i ≡ owned c (depth + 1) + left c (depth + 1) 0 + left q depth (i + 1)
-  left-link q depth i deep b e full =
-      rw (add-one depth, add-one i) (ap length (from-link h t q depth i deep b (sym e) full) ∙ simp (length-append, length-map))
+-- the arrays have room for every key
+pub counting-lent : {h : Head} {l path nodes : List ℕ} {len sum : ℕ} → Counting h l path nodes len sum → Bounds h → Room h path nodes
+counting-lent c b = record { letters = omega (arith, c .letters, b .max-most); ends = omega (arith, c .ends, b .max-most) }
+
+module _ {h : Head} {l path nodes : List ℕ} {len sum : ℕ} (c : Counting h l path nodes len sum) {r : Search} {path₁ nodes₁ : List ℕ}
+    (told : Told h l (sought h l true (take len path)) r path₁ nodes₁) where
+  pub counting-end : r ≡ Search.Missing → sum ≡ length (stored h l)
+  counting-end e =
+      let f : after h l (take len path) ≡ [] =
+      first-none _ (sym (first-sift (meets true (take len path)) (stored h l)) ∙ was-missing h l told e) in
+      omega (arith, c .total, ap length f)
+
+  module _ {n v : ℕ} (e : r ≡ Search.Found n v) where
+    key : (k : List ℕ) × (sought h l true (take len path) ≡ some k) × (n ≡ length k)
+    key = was-found h l told e
+
+    -- the key found is the path's, and those after it are the rest of those before
+    here : take n path₁ ≡ key .0
+    here = ap (λ (j : ℕ). take j path₁) (key .2) ∙ told .reached (key .0) (key .1) .letters
+
+    fewer : length (after h l (take len path)) ≡ suc (length (after h l (take n path₁)))
+    fewer =
+        let (rest, f) = first-some (after h l (take len path)) (sym (first-sift (meets true (take len path)) (stored h l)) ∙ key .1) in
+        let up = keysUnder-ascending (tableOf h l) (h .n) (h .min) (h .max) 0 in
+        let g : after h l (key .0) ≡ rest = sift-next (stored h l) (take len path) up f in
+        ap length f ∙ ap suc (ap length (sym g) ∙ ap (λ (k : List ℕ). length (after h l k)) (sym here))
+
+    pub counting-more : length path₁ ≡ length path → length nodes₁ ≡ length nodes → Counting h l path₁ nodes₁ n (sum + 1)
+    counting-more letters ends =
+        let reached = told .reached (key .0) (key .1) in
+        record {
+          letters = letters ∙ c .letters;
+          ends = ends ∙ c .ends;
+          deep = omega (arith, key .2, reached .short);
+          along = rw (key .2) (reached .along);
+          total = omega (arith, fewer, c .total);
+        }
+
+    pub counting-less : length (after h l (take n path₁)) < length (after h l (take len path))
+    counting-less = omega (arith, fewer)
+
+    -- there is at least this one
+    pub counting-room : sum + 1 ≤ length (stored h l)
+    counting-room = omega (arith, fewer, c .total)

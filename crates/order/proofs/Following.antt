@@ -1,5 +1,5 @@
--- A key followed letter by letter: the path so far is the key's beginning, and at the letter where it ends the key ends or the link is empty.
-use Prim.Native.Nat.{ℕ, suc, _+_, _<_, _≤_}
+-- A key followed letter by letter: the path so far is the key's beginning, and where it ends the key ends or goes on at an empty link.
+use Prim.Native.Nat.{ℕ, _+_, _<_, _≤_}
 use native.Mathlib.Numerals.{add-one}
 use native.Mathlib.Omega.{arith}
 use mathlib.Core.List.{List, [], _∷_, _++_}
@@ -24,7 +24,8 @@ pub record Following (h : Head) (l k path₀ nodes₀ path nodes : List ℕ) (q 
   pub ends : length nodes ≡ length nodes₀
 
 -- at the root, once it is noted as the first node
-pub following-start : (h : Head) (l k path nodes : List ℕ) → Room h path nodes → Following h l k path (set nodes 0 0) path (set nodes 0 0) 0 0
+pub following-start : (h : Head) (l k path nodes : List ℕ) → Room h path nodes
+    → Following h l k path (set nodes 0 0) path (set nodes 0 0) 0 0
 following-start h l k path nodes room =
     let root : getD (set nodes 0 0) 0 0 ≡ 0 = getD-set-same nodes 0 0 0 (omega (arith, room .ends)) in
     record {

@@ -1,7 +1,10 @@
-pub mod Links
-pub mod Counting
+-- For the crates above: `Telling` on what a search tells of the key that it was to find, `Paths` on a path and its nodes.
+mod Counting
+mod Following
+mod Links
+mod Passing
 pub mod Paths
-pub mod Searching
-pub mod Following
-pub mod Climbing
-pub mod Requests
+mod Requests
+mod Seeking
+pub mod Telling
+mod Turns

@@ -6,41 +6,42 @@ use native.Mathlib.Omega.{arith}
 use mathlib.Core.Bool.{Bool, true, false}
 use mathlib.Core.List.{List, _∷_, _++_}
 use mathlib.Core.Logic.{_≢_}
-use mathlib.Core.Option.{Option}
 use mathlib.Core.Path.{_≡_, sym, _∙_, ap, subst}
 use lib.ListN.{length, getD, take, drop}
 use lib.Seq.{take-all, split-at, length-take-le}
 use Rattle.trie.specs.Table.{Letters, complete, descend}
-use Rattle.trie.specs.Keys.{listing, meets, firstMeeting}
 use Rattle.trie.specs.Beyond.{beyond, firstOf}
 use Rattle.trie.proofs.Beyond.{meets-after-path, meets-at-none, meets-at-own, meets-stopped}
 use Rattle.head.specs.declared.Head.{Head}
 use Rattle.node.specs.Image.{tableOf}
 use Rattle.order.specs.declared.Search.{Search}
-use Rattle.order.specs.Search.{ownValue, coming, Room, Along, Followed, Told}
+use Rattle.order.specs.Search.{ownValue, coming, Room, Along, Followed, sought, Told}
 use Rattle.order.proofs.Links.{own-empty, own-long, own-data}
-use Rattle.order.proofs.Searching.{told-same, told-here}
-
--- the first key of an image's listing that meets a request
-abbrev pub sought : Head → List ℕ → Bool → List ℕ → Option (List ℕ)
-sought h l after k = firstMeeting (meets after k) (listing (tableOf h l) (h .n) (h .min) (h .max))
+use Rattle.order.proofs.Telling.{told-same, told-here}
 
 -- at the end of a path
-module _ (h : Head) (l path nodes : List ℕ) {depth : ℕ} (deep : depth ≤ h .max) (room : Room h path nodes) (along : Along h l depth path nodes) where
+module _ (h : Head) (l path nodes : List ℕ) {depth : ℕ} (deep : depth ≤ h .max) (room : Room h path nodes)
+    (along : Along h l depth path nodes) where
   size : length (take depth path) ≡ depth
   size = length-take-le depth path (omega (arith, room .letters))
+
+  node : descend (tableOf h l) 0 (take depth path) ≡ complete (getD nodes depth 0)
+  node = along .ends depth (omega arith)
+
+  short : length (take depth path) ≤ h .max
+  short = omega (arith, size)
 
   pub after-path : sought h l true (take depth path) ≡ firstOf (coming h l path depth 0)
   unfolding coming
   after-path =
-      meets-after-path (tableOf h l) (h .n) (h .min) (h .max) 0 (take depth path) (along .ends depth (omega arith)) (along .letters) (omega (arith, size))
+      meets-after-path (tableOf h l) (h .n) (h .min) (h .max) 0 (take depth path) node (along .letters) short
 
   -- v is the data of the node there, as that of a key
   module _ {v : ℕ} (value : v ≡ ownValue h (tableOf h l) (getD nodes depth 0) depth) where
     at-none : v ≡ 0 → sought h l false (take depth path) ≡ firstOf (coming h l path depth 0)
     unfolding coming
     at-none empty =
-        meets-at-none (tableOf h l) (h .n) (h .min) (h .max) 0 (take depth path) (along .ends depth (omega arith)) (along .letters) (omega (arith, size))
+        meets-at-none (tableOf h l) (h .n) (h .min) (h .max) 0 (take depth path) node (along .letters) short
         (rw size (own-empty h (tableOf h l) (getD nodes depth 0) depth (sym value ∙ empty)))
 
     at-own : v ≢ 0 → Told h l (sought h l false (take depth path)) (Search.Found depth v) path nodes
@@ -48,41 +49,44 @@ module _ (h : Head) (l path nodes : List ℕ) {depth : ℕ} (deep : depth ≤ h 
         let some-value : ownValue h (tableOf h l) (getD nodes depth 0) depth ≢ 0 = λ z. full (value ∙ z) in
         let long = own-long h (tableOf h l) (getD nodes depth 0) depth some-value in
         told-here h l deep room along value full
-        (meets-at-own (tableOf h l) (h .n) (h .min) (h .max) 0 (take depth path) (along .ends depth (omega arith)) (along .letters) (omega (arith, size))
+        (meets-at-own (tableOf h l) (h .n) (h .min) (h .max) 0 (take depth path) node (along .letters) short
         (omega (arith, size)) (λ z. some-value (own-data h (tableOf h l) (getD nodes depth 0) depth long ∙ z)))
 
 -- where a key was followed to
-module _ {h : Head} {l k path nodes : List ℕ} {depth : ℕ} (f : Followed h l k path nodes depth) (room : Room h path nodes) (deep : length k ≤ h .max) where
-  -- the key goes on at an empty link
-  pub stopped-key : (after : Bool) → Letters (h .n) k → depth < length k → sought h l after k ≡ firstOf (coming h l path depth (getD k depth 0 + 1))
+module _ {h : Head} {l k path nodes : List ℕ} {depth : ℕ} (f : Followed h l k path nodes depth) (room : Room h path nodes)
+    (deep : length k ≤ h .max) where
+  -- the key goes on at an empty link, with letter y
+  pub stopped-key : (after : Bool) {y : ℕ} → getD k depth 0 ≡ y → Letters (h .n) k → depth < length k
+      → sought h l after k ≡ firstOf (coming h l path depth (y + 1))
   unfolding coming
-  stopped-key after letters low =
-      rw (add-one (getD k depth 0))
+  stopped-key after {y} letter allowed low =
+      rw (add-one y)
       (ap (sought h l after) parts
-      ∙ meets-stopped (tableOf h l) (h .n) after (h .min) (h .max) 0 (take depth k) (getD k depth 0) (drop (suc depth) k) reaches (f .stops low)
-      (subst (Letters (h .n)) parts letters) (rw (← parts) deep)
-      ∙ ap (λ (m : List ℕ). firstOf (beyond (tableOf h l) (h .n) (h .min) (h .max) 0 m (suc (getD k depth 0)))) (sym (f .letters)))
+      ∙ meets-stopped (tableOf h l) (h .n) after (h .min) (h .max) 0 (take depth k) y (drop (suc depth) k) reaches
+      (rw (← letter) (f .stops low)) (subst (Letters (h .n)) parts allowed) (rw (← parts) deep)
+      ∙ ap (λ (m : List ℕ). firstOf (beyond (tableOf h l) (h .n) (h .min) (h .max) 0 m (suc y))) (sym (f .letters)))
     where
-      parts : k ≡ take depth k ++ (getD k depth 0 ∷ drop (suc depth) k)
-      parts = split-at k depth 0 low
+      parts : k ≡ take depth k ++ (y ∷ drop (suc depth) k)
+      parts = split-at k depth 0 low ∙ ap (λ (x : ℕ). take depth k ++ (x ∷ drop (suc depth) k)) letter
 
       reaches : descend (tableOf h l) 0 (take depth k) ≡ complete (getD nodes depth 0)
       reaches = ap (descend (tableOf h l) 0) (sym (f .letters)) ∙ f .along .ends depth (omega arith)
 
   -- it ends with the path
   module _ (whole : length k ≤ depth) where
-    same : take depth path ≡ k
-    same = f .letters ∙ take-all depth k whole
-
     within : depth ≤ h .max
     within = omega (arith, f .short)
 
-    pub after-key : sought h l true k ≡ firstOf (coming h l path depth 0)
-    after-key = ap (sought h l true) (sym same) ∙ after-path h l path nodes within room (f .along)
+    module _ {after : Bool} where
+      same : {a : Bool} → after ≡ a → sought h l after k ≡ sought h l a (take depth path)
+      same e = ap (λ (a : Bool). sought h l a k) e ∙ ap (sought h l _) (sym (f .letters ∙ take-all depth k whole))
 
-    module _ {v : ℕ} (value : v ≡ ownValue h (tableOf h l) (getD nodes depth 0) depth) where
-      pub at-key-none : v ≡ 0 → sought h l false k ≡ firstOf (coming h l path depth 0)
-      at-key-none empty = ap (sought h l false) (sym same) ∙ at-none h l path nodes within room (f .along) value empty
+      pub after-key : after ≡ true → sought h l after k ≡ firstOf (coming h l path depth 0)
+      after-key a = same a ∙ after-path h l path nodes within room (f .along)
 
-      pub at-key-own : v ≢ 0 → Told h l (sought h l false k) (Search.Found depth v) path nodes
-      at-key-own full = told-same h l (ap (sought h l false) (sym same)) (at-own h l path nodes within room (f .along) value full)
+      module _ {v : ℕ} (value : v ≡ ownValue h (tableOf h l) (getD nodes depth 0) depth) (a : after ≡ false) where
+        pub at-key-none : v ≡ 0 → sought h l after k ≡ firstOf (coming h l path depth 0)
+        at-key-none empty = same a ∙ at-none h l path nodes within room (f .along) value empty
+
+        pub at-key-own : v ≢ 0 → Told h l (sought h l after k) (Search.Found depth v) path nodes
+        at-key-own full = told-same h l (same a) (at-own h l path nodes within room (f .along) value full)

@@ -1,13 +1,15 @@
 -- 01, "Walking, storing, listing": "gives the first stored key that meets it". What a search tells of the key that it was to find, and the
 -- path that it leaves: the key's letters, and the nodes on its way, the root first.
-use Prim.Native.Nat.{ℕ, suc, _-_, _≤_, _<_}
+use Prim.Native.Nat.{ℕ, _-_, _≤_, _<_}
 use mathlib.Core.Path.{_≡_}
-use mathlib.Core.Bool.{cond}
+use mathlib.Core.Logic.{_≢_}
+use mathlib.Core.Bool.{Bool, cond}
 use mathlib.Core.Option.{Option, none, some}
-use mathlib.Core.List.{List, _++_, map}
+use mathlib.Core.List.{List}
 use lib.ListN.{length, getD, take}
 use lib.Dec.{ltb}
 use Rattle.trie.specs.Table.{Table, complete, descend, answer, Letters}
+use Rattle.trie.specs.Keys.{listing, meets, firstMeeting}
 use Rattle.trie.specs.Beyond.{keysFrom, beyond}
 use Rattle.head.specs.declared.Head.{Head}
 use Rattle.node.specs.Image.{tableOf}
@@ -33,6 +35,10 @@ pub record Reached (h : Head) (l k path nodes : List ℕ) : Type 0 where
   pub letters : take (length k) path ≡ k
   pub along : Along h l (length k) path nodes
 
+-- "the first stored key that meets it"
+abbrev pub sought : Head → List ℕ → Bool → List ℕ → Option (List ℕ)
+sought h l after k = firstMeeting (meets after k) (listing (tableOf h l) (h .n) (h .min) (h .max))
+
 -- what is answered of a key that there is or is not
 unfoldable pub toldOf : Table → Option (List ℕ) → Search
 unfolding answer
@@ -45,18 +51,20 @@ pub record Told (h : Head) (l : List ℕ) (sought : Option (List ℕ)) (r : Sear
 
 -- What the searches inside are told by.
 
--- the stored keys below a node at a depth from a letter on, the letters of the path in front
-unfoldable pub ahead : Head → List ℕ → List ℕ → ℕ → ℕ → ℕ → List (List ℕ)
-ahead h l path depth q x = map (take depth path ++_) (keysFrom (tableOf h l) (h .n) (h .min - depth) (h .max - depth) q x)
-
 -- the stored keys still to come when the path's first `depth` letters are walked and the letters below x are done there
 unfoldable pub coming : Head → List ℕ → List ℕ → ℕ → ℕ → List (List ℕ)
 coming h l path depth x = beyond (tableOf h l) (h .n) (h .min) (h .max) 0 (take depth path) x
 
--- a search below a depth leaves the path up to there
-pub record Kept (depth : ℕ) (path₀ nodes₀ path nodes : List ℕ) : Type 0 where
-  pub letters : take depth path ≡ take depth path₀
-  pub ends : take (suc depth) nodes ≡ take (suc depth) nodes₀
+-- the stored keys below node q at a depth from letter x on, written from q on
+abbrev pub ahead : Head → Table → ℕ → ℕ → ℕ → List (List ℕ)
+ahead h t q depth x = keysFrom t (h .n) (h .min - depth) (h .max - depth) q x
+
+-- below node q at a depth no key comes by the letters from x up to i, and letter i is linked unless none is left
+pub record Passed (h : Head) (t : Table) (q depth x i : ℕ) : Type 0 where
+  pub same : ahead h t q depth x ≡ ahead h t q depth i
+  pub low : i < h .n → x ≤ i
+  pub deep : i < h .n → depth < h .max
+  pub full : i < h .n → t .child q i ≢ 0
 
 -- how far a key leads: to its end, or to an empty link
 pub record Followed (h : Head) (l k path nodes : List ℕ) (depth : ℕ) : Type 0 where

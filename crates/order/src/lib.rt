@@ -3,14 +3,14 @@
 // that the key after it is found from there and a whole listing is one walk through the image.
 ghost use mathlib.Core.Path.{_≡_};
 ghost use mathlib.Core.Bool.{true};
-ghost use Prim.Native.Nat.{_+_, _-_, _^_, _≤_, _<_};
-ghost use lib.ListN.{length, getD, take};
+ghost use Prim.Native.Nat.{_+_, _^_, _≤_, _<_};
+ghost use lib.ListN.{length, take};
 ghost use Rattle.trie.specs.Rules.{Within};
-ghost use Rattle.trie.specs.Keys.{listing, meets, firstMeeting};
-ghost use Rattle.trie.specs.Beyond.{keysFrom, firstOf};
+ghost use Rattle.trie.specs.Keys.{listing};
+ghost use Rattle.trie.specs.Beyond.{firstOf};
 ghost use Rattle.node.specs.Image.{Open, Masks, tableOf};
 ghost use Rattle.key.specs.Hand.{Ready, lettersOf};
-ghost use Rattle.order.specs.Search.{ownValue, ahead, coming, Room, Along, Kept, Followed, Told};
+ghost use Rattle.order.specs.Search.{ownValue, ahead, coming, Room, Along, Passed, Followed, sought, Told};
 use head::Head;
 use key::Key;
 
@@ -26,59 +26,59 @@ pub fn count(image: &[u8], h: Head) -> u32
     requires { ⌜ length (listing (tableOf h (now image)) (h .n) (h .min) (h .max)) < 2 ^ 32 ⌝ }
     ensures { λ r. ⌜ r ≡ length (listing (tableOf h (now (image .entry))) (h .n) (h .min) (h .max)) ⌝ }
 {
-    let own = if own_value(image, h, 0, 0) == 0 { 0 } else { 1 };
-    counted(image, h, node::mask(h), 0, 0, own)
-}
-
-// The stored keys below a node at a depth, its own left out, counted onto those counted before. It calls itself on each child; the depth
-// left to max falls.
-fn counted(image: &[u8], h: Head, mask: u32, node: u32, depth: usize, before: u32) -> u32
-    requires { ⌜ Open h (now image) ⌝ ∗ ⌜ Within (tableOf h (now image)) (h .g) ⌝ ∗ ⌜ Masks h mask ⌝ }
-    requires { ⌜ node ≤ h .g ⌝ ∗ ⌜ depth ≤ h .max ⌝ }
-    requires { ⌜ before + length (keysFrom (tableOf h (now image)) (h .n) (h .min - depth) (h .max - depth) node 0) < 2 ^ 32 ⌝ }
-    ensures { λ r. ⌜ r ≡ before + length (keysFrom (tableOf h (now (image .entry))) (h .n) (h .min - depth) (h .max - depth) node 0) ⌝ }
-{
-    if (h.max as usize) <= depth {
-        return before;
+    let mut path = [0u8; 64];
+    let mut nodes = [0u32; 65];
+    let mut sum: u32 = if own_value(image, h, 0, 0) == 0 { 0 } else { 1 };
+    let mut len: usize = 0;
+    loop {
+        let found = onward(image, h, len, &mut path, &mut nodes);
+        let Search::Found { length, value: _ } = found else {
+            return sum;
+        };
+        sum += 1;
+        len = length;
     }
-    if node::childless(image, h, node) {
-        return before;
-    }
-    let mut sum = before;
-    for i in 0..h.n {
-        let c = node::link(image, h, mask, node, i);
-        if c == 0 {
-            continue;
-        }
-        if own_value(image, h, c, depth + 1) != 0 {
-            sum += 1;
-        }
-        sum = counted(image, h, mask, c, depth + 1, sum);
-    }
-    sum
 }
 
 // The first stored key at or after the key in hand, or after it. Its letters are at the front of the path then, and the nodes are those
 // on its way from the root on.
-pub fn next(image: &[u8], h: Head, key: Key, after: bool, path: &mut [u8], nodes: &mut [u32]) -> Search
+pub fn next(
+    image: &[u8],
+    h: Head,
+    key: Key,
+    after: bool,
+    path: &mut [u8],
+    nodes: &mut [u32],
+) -> Search
     requires { ⌜ Open h (now image) ⌝ ∗ ⌜ Within (tableOf h (now image)) (h .g) ⌝ }
     requires { ⌜ Ready h key ⌝ ∗ ⌜ key .len ≤ h .max ⌝ ∗ ⌜ Room h (now path) (now nodes) ⌝ }
-    ensures { λ r. ⌜ Told h (now (image .entry)) (firstMeeting (meets after (lettersOf key)) (listing (tableOf h (now (image .entry))) (h .n) (h .min) (h .max))) r (now (path .exit)) (now (nodes .exit)) ⌝ }
+    ensures { λ r. ⌜ Told h (now (image .entry)) (sought h (now (image .entry)) after (lettersOf key)) r (now (path .exit)) (now (nodes .exit)) ⌝ }
     ensures { λ r. ⌜ Room h (now (path .exit)) (now (nodes .exit)) ⌝ }
 {
     let mask = node::mask(h);
     let depth = along(image, h, mask, key, path, nodes);
     if depth < key.len {
         let letters = key.letters;
-        return climb(image, h, mask, depth, (letters[depth] as u32) + 1, path, nodes);
+        return seek(
+            image,
+            h,
+            mask,
+            depth,
+            (letters[depth] as u32) + 1,
+            path,
+            nodes,
+        );
     }
     if !after {
         let value = own_value(image, h, nodes[depth], depth);
         if value != 0 {
-            return Search::Found { length: depth, value };
+            return Search::Found {
+                length: depth,
+                value,
+            };
         }
     }
-    climb(image, h, mask, depth, 0, path, nodes)
+    seek(image, h, mask, depth, 0, path, nodes)
 }
 
 // The first stored key after the one whose letters are the first `len` of the path, with its nodes. Over a whole listing each link is
@@ -86,10 +86,10 @@ pub fn next(image: &[u8], h: Head, key: Key, after: bool, path: &mut [u8], nodes
 pub fn onward(image: &[u8], h: Head, len: usize, path: &mut [u8], nodes: &mut [u32]) -> Search
     requires { ⌜ Open h (now image) ⌝ ∗ ⌜ Within (tableOf h (now image)) (h .g) ⌝ }
     requires { ⌜ len ≤ h .max ⌝ ∗ ⌜ Room h (now path) (now nodes) ⌝ ∗ ⌜ Along h (now image) len (now path) (now nodes) ⌝ }
-    ensures { λ r. ⌜ Told h (now (image .entry)) (firstMeeting (meets true (take len (now (path .entry)))) (listing (tableOf h (now (image .entry))) (h .n) (h .min) (h .max))) r (now (path .exit)) (now (nodes .exit)) ⌝ }
+    ensures { λ r. ⌜ Told h (now (image .entry)) (sought h (now (image .entry)) true (take len (now (path .entry)))) r (now (path .exit)) (now (nodes .exit)) ⌝ }
     ensures { λ r. ⌜ Room h (now (path .exit)) (now (nodes .exit)) ⌝ }
 {
-    climb(image, h, node::mask(h), len, 0, path, nodes)
+    seek(image, h, node::mask(h), len, 0, path, nodes)
 }
 
 // Follows a key as far as its links go, and answers how far that is.
@@ -118,7 +118,16 @@ fn along(image: &[u8], h: Head, mask: u32, key: Key, path: &mut [u8], nodes: &mu
 }
 
 // The first stored key below the path's end from a letter on or, where there is none, behind the letter taken at each node on the way up.
-fn climb(image: &[u8], h: Head, mask: u32, end: usize, first: u32, path: &mut [u8], nodes: &mut [u32]) -> Search
+// It goes down by the first letter that is linked and up where none is left, so path and nodes are all that it has to remember.
+fn seek(
+    image: &[u8],
+    h: Head,
+    mask: u32,
+    end: usize,
+    first: u32,
+    path: &mut [u8],
+    nodes: &mut [u32],
+) -> Search
     requires { ⌜ Open h (now image) ⌝ ∗ ⌜ Within (tableOf h (now image)) (h .g) ⌝ ∗ ⌜ Masks h mask ⌝ }
     requires { ⌜ end ≤ h .max ⌝ ∗ ⌜ Room h (now path) (now nodes) ⌝ ∗ ⌜ Along h (now image) end (now path) (now nodes) ⌝ }
     ensures { λ r. ⌜ Told h (now (image .entry)) (firstOf (coming h (now (image .entry)) (now (path .entry)) end first)) r (now (path .exit)) (now (nodes .exit)) ⌝ }
@@ -126,9 +135,22 @@ fn climb(image: &[u8], h: Head, mask: u32, end: usize, first: u32, path: &mut [u
     let mut depth = end;
     let mut from = first;
     loop {
-        let found = below(image, h, mask, nodes[depth], depth, from, path, nodes);
-        if let Search::Found { .. } = found {
-            return found;
+        let node = nodes[depth];
+        let i = letter_on(image, h, mask, node, depth, from);
+        if i < h.n {
+            let c = node::link(image, h, mask, node, i);
+            path[depth] = i as u8;
+            depth += 1;
+            nodes[depth] = c;
+            let value = own_value(image, h, c, depth);
+            if value != 0 {
+                return Search::Found {
+                    length: depth,
+                    value,
+                };
+            }
+            from = 0;
+            continue;
         }
         if depth == 0 {
             return Search::Missing;
@@ -138,40 +160,25 @@ fn climb(image: &[u8], h: Head, mask: u32, end: usize, first: u32, path: &mut [u
     }
 }
 
-// The first stored key below a node at a depth whose next letter is `from` or a later one. It calls itself on each child; the depth left to
-// max falls.
-fn below(image: &[u8], h: Head, mask: u32, node: u32, depth: usize, from: u32, path: &mut [u8], nodes: &mut [u32]) -> Search
-    requires { ⌜ Open h (now image) ⌝ ∗ ⌜ Within (tableOf h (now image)) (h .g) ⌝ ∗ ⌜ Masks h mask ⌝ }
-    requires { ⌜ depth ≤ h .max ⌝ ∗ ⌜ Room h (now path) (now nodes) ⌝ ∗ ⌜ Along h (now image) depth (now path) (now nodes) ⌝ ∗ ⌜ node ≡ getD (now nodes) depth 0 ⌝ }
-    ensures { λ r. ⌜ Told h (now (image .entry)) (firstOf (ahead h (now (image .entry)) (now (path .entry)) depth node from)) r (now (path .exit)) (now (nodes .exit)) ⌝ }
-    ensures { λ r. ⌜ Kept depth (now (path .entry)) (now (nodes .entry)) (now (path .exit)) (now (nodes .exit)) ⌝ }
+// The first letter at or after `from` by which a node at a depth may lead to a key, or N where there is none.
+fn letter_on(image: &[u8], h: Head, mask: u32, node: u32, depth: usize, from: u32) -> u32
+    requires { ⌜ Open h (now image) ⌝ ∗ ⌜ Masks h mask ⌝ ∗ ⌜ node ≤ h .g ⌝ }
+    ensures { λ r. ⌜ Passed h (tableOf h (now (image .entry))) node depth from r ⌝ }
 {
     if (h.max as usize) <= depth {
-        return Search::Missing;
+        return h.n;
     }
-    if node::childless(image, h, node) {
-        return Search::Missing;
+    if from == 0 {
+        if node::childless(image, h, node) {
+            return h.n;
+        }
     }
     for i in from..h.n {
-        let c = node::link(image, h, mask, node, i);
-        if c == 0 {
-            continue;
-        }
-        path[depth] = i as u8;
-        nodes[depth + 1] = c;
-        let value = own_value(image, h, c, depth + 1);
-        if value != 0 {
-            return Search::Found {
-                length: depth + 1,
-                value,
-            };
-        }
-        let deeper = below(image, h, mask, c, depth + 1, 0, path, nodes);
-        if let Search::Found { .. } = deeper {
-            return deeper;
+        if node::link(image, h, mask, node, i) != 0 {
+            return i;
         }
     }
-    Search::Missing
+    h.n
 }
 
 // The data of a node at a depth, 0 where keys of that length are too short to be stored.

@@ -1,7 +1,7 @@
 -- `order::along` meets its contract: letter by letter the path is the key's beginning, down to its end or to an empty link.
 -- Assumes nothing.
-use Prim.Native.Nat.{_-_}
-use mathlib.Core.Path.{_≡_, sym, _∙_}
+use Prim.Native.Nat.{_+_, _-_, _<_}
+use mathlib.Core.Path.{_≡_, _∙_}
 use native.Mathlib.Omega.{arith}
 use borrow.Author.Needs.{needs}
 use lib.ListN.{length, getD, take, length-set}
@@ -15,7 +15,8 @@ use Rattle.order.proofs.along.Statement.{statement}
 use Rattle.order.proofs.along.Tie as tie
 
 abbrev Inv-loop : tie.InvT-loop
-Inv-loop image h mask path₀ nodes₀ letters len node₀ depth₀ path nodes node depth = Following h image (take len letters) path₀ nodes₀ path nodes node depth
+Inv-loop image h mask path₀ nodes₀ letters len node₀ depth₀ path nodes node depth =
+    Following h image (take len letters) path₀ nodes₀ path nodes node depth
 
 abbrev μ-loop : tie.MeasureT-loop
 μ-loop image h mask path₀ nodes₀ letters len node₀ depth₀ path nodes node depth = len - depth
@@ -39,6 +40,26 @@ letter c =
 slice-write-nodes : tie.Need-slice-write-nodes Inv-loop μ-loop
 slice-write-nodes c = search needs
 
+-- it is below N
+low : (c : tie.In-loop Inv-loop μ-loop)
+    → (let a = c .before .before .before .before .before .before .args in getD (a .key .letters) (c .before .loop .depth) 0 < a .h .n)
+low c =
+    let start = c .before .before .before .before .before .before in
+    let p = start .pre .1 .1 .1 .0 in
+    letter-below (start .args .key) (whole start) (p .short) (start .args .h .n) (c .before .loop .depth) (p .letters) (c .loop-test .taken)
+
+-- and the path goes no deeper than max
+inside : (c : tie.Else1 Inv-loop μ-loop)
+    → (let loop = c .before .before .before .loop in
+    (loop .depth < length (loop .path)) × (loop .depth + 1 < length (loop .nodes)) × (loop .depth < 64))
+inside c =
+    let start = c .before .before .before .before .before .before .before .before in
+    let max = bounds (start .args .h) (start .pre .0 .head-permitted) .max-most in
+    let deep = start .pre .1 .1 .1 .1 .0 in
+    let before = c .before .before .loop-test .taken in
+    let r = c .before .before .before .loop .inv .room in
+    (omega (arith, deep, before, r .letters), omega (arith, deep, before, r .ends), omega (arith, max, deep, before))
+
 loop-holds : tie.Need-loop-holds Inv-loop μ-loop
 loop-holds c =
     let start = c .before .before .before .before in
@@ -46,88 +67,74 @@ loop-holds c =
     following-start (a .h) (a .image .now) (lettersOf (a .key)) (a .path .now) (a .nodes .now) (start .pre .1 .1 .1 .1 .1)
 
 array-read-letter : tie.Need-array-read-letter Inv-loop μ-loop
-array-read-letter c = let start = c .before .before .before .before .before .before in omega (arith, c .loop-test .taken, start .pre .1 .1 .1 .0 .short)
+array-read-letter c =
+    let start = c .before .before .before .before .before .before in
+    omega (arith, c .loop-test .taken, start .pre .1 .1 .1 .0 .short)
 
 cast-link : tie.Need-cast-link Inv-loop μ-loop
 cast-link c =
     let start = c .before .before .before .before .before .before in
-    let p = start .pre in
-    omega (arith, bounds (start .args .h) (p .0 .head-permitted), letter-below (start .args .key) (whole start) (p .1 .1 .1 .0 .short) (start .args .h .n) (c .before .loop .depth) (p .1 .1 .1 .0 .letters) (c .loop-test .taken))
+    omega (arith, bounds (start .args .h) (start .pre .0 .head-permitted), low c)
 
 link-requires : tie.Need-link-requires Inv-loop μ-loop
 link-requires c κs =
     let start = c .before .before .before .before .before .before in
     let p = start .pre in
     let f = c .before .loop .inv in
-    (
-      p .0,
-      (
-        p .1 .1 .0,
-        (
-          rw (f .node) (along-within (start .args .h) (start .args .image .now) (p .1 .0) (f .along)),
-          letter-below (start .args .key) (whole start) (p .1 .1 .1 .0 .short) (start .args .h .n) (c .before .loop .depth) (p .1 .1 .1 .0 .letters) (c .loop-test .taken),
-        ),
-      ),
-    )
+    (p .0, (p .1 .1 .0, (rw (f .node) (along-within (start .args .h) (start .args .image .now) (p .1 .0) (f .along)), low c)))
 
 same-length : tie.Need-same-length Inv-loop μ-loop
 same-length c = c .before .before .before .loop .inv .letters
 
 same-length-2 : tie.Need-same-length-2 Inv-loop μ-loop
-same-length-2 c = c .before .before .before .loop .inv .ends ∙ length-set (c .before .before .before .before .before .before .before .before .args .nodes .now) 0 0
+same-length-2 c =
+    let loop = c .before .before .before in
+    loop .loop .inv .ends ∙ length-set (loop .before .before .before .before .before .args .nodes .now) 0 0
 
 returns : tie.Need-returns Inv-loop μ-loop
-returns c = let found = c .before in following-stop (found .before .before .loop .inv) (letter (found .before)) (found .link .ensures) (c .if1 .taken)
+returns c =
+    let found = c .before in
+    following-stop (found .before .before .loop .inv) (letter (found .before)) (found .link .ensures) (c .if1 .taken)
 
 slice-write-path : tie.Need-slice-write-path Inv-loop μ-loop
-slice-write-path c =
-    let start = c .before .before .before .before .before .before .before .before in
-    let at = c .before .before in
-    omega (arith, bounds (start .args .h) (start .pre .0 .head-permitted), start .pre .1 .1 .1 .1, at .loop-test .taken, at .before .loop .inv .room)
+slice-write-path c = inside c .0
 
 add-nodes : tie.Need-add-nodes Inv-loop μ-loop
-add-nodes c =
-    let start = c .before .before .before .before .before .before .before .before in
-    let at = c .before .before in
-    omega (arith, bounds (start .args .h) (start .pre .0 .head-permitted), start .pre .1 .1 .1 .1, at .loop-test .taken, at .before .loop .inv .room)
+add-nodes c = omega (arith, inside c .2)
 
 mul-nodes : tie.Need-mul-nodes Inv-loop μ-loop
-mul-nodes c =
-    let start = c .before .before .before .before .before .before .before .before in
-    let at = c .before .before in
-    omega (arith, bounds (start .args .h) (start .pre .0 .head-permitted), start .pre .1 .1 .1 .1, at .loop-test .taken, at .before .loop .inv .room)
+mul-nodes c = omega (arith, inside c .2)
 
 slice-write-nodes-2 : tie.Need-slice-write-nodes-2 Inv-loop μ-loop
-slice-write-nodes-2 c =
-    let start = c .before .before .before .before .before .before .before .before in
-    let at = c .before .before in
-    omega (arith, bounds (start .args .h) (start .pre .0 .head-permitted), start .pre .1 .1 .1 .1, at .loop-test .taken, at .before .loop .inv .room)
+slice-write-nodes-2 c = inside c .1
 
 add-depth : tie.Need-add-depth Inv-loop μ-loop
-add-depth c =
-    let start = c .before .before .before .before .before .before .before .before in
-    let at = c .before .before in
-    omega (arith, bounds (start .args .h) (start .pre .0 .head-permitted), start .pre .1 .1 .1 .1, at .loop-test .taken, at .before .loop .inv .room)
+add-depth c = omega (arith, inside c .2)
 
 loop-less : tie.Need-loop-less Inv-loop μ-loop
 loop-less c = omega arith
 
 loop-again : tie.Need-loop-again Inv-loop μ-loop
 loop-again c =
-    let start = c .before .before .before .before .before .before .before .before in
     let found = c .before in
+    let at = found .before in
+    let start = at .before .before .before .before .before .before in
     let p = start .pre .1 .1 .1 in
-    following-on (found .before .before .loop .inv) (letter (found .before)) (found .link .ensures) (omega (arith, count start, found .before .loop-test .taken))
+    following-on (at .before .loop .inv) (letter at) (found .link .ensures) (omega (arith, count start, at .loop-test .taken))
     (omega (arith, count start, p .1 .0)) (p .0 .letters) (c .if1 .left)
 
 same-length-3 : tie.Need-same-length-3 Inv-loop μ-loop
 same-length-3 c = c .before .loop .inv .letters
 
 same-length-4 : tie.Need-same-length-4 Inv-loop μ-loop
-same-length-4 c = c .before .loop .inv .ends ∙ length-set (c .before .before .before .before .before .before .args .nodes .now) 0 0
+same-length-4 c =
+    let loop = c .before in
+    loop .loop .inv .ends ∙ length-set (loop .before .before .before .before .before .args .nodes .now) 0 0
 
 returns-2 : tie.Need-returns-2 Inv-loop μ-loop
-returns-2 c = following-end (c .before .loop .inv) (omega (arith, count (c .before .before .before .before .before .before), c .loop-test .left))
+returns-2 c =
+    let loop = c .before in
+    following-end (loop .loop .inv) (omega (arith, count (loop .before .before .before .before .before), c .loop-test .left))
 
 pub along-spec : {M : Type 1} → statement M
 along-spec =

@@ -10,7 +10,9 @@ cast-if1 : tie.Need-cast-if1
 cast-if1 c = search needs
 
 returns : tie.Need-returns
-returns c = let a = c .before .before .before .args in sym (own-below (a .h) (tableOf (a .h) (a .image .now)) (a .node) (a .depth) (c .if1 .taken))
+returns c =
+    let a = c .before .before .before .args in
+    sym (own-below (a .h) (tableOf (a .h) (a .image .now)) (a .node) (a .depth) (c .if1 .taken))
 
 data-requires : tie.Need-data-requires
 data-requires c κs = search needs
