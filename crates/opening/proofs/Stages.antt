@@ -1,24 +1,23 @@
 -- What an opening tells at each way out, from what its stages returned: a refusal that is heard, or row 4 with the letters that were decoded.
 use Prim.Native.Nat.{ℕ, _+_, _-_, _≤_, _<_, min}
 use mathlib.Core.Path.{_≡_, refl, sym, _∙_, ap}
-use mathlib.Core.Bool.{Bool, true, false, not, _&&_, and-false}
+use mathlib.Core.Bool.{Bool, true, false}
 use mathlib.Core.Option.{some}
 use mathlib.Core.List.{List}
 use native.Mathlib.Omega.{arith}
-use lib.Dec.{leb, ltb, eqb}
+use lib.Dec.{leb}
 use lib.ListN.{length, take, drop, length-drop}
-use lib.Seq.{take-all, length-take-le}
-use borrow.Author.Tests.{lt-ltb, le-ltb, eq-eqb, ne-eqb, leb-true, leb-false}
+use lib.Seq.{take-all}
+use borrow.Author.Tests.{lt-ltb, eq-eqb, leb-true, leb-false}
 use Rattle.head.specs.declared.Head.{Head}
 use Rattle.head.specs.Fields.{headOf}
-use Rattle.head.proofs.Places.{used-le, place-least}
 use Rattle.alphabet.specs.Letters.{goodAlphabet, letters}
 use Rattle.paper.specs.declared.Refusal.{Refusal}
 use Rattle.paper.specs.Hearing.{first}
 use Rattle.paper.specs.Answers.{saidOf, rowOf}
 use Rattle.paper.specs.Rows.{row4}
 use Rattle.paper.specs.Orders.{alphabetIn, opening, openingOf}
-use Rattle.paper.proofs.Opening.{spoilt, passed}
+use Rattle.paper.proofs.Opening.{spoilt, passed, good-unspoilt, alphabet-whole}
 use Rattle.opening.specs.declared.Opened.{Opened}
 use Rattle.opening.specs.Opened.{Judged, Opens, RoomOf, RefusedOf}
 
@@ -44,17 +43,13 @@ module _ (h : Head) (alphabet : List ℕ) (len : ℕ) where
 
   -- the test of row 3, by what its parts are
   pub plain-empty : h .f ≡ 0 → spoilt h alphabet len ≡ false
-  plain-empty e = rw (le-ltb 0 (h .f) (omega arith))
+  plain-empty e = good-unspoilt h alphabet len (λ b w. absurd (omega arith))
 
   pub plain-cut : (length alphabet ≡ h .f → ⊥) → spoilt h alphabet len ≡ false
-  plain-cut e = rw (ne-eqb (length alphabet) (h .f) e) (and-false-left (ltb 0 (h .f)))
-    where
-      and-false-left : (b : Bool) → (b && false && not (goodAlphabet (h .n) alphabet)) ≡ false
-      and-false-left true = refl
-      and-false-left false = refl
+  plain-cut e = good-unspoilt h alphabet len (λ b w. absurd (e w))
 
   pub plain-good : goodAlphabet (h .n) alphabet ≡ true → spoilt h alphabet len ≡ false
-  plain-good e = rw e (and-false (ltb 0 (h .f) && eqb (length alphabet) (h .f)))
+  plain-good e = good-unspoilt h alphabet len (λ b w. e)
 
   pub spoilt-bad : (h .f ≡ 0 → ⊥) → length alphabet ≡ h .f → goodAlphabet (h .n) alphabet ≡ false → spoilt h alphabet len ≡ true
   spoilt-bad z w e = rw (lt-ltb 0 (h .f) (omega arith), eq-eqb (length alphabet) (h .f) w, e)
@@ -95,6 +90,5 @@ opens-judged l {h} {end} {r} {codes} e b k j =
       verdict = o .verdict;
       head = λ _. o .head;
       decoded = λ n. o .decoded n
-          (let p = passed (headOf l) alphabet (length l) (sym (o .verdict) ∙ n) in
-          length-take-le (headOf l .f) (drop 28 l) (omega (arith, length-drop 28 l, p .room, used-le (headOf l) 0 (omega arith), place-least (headOf l) 0)));
+          (alphabet-whole (headOf l) l (passed (headOf l) alphabet (length l) (sym (o .verdict) ∙ n) .room));
     }

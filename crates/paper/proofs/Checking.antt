@@ -2,18 +2,16 @@
 -- link, since a table has no link outside them; how often an address stands in a link is a sum, above 0 where one link holds it.
 use Prim.Native.Nat.{ℕ, zero, suc, _+_, _≤_, _<_}
 use mathlib.Core.Path.{_≡_, refl, sym, _∙_}
-use mathlib.Core.Bool.{Bool, true, false, not, _&&_, _||_, cond, or-true, and-false}
+use mathlib.Core.Bool.{Bool, true, false, not, _&&_, _||_, cond, or-true}
 use mathlib.Core.Logic.{_↔_, _≢_, _⊎_, inl, inr, ⊎-elim}
 use mathlib.Core.Option.{none, some}
 use mathlib.Core.List.{List, [], _∷_}
 use native.Mathlib.Omega.{arith}
 use native.Mathlib.Numerals.{add-one}
 use native.Mathlib.Decide.{ℕ-discrete, decLe}
-use lib.ListN.{length, drop, length-drop}
-use lib.Seq.{length-take-le}
+use lib.ListN.{length}
 use lib.Dec.{leb, ltb, eqb}
 use borrow.Author.Tests.{lt-ltb, le-ltb, le-leb, lt-leb, eq-eqb, ne-eqb, leb-true, leb-false, ltb-true, ltb-false, eqb-true, eqb-false, not-false}
-use Rattle.field.specs.Range.{between}
 use Rattle.field.proofs.Range.{both, between-true, true-between}
 use Rattle.trie.specs.Table.{Table}
 use Rattle.trie.specs.Lowest.{lowest}
@@ -21,19 +19,19 @@ use Rattle.trie.specs.Rules.{Framed, Within, Rising, Named, Once, Linked}
 use Rattle.trie.proofs.Lowest.{NonePasses, lowest-at, lowest-none, none-lowest}
 use Rattle.trie.proofs.Counted.{Sums, one-part, two-parts, some-part, one-at-most}
 use Rattle.head.specs.declared.Head.{Head}
-use Rattle.head.specs.Fields.{shortestImage, longestImage, headOf, fieldsLen, permitted, usedLen}
-use Rattle.head.proofs.Places.{used-le, place-least}
-use Rattle.alphabet.specs.Letters.{goodAlphabet}
+use Rattle.head.specs.Fields.{shortestImage, longestImage, headOf, usedLen}
+use Rattle.alphabet.specs.Letters.{among}
 use Rattle.node.specs.Image.{tableOf, Open}
 use Rattle.node.proofs.Tables.{framed}
-use Rattle.paper.specs.Hearing.{Row, Outcome, first, heard, given, refusedNumbers, doneNumbers}
+use Rattle.paper.specs.Hearing.{first, heard, doneNumbers}
 use Rattle.paper.specs.Answers.{said}
-use Rattle.paper.specs.Rows.{row1, row2, row3, row4, row5, badLink, holdsBad, givenLowest, row6, timesIn, times, row7, row8}
-use Rattle.paper.specs.Orders.{alphabetIn, opening, openingOf, linking, checking}
+use Rattle.paper.specs.Rows.{row5, badLink, holdsBad, givenLowest, row6, timesIn, times, row7, row8}
+use Rattle.paper.specs.Orders.{alphabetIn, openingOf, linking, checking}
 use Rattle.paper.specs.Calls.{tableIn, checkOf}
 use Rattle.paper.specs.Accepted.{Accepted}
 use Rattle.paper.proofs.Hearing.{is-given, not-given, was-false, first-nil, first-none, yes-row, no-row, second-part, passed-row, passed-parts}
-use Rattle.paper.proofs.Opening.{spoilt, fits-4, left-4, Passed, passed, unspoilt-good}
+use Rattle.paper.proofs.Numbers.{AllSay, end, _then_, given-says, lowest-says, parts-say, first-says, none-heard}
+use Rattle.paper.proofs.Opening.{fits-4, left-4, Passed, passed, opening-says, good-unspoilt, unspoilt-good, alphabet-whole}
 
 -- ---- a bad link, and a node that holds one
 
@@ -49,11 +47,8 @@ not-bad g q (suc c) = (to, from)
     from (inl z) = absurd (omega arith)
     from (inr b) = rw (le-leb (suc c) g (b .0), lt-ltb q (suc c) (b .1))
 
-pub bad : (g q c : ℕ) → c ≢ 0 → (g < c) ⊎ (c ≤ q) → badLink g q c ≡ true
-unfolding badLink
-bad g q zero z b = absurd (z refl)
-bad g q (suc c) z (inl b) = rw (lt-leb (suc c) g b)
-bad g q (suc c) z (inr b) = rw (le-ltb q (suc c) b, and-false (leb (suc c) g))
+pub good-link : (g q c : ℕ) → c ≢ 0 → badLink g q c ≡ false → (c ≤ g) × (q < c)
+good-link g q c d e = ⊎-elim (λ z. absurd (d z)) (λ b. b) (not-bad g q c .0 e)
 
 module _ (g : ℕ) (t : Table) (q : ℕ) where
   pub bad-start : holdsBad g t q 0 ≡ false
@@ -315,59 +310,20 @@ module _ (h : Head) (t : Table) (f : Framed t (h .g) (h .n)) where
 
 -- ---- 1 to 5
 
--- where what is used lies inside the image, so does the alphabet
-pub alphabet-whole : (h : Head) (l : List ℕ) → usedLen h ≤ length l → length (alphabetIn h l) ≡ h .f
-unfolding alphabetIn
-alphabet-whole h l b =
-    length-take-le (h .f) (drop fieldsLen l) (omega (arith, length-drop fieldsLen l, used-le h 0 (omega arith), place-least h 0))
-
-good-unspoilt : (h : Head) (alphabet : List ℕ) (len : ℕ) → (0 < h .f → goodAlphabet (h .n) alphabet ≡ true) → spoilt h alphabet len ≡ false
-good-unspoilt h alphabet len good = go (decLe 1 (h .f))
-  where
-    go : Dec (0 < h .f) → spoilt h alphabet len ≡ false
-    go (yes b) = rw (good b) (and-false (ltb 0 (h .f) && eqb (length alphabet) (h .f)))
-    go (no b) = rw (le-ltb 0 (h .f) (omega arith))
-
 pub accepted-opens : {l : List ℕ} → Accepted l → first (openingOf l) ≡ none
 unfolding openingOf
 accepted-opens {l} a =
     let h : Head = headOf l in
     let long = true-between (length l) shortestImage longestImage (a .long-enough) (a .short-enough) in
-    left-4 h (alphabetIn h l) (length l) long (a .head-permitted) (good-unspoilt h (alphabetIn h l) (length l) (a .alphabet-good))
+    let unspoilt = good-unspoilt h (alphabetIn h l) (length l) (λ b _. a .alphabet-good (omega arith)) in
+    left-4 h (alphabetIn h l) (length l) long (a .head-permitted) unspoilt
     ∙ fits-4 h (length l) (le-leb (usedLen h) (length l) (a .room))
 
--- ---- a row says a number above 0, so that the number 0 is left to what is done
-
-data Numbered : Row → Type 0 where
-  silent : Numbered none
-  says : (number place : ℕ) → Numbered (some (said (suc number) place))
-
-infixr 5 _then_
-data AllNumbered : List Row → Type 0 where
-  end : AllNumbered []
-  _then_ : {r : Row} {rows : List Row} → Numbered r → AllNumbered rows → AllNumbered (r ∷ rows)
-
-given-numbered : (number place : ℕ) (test : Bool) → Numbered (given (suc number) place test)
-unfolding given
-given-numbered number place true = says number place
-given-numbered number place false = silent
-
-lowest-numbered : (number : ℕ) (test : ℕ → Bool) (a k : ℕ) → Numbered (givenLowest (suc number) test a k)
-unfolding givenLowest
-lowest-numbered number test a k = given-numbered number (lowest test a k) (ltb (lowest test a k) (a + k))
-
-first-numbered : {rows : List Row} → AllNumbered rows → Numbered (first rows)
-unfolding first
-first-numbered end = silent
-first-numbered (silent then a) = first-numbered a
-first-numbered (says number place then a) = says number place
-
-number-none : {r : Row} (kept : List (List ℕ)) (done : Outcome) → Numbered r → heard r kept done .numbers .number ≡ 0 → r ≡ none
-unfolding heard refusedNumbers
-number-none kept done silent z = refl
-number-none kept done (says number place) z = absurd (omega arith)
-
 -- ---- 1 to 8, of an image and the working numbers lent
+
+-- the numbers of a check's refusals
+abbrev pub checkNumbers : List ℕ
+checkNumbers = 1 ∷ 2 ∷ 3 ∷ 4 ∷ 5 ∷ 6 ∷ 7 ∷ 8 ∷ []
 
 module _ (l work : List ℕ) where
   pub heard-5 : first (openingOf l) ≡ none → length work < headOf l .g + 1 → first (checking l work) ≡ some (said 5 0)
@@ -414,12 +370,13 @@ module _ (l work : List ℕ) where
       let t : Table = tableOf h l in
       let c = checked e in
       let long = between-true (length l) shortestImage longestImage (c .opened .allowed) in
+      let whole = alphabet-whole h l (c .opened .room) in
       let within : Within t (h .g) = none-within h t (framed h l) (c .none-6) in
       record {
         long-enough = long .0;
         short-enough = long .1;
         head-permitted = c .opened .head-permitted;
-        alphabet-good = λ b. unspoilt-good h (alphabetIn h l) (length l) (c .opened .unspoilt) b (alphabet-whole h l (c .opened .room));
+        alphabet-good = λ b. unspoilt-good h (alphabetIn h l) (length l) (c .opened .unspoilt) (omega arith) whole;
         room = c .opened .room;
         within = within;
         rising = none-rising h t (framed h l) (c .none-6);
@@ -440,25 +397,21 @@ module _ (l work : List ℕ) where
 
   -- ---- in the words of the outcome
 
-  numbered : Numbered (first (checking l work))
-  unfolding checking openingOf opening linking row1 row2 row3 row4 row5 row6 row7 row8
-  numbered =
+  pub checking-says : AllSay checkNumbers (checking l work)
+  unfolding checking openingOf linking row5 row6 row7 row8 among
+  checking-says =
       let h : Head = headOf l in
       let t : Table = tableOf h l in
-      first-numbered
-      (given-numbered _ _ (not (between (length l) shortestImage longestImage))
-      then given-numbered _ _ (not (permitted h))
-      then given-numbered _ _ (spoilt h (alphabetIn h l) (length l))
-      then given-numbered _ _ (ltb (length l) (usedLen h))
-      then given-numbered _ _ (ltb (length work) (h .g + 1))
-      then lowest-numbered _ (holds h t) 0 (h .g + 1)
-      then lowest-numbered _ (twice h t) 1 (h .g)
-      then lowest-numbered _ (nowhere h t) 1 (h .g)
+      parts-say (opening-says h (alphabetIn h l) (length l))
+      (given-says 5 0 (ltb (length work) (h .g + 1)) refl
+      then lowest-says 6 (holds h t) 0 (h .g + 1) refl
+      then lowest-says 7 (twice h t) 1 (h .g) refl
+      then lowest-says 8 (nowhere h t) 1 (h .g) refl
       then end)
 
   pub check-exactly : headOf l .g + 1 ≤ length work → (checkOf l work .numbers .number ≡ 0) ↔ Accepted l
-  unfolding checkOf doneNumbers heard
-  check-exactly b = (λ z. check-accepts (number-none _ _ numbered z), λ a. rw (accepted-checks a b))
+  unfolding checkOf doneNumbers heard among
+  check-exactly b = (λ z. check-accepts (none-heard _ _ (first-says checking-says) refl z), λ a. rw (accepted-checks a b))
 
   -- ---- what a check that passed leaves to count on
 

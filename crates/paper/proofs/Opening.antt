@@ -2,21 +2,26 @@
 -- laws of `Hearing`.
 use Prim.Native.Nat.{ℕ, _≤_, _<_}
 use mathlib.Core.Path.{_≡_, refl, _∙_}
-use mathlib.Core.Bool.{Bool, true, false, not, _&&_}
+use mathlib.Core.Bool.{Bool, true, false, not, _&&_, and-false}
 use mathlib.Core.Option.{none, some}
 use mathlib.Core.List.{List, [], _∷_}
-use lib.ListN.{length}
+use native.Mathlib.Decide.{ℕ-discrete, decLe}
+use native.Mathlib.Omega.{arith}
+use lib.ListN.{length, drop, length-drop}
+use lib.Seq.{length-take-le}
 use lib.Dec.{leb, ltb, eqb}
-use borrow.Author.Tests.{lt-ltb, le-ltb, eq-eqb, leb-true, leb-false, ltb-false, not-false}
+use borrow.Author.Tests.{lt-ltb, le-ltb, eq-eqb, ne-eqb, leb-true, leb-false, ltb-false, not-false}
 use Rattle.field.specs.Range.{between}
 use Rattle.head.specs.declared.Head.{Head}
-use Rattle.head.specs.Fields.{shortestImage, longestImage, permitted, usedLen}
-use Rattle.alphabet.specs.Letters.{goodAlphabet}
+use Rattle.head.specs.Fields.{fieldsLen, shortestImage, longestImage, permitted, usedLen}
+use Rattle.head.proofs.Places.{used-le, place-least}
+use Rattle.alphabet.specs.Letters.{among, goodAlphabet}
 use Rattle.paper.specs.Hearing.{Row, first}
 use Rattle.paper.specs.Answers.{said}
 use Rattle.paper.specs.Rows.{row1, row2, row3, row4}
-use Rattle.paper.specs.Orders.{opening}
+use Rattle.paper.specs.Orders.{alphabetIn, opening}
 use Rattle.paper.proofs.Hearing.{is-given, not-given, untrue, unfalse, yes-row, no-row, passed-row, was-false}
+use Rattle.paper.proofs.Numbers.{AllSay, given-says, end, _then_}
 
 -- the order's last row alone is the row
 last-row : (r : Row) → first (r ∷ []) ≡ r
@@ -76,6 +81,29 @@ module _ (h : Head) (alphabet : List ℕ) (len : ℕ) where
         room = ltb-false len (usedLen h) (was-false 4 0 _ (after4 .0));
       }
 
-  -- where F is above 0 and the alphabet whole, it is good
+  pub opening-says : AllSay (1 ∷ 2 ∷ 3 ∷ 4 ∷ []) (opening h alphabet len)
+  unfolding opening row1 row2 row3 row4 among
+  opening-says =
+      given-says 1 0 (not (between len shortestImage longestImage)) refl
+      then given-says 2 0 (not (permitted h)) refl
+      then given-says 3 0 spoilt refl
+      then given-says 4 0 (ltb len (usedLen h)) refl
+      then end
+
+  -- row 3 asks that the alphabet is good where F is above 0 and all of it is there
+  pub good-unspoilt : (0 < h .f → length alphabet ≡ h .f → goodAlphabet (h .n) alphabet ≡ true) → spoilt ≡ false
+  good-unspoilt good = go (decLe 1 (h .f)) (ℕ-discrete (length alphabet) (h .f))
+    where
+      go : Dec (0 < h .f) → Dec (length alphabet ≡ h .f) → spoilt ≡ false
+      go (no b) d = rw (le-ltb 0 (h .f) (omega arith))
+      go (yes b) (no d) = rw (ne-eqb (length alphabet) (h .f) d, and-false (ltb 0 (h .f)))
+      go (yes b) (yes e) = rw (good b e) (and-false (ltb 0 (h .f) && eqb (length alphabet) (h .f)))
+
   pub unspoilt-good : spoilt ≡ false → 0 < h .f → length alphabet ≡ h .f → goodAlphabet (h .n) alphabet ≡ true
   unspoilt-good s f w = not-false _ (simp (lt-ltb 0 (h .f) f, eq-eqb (length alphabet) (h .f) w) at s)
+
+-- where what is used lies inside the image, so does the alphabet
+pub alphabet-whole : (h : Head) (l : List ℕ) → usedLen h ≤ length l → length (alphabetIn h l) ≡ h .f
+unfolding alphabetIn
+alphabet-whole h l b =
+    length-take-le (h .f) (drop fieldsLen l) (omega (arith, length-drop fieldsLen l, used-le h 0 (omega arith), place-least h 0))

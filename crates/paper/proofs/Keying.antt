@@ -1,0 +1,93 @@
+-- 9 and 10, whoever asks: what a key that passes them is known to be, by letters, by text and for next key, and which numbers they say.
+-- Each law goes down the two rows by the laws of `Hearing`.
+use Prim.Native.Nat.{ℕ, _≤_}
+use mathlib.Core.Path.{_≡_, refl, _∙_}
+use mathlib.Core.Logic.{_↔_}
+use mathlib.Core.Bool.{true, false, not}
+use mathlib.Core.Option.{Option, none}
+use mathlib.Core.List.{List, [], _∷_}
+use lib.Dec.{ltb}
+use lib.ListN.{length}
+use borrow.Author.Tests.{lt-ltb, le-ltb, ltb-true, not-false}
+use Rattle.field.specs.Range.{between}
+use Rattle.field.proofs.Range.{both}
+use Rattle.trie.specs.Table.{Letters}
+use Rattle.head.specs.declared.Head.{Head}
+use Rattle.alphabet.specs.Letters.{among, lettersIn}
+use Rattle.paper.specs.Hearing.{first}
+use Rattle.paper.specs.Rows.{row9, row9next, allBelow, row10, isNone, row10text}
+use Rattle.paper.specs.Orders.{byLetters, byText, byNext}
+use Rattle.paper.proofs.Hearing.{untrue, was-false, first-nil, no-row, passed-row}
+use Rattle.paper.proofs.Numbers.{Says, AllSay, end, _then_, given-says}
+
+-- what 10 asks of the letters
+pub below-letters : (n : ℕ) (k : List ℕ) → (allBelow n k ≡ true) ↔ Letters n k
+unfolding allBelow
+below-letters n [] = (λ e. tt, λ s. refl)
+below-letters n (x ∷ k) = (
+  λ e. let u = both (ltb x n) (allBelow n k) e in (ltb-true x n (u .0), below-letters n k .0 (u .1)),
+  λ s. rw (lt-ltb x n (s .0), below-letters n k .1 (s .1)),
+)
+
+-- ---- a key that passes
+
+-- what the rows of a key tell, whether it came as letters or as text
+pub record Fit (h : Head) (key : List ℕ) : Type 0 where
+  pub allowed : between (length key) (h .min) (h .max) ≡ true
+  pub below : Letters (h .n) key
+
+pub letters-fit : (h : Head) (key : List ℕ) → first (byLetters h key) ≡ none → Fit h key
+unfolding byLetters row9 row10
+letters-fit h key e =
+    let after9 = passed-row (row9 h key) (row10 h key ∷ []) e in
+    let after10 = passed-row (row10 h key) [] (after9 .1) in
+    record {
+      allowed = not-false _ (was-false 9 0 _ (after9 .0));
+      below = below-letters (h .n) key .0 (not-false _ (was-false 10 0 _ (after10 .0)));
+    }
+
+-- whichever of the two rows stands first
+pub text-fit : (h : Head) (named : Option (List ℕ)) → first (byText h named) ≡ none
+    → (isNone named ≡ false) × (between (length (lettersIn named)) (h .min) (h .max) ≡ true)
+unfolding byText row10text row9
+text-fit h named e =
+    let one = passed-row _ _ e in
+    let other = passed-row _ _ (one .1) in
+    let ten : row10text named ≡ none = cc in
+    let nine : row9 h (lettersIn named) ≡ none = cc in
+    (was-false 10 0 _ ten, not-false _ (was-false 9 0 _ nine))
+
+-- the key from which the next one is sought: "For next key, 9 means only a key longer than max"
+pub record Askable (h : Head) (key : List ℕ) : Type 0 where
+  pub short : length key ≤ h .max
+  pub below : Letters (h .n) key
+
+pub askable-passes : (h : Head) (key : List ℕ) → Askable h key → first (byNext h key) ≡ none
+unfolding byNext row9next row10
+askable-passes h key a =
+    no-row 9 0 _ (le-ltb (h .max) (length key) (a .short)) ∙ no-row 10 0 _ (untrue (below-letters (h .n) key .1 (a .below))) ∙ first-nil
+
+-- ---- the numbers
+
+abbrev pub keyNumbers : List ℕ
+keyNumbers = 9 ∷ 10 ∷ []
+
+nine-says : (h : Head) (key : List ℕ) → Says keyNumbers (row9 h key)
+unfolding row9 among
+nine-says h key = given-says 9 0 (not (between (length key) (h .min) (h .max))) refl
+
+ten-says : (h : Head) (key : List ℕ) → Says keyNumbers (row10 h key)
+unfolding row10 among
+ten-says h key = given-says 10 0 (not (allBelow (h .n) key)) refl
+
+pub letters-say : (h : Head) (key : List ℕ) → AllSay keyNumbers (byLetters h key)
+unfolding byLetters
+letters-say h key = nine-says h key then ten-says h key then end
+
+pub text-says : (h : Head) (named : Option (List ℕ)) → AllSay keyNumbers (byText h named)
+unfolding byText row10text among
+text-says h named = let ten : Says keyNumbers (row10text named) = given-says 10 0 (isNone named) refl in search (_then_, end, nine-says)
+
+pub next-says : (h : Head) (key : List ℕ) → AllSay keyNumbers (byNext h key)
+unfolding byNext row9next among
+next-says h key = given-says 9 0 (ltb (h .max) (length key)) refl then ten-says h key then end

@@ -1,0 +1,223 @@
+-- 01 on next key, about the outcomes that its promise cites: what it gives is the first stored key that meets the request, 15 is given
+-- exactly where there is none, and calls of it one after the other list the stored keys, each once and in order. Every key on the way is
+-- stored, so that 9 and 10 let it pass; the rest are the laws on lists in order.
+use Prim.Native.Nat.{ℕ, zero, suc, _+_, _^_, _≤_, _<_}
+use mathlib.Core.Path.{_≡_, refl, sym, _∙_, ap}
+use mathlib.Core.Logic.{_↔_, _≢_}
+use mathlib.Core.Bool.{Bool, true, false}
+use mathlib.Core.Option.{Option, none, some}
+use mathlib.Core.List.{List, [], _∷_, _++_, List·Memᴰ, List·Memᴰ·head}
+use native.Mathlib.Nat.{mul-le-mul-right}
+use native.Mathlib.Omega.{arith}
+use lib.Dec.{ltb}
+use lib.ListN.{length, take, drop}
+use lib.Seq.{sets, sets-eq, take-at}
+use borrow.Author.Tests.{le-ltb, ltb-false}
+use Rattle.trie.specs.Table.{Letters, answer}
+use Rattle.trie.specs.Keys.{meets, sift, withKey, inTurn, Ascending}
+use Rattle.trie.specs.Beyond.{firstOf}
+use Rattle.trie.proofs.Order.{before-irrefl}
+use Rattle.trie.proofs.Listing.{First, first-some, first-none, under-listed, listing-holds, keysUnder-ascending}
+use Rattle.trie.proofs.Sift.{first-sift, first-listed, sift-all, sift-out, sift-every}
+use Rattle.trie.proofs.InTurn.{in-turn}
+use Rattle.trie.proofs.Few.{listing-few}
+use Rattle.head.specs.Fields.{headOf}
+use Rattle.head.proofs.Permitted.{bounds}
+use Rattle.head.proofs.Places.{used, width-least}
+use Rattle.alphabet.specs.Letters.{among, lettersIn}
+use Rattle.node.proofs.Tables.{framed}
+use Rattle.paper.specs.Hearing.{Row, Outcome, first, outcome, refusedNumbers, doneNumbers}
+use Rattle.paper.specs.Answers.{said}
+use Rattle.paper.specs.Rows.{isNone, row14, row15}
+use Rattle.paper.specs.Orders.{checking, byNext, nexting}
+use Rattle.paper.specs.Calls.{tableIn, workAfter, storedKeys, nextIn, foundIn, nextKeyOf}
+use Rattle.paper.specs.InTurn.{keyLeft, keyHeard, askedAfter, askedForAll}
+use Rattle.paper.specs.Accepted.{Accepted}
+use Rattle.paper.proofs.Hearing.{was-false, first-nil, yes-row, no-row, second-part, passed-row, passed-parts, heard-refused, heard-done}
+use Rattle.paper.proofs.Numbers.{AllSay, end, _then_, given-says, parts-say, first-says, none-heard}
+use Rattle.paper.proofs.Keying.{Askable, askable-passes, next-says}
+use Rattle.paper.proofs.Checking.{checking-says, accepted-checks, accepted-linked}
+
+-- ---- the stored keys
+
+-- "A stored key is one with length in min..max whose data is not 0"
+pub stored-exactly : (l k : List ℕ)
+    → List·Memᴰ k (storedKeys l) ↔ ((headOf l .min ≤ length k) × (length k ≤ headOf l .max) × (answer (tableIn l) k ≢ 0))
+unfolding storedKeys tableIn
+stored-exactly l k = listing-holds (framed (headOf l) l) (headOf l .min) (headOf l .max) k
+
+pub stored-ascending : (l : List ℕ) → Ascending (storedKeys l)
+unfolding storedKeys
+stored-ascending l = keysUnder-ascending (tableIn l) (headOf l .n) (headOf l .min) (headOf l .max) 0
+
+-- 9 and 10 let the key after a stored key be asked for
+pub stored-askable : (l k : List ℕ) → List·Memᴰ k (storedKeys l) → Askable (headOf l) k
+unfolding storedKeys
+stored-askable l k a =
+    let f = under-listed (tableIn l) (headOf l .n) (headOf l .min) (headOf l .max) 0 k a in
+    record { short = f .deep; below = f .letters }
+
+-- their number: at most that of the nodes, and these lie inside the image
+pub counted-few : {l : List ℕ} → Accepted l → length (storedKeys l) ≤ suc (headOf l .g)
+unfolding storedKeys
+counted-few {l} a = listing-few (accepted-linked a) (headOf l .min) (headOf l .max)
+
+pub counted-fits : {l : List ℕ} → Accepted l → length (storedKeys l) < 2 ^ 32
+counted-fits {l} a =
+    let wide = width-least (bounds (headOf l) (a .head-permitted)) in
+    omega (arith, counted-few a, used (headOf l), a .room, a .short-enough, mul-le-mul-right (headOf l .g + 1) wide)
+
+-- ---- one call
+
+-- the numbers of its refusals
+abbrev pub nextNumbers : List ℕ
+nextNumbers = 1 ∷ 2 ∷ 3 ∷ 4 ∷ 5 ∷ 6 ∷ 7 ∷ 8 ∷ 9 ∷ 10 ∷ 14 ∷ 15 ∷ []
+
+-- a key at the front of a buffer that has room for it is read back
+front : (buffer k : List ℕ) → length k ≤ length buffer → take (length k) (sets buffer 0 k) ≡ k
+front buffer k b = ap (take (length k)) (sets-eq k buffer 0 (omega arith)) ∙ take-at k (drop (0 + length k) buffer) (length k) refl
+
+some-found : (found : Option (List ℕ)) → isNone found ≡ false → found ≡ some (lettersIn found)
+unfolding isNone lettersIn
+some-found none e = let z : _≡_ {A = ℕ} 0 1 = cc in absurd (omega arith)
+some-found (some k) e = refl
+
+module _ (l work key : List ℕ) (after : Bool) (buffer : List ℕ) where
+  -- what next key tells and leaves where it gives k
+  pub record Gives (k : List ℕ) : Type 0 where
+    pub heard-key : keyHeard (nextKeyOf l work key after buffer) ≡ some k
+    pub first-key : First (meets after key) (storedKeys l) k
+    pub length-told : nextKeyOf l work key after buffer .numbers .length ≡ length k
+    pub value-told : nextKeyOf l work key after buffer .numbers .value ≡ answer (tableIn l) k
+    pub lent-left : nextKeyOf l work key after buffer .lent ≡ workAfter l work ∷ sets buffer 0 k ∷ []
+
+  nexting-says : (found : Option (List ℕ)) → AllSay nextNumbers (nexting l work key (length buffer) found)
+  unfolding nexting row14 row15 among
+  nexting-says found =
+      parts-say (checking-says l work)
+      (parts-say (next-says (headOf l) key)
+      (given-says 14 0 (ltb (length buffer) (headOf l .max)) refl then given-says 15 0 (isNone found) refl then end))
+
+  -- where the check, 9, 10 and 14 pass, 15 decides
+  module _ (checked : first (checking l work) ≡ none) (keyed : first (byNext (headOf l) key) ≡ none)
+      (room : headOf l .max ≤ length buffer) where
+    left-15 : (found : Option (List ℕ)) → first (nexting l work key (length buffer) found) ≡ first (row15 found ∷ [])
+    unfolding nexting row14
+    left-15 found =
+        second-part (checking l work) _ checked
+        ∙ second-part (byNext (headOf l) key) _ keyed
+        ∙ no-row 14 0 _ (le-ltb (length buffer) (headOf l .max) room)
+
+    leaves-none : nextIn l key after ≡ none
+        → nextKeyOf l work key after buffer ≡ outcome (refusedNumbers (said 15 0)) (workAfter l work ∷ buffer ∷ [])
+    unfolding nextKeyOf row15 isNone
+    leaves-none e = rw e (heard-refused _ _ _ (left-15 none ∙ yes-row 15 0 [] refl))
+
+    leaves-some : {k : List ℕ} → nextIn l key after ≡ some k → nextKeyOf l work key after buffer ≡ foundIn l work buffer k
+    unfolding nextKeyOf row15 isNone lettersIn
+    leaves-some {k} e = rw e (heard-done _ _ _ (left-15 (some k) ∙ no-row 15 0 [] refl ∙ first-nil))
+
+    gives : {k : List ℕ} → nextIn l key after ≡ some k → Gives k
+    unfolding nextIn foundIn keyHeard keyLeft doneNumbers
+    gives {k} e =
+        let o = leaves-some e in
+        let f = first-some (meets after key) (storedKeys l) k (stored-ascending l) e in
+        let fits : length k ≤ length buffer = omega (arith, stored-askable l k (f .listed) .short) in
+        record {
+          heard-key = ap keyHeard o ∙ ap (λ (j : List ℕ). some j) (front buffer k fits);
+          first-key = f;
+          length-told = ap (λ (r : Outcome). r .numbers .length) o;
+          value-told = ap (λ (r : Outcome). r .numbers .value) o;
+          lent-left = ap (λ (r : Outcome). r .lent) o;
+        }
+
+    -- the key that is heard is the one sought
+    pub hears : keyHeard (nextKeyOf l work key after buffer) ≡ nextIn l key after
+    unfolding keyHeard refusedNumbers
+    hears = go (nextIn l key after) refl
+      where
+        go : (found : Option (List ℕ)) → nextIn l key after ≡ found → keyHeard (nextKeyOf l work key after buffer) ≡ nextIn l key after
+        go none e = ap keyHeard (leaves-none e) ∙ sym e
+        go (some k) e = gives e .heard-key ∙ sym e
+
+    -- 15: "no stored key meets the request"
+    pub next-none : (nextKeyOf l work key after buffer .numbers .number ≡ 15)
+        ↔ ((k : List ℕ) → List·Memᴰ k (storedKeys l) → meets after key k ≡ false)
+    unfolding nextIn foundIn refusedNumbers doneNumbers
+    next-none = (λ z. missed .0 (go (nextIn l key after) refl z), λ h. ap (λ (r : Outcome). r .numbers .number) (leaves-none (missed .1 h)))
+      where
+        missed : (nextIn l key after ≡ none) ↔ ((k : List ℕ) → List·Memᴰ k (storedKeys l) → meets after key k ≡ false)
+        missed = first-none (meets after key) (storedKeys l)
+
+        go : (found : Option (List ℕ)) → nextIn l key after ≡ found → nextKeyOf l work key after buffer .numbers .number ≡ 15
+            → nextIn l key after ≡ none
+        go none e z = e
+        go (some k) e z = absurd (omega (arith, z, ap (λ (r : Outcome). r .numbers .number) (leaves-some e)))
+
+  -- "gives the first stored key that meets it"
+  pub next-is-first : nextKeyOf l work key after buffer .numbers .number ≡ 0 → (k : List ℕ) × Gives k
+  unfolding nextKeyOf nexting row14 row15 among
+  next-is-first z =
+      let found : Option (List ℕ) = nextIn l key after in
+      let last : List Row = row14 (headOf l) (length buffer) ∷ row15 found ∷ [] in
+      let passes = none-heard _ _ (first-says (nexting-says found)) refl z in
+      let after8 = passed-parts (checking l work) (byNext (headOf l) key ++ last) passes in
+      let after10 = passed-parts (byNext (headOf l) key) last (after8 .1) in
+      let after14 = passed-row (row14 (headOf l) (length buffer)) (row15 found ∷ []) (after10 .1) in
+      let after15 = passed-row (row15 found) [] (after14 .1) in
+      let room = ltb-false (length buffer) (headOf l .max) (was-false 14 0 _ (after14 .0)) in
+      (lettersIn found, gives (after8 .0) (after10 .0) room (some-found found (was-false 15 0 _ (after15 .0))))
+
+-- ---- calls one after the other
+
+with-same : (found : Option (List ℕ)) (f g : List ℕ → List (List ℕ)) → ((m : List ℕ) → found ≡ some m → f m ≡ g m)
+    → withKey found f ≡ withKey found g
+unfolding withKey
+with-same none f g h = refl
+with-same (some m) f g h = h m refl
+
+-- two that answer alike on every key that one of them leads to
+same-turns : (next other : List ℕ → Option (List ℕ)) (On : List ℕ → Type 0)
+    → ((k : List ℕ) → On k → next k ≡ other k)
+    → ((k m : List ℕ) → other k ≡ some m → On m)
+    → (times : ℕ) (k : List ℕ) → On k → inTurn next times k ≡ inTurn other times k
+unfolding inTurn
+same-turns next other On same on zero k p = refl
+same-turns next other On same on (suc times) k p =
+    rw (same k p) (with-same (other k) _ _ (λ m e. ap (m ∷_) (same-turns next other On same on times m (on k m e))))
+
+-- the first key, then those after it
+first-and-after : (keys : List (List ℕ)) (rest : List ℕ → List (List ℕ)) → Ascending keys
+    → ((m : List ℕ) → List·Memᴰ m keys → rest m ≡ sift (meets true m) keys)
+    → withKey (firstOf keys) (λ m. m ∷ rest m) ≡ keys
+unfolding withKey firstOf meets
+first-and-after [] rest up e = refl
+first-and-after (m ∷ ms) rest up e =
+    ap (m ∷_)
+    (e m (List·Memᴰ·head refl) ∙ sift-out (meets true m) m ms (before-irrefl m) ∙ sift-every (meets true m) ms (up .0))
+
+module _ (l work buffer : List ℕ) (a : Accepted l) (lent : headOf l .g + 1 ≤ length work) (room : headOf l .max ≤ length buffer) where
+  asked : (key : List ℕ) (after : Bool) → Askable (headOf l) key → keyHeard (nextKeyOf l work key after buffer) ≡ nextIn l key after
+  asked key after s =
+      hears l work key after buffer (accepted-checks l work a lent) (askable-passes (headOf l) key s) room
+
+  pub listed-after : (k : List ℕ) → Letters (headOf l .n) k → length k ≤ headOf l .max → (times : ℕ) → length (storedKeys l) ≤ times
+      → askedAfter l work buffer times k ≡ sift (meets true k) (storedKeys l)
+  unfolding askedAfter nextIn
+  listed-after k below short times enough =
+      same-turns (λ j. keyHeard (nextKeyOf l work j true buffer)) (λ j. nextIn l j true) (Askable (headOf l))
+      (λ j. asked j true)
+      (λ j m e. stored-askable l m (first-listed (meets true j) (storedKeys l) e .0))
+      times k (record { short = short; below = below })
+      ∙ in-turn (storedKeys l) (stored-ascending l) times enough k
+
+  -- "The listing names each stored key once, in order"
+  pub listed-all : (times : ℕ) → length (storedKeys l) ≤ times → askedForAll l work buffer times ≡ storedKeys l
+  unfolding askedForAll nextIn
+  listed-all times enough =
+      let rest : List ℕ → List (List ℕ) = askedAfter l work buffer times in
+      let found : nextIn l [] false ≡ firstOf (storedKeys l) =
+      first-sift (meets false []) (storedKeys l) ∙ ap firstOf (sift-all (storedKeys l)) in
+      ap (λ (o : Option (List ℕ)). withKey o (λ k. k ∷ rest k)) (asked [] false (record { short = omega arith; below = tt }) ∙ found)
+      ∙ first-and-after (storedKeys l) rest (stored-ascending l)
+      (λ m h. let s = stored-askable l m h in listed-after m (s .below) (s .short) times enough)
