@@ -1,19 +1,14 @@
 -- The outcome of check and of number of keys, at each way out: the audit's verdict is what is heard of 1 to 8, and in an image that passed
 -- them the keys are few enough to be counted.
-use Prim.Native.Nat.{ℕ, _+_, _^_, _<_}
+use Prim.Native.Nat.{ℕ, _^_, _<_}
 use mathlib.Core.Path.{_≡_, sym, _∙_, ap}
 use mathlib.Core.List.{List, [], _∷_}
-use native.Mathlib.Nat.{mul-le-mul-left}
 use native.Mathlib.Omega.{arith}
 use lib.ListN.{length}
 use lib.IntN.{pos}
 use Rattle.trie.specs.Rules.{Within}
 use Rattle.trie.specs.Keys.{listing}
-use Rattle.trie.proofs.Few.{listing-few}
-use Rattle.head.specs.declared.Head.{Head}
 use Rattle.head.specs.Fields.{headOf}
-use Rattle.head.proofs.Permitted.{bounds}
-use Rattle.head.proofs.Places.{used, width-least}
 use Rattle.node.specs.Image.{Open, tableOf}
 use Rattle.paper.specs.declared.Refusal.{Refusal}
 use Rattle.paper.specs.declared.Verdict.{Verdict}
@@ -25,7 +20,8 @@ use Rattle.paper.specs.Calls.{tableIn, storedKeys, workAfter, checkOf, countOf}
 use Rattle.paper.specs.Promises.{Checks, Counts}
 use Rattle.paper.specs.Accepted.{Accepted}
 use Rattle.paper.proofs.Hearing.{heard-refused, heard-done}
-use Rattle.paper.proofs.Checking.{check-accepts, accepted-open, accepted-linked}
+use Rattle.paper.proofs.Checking.{check-accepts, accepted-open}
+use Rattle.paper.proofs.Nexting.{counted-fits}
 use Rattle.opening.specs.declared.Opened.{Opened}
 use Rattle.audit.specs.Audit.{Checked}
 use Rattle.trieff.proofs.Told.{told-refused, told-passed}
@@ -65,25 +61,16 @@ module _ {l work : List ℕ} {r : Opened} {work′ codes : List ℕ} (o : Checke
     abbrev keys : List (List ℕ)
     keys = listing (tableOf (r .head) l) (r .head .n) (r .head .min) (r .head .max)
 
-    -- each stored key has a node of its own, and the nodes stand in the image
+    same-keys : length keys ≡ length (storedKeys l)
+    unfolding storedKeys tableIn
+    same-keys = rw checked-head
+
     pub keys-few : length keys < 2 ^ 32
-    unfolding tableIn
-    keys-few =
-        let a = checked-accepted in
-        let h : Head = headOf l in
-        rw checked-head
-        (omega (
-          arith,
-          a .room,
-          a .short-enough,
-          listing-few (accepted-linked a) (h .min) (h .max),
-          used h,
-          mul-le-mul-left (h .g + 1) (width-least (bounds h (a .head-permitted))),
-        ))
+    keys-few = omega (arith, same-keys, counted-fits checked-accepted)
 
     pub counts-done : {n : ℕ} → n ≡ length keys → Counts l work (Counted.Keys n) work′
-    unfolding countOf countedOf storedKeys tableIn
+    unfolding countOf countedOf
     counts-done c =
-        let same : length keys ≡ length (storedKeys l) = rw checked-head in
-        left _ ∙ ap (λ (m : ℕ). outcome (doneNumbers 0 (pos 0) m) (workAfter l work ∷ [])) (c ∙ same)
+        left _
+        ∙ ap (λ (m : ℕ). outcome (doneNumbers 0 (pos 0) m) (workAfter l work ∷ [])) (c ∙ same-keys)
         ∙ sym (heard-done _ _ _ (told-passed (o .verdict) e))

@@ -9,9 +9,8 @@ use native.Mathlib.Omega.{arith}
 use borrow.Author.Tests.{lt-ltb, le-ltb}
 use lib.ListN.{length, take}
 use lib.Seq.{sets, length-take-le}
-use Rattle.trie.specs.Table.{Table, answer}
+use Rattle.trie.specs.Table.{answer}
 use Rattle.trie.specs.Rules.{Within}
-use Rattle.trie.specs.Keys.{listing, meets, firstMeeting}
 use Rattle.head.specs.declared.Head.{Head}
 use Rattle.head.specs.Fields.{headOf, permitted}
 use Rattle.alphabet.specs.Letters.{lettersIn}
@@ -35,7 +34,8 @@ use Rattle.key.proofs.Judging.{next-ready}
 use Rattle.opening.specs.declared.Opened.{Opened}
 use Rattle.audit.specs.Audit.{Checked}
 use Rattle.order.specs.declared.Search.{Search}
-use Rattle.order.specs.Search.{toldOf, Room, Told}
+use Rattle.order.specs.Search.{sought, toldOf, Room, Told}
+use Rattle.order.proofs.Telling.{was-missing, was-found}
 use Rattle.trieff.specs.Seeking.{Sought}
 use Rattle.trieff.proofs.Told.{told-refused, told-passed}
 
@@ -48,10 +48,10 @@ module _ (l work key : List ℕ) (after : Bool) (buffer : List ℕ) where
   abbrev order : List Row
   order = checking l work ++ (byNext (headOf l) key ++ rest)
 
-  abbrev sought : Outcome
-  sought = foundIn l work buffer (lettersIn (nextIn l key after))
+  abbrev answered : Outcome
+  answered = foundIn l work buffer (lettersIn (nextIn l key after))
 
-  asked : nextKeyOf l work key after buffer ≡ heard (first order) (workAfter l work ∷ buffer ∷ []) sought
+  asked : nextKeyOf l work key after buffer ≡ heard (first order) (workAfter l work ∷ buffer ∷ []) answered
   unfolding nextKeyOf nexting
   asked = refl
 
@@ -101,24 +101,15 @@ module _ (l work key : List ℕ) (after : Bool) (buffer : List ℕ) where
 
 -- ---- what the search told
 
-told-missing : (t : Table) (o : Option (List ℕ)) → Search.Missing ≡ toldOf t o → o ≡ none
-unfolding toldOf
-told-missing t none e = refl
-told-missing t (some k) e = let z : _≡_ {A = ℕ} 0 1 = cc in absurd (omega arith)
-
-told-found : (t : Table) (o : Option (List ℕ)) {n x : ℕ} → Search.Found n x ≡ toldOf t o
-    → (k : List ℕ) × (o ≡ some k) × (n ≡ length k) × (x ≡ answer t k)
-unfolding toldOf
-told-found t none e = let z : _≡_ {A = ℕ} 0 1 = cc in absurd (omega arith)
-told-found t (some k) e = (k, refl, cc, cc)
-
 module _ {h : Head} {l : List ℕ} {o : Option (List ℕ)} {r : Search} {path nodes : List ℕ} (t : Told h l o r path nodes)
     {n x : ℕ} (f : r ≡ Search.Found n x) where
   -- the key found, whose letters are the first n of the path
   key-found : (k : List ℕ) × (o ≡ some k) × (n ≡ length k) × (x ≡ answer (tableOf h l) k) × (take n path ≡ k)
+  unfolding toldOf
   key-found =
-      let (k, is, count, value) = told-found (tableOf h l) o (sym f ∙ t .answers) in
-      (k, is, count, value, ap (λ (m : ℕ). take m path) count ∙ t .reached k is .letters)
+      let (k, is, count) = was-found h l t f in
+      let told : Search.Found n x ≡ toldOf (tableOf h l) (some k) = sym f ∙ t .answers ∙ ap (toldOf (tableOf h l)) is in
+      (k, is, count, cc, ap (λ (m : ℕ). take m path) count ∙ t .reached k is .letters)
 
   -- is no longer than max, and so stands in the path and has room in a buffer that 14 passed
   pub found-short : n ≤ h .max
@@ -181,7 +172,7 @@ module _ {l : List ℕ} {h : Head} {key : List ℕ} {hand : Key} (p : Behind l h
   sought-short b work checked = short l work key after buffer checked (p .unheard) (rw (p .same) at b)
 
   module _ (room : h .max ≤ length buffer) {r : Search} {path nodes : List ℕ}
-      (t : Told h l (firstMeeting (meets after (lettersOf hand)) (listing (tableOf h l) (h .n) (h .min) (h .max))) r path nodes) where
+      (t : Told h l (sought h l after (lettersOf hand)) r path nodes) where
     told-next : Told (headOf l) l (nextIn l key after) r path nodes
     unfolding nextIn storedKeys tableIn
     told-next = rw (p .same, p .letters) at t
@@ -189,7 +180,7 @@ module _ {l : List ℕ} {h : Head} {key : List ℕ} {hand : Key} (p : Behind l h
     pub sought-missing : r ≡ Search.Missing → Sought l key after buffer (Found.Refused Refusal.NoKey) buffer
     sought-missing f work checked =
         missing l work key after buffer checked (p .unheard) (rw (p .same) at room)
-        (told-missing (tableOf (headOf l) l) (nextIn l key after) (sym f ∙ told-next .answers))
+        (was-missing (headOf l) l told-next f)
 
     pub sought-found : {n x : ℕ} {buffer′ : List ℕ} → r ≡ Search.Found n x → buffer′ ≡ sets buffer 0 (take n path)
         → Sought l key after buffer (Found.Key n x) buffer′

@@ -57,7 +57,7 @@ pub fn check(image: &[u8], work: &mut [u32]) -> Done
     let checked = audit::check(image, work, &mut codes);
     let verdict = checked.verdict;
     match verdict {
-        Verdict::Refused(why) => Done::Refused(why),
+        Verdict::Refused(rule) => Done::Refused(rule),
         Verdict::Passed => Done::Done,
     }
 }
@@ -90,7 +90,7 @@ pub fn look_up(image: &[u8], letters: &[u8]) -> Looked
             let key = Key::of(letters);
             let judged = key.judge(h);
             match judged {
-                Verdict::Refused(why) => Looked::Refused(why),
+                Verdict::Refused(at_key) => Looked::Refused(at_key),
                 Verdict::Passed => walk::look(image, h, key),
             }
         }
@@ -111,7 +111,7 @@ pub fn look_up_text(image: &[u8], text: &[u8]) -> Looked
             let typed = Typed::of(text, &codes, opened.count);
             let judged = typed.judge(h);
             match judged {
-                Verdict::Refused(why) => Looked::Refused(why),
+                Verdict::Refused(at_text) => Looked::Refused(at_text),
                 Verdict::Passed => walk::look(image, h, typed.key),
             }
         }
@@ -160,8 +160,9 @@ fn sought(image: &[u8], h: Head, letters: &[u8], after: bool, buffer: &mut [u8])
                 Search::Missing => Found::Refused(Refusal::NoKey),
                 Search::Found { length, value } => {
                     field::lay(buffer, 0, &path[..length]);
+                    let count = length as u32;
                     Found::Key {
-                        length: length as u32,
+                        length: count,
                         value,
                     }
                 }

@@ -72,8 +72,8 @@ lay-requires c κs =
     let next = found .before .before .before .before in
     found-room (next .next .ensures .0) (found .found .given .1) (next .next .ensures .1) (next .before .before .before .if1 .left)
 
-cast-t30 : tie.Need-cast-t30
-cast-t30 c =
+cast-count : tie.Need-cast-count
+cast-count c =
     let found = c .before .before .before .before .before .before in
     let next = found .before .before .before .before in
     let k = known (next .before .before .before .before .before) in
@@ -120,7 +120,7 @@ sought-spec =
     array-share-prefix-path
     slice-aggregate-lay
     lay-requires
-    cast-t30
+    cast-count
     returns-2
     returns-3
     same-length
