@@ -1,6 +1,6 @@
 -- What the listing keeps from line to line: the buffer has its length and its end, and the path is that of a key. The image has been checked,
 -- so it may be walked through, and its keys can be counted.
-use mathlib.Core.Path.{_≡_, sym, ap, _∙_, subst}
+use mathlib.Core.Path.{_≡_, sym, subst}
 use Prim.Native.Nat.{ℕ, _≤_, _<_, _^_}
 use native.Mathlib.Omega.{arith}
 use mathlib.Core.List.{List}
@@ -17,7 +17,7 @@ use Rattle.paper.specs.Accepted.{Accepted}
 use Rattle.paper.proofs.Checking.{accepted-open, accepted-linked}
 use Rattle.paper.proofs.Nexting.{counted-fits}
 use Rattle.order.specs.declared.Search.{Search}
-use Rattle.order.specs.Search.{Room, Along, Told, toldOf}
+use Rattle.order.specs.Search.{Room, Along, Told}
 use Rattle.order.proofs.Searching.{was-found}
 
 -- what an image that was accepted gives a walk
@@ -47,19 +47,13 @@ pub has-room : {h : Head} {l path nodes : List ℕ} → Walkable h l → length 
 has-room w p n = record { letters = omega (arith, short w); ends = omega (arith, short w) }
 
 -- a key that was found is on the path, with its length
-lengthOf : Search → ℕ
-lengthOf (Search.Found length value) = length
-lengthOf Search.Missing = 0
-
 pub record Met (h : Head) (l path nodes : List ℕ) (n : ℕ) : Type 0 where
   pub deep : n ≤ h .max
   pub along : Along h l n path nodes
 
 pub met : {h : Head} {l : List ℕ} {s : Option (List ℕ)} {r : Search} {path nodes : List ℕ} {n v : ℕ} → Told h l s r path nodes
     → r ≡ Search.Found n v → Met h l path nodes n
-unfolding toldOf lengthOf
-met {h} {l} {s} {r} {path} {nodes} {n} {v} told e =
-    let (k, is) = was-found h l told e in
+met {h} {l} told e =
+    let (k, is, same) = was-found h l told e in
     let reached = told .reached k is in
-    let same : n ≡ length k = ap lengthOf (sym e ∙ told .answers ∙ ap (toldOf (tableOf h l)) is) in
     record { deep = rw same (reached .short); along = rw same (reached .along) }

@@ -130,7 +130,7 @@ module _ {h : Head} {l path₀ nodes₀ : List ℕ} {end first : ℕ} {path node
       → r ≡ Search.Found n v
       → Told h l (firstOf (coming h l path₀ end first)) r path₁ nodes₁
   climbing-found told f =
-      let (k, e) = was-found h l told f in
+      let (k, e, _) = was-found h l told f in
       told-same h l (c .same ∙ coming-found h l path nodes x (omega (arith, c .room .letters, c .deep)) (c .along) e ∙ sym e) told
 
   -- there is none below the root

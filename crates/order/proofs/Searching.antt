@@ -50,13 +50,13 @@ was-missing h l {s} {r} told e = go s (sym e ∙ told .answers)
     go (some k) f = let z : _≡_ {A = ℕ} 0 1 = cc in absurd (omega arith)
 
 pub was-found : (h : Head) (l : List ℕ) {s : Option (List ℕ)} {r : Search} {path nodes : List ℕ} {n v : ℕ} → Told h l s r path nodes
-    → r ≡ Search.Found n v → (k : List ℕ) × (s ≡ some k)
+    → r ≡ Search.Found n v → (k : List ℕ) × (s ≡ some k) × (n ≡ length k)
 unfolding toldOf
 was-found h l {s} {r} {n = n} {v} told e = go s (sym e ∙ told .answers)
   where
-    go : (s : Option (List ℕ)) → Search.Found n v ≡ toldOf (tableOf h l) s → (k : List ℕ) × (s ≡ some k)
+    go : (s : Option (List ℕ)) → Search.Found n v ≡ toldOf (tableOf h l) s → (k : List ℕ) × (s ≡ some k) × (n ≡ length k)
     go none f = let z : _≡_ {A = ℕ} 0 1 = cc in absurd (omega arith)
-    go (some k) f = (k, refl)
+    go (some k) f = (k, refl, cc)
 
 module _ (h : Head) (l : List ℕ) where
   pub told-same : {s s′ : Option (List ℕ)} {r : Search} {path nodes : List ℕ} → s ≡ s′ → Told h l s′ r path nodes → Told h l s r path nodes
@@ -248,7 +248,7 @@ module _ {h : Head} {l path₀ nodes₀ : List ℕ} {depth q first : ℕ} {path 
         → Told h l (firstOf (ahead h l (set path depth i) (depth + 1) c 0)) r path₁ nodes₁ → r ≡ Search.Found n w
         → Told h l (firstOf (ahead h l path₀ depth q first)) r path₁ nodes₁
     onto-found told f =
-        let (k, g) = was-found h l told f in
+        let (k, g, _) = was-found h l told f in
         told-same h l (o .passing .passed ∙ ap firstOf link-split ∙ first-front _ _ g ∙ sym g) told
 
     -- and else the letter is passed

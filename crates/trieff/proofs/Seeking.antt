@@ -35,7 +35,7 @@ use Rattle.opening.specs.declared.Opened.{Opened}
 use Rattle.audit.specs.Audit.{Checked}
 use Rattle.order.specs.declared.Search.{Search}
 use Rattle.order.specs.Search.{sought, toldOf, Room, Told}
-use Rattle.order.proofs.Telling.{was-missing, was-found}
+use Rattle.order.proofs.Searching.{was-missing, was-found}
 use Rattle.trieff.specs.Seeking.{Sought}
 use Rattle.trieff.proofs.Told.{told-refused, told-passed}
 
