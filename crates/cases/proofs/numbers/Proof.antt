@@ -1,0 +1,69 @@
+-- `cases::numbers` meets its contract, which asks only that it is safe and ends: the place stays within the working numbers.
+-- Assumes nothing.
+use Prim.Native.Nat.{_-_, _≤_}
+use native.Mathlib.Omega.{arith}
+use borrow.Author.Needs.{needs}
+use lib.ListN.{length}
+use Rattle.cases.proofs.numbers.Statement.{statement}
+use Rattle.cases.proofs.numbers.Tie as tie
+
+abbrev Inv-loop : tie.InvT-loop
+Inv-loop work i₀ i = i ≤ length work
+
+abbrev μ-loop : tie.MeasureT-loop
+μ-loop work i₀ i = length work - i
+
+slice-aggregate-write-all : tie.Need-slice-aggregate-write-all Inv-loop μ-loop
+slice-aggregate-write-all c = search needs
+
+write-all-requires : tie.Need-write-all-requires Inv-loop μ-loop
+write-all-requires c κs = search needs
+
+loop-holds : tie.Need-loop-holds Inv-loop μ-loop
+loop-holds c = search needs
+
+space-requires : tie.Need-space-requires Inv-loop μ-loop
+space-requires c κs = search needs
+
+mul-print-decimal : tie.Need-mul-print-decimal Inv-loop μ-loop
+mul-print-decimal c = search needs
+
+shared-slice-read-print-decimal : tie.Need-shared-slice-read-print-decimal Inv-loop μ-loop
+shared-slice-read-print-decimal c = search needs
+
+cast-print-decimal : tie.Need-cast-print-decimal Inv-loop μ-loop
+cast-print-decimal c = omega (arith, c .shared-slice-known2 .given (c .before .before .before .loop .i))
+
+print-decimal-requires : tie.Need-print-decimal-requires Inv-loop μ-loop
+print-decimal-requires c κs = search needs
+
+add-i : tie.Need-add-i Inv-loop μ-loop
+add-i c = search needs
+
+loop-less : tie.Need-loop-less Inv-loop μ-loop
+loop-less c = search needs
+
+loop-again : tie.Need-loop-again Inv-loop μ-loop
+loop-again c = search needs
+
+returns : tie.Need-returns Inv-loop μ-loop
+returns c = search needs
+
+pub numbers-spec : {M : Type 1} → statement M
+numbers-spec =
+    tie.close
+    (tie.spec
+    Inv-loop
+    μ-loop
+    slice-aggregate-write-all
+    write-all-requires
+    loop-holds
+    space-requires
+    mul-print-decimal
+    shared-slice-read-print-decimal
+    cast-print-decimal
+    print-decimal-requires
+    add-i
+    loop-less
+    loop-again
+    returns)
