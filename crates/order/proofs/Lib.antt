@@ -5,3 +5,4 @@ pub mod Searching
 pub mod Following
 pub mod Climbing
 pub mod Requests
+pub mod Walkable

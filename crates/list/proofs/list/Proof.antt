@@ -6,7 +6,8 @@ use borrow.Author.Needs.{needs}
 use lib.Seq.{length-take-le}
 use Rattle.lines.proofs.Laying.{laid-long}
 use Rattle.lines.proofs.Texts.{entries-long}
-use Rattle.list.proofs.Listing.{Walkable, walkable, short, Listing, has-room, met}
+use Rattle.order.proofs.Walkable.{Walkable, walkable, short, has-room, met}
+use Rattle.list.proofs.Listing.{Listing}
 use Rattle.list.proofs.list.Statement.{statement}
 use Rattle.list.proofs.list.Tie as tie
 

@@ -1,0 +1,49 @@
+-- `measure::measure_walk` meets its contract: an image that the check has passed is accepted, and its head is the one that was read.
+-- Assumes nothing.
+use mathlib.Core.Path.{sym, ap, _∙_}
+use borrow.Author.Needs.{needs}
+use Rattle.paper.specs.Answers.{rowOf}
+use Rattle.paper.proofs.Checking.{check-accepts}
+use Rattle.measure.proofs.measure_walk.Statement.{statement}
+use Rattle.measure.proofs.measure_walk.Tie as tie
+
+check-requires : tie.Need-check-requires
+check-requires c κs = search needs
+
+enum-told : tie.Need-enum-told
+enum-told c = search needs
+
+enum-told-2 : tie.Need-enum-told-2
+enum-told-2 c = search needs
+
+walk-requires : tie.Need-walk-requires
+unfolding rowOf
+walk-requires c κs =
+    let told = c .before .before .check .ensures in
+    let passed = ap rowOf (c .enum-told .given .1) in
+    (check-accepts _ _ (sym (told .verdict) ∙ passed), told .head passed)
+
+same-length : tie.Need-same-length
+same-length c = search needs
+
+returns : tie.Need-returns
+returns c = search needs
+
+same-length-2 : tie.Need-same-length-2
+same-length-2 c = search needs
+
+returns-2 : tie.Need-returns-2
+returns-2 c = search needs
+
+pub measure-walk-spec : {M : Type 1} → statement M
+measure-walk-spec =
+    tie.close
+    (tie.spec
+    check-requires
+    enum-told
+    enum-told-2
+    walk-requires
+    same-length
+    returns
+    same-length-2
+    returns-2)
