@@ -19,8 +19,8 @@ enum-told-2 c = search needs
 walk-requires : tie.Need-walk-requires
 unfolding rowOf
 walk-requires c κs =
-    let told = c .before .before .check .ensures in
-    let passed = ap rowOf (c .enum-told .given .1) in
+    let told = c .before .before .before .before .check .ensures in
+    let passed = ap rowOf (c .enum-told2 .given .1) in
     (check-accepts _ _ (sym (told .verdict) ∙ passed), told .head passed)
 
 same-length : tie.Need-same-length
