@@ -85,7 +85,7 @@ def season():
 
 def numbered(room, most):
     """At most so many labels of nine digits to the base 16, counted up, with the number of labels. Their values have six digits."""
-    image = Image(room, 16, 3, 4, LETTERS, 1, 12)
+    image = Image(room, 16, 3, 4, "0123456789ABCDEF", 1, 12)
     stored = 0
     while stored < most and image.store([(stored >> shift) & 15 for shift in range(32, -1, -4)], stored + 100000):
         stored += 1
