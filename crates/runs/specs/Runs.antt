@@ -1,0 +1,108 @@
+-- Demand 3, "A run of calls from a fresh image answers as a plain list of last values"; 01, "The sum of these from a fresh image equals the
+-- number of keys stored now". A run is any list of calls on one image, each on what the one before left. Beside it goes a plain list: a
+-- store that was done adds its key and value in front, and nothing else changes the list.
+use Prim.Native.Nat.{ℕ}
+use mathlib.Core.Bool.{Bool, true, false, _&&_, cond}
+use mathlib.Core.List.{List, [], _∷_}
+use lib.Dec.{eqb}
+use lib.IntN.{ℤ, pos, _+ℤ_}
+use Rattle.alphabet.specs.Letters.{lettersIn}
+use Rattle.paper.specs.Hearing.{Outcome}
+use Rattle.paper.specs.Calls.{checkOf, countOf, lookUpOf, lookUpTextOf, namedIn, storeOf, storeTextOf, nextKeyOf}
+
+-- ---- the plain list
+
+unfoldable pub sameKey : List ℕ → List ℕ → Bool
+sameKey [] [] = true
+sameKey [] (y ∷ m) = false
+sameKey (x ∷ k) [] = false
+sameKey (x ∷ k) (y ∷ m) = eqb x y && sameKey k m
+
+pub record Entry : Type 0 where
+  pub key : List ℕ
+  pub value : ℕ
+
+-- the last value that was stored under a key, 0 for none
+unfoldable pub lastOf : List Entry → List ℕ → ℕ
+unfolding sameKey
+lastOf [] k = 0
+lastOf (e ∷ plain) k = cond (sameKey (e .key) k) (e .value) (lastOf plain k)
+
+-- ---- the calls
+
+-- a call on an image that is there, with what it is given and lent
+pub data Call : Type 0 where
+  check : (work : List ℕ) → Call
+  count : (work : List ℕ) → Call
+  lookUp : (key : List ℕ) → Call
+  lookUpText : (text : List ℕ) → Call
+  store : (work key : List ℕ) (value : ℕ) → Call
+  storeText : (work text : List ℕ) (value : ℕ) → Call
+  nextKey : (work key : List ℕ) (after : Bool) (buffer : List ℕ) → Call
+
+-- what it answers and leaves, in this image
+unfoldable pub heardOf : List ℕ → Call → Outcome
+unfolding checkOf countOf lookUpOf lookUpTextOf storeOf storeTextOf nextKeyOf
+heardOf l (check work) = checkOf l work
+heardOf l (count work) = countOf l work
+heardOf l (lookUp key) = lookUpOf l key
+heardOf l (lookUpText text) = lookUpTextOf l text
+heardOf l (store work key value) = storeOf l work key value
+heardOf l (storeText work text value) = storeTextOf l work text value
+heardOf l (nextKey work key after buffer) = nextKeyOf l work key after buffer
+
+-- the first of the buffers that a call leaves: for a store, the image
+unfoldable pub firstLeft : List (List ℕ) → List ℕ
+firstLeft [] = []
+firstLeft (l ∷ rest) = l
+
+-- the image after a call: only a store is lent it to write
+unfoldable pub imageAfter : List ℕ → Call → List ℕ
+unfolding firstLeft heardOf
+imageAfter l (store work key value) = firstLeft (heardOf l (store work key value) .lent)
+imageAfter l (storeText work text value) = firstLeft (heardOf l (storeText work text value) .lent)
+imageAfter l (check work) = l
+imageAfter l (count work) = l
+imageAfter l (lookUp key) = l
+imageAfter l (lookUpText text) = l
+imageAfter l (nextKey work key after buffer) = l
+
+-- the plain list after a call on this image: a store that answers number 0 is noted
+unfoldable pub noted : List ℕ → Call → List Entry → List Entry
+unfolding heardOf namedIn lettersIn
+noted l (store work key value) plain =
+    cond (eqb (heardOf l (store work key value) .numbers .number) 0) (record { key = key; value = value } ∷ plain) plain
+noted l (storeText work text value) plain =
+    cond (eqb (heardOf l (storeText work text value) .numbers .number) 0)
+    (record { key = lettersIn (namedIn l text); value = value } ∷ plain) plain
+noted l (check work) plain = plain
+noted l (count work) plain = plain
+noted l (lookUp key) plain = plain
+noted l (lookUpText text) plain = plain
+noted l (nextKey work key after buffer) plain = plain
+
+-- ---- a run
+
+-- where a run stands: the image, the plain list, and the sum of the changes that were answered
+pub record Run : Type 0 where
+  pub image : List ℕ
+  pub plain : List Entry
+  pub sum : ℤ
+
+unfoldable pub after : Run → Call → Run
+unfolding imageAfter noted heardOf
+after r c =
+    record {
+      image = imageAfter (r .image) c;
+      plain = noted (r .image) c (r .plain);
+      sum = r .sum +ℤ heardOf (r .image) c .numbers .change;
+    }
+
+unfoldable pub ran : Run → List Call → Run
+unfolding after
+ran r [] = r
+ran r (c ∷ cs) = ran (after r c) cs
+
+-- from an image with nothing in it
+unfoldable pub startOf : List ℕ → Run
+startOf l = record { image = l; plain = []; sum = pos 0 }

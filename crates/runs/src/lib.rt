@@ -1,0 +1,1 @@
+// Runs of calls and their laws: definitions and proofs alone, no code.
