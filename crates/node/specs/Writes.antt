@@ -31,12 +31,19 @@ unfoldable pub pathNode : Head → ℕ → ℕ → List ℕ
 unfolding digits
 pathNode h y c = replicate (y * h .a) 0 ++ (digits (h .a) c ++ replicate ((h .n - suc y) * h .a + h .d) 0)
 
+-- the whole of node q, a new one
+abbrev pub pathWrite : Head → ℕ → ℕ → ℕ → Write
+pathWrite h q y c = record { place = nodePlace h q; bytes = pathNode h y c }
+
+abbrev pub lastWrite : Head → ℕ → ℕ → Write
+lastWrite h q v = record { place = nodePlace h q; bytes = lastNode h v }
+
 -- "nodes G+1 to G+k are written in key order, each linking to the next by the key's letter, all else zero; the last holds the value":
 -- the node at address q and, for each letter that follows, the next
 unfoldable pub newNodes : Head → ℕ → List ℕ → ℕ → List Write
 unfolding lastNode pathNode nodePlace
-newNodes h q [] v = record { place = nodePlace h q; bytes = lastNode h v } ∷ []
-newNodes h q (y ∷ ys) v = record { place = nodePlace h q; bytes = pathNode h y (suc q) } ∷ newNodes h (suc q) ys v
+newNodes h q [] v = lastWrite h q v ∷ []
+newNodes h q (y ∷ ys) v = pathWrite h q y (suc q) ∷ newNodes h (suc q) ys v
 
 -- "G becomes G+k"
 unfoldable pub totalWrite : ℕ → Write

@@ -5,9 +5,11 @@ ghost use Prim.Native.Nat.{ℕ, _+_, _≤_, _<_, _^_};
 ghost use mathlib.Core.Bool.{true};
 ghost use mathlib.Core.List.{[], _∷_};
 ghost use Rattle.trie.specs.Storing.{put, grow};
-ghost use Rattle.head.specs.Fields.{permitted};
+ghost use lib.ListN.{length};
+ghost use Rattle.field.specs.Field.{cleared};
+ghost use Rattle.head.specs.Fields.{permitted, nodePlace, nodeWidth};
 ghost use Rattle.node.specs.Image.{Open, Masks, linkPlace, dataPlace, tableOf};
-ghost use Rattle.node.specs.Writes.{carriedOut, linkWrite, dataWrite};
+ghost use Rattle.node.specs.Writes.{carriedOut, pathWrite, lastWrite, linkWrite, dataWrite};
 use head::Head;
 
 // The mask of a link's bytes. A reader of many links makes it once and hands it to `link`.
@@ -16,6 +18,14 @@ pub fn mask(h: Head) -> u32
     ensures { λ r. ⌜ Masks h r ⌝ }
 {
     ones(h.a)
+}
+
+// The greatest value that D bytes hold.
+pub fn greatest(h: Head) -> u32
+    requires { ⌜ permitted h ≡ true ⌝ }
+    ensures { λ r. ⌜ r + 1 ≡ 256 ^ h .d ⌝ }
+{
+    ones(h.d)
 }
 
 // The link for letter i of node q.
@@ -58,6 +68,36 @@ pub fn set_data(image: &mut [u8], h: Head, q: u32, v: u64)
     ensures { λ _. ⌜ tableOf h (now (image .exit)) ≡ put (tableOf h (now (image .entry))) q v ⌝ }
 {
     field::write(image, data_place(h, q), h.d as usize, v);
+}
+
+// Writes the whole of node q, a new one: the link for letter i is c, all else is zero.
+pub fn write_path(image: &mut [u8], h: Head, q: u32, i: u32, c: u32)
+    requires { ⌜ permitted h ≡ true ⌝ ∗ ⌜ nodePlace h (q + 1) ≤ length (now image) ⌝ ∗ ⌜ i < h .n ⌝ }
+    ensures { λ _. ⌜ now (image .exit) ≡ carriedOut (now (image .entry)) (pathWrite h q i c ∷ []) ⌝ }
+{
+    wipe(image, h, q);
+    field::write(image, link_place(h, q, i), h.a as usize, c as u64);
+}
+
+// Writes the whole of node q, a new one: the data is v, all else is zero.
+pub fn write_last(image: &mut [u8], h: Head, q: u32, v: u64)
+    requires { ⌜ permitted h ≡ true ⌝ ∗ ⌜ nodePlace h (q + 1) ≤ length (now image) ⌝ }
+    ensures { λ _. ⌜ now (image .exit) ≡ carriedOut (now (image .entry)) (lastWrite h q v ∷ []) ⌝ }
+{
+    wipe(image, h, q);
+    field::write(image, data_place(h, q), h.d as usize, v);
+}
+
+// Clears the whole of node q: spare bytes may hold anything.
+fn wipe(image: &mut [u8], h: Head, q: u32)
+    requires { ⌜ permitted h ≡ true ⌝ ∗ ⌜ nodePlace h (q + 1) ≤ length (now image) ⌝ }
+    ensures { λ _. ⌜ now (image .exit) ≡ cleared (now (image .entry)) (nodePlace h q) (nodeWidth h) ⌝ }
+{
+    field::clear(
+        image,
+        h.node_place(q as u64) as usize,
+        h.node_width() as usize,
+    );
 }
 
 // Where the link for letter i of node q stands.
