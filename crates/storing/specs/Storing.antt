@@ -1,24 +1,53 @@
 -- 01, "store: 1 to 8, 9, 10, 11, 12, 13": the part behind 10. Where an image has been checked and a key has passed 9 and 10, what this part
 -- answers and leaves in the image is what the whole call does, whatever working numbers were lent.
-use Prim.Native.Nat.{ℕ}
+use Prim.Native.Nat.{ℕ, suc, _+_, _^_, _≤_, _<_}
 use mathlib.Core.Path.{_≡_}
-use mathlib.Core.List.{List, [], _∷_}
+use mathlib.Core.List.{List, [], _∷_, _++_}
 use lib.ListN.{length}
-use Rattle.trie.specs.Table.{answer}
-use Rattle.trie.specs.Storing.{changeOf}
-use Rattle.head.specs.Fields.{headOf}
+use Rattle.trie.specs.Table.{Descent, stopped, descend, valueAt, missing}
+use Rattle.trie.specs.Storing.{added, changeOf}
+use Rattle.head.specs.declared.Head.{Head}
+use Rattle.head.specs.Fields.{headOf, nodePlace}
+use Rattle.node.specs.Image.{tableOf}
+use Rattle.node.specs.Writes.{carriedOut, newNodes, totalWrite, linkWrite, storeWrites}
 use Rattle.paper.specs.declared.Stored.{Stored}
 use Rattle.paper.specs.Hearing.{Outcome, outcome, doneNumbers, first, heard}
 use Rattle.paper.specs.Answers.{storedOf}
-use Rattle.paper.specs.Orders.{adding, newOf}
-use Rattle.paper.specs.Calls.{tableIn, storedImage}
+use Rattle.paper.specs.Orders.{adding}
+use Rattle.paper.specs.Calls.{tableIn}
+use Rattle.key.specs.declared.Key.{Key}
+use Rattle.walk.specs.declared.Position.{Position}
 
--- the outcome of 11, 12, 13 and of the writes
-unfoldable pub storeIn : List ℕ → List ℕ → ℕ → Outcome
-unfolding heard first adding newOf doneNumbers storedImage changeOf answer tableIn
-storeIn l key value =
-    heard (first (adding (headOf l) value (newOf (headOf l) l key value) (length l))) (l ∷ [])
-    (outcome (doneNumbers 0 (changeOf (answer (tableIn l) key) value) 0) (storedImage l key value ∷ []))
+-- the outcome of 11, 12, 13 and of the writes, where the key's walk ended so
+unfoldable pub storeAt : Head → List ℕ → Descent → ℕ → Outcome
+unfolding heard first adding added missing doneNumbers changeOf valueAt tableOf carriedOut storeWrites
+storeAt h l d value =
+    heard (first (adding h value (added (missing d) value) (length l))) (l ∷ [])
+    (outcome (doneNumbers 0 (changeOf (valueAt (tableOf h l) d) value) 0) (carriedOut l (storeWrites h d value) ∷ []))
 
+-- the walk is the key's own
 abbrev pub StoresIn : List ℕ → List ℕ → ℕ → Stored → List ℕ → Type 0
-StoresIn l key value r l′ = outcome (storedOf r) (l′ ∷ []) ≡ storeIn l key value
+StoresIn l key value r l′ = outcome (storedOf r) (l′ ∷ []) ≡ storeAt (headOf l) l (descend (tableIn l) 0 key) value
+
+-- ---- the parts of it
+
+-- a walk that stopped: at a node that there is, before the key's end
+pub record Stop (h : Head) (key : Key) (at : Position) : Type 0 where
+  pub node : at .node ≤ h .g
+  pub depth : at .depth < key .len
+
+-- addresses up to this one, and the bytes of their nodes
+pub record Space (h : Head) (l : List ℕ) (total : ℕ) : Type 0 where
+  pub addresses : total < 256 ^ h .a
+  pub room : nodePlace h (total + 1) ≤ length l
+
+-- where the walk stopped at node q, with these letters of the key left
+abbrev pub Extends : Head → List ℕ → ℕ → List ℕ → ℕ → Stored → List ℕ → Type 0
+Extends h l q left value r l′ =
+    (x : ℕ) (xs : List ℕ) → left ≡ x ∷ xs → outcome (storedOf r) (l′ ∷ []) ≡ storeAt h l (stopped q x xs) value
+
+-- the writes of a new path below node q, for these letters of the key
+abbrev pub Builds : Head → List ℕ → ℕ → List ℕ → ℕ → ℕ → List ℕ → Type 0
+Builds h l q left total value l′ =
+    (x : ℕ) (xs : List ℕ) → left ≡ x ∷ xs
+    → l′ ≡ carriedOut l (newNodes h (suc (h .g)) xs value ++ (totalWrite total ∷ linkWrite h q x (suc (h .g)) ∷ []))

@@ -1,0 +1,121 @@
+// What a store judges behind the key, and what it writes: 11, 12 and 13, then the new nodes by rising address, the node total and the link
+// to the first of them, or the data field alone. The image has been checked, and the key has passed 9 and 10.
+ghost use mathlib.Core.Path.{_≡_};
+ghost use Prim.Native.Nat.{suc, _+_, _-_, _≤_, _<_, _^_};
+ghost use mathlib.Core.Bool.{true};
+ghost use mathlib.Core.List.{[], _∷_};
+ghost use lib.ListN.{drop};
+ghost use Rattle.trie.specs.Storing.{changeOf};
+ghost use Rattle.head.specs.Fields.{headOf, permitted};
+ghost use Rattle.node.specs.Image.{Open, tableOf};
+ghost use Rattle.node.specs.Writes.{carriedOut, newNodes, dataWrite};
+ghost use Rattle.paper.specs.Accepted.{Accepted};
+ghost use Rattle.key.specs.Hand.{Ready, lettersOf};
+ghost use Rattle.storing.specs.Storing.{StoresIn, Stop, Space, Extends, Builds};
+use head::Head;
+use key::Key;
+use paper::Refusal;
+use paper::Stored;
+use walk::Position;
+use walk::Walked;
+
+// Stores a value under a key, 0 to delete it. Refusals: 11, 12, 13. An image that has been checked has no bad link.
+pub fn store(image: &mut [u8], h: Head, key: Key, value: u64) -> Stored
+    requires { ⌜ Accepted (now image) ⌝ ∗ ⌜ h ≡ headOf (now image) ⌝ ∗ ⌜ Ready h key ⌝ }
+    ensures { λ r. ⌜ StoresIn (now (image .entry)) (lettersOf key) value r (now (image .exit)) ⌝ }
+{
+    if (node::greatest(h) as u64) < value {
+        return Stored::Refused(Refusal::ValueTooGreat);
+    }
+    let walked = walk::walk(image, h, key);
+    match walked {
+        Walked::Complete(node) => Stored::Change(replace(image, h, node, value)),
+        Walked::Stopped(at) => extend(image, h, key, at, value),
+        Walked::Bad(node) => Stored::Refused(Refusal::Link(node)),
+    }
+}
+
+// The path is complete: the data field of the key's own node, alone.
+fn replace(image: &mut [u8], h: Head, node: u32, value: u64) -> i32
+    requires { ⌜ Open h (now image) ⌝ ∗ ⌜ node ≤ h .g ⌝ ∗ ⌜ value < 256 ^ h .d ⌝ }
+    ensures { λ _. ⌜ now (image .exit) ≡ carriedOut (now (image .entry)) (dataWrite h node value ∷ []) ⌝ }
+    ensures { λ r. ⌜ r ≡ changeOf (tableOf h (now (image .entry)) .value node) value ⌝ }
+{
+    let old = node::data(image, h, node);
+    node::set_data(image, h, node, value);
+    change(old, value)
+}
+
+// The change in the number of stored keys, where one key's data changes.
+fn change(old: u64, new: u64) -> i32
+    ensures { λ r. ⌜ r ≡ changeOf old new ⌝ }
+{
+    if old == 0 {
+        if new == 0 {
+            return 0;
+        }
+        return 1;
+    }
+    if new == 0 {
+        return -1;
+    }
+    0
+}
+
+// The path stops: a node is missing for each letter left, and none is built for 0. 12 and 13 ask for the addresses and the room of all of
+// them, in 64 bits.
+fn extend(image: &mut [u8], h: Head, key: Key, at: Position, value: u64) -> Stored
+    requires { ⌜ Open h (now image) ⌝ ∗ ⌜ Ready h key ⌝ ∗ ⌜ Stop h key at ⌝ ∗ ⌜ value < 256 ^ h .d ⌝ }
+    ensures { λ r. ⌜ Extends h (now (image .entry)) (at .node) (drop (at .depth) (lettersOf key)) value r (now (image .exit)) ⌝ }
+{
+    if value == 0 {
+        return Stored::Change(0);
+    }
+    let total = (h.g as u64) + ((key.len - at.depth) as u64);
+    if (node::mask(h) as u64) < total {
+        return Stored::Refused(Refusal::NoAddress);
+    }
+    let grown = Head {
+        g: total as u32,
+        n: h.n,
+        a: h.a,
+        d: h.d,
+        f: h.f,
+        min: h.min,
+        max: h.max,
+    };
+    if !grown.fits(image.len()) {
+        return Stored::Refused(Refusal::NoRoom);
+    }
+    build(image, h, key, at, total as u32, value);
+    Stored::Change(1)
+}
+
+// The writes of a new path, in their order: the new nodes, then the node total, then the link that the walk found empty.
+fn build(image: &mut [u8], h: Head, key: Key, at: Position, total: u32, value: u64)
+    requires { ⌜ Open h (now image) ⌝ ∗ ⌜ Ready h key ⌝ ∗ ⌜ Stop h key at ⌝ ∗ ⌜ total ≡ h .g + (key .len - at .depth) ⌝ ∗ ⌜ Space h (now image) total ⌝ }
+    ensures { λ _. ⌜ Builds h (now (image .entry)) (at .node) (drop (at .depth) (lettersOf key)) total value (now (image .exit)) ⌝ }
+{
+    let depth = at.depth;
+    let letters = key.letters;
+    new_nodes(image, h, key, depth + 1, value);
+    field::write(image, 0, 4, total as u64);
+    node::set_link(image, h, at.node, letters[depth] as u32, h.g + 1);
+}
+
+// A new node for the stop, and one for each letter from a depth on, by rising address: each links to the next, the last holds the value.
+fn new_nodes(image: &mut [u8], h: Head, key: Key, from: usize, value: u64)
+    requires { ⌜ permitted h ≡ true ⌝ ∗ ⌜ Ready h key ⌝ ∗ ⌜ from ≤ key .len ⌝ ∗ ⌜ Space h (now image) (h .g + suc (key .len - from)) ⌝ }
+    ensures { λ _. ⌜ now (image .exit) ≡ carriedOut (now (image .entry)) (newNodes h (suc (h .g)) (drop from (lettersOf key)) value) ⌝ }
+{
+    let letters = key.letters;
+    let mut depth = from;
+    let mut node = h.g + 1;
+    while depth < key.len {
+        let next = node + 1;
+        node::write_path(image, h, node, letters[depth] as u32, next);
+        node = next;
+        depth += 1;
+    }
+    node::write_last(image, h, node, value);
+}
