@@ -1,0 +1,170 @@
+-- Demand 3: what a store that is not refused does to an image, to its answers and to its stored keys, and for which reasons a store is
+-- refused. The image after a store is the table after a store (`stored-table`), so the laws on tables are laws on images.
+use Prim.Native.Nat.{ℕ, zero, suc, _+_, _*_, _^_, _≤_, _<_}
+use mathlib.Core.Path.{_≡_, refl, sym, ap, _∙_}
+use mathlib.Core.Bool.{true}
+use mathlib.Core.List.{List, []}
+use native.Mathlib.Nat.{add-zero, pow-le-pow-right, le-trans, lt-of-lt-of-le}
+use native.Mathlib.Decide.{ℕ-discrete}
+use native.Mathlib.Omega.{arith}
+use lib.ListN.{length, getD, take, drop, length-take, length-drop}
+use lib.Seq.{ext-getD, getD-take, getD-drop}
+use Rattle.trie.specs.Table.{Table, Descent, complete, stopped, descend, missing}
+use Rattle.trie.specs.Storing.{stored, storedBy, added}
+use Rattle.trie.specs.Rules.{Linked}
+use Rattle.trie.proofs.Walk.{complete-within}
+use Rattle.trie.proofs.Grow.{room}
+use Rattle.trie.proofs.Storing.{stored-linked}
+use Rattle.trie.proofs.Rising.{stored-rising}
+use Rattle.head.specs.declared.Head.{Head}
+use Rattle.head.specs.Fields.{fieldsLen, headOf, permitted, nodeWidth, usedLen}
+use Rattle.head.proofs.Fields.{head-outside}
+use Rattle.head.proofs.Permitted.{bounds}
+use Rattle.head.proofs.Places.{place-least}
+use Rattle.field.specs.Field.{digits}
+use Rattle.node.specs.Image.{dataPlace, tableOf}
+use Rattle.node.specs.Writes.{carriedOut, dataWrite, storeWrites}
+use Rattle.node.proofs.Places.{data-from}
+use Rattle.node.proofs.Heads.{withTotal, used-more}
+use Rattle.node.proofs.Storing.{length-carried, Storable, store-new, store-over, store-head}
+use Rattle.node.specs.Frame.{Touched}
+use Rattle.node.proofs.Frame.{EndsIn, frame, none-before, none-after}
+use Rattle.paper.specs.Orders.{alphabetIn, newOf}
+use Rattle.paper.specs.Calls.{tableIn, storedImage}
+use Rattle.paper.specs.Accepted.{Accepted}
+use Rattle.paper.proofs.Opening.{alphabet-whole}
+use Rattle.paper.proofs.Keying.{Fit}
+use Rattle.paper.proofs.Checking.{accepted-linked}
+
+-- what a store that is not refused has, but for the working numbers lent
+pub record Granted (l key : List ℕ) (value : ℕ) : Type 0 where
+  pub accepted : Accepted l
+  pub fit : Fit (headOf l) key
+  pub value-fits : value < 256 ^ headOf l .d
+  pub addresses : 0 < newOf (headOf l) l key value → headOf l .g + newOf (headOf l) l key value < 256 ^ headOf l .a
+  pub room : 0 < newOf (headOf l) l key value → usedLen (headOf l) + newOf (headOf l) l key value * nodeWidth (headOf l) ≤ length l
+
+-- ---- the head and the table after it
+
+-- what the writes of a store make of them, where the key's walk ended so and g is the G there will be
+record Written (l : List ℕ) (d : Descent) (v g : ℕ) : Type 0 where
+  head : headOf (carriedOut l (storeWrites (headOf l) d v)) ≡ withTotal (headOf l) g
+  table : tableOf (withTotal (headOf l) g) (carriedOut l (storeWrites (headOf l) d v)) ≡ storedBy d (tableOf (headOf l) l) (headOf l .g) v
+
+none-added : (v : ℕ) → added 0 v ≡ 0
+unfolding added
+none-added zero = refl
+none-added (suc v) = refl
+
+module _ {l key : List ℕ} {value : ℕ} (s : Granted l key value) where
+  -- where the key's walk ends
+  ends : EndsIn (headOf l) (descend (tableIn l) 0 key)
+  ends = go (descend (tableIn l) 0 key) refl
+    where
+      go : (d : Descent) → descend (tableIn l) 0 key ≡ d → EndsIn (headOf l) d
+      go (complete q) e = complete-within (tableIn l) (headOf l .g) key (s .accepted .within) e
+      go (stopped q x xs) e = let r = room key (accepted-linked (s .accepted)) (s .fit .below) e in (r .node, r .letters)
+
+  written : (d : Descent) (v : ℕ) → descend (tableIn l) 0 key ≡ d → value ≡ v → EndsIn (headOf l) d
+      → Written l d v (headOf l .g + added (missing d) v)
+  unfolding tableIn newOf storeWrites storedBy carriedOut missing added dataWrite
+  written (complete q) v e f i =
+      let h : Head = headOf l in
+      let same : h .g + added 0 v ≡ h .g = ap (h .g +_) (none-added v) ∙ add-zero (h .g) in
+      rw same
+      (record {
+        head = head-outside l (digits (h .d) v) (dataPlace h q) (omega (arith, data-from h q, place-least h q));
+        table = store-over h l q v (s .accepted .room) i (rw (← f) (s .value-fits));
+      })
+  written (stopped q x xs) zero e f i = rw (add-zero (headOf l .g)) (record { head = refl; table = refl })
+  written (stopped q x xs) (suc v) e f i =
+      let h : Head = headOf l in
+      let k : newOf h l key value ≡ suc (length xs) = rw (e, f) in
+      let few : h .g + suc (length xs) < 256 ^ h .a = omega (arith, s .addresses (omega arith)) in
+      let lies : usedLen h + suc (length xs) * nodeWidth h ≤ length l = rw k at (s .room (omega arith)) in
+      let able : Storable h l q x xs (suc v) = record {
+        node = i .0;
+        letters = i .1;
+        addresses = few;
+        value = rw (← f) (s .value-fits);
+        room = rw (used-more h (suc (length xs))) lies;
+      } in
+      let b = bounds h (s .accepted .head-permitted) in
+      record {
+        head = store-head h l q x xs v (omega (arith, s .accepted .long-enough)) (lt-of-lt-of-le few (pow-le-pow-right (omega arith) (b .a-most)));
+        table = store-new h l q x xs v able;
+      }
+
+  pub stored-head : headOf (storedImage l key value) ≡ withTotal (headOf l) (headOf l .g + newOf (headOf l) l key value)
+  unfolding storedImage newOf tableIn
+  stored-head = written (descend (tableIn l) 0 key) value refl refl ends .head
+
+  pub stored-table : tableIn (storedImage l key value) ≡ stored (tableIn l) (headOf l .g) key value
+  unfolding storedImage newOf tableIn stored
+  stored-table =
+      let w = written (descend (tableIn l) 0 key) value refl refl ends in
+      ap (λ (k : Head). tableOf k (storedImage l key value)) (w .head) ∙ w .table
+
+-- whether it is granted or not
+pub stored-length : (l key : List ℕ) (value : ℕ) → length (storedImage l key value) ≡ length l
+unfolding storedImage
+stored-length l key value = length-carried l (storeWrites (headOf l) (descend (tableIn l) 0 key) value)
+
+-- ---- the bytes
+
+module _ {l key : List ℕ} {value : ℕ} (s : Granted l key value) where
+  -- "No other byte changes."
+  pub stored-frame : (p : ℕ) → ¬ Touched (headOf l) (descend (tableIn l) 0 key) value p → getD (storedImage l key value) p 0 ≡ getD l p 0
+  unfolding storedImage
+  stored-frame p miss = frame (headOf l) l (descend (tableIn l) 0 key) value p (ends s) miss
+
+  -- "bytes from U on are spare", with the U there is now
+  pub stored-spare : (p : ℕ) → usedLen (headOf (storedImage l key value)) ≤ p → getD (storedImage l key value) p 0 ≡ getD l p 0
+  unfolding newOf tableIn
+  stored-spare p b = stored-frame p (none-after (ends s) (rw (stored-head s) at b))
+
+  pub stored-alphabet : alphabetIn (headOf (storedImage l key value)) (storedImage l key value) ≡ alphabetIn (headOf l) l
+  unfolding alphabetIn
+  stored-alphabet =
+      let f : ℕ = headOf l .f in
+      let n : length (storedImage l key value) ≡ length l = stored-length l key value in
+      rw (stored-head s)
+      (ext-getD 0 (take f (drop fieldsLen (storedImage l key value))) (take f (drop fieldsLen l)) (simp (length-take, length-drop, n))
+      (λ i b.
+      let c : i < f = omega (arith, simp length-take at b) in
+      simp (getD-take, getD-drop) (stored-frame (fieldsLen + i) (none-before (omega arith) (omega arith)))))
+
+  -- ---- the rules
+
+  pub stored-room : usedLen (headOf (storedImage l key value)) ≤ length (storedImage l key value)
+  stored-room = rw (stored-head s, stored-length l key value, used-more (headOf l) k) (go (ℕ-discrete k 0))
+    where
+      k : ℕ
+      k = newOf (headOf l) l key value
+
+      go : Dec (k ≡ 0) → usedLen (headOf l) + k * nodeWidth (headOf l) ≤ length l
+      go (yes z) = rw z (omega (arith, s .accepted .room))
+      go (no z) = s .room (omega arith)
+
+  stored-links : Linked (stored (tableIn l) (headOf l .g) key value) (headOf l .g + newOf (headOf l) l key value) (headOf l .n)
+  unfolding newOf tableIn
+  stored-links = stored-linked (accepted-linked (s .accepted)) key (s .fit .below) value
+
+  stored-permitted : permitted (headOf (storedImage l key value)) ≡ true
+  unfolding permitted
+  stored-permitted = ap permitted (stored-head s) ∙ s .accepted .head-permitted
+
+  pub accepted-again : Accepted (storedImage l key value)
+  accepted-again =
+      let a = s .accepted in
+      record {
+        long-enough = rw (stored-length l key value) (a .long-enough);
+        short-enough = rw (stored-length l key value) (a .short-enough);
+        head-permitted = stored-permitted;
+        alphabet-good = rw (stored-alphabet, stored-head s) (a .alphabet-good);
+        room = stored-room;
+        within = rw (stored-table s, stored-head s) (stored-links .within);
+        rising = rw (stored-table s) (stored-rising (tableIn l) (headOf l .g) key value (a .within) (a .rising));
+        named = rw (stored-table s, stored-head s) (stored-links .named);
+        once = rw (stored-table s) (stored-links .once);
+      }
