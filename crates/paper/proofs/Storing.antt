@@ -2,17 +2,21 @@
 -- refused. The image after a store is the table after a store (`stored-table`), so the laws on tables are laws on images.
 use Prim.Native.Nat.{ℕ, zero, suc, _+_, _*_, _^_, _≤_, _<_}
 use mathlib.Core.Path.{_≡_, refl, sym, ap, _∙_}
-use mathlib.Core.Bool.{true}
-use mathlib.Core.List.{List, []}
+use mathlib.Core.Bool.{Bool, true, false}
+use mathlib.Core.Logic.{_≢_, inr}
+use mathlib.Core.Option.{Option, none, some}
+use mathlib.Core.List.{List, [], _∷_, _++_}
 use native.Mathlib.Nat.{add-zero, pow-le-pow-right, le-trans, lt-of-lt-of-le}
 use native.Mathlib.Decide.{ℕ-discrete}
 use native.Mathlib.Omega.{arith}
 use lib.ListN.{length, getD, take, drop, length-take, length-drop}
 use lib.Seq.{ext-getD, getD-take, getD-drop}
-use Rattle.trie.specs.Table.{Table, Descent, complete, stopped, descend, missing}
+use lib.IntN.{pos}
+use Rattle.trie.specs.Table.{Table, Descent, complete, stopped, descend, answer, missing, fault}
 use Rattle.trie.specs.Storing.{stored, storedBy, added}
 use Rattle.trie.specs.Rules.{Linked}
 use Rattle.trie.proofs.Walk.{complete-within}
+use Rattle.trie.proofs.Faults.{fault-nil, fault-empty, fault-on}
 use Rattle.trie.proofs.Grow.{room}
 use Rattle.trie.proofs.Storing.{stored-linked}
 use Rattle.trie.proofs.Rising.{stored-rising}
@@ -29,12 +33,14 @@ use Rattle.node.proofs.Heads.{withTotal, used-more}
 use Rattle.node.proofs.Storing.{length-carried, Storable, store-new, store-over, store-head}
 use Rattle.node.specs.Frame.{Touched}
 use Rattle.node.proofs.Frame.{EndsIn, frame, none-before, none-after}
-use Rattle.paper.specs.Orders.{alphabetIn, newOf}
-use Rattle.paper.specs.Calls.{tableIn, storedImage}
+use Rattle.paper.specs.Hearing.{Row, first, heard, outcome, doneNumbers}
+use Rattle.paper.specs.Rows.{badLink, rowAt, row6path}
+use Rattle.paper.specs.Orders.{alphabetIn, openingOf, lookingUp, newOf}
+use Rattle.paper.specs.Calls.{tableIn, lookUpBy, storedImage}
 use Rattle.paper.specs.Accepted.{Accepted}
-use Rattle.paper.proofs.Opening.{alphabet-whole}
+use Rattle.paper.proofs.Hearing.{first-nil, first-none, first-part, second-part}
 use Rattle.paper.proofs.Keying.{Fit}
-use Rattle.paper.proofs.Checking.{accepted-linked}
+use Rattle.paper.proofs.Checking.{not-bad, accepted-opens, accepted-linked}
 
 -- what a store that is not refused has, but for the working numbers lent
 pub record Granted (l key : List ℕ) (value : ℕ) : Type 0 where
@@ -168,3 +174,47 @@ module _ {l key : List ℕ} {value : ℕ} (s : Granted l key value) where
         named = rw (stored-table s, stored-head s) (stored-links .named);
         once = rw (stored-table s) (stored-links .once);
       }
+
+-- ---- a lookup in an accepted image
+
+-- rows that say nothing can be left off the end
+silent-end : (xs ys : List Row) → first ys ≡ none → first (xs ++ ys) ≡ first xs
+silent-end xs ys e = go (first xs) refl
+  where
+    go : (r : Row) → first xs ≡ r → first (xs ++ ys) ≡ first xs
+    go none f = second-part xs ys f ∙ e ∙ sym f
+    go (some t) f = first-part xs ys f ∙ sym f
+
+quiet : {at : Option ℕ} → at ≡ none → rowAt at ≡ none
+unfolding rowAt
+quiet e = ap rowAt e
+
+module _ {l : List ℕ} (a : Accepted l) where
+  -- on no key's path is there a bad link
+  unfaulted : (q : ℕ) (k : List ℕ) → fault (badLink (headOf l .g)) (tableIn l) q k ≡ none
+  unfaulted q [] = fault-nil (badLink (headOf l .g)) (tableIn l) q
+  unfaulted q (x ∷ xs) = go (ℕ-discrete c 0) (unfaulted c xs)
+    where
+      c : ℕ
+      c = tableIn l .child q x
+
+      bad : ℕ → ℕ → Bool
+      bad = badLink (headOf l .g)
+
+      go : Dec (c ≡ 0) → fault bad (tableIn l) c xs ≡ none → fault bad (tableIn l) q (x ∷ xs) ≡ none
+      go (yes e) rest = fault-empty bad (tableIn l) q x xs e
+      go (no e) rest =
+          fault-on bad (tableIn l) q x xs refl e (not-bad (headOf l .g) q c .1 (inr (a .within q x, a .rising q x e))) ∙ rest
+
+  -- none of 1 to 4 and no 6 is heard, so the part for the key alone decides
+  key-decides : (keyed : List Row) (key : List ℕ) → first (lookingUp l keyed key) ≡ first keyed
+  unfolding lookingUp row6path tableIn
+  key-decides keyed key =
+      second-part (openingOf l) _ (accepted-opens a)
+      ∙ silent-end keyed _ (first-none (rowAt (fault (badLink (headOf l .g)) (tableIn l) 0 key)) [] (quiet (unfaulted 0 key)) ∙ first-nil)
+
+  pub looks-up-accepted : (keyed : List Row) (key : List ℕ)
+      → lookUpBy l keyed key ≡ heard (first keyed) [] (outcome (doneNumbers 0 (pos 0) (answer (tableIn l) key)) [])
+  unfolding lookUpBy
+  looks-up-accepted keyed key =
+      ap (λ (r : Row). heard r [] (outcome (doneNumbers 0 (pos 0) (answer (tableIn l) key)) [])) (key-decides keyed key)
