@@ -18,7 +18,7 @@ use Rattle.trie.specs.Rules.{Linked}
 use Rattle.trie.proofs.Walk.{complete-within}
 use Rattle.trie.proofs.Faults.{fault-nil, fault-empty, fault-on}
 use Rattle.trie.proofs.Grow.{room}
-use Rattle.trie.proofs.Storing.{stored-linked}
+use Rattle.trie.proofs.Storing.{stored-answer, stored-answer-other, stored-linked}
 use Rattle.trie.proofs.Rising.{stored-rising}
 use Rattle.head.specs.declared.Head.{Head}
 use Rattle.head.specs.Fields.{fieldsLen, headOf, permitted, nodeWidth, usedLen}
@@ -26,6 +26,7 @@ use Rattle.head.proofs.Fields.{head-outside}
 use Rattle.head.proofs.Permitted.{bounds}
 use Rattle.head.proofs.Places.{place-least}
 use Rattle.field.specs.Field.{digits}
+use Rattle.alphabet.specs.Letters.{letters, lettersIn, keyOfText}
 use Rattle.node.specs.Image.{dataPlace, tableOf}
 use Rattle.node.specs.Writes.{carriedOut, dataWrite, storeWrites}
 use Rattle.node.proofs.Places.{data-from}
@@ -33,13 +34,14 @@ use Rattle.node.proofs.Heads.{withTotal, used-more}
 use Rattle.node.proofs.Storing.{length-carried, Storable, store-new, store-over, store-head}
 use Rattle.node.specs.Frame.{Touched}
 use Rattle.node.proofs.Frame.{EndsIn, frame, none-before, none-after}
-use Rattle.paper.specs.Hearing.{Row, first, heard, outcome, doneNumbers}
-use Rattle.paper.specs.Rows.{badLink, rowAt, row6path}
-use Rattle.paper.specs.Orders.{alphabetIn, openingOf, lookingUp, newOf}
-use Rattle.paper.specs.Calls.{tableIn, lookUpBy, storedImage}
+use Rattle.paper.specs.Hearing.{Row, Outcome, first, heard, outcome, doneNumbers}
+use Rattle.paper.specs.Rows.{badLink, row9, row10, isNone, row10text, rowAt, row6path}
+use Rattle.paper.specs.Orders.{alphabetIn, openingOf, byLetters, byText, lookingUp, newOf}
+use Rattle.paper.specs.Calls.{tableIn, lookUpBy, lookUpOf, namedIn, lookUpTextOf, storedImage}
 use Rattle.paper.specs.Accepted.{Accepted}
-use Rattle.paper.proofs.Hearing.{first-nil, first-none, first-part, second-part}
-use Rattle.paper.proofs.Keying.{Fit}
+use Rattle.paper.proofs.Hearing.{untrue, first-nil, first-none, no-row, first-part, second-part, heard-done}
+use Rattle.paper.proofs.Keying.{below-letters, Fit, text-fit}
+use Rattle.paper.proofs.Nexting.{some-found}
 use Rattle.paper.proofs.Checking.{not-bad, accepted-opens, accepted-linked}
 
 -- what a store that is not refused has, but for the working numbers lent
@@ -218,3 +220,77 @@ module _ {l : List ℕ} (a : Accepted l) where
   unfolding lookUpBy
   looks-up-accepted keyed key =
       ap (λ (r : Row). heard r [] (outcome (doneNumbers 0 (pos 0) (answer (tableIn l) key)) [])) (key-decides keyed key)
+
+-- ---- what keys answer after a store
+
+-- a key that is fit passes 9 and 10
+pub fit-letters : {h : Head} {key : List ℕ} → Fit h key → first (byLetters h key) ≡ none
+unfolding byLetters row9 row10
+fit-letters {h} {key} f = no-row 9 0 _ (untrue (f .allowed)) ∙ no-row 10 0 _ (untrue (below-letters (h .n) key .1 (f .below))) ∙ first-nil
+
+pub fit-text : {h : Head} {key : List ℕ} → Fit h key → first (byText h (some key)) ≡ none
+unfolding byText row10text isNone row9 lettersIn
+fit-text f = no-row 10 0 _ refl ∙ no-row 9 0 _ (untrue (f .allowed)) ∙ first-nil
+
+heard-alike : (r : Row) (kept : List (List ℕ)) {x y : Outcome} → (r ≡ none → x ≡ y) → heard r kept x ≡ heard r kept y
+unfolding heard
+heard-alike none kept e = e refl
+heard-alike (some t) kept e = refl
+
+module _ {l key : List ℕ} {value : ℕ} (s : Granted l key value) where
+  -- whether the key comes as letters or as text
+  answers-by : (keyed : List Row) → first keyed ≡ none → lookUpBy (storedImage l key value) keyed key ≡ outcome (doneNumbers 0 (pos 0) value) []
+  answers-by keyed e =
+      looks-up-accepted (accepted-again s) keyed key
+      ∙ heard-done (first keyed) [] _ e
+      ∙ ap (λ (t : Table). outcome (doneNumbers 0 (pos 0) (answer t key)) []) (stored-table s)
+      ∙ ap (λ (v : ℕ). outcome (doneNumbers 0 (pos 0) v) []) (stored-answer (accepted-linked (s .accepted)) key (s .fit .below) value)
+
+  others-by : (keyed : List Row) (k : List ℕ) → (first keyed ≡ none → k ≢ key) → lookUpBy (storedImage l key value) keyed k ≡ lookUpBy l keyed k
+  others-by keyed k other =
+      let same : (first keyed ≡ none) → answer (tableIn (storedImage l key value)) k ≡ answer (tableIn l) k =
+      λ e.
+      ap (λ (t : Table). answer t k) (stored-table s)
+      ∙ stored-answer-other (accepted-linked (s .accepted)) key (s .fit .below) value k (other e) in
+      looks-up-accepted (accepted-again s) keyed k
+      ∙ heard-alike (first keyed) [] (λ e. ap (λ (v : ℕ). outcome (doneNumbers 0 (pos 0) v) []) (same e))
+      ∙ sym (looks-up-accepted (s .accepted) keyed k)
+
+  -- 9 and 10 are what they were, and a text names the key it named
+  by-letters : (k : List ℕ) → lookUpOf (storedImage l key value) k ≡ lookUpBy (storedImage l key value) (byLetters (headOf l) k) k
+  unfolding lookUpOf byLetters row9 row10
+  by-letters k = ap (λ (h : Head). lookUpBy (storedImage l key value) (byLetters h k) k) (stored-head s)
+
+  pub same-name : (text : List ℕ) → namedIn (storedImage l key value) text ≡ namedIn l text
+  unfolding namedIn
+  same-name text = ap (λ (alphabet : List ℕ). keyOfText (letters alphabet) text) (stored-alphabet s)
+
+  by-text : (text : List ℕ) {named : Option (List ℕ)} → namedIn l text ≡ named
+      → lookUpTextOf (storedImage l key value) text ≡ lookUpBy (storedImage l key value) (byText (headOf l) named) (lettersIn named)
+  unfolding lookUpTextOf byText row9
+  by-text text {named} e =
+      ap (λ (o : Option (List ℕ)). lookUpBy (storedImage l key value) (byText (headOf (storedImage l key value)) o) (lettersIn o)) (same-name text ∙ e)
+      ∙ ap (λ (h : Head). lookUpBy (storedImage l key value) (byText h named) (lettersIn named)) (stored-head s)
+
+  -- the key answers the value
+  pub stored-answers : lookUpOf (storedImage l key value) key ≡ outcome (doneNumbers 0 (pos 0) value) []
+  stored-answers = by-letters key ∙ answers-by (byLetters (headOf l) key) (fit-letters (s .fit))
+
+  -- every other key answers, or is refused, as before
+  pub others-answer : (k : List ℕ) → k ≢ key → lookUpOf (storedImage l key value) k ≡ lookUpOf l k
+  unfolding lookUpOf
+  others-answer k other = by-letters k ∙ others-by (byLetters (headOf l) k) k (λ _. other)
+
+  -- so does a text that names the key, and any other text
+  pub text-answers : (text : List ℕ) → namedIn l text ≡ some key
+      → lookUpTextOf (storedImage l key value) text ≡ outcome (doneNumbers 0 (pos 0) value) []
+  unfolding lettersIn
+  text-answers text e = by-text text e ∙ answers-by (byText (headOf l) (some key)) (fit-text (s .fit))
+
+  pub other-texts-answer : (text : List ℕ) → namedIn l text ≢ some key → lookUpTextOf (storedImage l key value) text ≡ lookUpTextOf l text
+  unfolding lookUpTextOf
+  other-texts-answer text other =
+      let named : Option (List ℕ) = namedIn l text in
+      by-text text refl
+      ∙ others-by (byText (headOf l) named) (lettersIn named)
+      (λ e f. other (some-found named (text-fit (headOf l) named e .0) ∙ ap (λ (k : List ℕ). some k) f))
