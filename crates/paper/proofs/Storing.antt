@@ -1,7 +1,7 @@
 -- Demand 3: what a store that is not refused does to an image, to its answers and to its stored keys, and for which reasons a store is
 -- refused. The image after a store is the table after a store (`stored-table`), so the laws on tables are laws on images.
 use Prim.Native.Nat.{ℕ, zero, suc, _+_, _*_, _^_, _≤_, _<_}
-use mathlib.Core.Path.{_≡_, refl, sym, ap, _∙_}
+use mathlib.Core.Path.{_≡_, refl, sym, ap, ap₂, _∙_}
 use mathlib.Core.Bool.{Bool, true, false}
 use mathlib.Core.Logic.{_≢_, inr}
 use mathlib.Core.Option.{Option, none, some}
@@ -11,21 +11,24 @@ use native.Mathlib.Decide.{ℕ-discrete}
 use native.Mathlib.Omega.{arith}
 use lib.ListN.{length, getD, take, drop, length-take, length-drop}
 use lib.Seq.{ext-getD, getD-take, getD-drop}
-use lib.IntN.{pos}
+use lib.IntN.{pos, _+ℤ_}
 use Rattle.trie.specs.Table.{Table, Descent, complete, stopped, descend, answer, missing, fault}
-use Rattle.trie.specs.Storing.{stored, storedBy, added}
+use Rattle.trie.specs.Storing.{stored, storedBy, added, changeOf}
+use Rattle.trie.specs.Keys.{listing}
 use Rattle.trie.specs.Rules.{Linked}
 use Rattle.trie.proofs.Walk.{complete-within}
 use Rattle.trie.proofs.Faults.{fault-nil, fault-empty, fault-on}
 use Rattle.trie.proofs.Grow.{room}
 use Rattle.trie.proofs.Storing.{stored-answer, stored-answer-other, stored-linked}
 use Rattle.trie.proofs.Rising.{stored-rising}
+use Rattle.trie.proofs.Count.{stored-count}
 use Rattle.head.specs.declared.Head.{Head}
 use Rattle.head.specs.Fields.{fieldsLen, headOf, permitted, nodeWidth, usedLen}
 use Rattle.head.proofs.Fields.{head-outside}
 use Rattle.head.proofs.Permitted.{bounds}
 use Rattle.head.proofs.Places.{place-least}
 use Rattle.field.specs.Field.{digits}
+use Rattle.field.proofs.Range.{between-true}
 use Rattle.alphabet.specs.Letters.{letters, lettersIn, keyOfText}
 use Rattle.node.specs.Image.{dataPlace, tableOf}
 use Rattle.node.specs.Writes.{carriedOut, dataWrite, storeWrites}
@@ -37,7 +40,7 @@ use Rattle.node.proofs.Frame.{EndsIn, frame, none-before, none-after}
 use Rattle.paper.specs.Hearing.{Row, Outcome, first, heard, outcome, doneNumbers}
 use Rattle.paper.specs.Rows.{badLink, row9, row10, isNone, row10text, rowAt, row6path}
 use Rattle.paper.specs.Orders.{alphabetIn, openingOf, byLetters, byText, lookingUp, newOf}
-use Rattle.paper.specs.Calls.{tableIn, lookUpBy, lookUpOf, namedIn, lookUpTextOf, storedImage}
+use Rattle.paper.specs.Calls.{tableIn, storedKeys, lookUpBy, lookUpOf, namedIn, lookUpTextOf, storedImage}
 use Rattle.paper.specs.Accepted.{Accepted}
 use Rattle.paper.proofs.Hearing.{untrue, first-nil, first-none, no-row, first-part, second-part, heard-done}
 use Rattle.paper.proofs.Keying.{below-letters, Fit, text-fit}
@@ -294,3 +297,13 @@ module _ {l key : List ℕ} {value : ℕ} (s : Granted l key value) where
       by-text text refl
       ∙ others-by (byText (headOf l) named) (lettersIn named)
       (λ e f. other (some-found named (text-fit (headOf l) named e .0) ∙ ap (λ (k : List ℕ). some k) f))
+
+  -- ---- how many keys are stored
+
+  -- "the change in the number of stored keys: -1, 0 or 1"
+  pub stored-change : pos (length (storedKeys (storedImage l key value))) ≡ pos (length (storedKeys l)) +ℤ changeOf (answer (tableIn l) key) value
+  unfolding storedKeys
+  stored-change =
+      let b = between-true (length key) (headOf l .min) (headOf l .max) (s .fit .allowed) in
+      ap₂ (λ (h : Head) (t : Table). pos (length (listing t (h .n) (h .min) (h .max)))) (stored-head s) (stored-table s)
+      ∙ stored-count (accepted-linked (s .accepted)) key (s .fit .below) value (headOf l .min) (headOf l .max) (b .0) (b .1)
