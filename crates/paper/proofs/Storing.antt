@@ -1,17 +1,19 @@
 -- Demand 3: what a store that is not refused does to an image, to its answers and to its stored keys, and for which reasons a store is
 -- refused. The image after a store is the table after a store (`stored-table`), so the laws on tables are laws on images.
-use Prim.Native.Nat.{ℕ, zero, suc, _+_, _*_, _^_, _≤_, _<_}
+use Prim.Native.Nat.{ℕ, zero, suc, _+_, _-_, _*_, _^_, _≤_, _<_}
 use mathlib.Core.Path.{_≡_, refl, sym, ap, ap₂, _∙_}
-use mathlib.Core.Bool.{Bool, true, false}
-use mathlib.Core.Logic.{_≢_, inr}
+use mathlib.Core.Bool.{Bool, true, false, _&&_, and-false}
+use mathlib.Core.Logic.{_↔_, _≢_, inr}
 use mathlib.Core.Option.{Option, none, some}
 use mathlib.Core.List.{List, [], _∷_, _++_}
-use native.Mathlib.Nat.{add-zero, pow-le-pow-right, le-trans, lt-of-lt-of-le}
-use native.Mathlib.Decide.{ℕ-discrete}
+use native.Mathlib.Nat.{add-zero, one-le-pow, pow-le-pow-right, lt-of-lt-of-le}
+use native.Mathlib.Decide.{ℕ-discrete, decLt}
 use native.Mathlib.Omega.{arith}
+use lib.Dec.{ltb}
 use lib.ListN.{length, getD, take, drop, length-take, length-drop}
 use lib.Seq.{ext-getD, getD-take, getD-drop}
 use lib.IntN.{pos, _+ℤ_}
+use borrow.Author.Tests.{ltb-false, lt-ltb, le-ltb}
 use Rattle.trie.specs.Table.{Table, Descent, complete, stopped, descend, answer, missing, fault}
 use Rattle.trie.specs.Storing.{stored, storedBy, added, changeOf}
 use Rattle.trie.specs.Keys.{listing}
@@ -38,11 +40,11 @@ use Rattle.node.proofs.Storing.{length-carried, Storable, store-new, store-over
 use Rattle.node.specs.Frame.{Touched}
 use Rattle.node.proofs.Frame.{EndsIn, frame, none-before, none-after}
 use Rattle.paper.specs.Hearing.{Row, Outcome, first, heard, outcome, doneNumbers}
-use Rattle.paper.specs.Rows.{badLink, row9, row10, isNone, row10text, rowAt, row6path}
+use Rattle.paper.specs.Rows.{badLink, row9, row10, isNone, row10text, row11, row12, row13, rowAt, row6path}
 use Rattle.paper.specs.Orders.{alphabetIn, openingOf, byLetters, byText, lookingUp, newOf}
 use Rattle.paper.specs.Calls.{tableIn, storedKeys, lookUpBy, lookUpOf, namedIn, lookUpTextOf, storedImage}
 use Rattle.paper.specs.Accepted.{Accepted}
-use Rattle.paper.proofs.Hearing.{untrue, first-nil, first-none, no-row, first-part, second-part, heard-done}
+use Rattle.paper.proofs.Hearing.{untrue, not-given, was-false, first-nil, first-none, no-row, first-part, second-part, heard-done}
 use Rattle.paper.proofs.Keying.{below-letters, Fit, text-fit}
 use Rattle.paper.proofs.Nexting.{some-found}
 use Rattle.paper.proofs.Checking.{not-bad, accepted-opens, accepted-linked}
@@ -307,3 +309,40 @@ module _ {l key : List ℕ} {value : ℕ} (s : Granted l key value) where
       let b = between-true (length key) (headOf l .min) (headOf l .max) (s .fit .allowed) in
       ap₂ (λ (h : Head) (t : Table). pos (length (listing t (h .n) (h .min) (h .max)))) (stored-head s) (stored-table s)
       ∙ stored-count (accepted-linked (s .accepted)) key (s .fit .below) value (headOf l .min) (headOf l .max) (b .0) (b .1)
+
+-- ---- 11, 12 and 13: none of them is given exactly where the value, the new addresses and the new nodes fit
+
+-- a test "with k above 0"
+with-new : (k most x : ℕ) → ((ltb 0 k && ltb most x) ≡ false) ↔ (0 < k → x ≤ most)
+with-new k most x = (λ e b. ltb-false most x (rw (lt-ltb 0 k b) at e), λ f. go (decLt 0 k) f)
+  where
+    go : Dec (0 < k) → (0 < k → x ≤ most) → (ltb 0 k && ltb most x) ≡ false
+    go (yes b) f = rw (le-ltb most x (f b)) (and-false (ltb 0 k))
+    go (no b) f = rw (le-ltb 0 k (omega arith))
+
+module _ (h : Head) where
+  pub none-11 : (value : ℕ) → (row11 h value ≡ none) ↔ (value < 256 ^ h .d)
+  unfolding row11
+  none-11 value = (
+    λ e. omega (arith, ltb-false (256 ^ h .d - 1) value (was-false 11 0 _ e), one-le-pow (h .d) 256 (omega arith)),
+    λ b. not-given 11 0 (le-ltb (256 ^ h .d - 1) value (omega arith)),
+  )
+
+  -- "Values passed are 32 bits wide, so 11 is never given for D = 4."
+  pub eleven-never : (value : ℕ) → h .d ≡ 4 → value < 2 ^ 32 → row11 h value ≡ none
+  eleven-never value e b = none-11 value .1 (rw e b)
+
+  pub none-12 : (k : ℕ) → (row12 h k ≡ none) ↔ (0 < k → h .g + k < 256 ^ h .a)
+  unfolding row12
+  none-12 k =
+      let w = with-new k (256 ^ h .a - 1) (h .g + k) in
+      (
+        λ e b. omega (arith, w .0 (was-false 12 0 _ e) b, one-le-pow (h .a) 256 (omega arith)),
+        λ f. not-given 12 0 (w .1 (λ b. omega (arith, f b))),
+      )
+
+  pub none-13 : (k len : ℕ) → (row13 h k len ≡ none) ↔ (0 < k → usedLen h + k * nodeWidth h ≤ len)
+  unfolding row13
+  none-13 k len =
+      let w = with-new k len (usedLen h + k * nodeWidth h) in
+      (λ e. w .0 (was-false 13 0 _ e), λ f. not-given 13 0 (w .1 f))
