@@ -1,63 +1,113 @@
+-- `storing::new_nodes` meets its contract: before each turn, what is still to be laid leaves what all of it would have left.
+-- Assumes nothing.
+use Prim.Native.Nat.{suc, _+_, _-_, _<_}
+use mathlib.Core.Path.{_≡_}
+use mathlib.Core.List.{_∷_}
+use native.Mathlib.Omega.{arith}
+use borrow.Author.Needs.{needs}
+use lib.ListN.{length, getD, drop}
+use Rattle.head.proofs.Permitted.{bounds}
+use Rattle.key.specs.Hand.{lettersOf}
+use Rattle.key.proofs.Hand.{letters-count, letters-from, letter-below}
+use Rattle.storing.specs.Storing.{Space}
+use Rattle.storing.proofs.Building.{Laying, laying-start, laying-most, laying-room, laying-on, laying-end, addresses-fit}
 use Rattle.storing.proofs.new_nodes.Statement.{statement}
 use Rattle.storing.proofs.new_nodes.Tie as tie
-use Rattle.storing.proofs.new_nodes.Reads as reads
-use Rattle.storing.proofs.new_nodes.Lts as lts
-use Rattle.node.proofs.write_last.Reads as write-last-reads
-use Rattle.node.proofs.write_path.Reads as write-path-reads
 
 abbrev Inv-loop : tie.InvT-loop
-Inv-loop image₀ h key from value letters depth₀ node₀ image depth node = ?
+Inv-loop image₀ h key from value letters depth₀ node₀ image depth node = Laying h (lettersOf key) from value image₀ image depth node
 
 abbrev μ-loop : tie.MeasureT-loop
-μ-loop image₀ h key from value letters depth₀ node₀ image depth node = ?
+μ-loop image₀ h key from value letters depth₀ node₀ image depth node = key .len - depth
 
--- src/lib.rt:113:20
+-- the array has 64 letters
+whole : (c : tie.Start Inv-loop μ-loop) → length (c .args .key .letters) ≡ 64
+whole c = search needs
+
+count : (c : tie.Start Inv-loop μ-loop) → length (lettersOf (c .args .key)) ≡ c .args .key .len
+count c = letters-count (c .args .key) (whole c) (c .pre .1 .0 .short)
+
+space : (c : tie.Start Inv-loop μ-loop) → Space (c .args .h) (c .args .image .now) (c .args .h .g + suc (length (lettersOf (c .args .key)) - c .args .from))
+space c = rw (count c) (c .pre .1 .1 .1)
+
+-- the letters left before the key's end
+left : (c : tie.Then1 Inv-loop μ-loop) →
+    let key = c .before .before .before .before .before .before .args .key in
+    let depth = c .before .before .loop .depth in
+    drop depth (lettersOf key) ≡ getD (key .letters) depth 0 ∷ drop (suc depth) (lettersOf key)
+left c =
+    let start = c .before .before .before .before .before .before in
+    letters-from (start .args .key) (whole start) (start .pre .1 .0 .short) (c .before .before .loop .depth) (c .if1 .taken)
+
 add-node : tie.Need-add-node Inv-loop μ-loop
-add-node c = ?
+add-node c =
+    let start = c .before .before .before in
+    omega (arith, start .pre .1 .1 .1 .addresses, addresses-fit (bounds (start .args .h) (start .pre .0)))
 
--- src/lib.rt:114:5
 loop-holds : tie.Need-loop-holds Inv-loop μ-loop
-loop-holds c = ?
+loop-holds c = let start = c .before .before .before in laying-start (omega (arith, count start, start .pre .1 .1 .0))
 
--- src/lib.rt:115:20
 add-next : tie.Need-add-next Inv-loop μ-loop
-add-next c = ?
+add-next c =
+    let at = c .before .before in
+    let start = at .before .before .before .before in
+    omega (arith, at .loop .inv .count, count start, c .if1 .taken, space start .addresses, addresses-fit (bounds (start .args .h) (start .pre .0)))
 
--- src/lib.rt:116:42
 array-read-write-path : tie.Need-array-read-write-path Inv-loop μ-loop
-array-read-write-path c = ?
+array-read-write-path c =
+    let start = c .before .before .before .before .before .before .before in
+    omega (arith, c .before .if1 .taken, start .pre .1 .0 .short)
 
--- src/lib.rt:116:42
+-- the next letter is one of the N
+below : (c : tie.Then1 Inv-loop μ-loop) →
+    let start = c .before .before .before .before .before .before in
+    getD (start .args .key .letters) (c .before .before .loop .depth) 0 < start .args .h .n
+below c =
+    let start = c .before .before .before .before .before .before in
+    letter-below (start .args .key) (whole start) (start .pre .1 .0 .short) _ _ (start .pre .1 .0 .letters) (c .if1 .taken)
+
 cast-write-path : tie.Need-cast-write-path Inv-loop μ-loop
-cast-write-path c = ?
+cast-write-path c =
+    let start = c .before .before .before .before .before .before .before in
+    omega (arith, below (c .before), bounds (start .args .h) (start .pre .0))
 
--- src/lib.rt:116:9
 write-path-requires : tie.Need-write-path-requires Inv-loop μ-loop
-write-path-requires c κs = ?
+write-path-requires c κs =
+    let at = c .before .before .before in
+    let start = at .before .before .before .before in
+    (start .pre .0, (laying-room (at .loop .inv) (space start), below (c .before)))
 
--- src/lib.rt:118:9
 add-depth : tie.Need-add-depth Inv-loop μ-loop
-add-depth c = ?
+add-depth c =
+    let one = c .before .before .before .before in
+    let start = one .before .before .before .before .before .before in
+    omega (arith, one .if1 .taken, start .pre .1 .0 .short)
 
--- src/lib.rt:114:5
 loop-less : tie.Need-loop-less Inv-loop μ-loop
-loop-less c = ?
+loop-less c = let one = c .before .before .before .before in omega (arith, one .if1 .taken)
 
--- src/lib.rt:114:5
 loop-again : tie.Need-loop-again Inv-loop μ-loop
-loop-again c = ?
+loop-again c =
+    let one = c .before .before .before .before in
+    let at = one .before .before in
+    let start = at .before .before .before .before in
+    laying-on (at .loop .inv) (omega (arith, count start, one .if1 .taken)) (left one) (c .before .before .write-path .ensures)
 
--- src/lib.rt:120:5
 write-last-requires : tie.Need-write-last-requires Inv-loop μ-loop
-write-last-requires c κs = ?
+write-last-requires c κs =
+    let at = c .before .before .before in
+    let start = at .before .before .before .before in
+    (start .pre .0, laying-room (at .loop .inv) (space start))
 
--- src/lib.rt:107:1
 same-length : tie.Need-same-length Inv-loop μ-loop
-same-length c = ?
+same-length c = search needs
 
--- src/lib.rt:107:1
 returns : tie.Need-returns Inv-loop μ-loop
-returns c = ?
+returns c =
+    let one = c .before .before .before .before in
+    let at = one .before .before in
+    let start = at .before .before .before .before in
+    laying-end (at .loop .inv) (omega (arith, count start, one .if1 .left)) (c .before .before .write-last .ensures)
 
 pub new-nodes-spec : {M : Type 1} → statement M
 new-nodes-spec =
