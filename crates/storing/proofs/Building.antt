@@ -8,16 +8,22 @@ use lib.ListN.{length, drop}
 use lib.Seq.{drop-length}
 use Rattle.field.specs.Field.{putField}
 use Rattle.head.specs.declared.Head.{Head}
-use Rattle.head.specs.Fields.{nodePlace}
+use Rattle.head.specs.Fields.{nodeWidth, nodePlace, usedLen}
 use Rattle.head.proofs.Permitted.{Bounds}
 use Rattle.head.proofs.Places.{place-le}
 use Rattle.node.specs.Writes.{carriedOut, pathWrite, lastWrite, newNodes, totalWrite, linkWrite}
+use Rattle.node.proofs.Heads.{withTotal}
 use Rattle.node.proofs.Storing.{length-carried, carried-append}
 use Rattle.storing.specs.Storing.{Space, Builds}
 
 -- addresses of A bytes are 32 bits wide
 pub addresses-fit : {h : Head} → Bounds h → 256 ^ h .a ≤ 2 ^ 32
 addresses-fit {h} b = pow-le-pow-right (omega arith) (b .a-most)
+
+-- what 12 and 13 leave
+pub space : {h : Head} {l : List ℕ} {total : ℕ} → total < 256 ^ h .a → usedLen (withTotal h total) ≤ length l → Space h l total
+unfolding usedLen nodePlace nodeWidth
+space few room = record { addresses = few; room = room }
 
 -- ---- the new nodes
 

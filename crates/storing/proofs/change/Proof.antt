@@ -1,23 +1,19 @@
+-- `storing::change` meets its contract, case by case. Assumes nothing.
+use Rattle.storing.proofs.Adding.{change-none, change-new, change-gone, change-over}
 use Rattle.storing.proofs.change.Statement.{statement}
 use Rattle.storing.proofs.change.Tie as tie
-use Rattle.storing.proofs.change.Reads as reads
-use Rattle.storing.proofs.change.Lts as lts
 
--- src/lib.rt:56:13
 returns : tie.Need-returns
-returns c = ?
+returns c = change-none (c .before .if1 .taken) (c .if2 .taken)
 
--- src/lib.rt:58:9
 returns-2 : tie.Need-returns-2
-returns-2 c = ?
+returns-2 c = change-new _ _ (c .before .if1 .taken) (c .if2 .left)
 
--- src/lib.rt:61:9
 returns-3 : tie.Need-returns-3
-returns-3 c = ?
+returns-3 c = change-gone _ _ (c .before .if1 .left) (c .if3 .taken)
 
--- src/lib.rt:51:1
 returns-4 : tie.Need-returns-4
-returns-4 c = ?
+returns-4 c = change-over _ _ (c .before .if1 .left) (c .if3 .left)
 
 pub change-spec : {M : Type 1} → statement M
 change-spec = tie.close (tie.spec returns returns-2 returns-3 returns-4)

@@ -1,67 +1,102 @@
+-- `storing::extend` meets its contract: 12 and 13 are asked of the greatest address that the new nodes would have. Assumes nothing.
+use Prim.Native.Nat.{suc, _+_, _-_, _^_, _≤_, _<_}
+use mathlib.Core.Path.{_≡_, refl, sym, ap, _∙_}
+use mathlib.Core.Bool.{true, false}
+use native.Mathlib.Omega.{arith}
 use borrow.Author.Needs.{needs}
+use borrow.Author.Tests.{leb-true, leb-false, not-true, not-false}
+use lib.ListN.{length, drop, length-drop}
+use Rattle.head.specs.Fields.{permitted, usedLen}
+use Rattle.head.proofs.Permitted.{bounds}
+use Rattle.node.proofs.Heads.{withTotal, used-total}
+use Rattle.key.specs.Hand.{lettersOf}
+use Rattle.key.proofs.Hand.{letters-count}
+use Rattle.storing.proofs.Adding.{extends-none, extends-no-address, extends-no-room, extends-done}
+use Rattle.storing.proofs.Building.{space}
 use Rattle.storing.proofs.extend.Statement.{statement}
 use Rattle.storing.proofs.extend.Tie as tie
-use Rattle.storing.proofs.extend.Reads as reads
-use Rattle.storing.proofs.extend.Lts as lts
-use Rattle.head.proofs.Head.fits.Reads as fits-reads
-use Rattle.node.proofs.mask.Reads as mask-reads
-use Rattle.storing.proofs.build.Reads as build-reads
 
--- src/lib.rt:72:9
+-- the array has 64 letters
+whole : (c : tie.Start) → length (c .args .key .letters) ≡ 64
+whole c = search needs
+
+-- the letters left are those behind the stop
+count : (c : tie.Start) → length (drop (c .args .at .depth) (lettersOf (c .args .key))) ≡ c .args .key .len - c .args .at .depth
+count c =
+    length-drop (c .args .at .depth) (lettersOf (c .args .key))
+    ∙ ap (λ n. n - c .args .at .depth) (letters-count (c .args .key) (whole c) (c .pre .1 .0 .short))
+
 returns : tie.Need-returns
-returns c = ?
+returns c = let start = c .before .before in extends-none _ _ _ _ _ (start .pre .1 .1 .1) (c .if1 .taken)
 
--- src/lib.rt:74:18
 cast-total : tie.Need-cast-total
 cast-total c = search needs
 
--- src/lib.rt:74:34
 sub-total : tie.Need-sub-total
 sub-total c = search needs
 
--- src/lib.rt:74:17
 add-total : tie.Need-add-total
 add-total c = search needs
 
--- src/lib.rt:75:9
 mask-requires : tie.Need-mask-requires
 mask-requires c κs = search needs
 
--- src/lib.rt:75:9
 cast-if2 : tie.Need-cast-if2
 cast-if2 c = search needs
 
--- src/lib.rt:76:9
 returns-2 : tie.Need-returns-2
-returns-2 c = ?
+returns-2 c =
+    let start = c .before .before .before .before .before .before .before in
+    extends-no-address _ _ _ _ _ (start .pre .1 .1 .1) (c .before .before .before .before .before .if1 .left) (c .before .mask .ensures)
+    (omega (arith, count start, c .if2 .taken))
 
--- src/lib.rt:79:12
 cast-build : tie.Need-cast-build
 cast-build c = search needs
 
--- src/lib.rt:87:9
 fits-requires : tie.Need-fits-requires
-fits-requires c κs = ?
+unfolding permitted
+fits-requires c κs = c .before .before .before .before .before .before .before .pre .0 .head-permitted
 
--- src/lib.rt:88:9
+-- the greatest address there would be
+few : (c : tie.Else2) → let a = c .before .before .before .before .before .before .before .args in a .h .g + (a .key .len - a .at .depth) < 256 ^ a .h .a
+few c = omega (arith, c .if2 .left, c .before .mask .ensures)
+
 returns-3 : tie.Need-returns-3
-returns-3 c = ?
+returns-3 c =
+    let tested = c .before in
+    let passed = tested .before in
+    let start = passed .before .before .before .before .before .before .before in
+    let a = start .args in
+    extends-no-room _ _ _ _ (a .h .g + (a .key .len - a .at .depth)) (ap (λ n. a .h .g + n) (sym (count start))) (few passed) _ (start .pre .1 .1 .1)
+    (passed .before .before .before .before .before .if1 .left)
+    (leb-false _ _ (sym (tested .fits2 .ensures) ∙ not-true _ (c .if3 .taken)))
 
--- src/lib.rt:90:30
 cast-build-2 : tie.Need-cast-build-2
 cast-build-2 c = search needs
 
--- src/lib.rt:90:5
 build-requires : tie.Need-build-requires
-build-requires c κs = ?
+build-requires c κs =
+    let tested = c .before .before in
+    let passed = tested .before in
+    let start = passed .before .before .before .before .before .before .before in
+    let a = start .args in
+    let p = start .pre in
+    (p .0, (p .1 .0, (p .1 .1 .0, (refl, space (few passed) (leb-true _ _ (sym (tested .fits2 .ensures) ∙ not-false _ (c .before .if3 .left)))))))
 
--- src/lib.rt:67:1
 same-length : tie.Need-same-length
 same-length c = search needs
 
--- src/lib.rt:67:1
 returns-4 : tie.Need-returns-4
-returns-4 c = ?
+returns-4 c =
+    let built = c .before .before in
+    let tested = built .before .before .before in
+    let passed = tested .before in
+    let start = passed .before .before .before .before .before .before .before in
+    let a = start .args in
+    extends-done _ _ _ _ (a .h .g + (a .key .len - a .at .depth)) (ap (λ n. a .h .g + n) (sym (count start))) (few passed) _ (start .pre .1 .1 .1)
+    (passed .before .before .before .before .before .if1 .left)
+    (leb-true _ _ (sym (tested .fits2 .ensures) ∙ not-false _ (built .before .before .if3 .left)))
+    (built .build .ensures)
 
 pub extend-spec : {M : Type 1} → statement M
 extend-spec =

@@ -1,31 +1,33 @@
+-- `storing::replace` meets its contract: the data is read before it is written over. Assumes nothing.
+use mathlib.Core.Path.{ap, _∙_}
+use Prim.Native.Nat.{ℕ}
+use mir.Facts.{toZ-ofZ}
 use borrow.Author.Needs.{needs}
+use Rattle.trie.specs.Storing.{changeOf}
 use Rattle.storing.proofs.replace.Statement.{statement}
 use Rattle.storing.proofs.replace.Tie as tie
-use Rattle.storing.proofs.replace.Reads as reads
-use Rattle.storing.proofs.replace.Lts as lts
-use Rattle.node.proofs.data.Reads as data-reads
-use Rattle.node.proofs.set_data.Reads as set-data-reads
-use Rattle.storing.proofs.change.Reads as change-reads
 
--- src/lib.rt:45:9
 data-requires : tie.Need-data-requires
 data-requires c κs = search needs
 
--- src/lib.rt:46:5
 set-data-requires : tie.Need-set-data-requires
 set-data-requires c κs = search needs
 
--- src/lib.rt:47:5
 change-requires : tie.Need-change-requires
 change-requires c κs = search needs
 
--- src/lib.rt:40:1
 same-length : tie.Need-same-length
 same-length c = search needs
 
--- src/lib.rt:40:1
 returns : tie.Need-returns
-returns c = ?
+returns c =
+    let set = c .before .before .before in
+    let read = set .before .before in
+    let a = read .before .before .before .args in
+    (
+      set .set-data .ensures .0,
+      toZ-ofZ (c .change .ok) ∙ c .change .ensures ∙ ap (λ (old : ℕ). changeOf old (a .value)) (read .«data» .ensures),
+    )
 
 pub replace-spec : {M : Type 1} → statement M
 replace-spec =
