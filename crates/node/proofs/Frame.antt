@@ -77,7 +77,8 @@ frame h l (stopped q x xs) (suc v) p s miss =
     let m : List ℕ = carriedOut l (newNodes h (suc (h .g)) xs (suc v)) in
     let g : ℕ = h .g + suc (length xs) in
     ap (λ (r : List ℕ). getD r p 0) (carried-append l (newNodes h (suc (h .g)) xs (suc v)) _)
-    ∙ beside (sets m 0 (digits 4 g)) (digits (h .a) (suc (h .g))) (linkPlace h q x) p (h .a) (length-digits (h .a) (suc (h .g))) (λ b. miss (one-link b))
+    ∙ beside (sets m 0 (digits 4 g)) (digits (h .a) (suc (h .g))) (linkPlace h q x) p (h .a) (length-digits (h .a) (suc (h .g)))
+    (λ b. miss (one-link b))
     ∙ beside m (digits 4 g) 0 p 4 (length-digits 4 g) (λ b. miss (node-total b))
     ∙ beside-nodes h p l (suc (h .g)) xs (suc v) (s .1 .1) (rw (← add-one (h .g)) (λ b. miss (new-nodes b)))
 
