@@ -90,7 +90,7 @@ none-before {h} low high (one-link {q} {x} b) = omega (arith, link-from h q x, p
 none-before {h} low high (new-nodes b) = omega (arith, used-le h 0 (omega arith), place-least h 0)
 
 -- nor are those from the new used length on
-pub none-after : {h : Head} {d : Descent} {v p : ℕ} → EndsIn h d → usedLen (withTotal h (h .g + added (missing d) v)) ≤ p → ¬ Touched h d v p
+none-after : {h : Head} {d : Descent} {v p : ℕ} → EndsIn h d → usedLen (withTotal h (h .g + added (missing d) v)) ≤ p → ¬ Touched h d v p
 unfolding added missing
 none-after {h} s high (data-of-key {q} {v} b) = omega (arith, inside-used (data-inside h q) s, used-more h (added 0 v))
 none-after {h} s high (node-total {xs = xs} b) = omega (arith, used-more h (suc (length xs)), used-le h 0 (omega arith), place-least h 0)

@@ -1,7 +1,7 @@
 -- Demand 3: what a store that is not refused does to an image, to its answers and to its stored keys, and for which reasons a store is
 -- refused. The image after a store is the table after a store (`stored-table`), so the laws on tables are laws on images.
 use Prim.Native.Nat.{ℕ, zero, suc, _+_, _-_, _*_, _^_, _≤_, _<_}
-use mathlib.Core.Path.{_≡_, refl, sym, ap, ap₂, _∙_}
+use mathlib.Core.Path.{_≡_, refl, sym, ap, ap₂, subst, _∙_}
 use mathlib.Core.Bool.{Bool, true, false, _&&_, and-false}
 use mathlib.Core.Logic.{_↔_, _≢_, inr}
 use mathlib.Core.Option.{Option, none, some}
@@ -38,7 +38,7 @@ use Rattle.node.specs.Frame.{Touched}
 use Rattle.node.proofs.Places.{data-from}
 use Rattle.node.proofs.Heads.{withTotal, used-more}
 use Rattle.node.proofs.Storing.{length-carried, Storable, store-new, store-over, store-head}
-use Rattle.node.proofs.Frame.{EndsIn, frame, none-before, none-after}
+use Rattle.node.proofs.Frame.{EndsIn, frame, none-before, spare}
 use Rattle.paper.specs.Hearing.{Said, Row, Outcome, first, heard, outcome, doneNumbers}
 use Rattle.paper.specs.Rows.{row5, badLink, row9, row10, isNone, row10text, row11, row12, row13, rowAt, row6path}
 use Rattle.paper.specs.Orders.{alphabetIn, openingOf, checking, byLetters, byText, lookingUp, adding, newOf, storing}
@@ -137,8 +137,8 @@ module _ {l key : List ℕ} {value : ℕ} (s : Granted l key value) where
 
   -- "bytes from U on are spare", with the U there is now
   pub stored-spare : (p : ℕ) → usedLen (headOf (storedImage l key value)) ≤ p → getD (storedImage l key value) p 0 ≡ getD l p 0
-  unfolding newOf tableIn
-  stored-spare p b = stored-frame p (none-after (ends s) (rw (stored-head s) at b))
+  unfolding storedImage newOf tableIn
+  stored-spare p b = spare (headOf l) l (descend (tableIn l) 0 key) value p (ends s) (subst (λ (h : Head). usedLen h ≤ p) (stored-head s) b)
 
   pub stored-alphabet : alphabetIn (headOf (storedImage l key value)) (storedImage l key value) ≡ alphabetIn (headOf l) l
   unfolding alphabetIn
