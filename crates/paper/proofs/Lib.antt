@@ -6,5 +6,6 @@ pub mod Looking
 pub mod Nexting
 pub mod Numbers
 pub mod Opening
+pub mod Storing
 pub mod Tabulated
 pub mod Unique

@@ -161,6 +161,15 @@ named-002 l (some cs) e = go (lettersOf (allowedIn l) cs) (spells (headOf l) (al
     go none s f = let z : _≡_ {A = ℕ} 0 1 = cc in absurd (omega arith)
     go (some k) s f = record { asked = ap (query002 l) (s .0); known = s .1 }
 
+-- the letters of the key that a text names are letters of the image
+pub named-fit : (l text : List ℕ) → first (openingOf l) ≡ none → first (byText (headOf l) (namedIn l text)) ≡ none
+    → Fit (headOf l) (lettersIn (namedIn l text))
+unfolding namedIn keyOfText
+named-fit l text opened passes =
+    let t = text-fit (headOf l) (namedIn l text) passes in
+    let n = named-002 l (chars text) (t .0) in
+    record { allowed = t .1; below = letters-more _ _ (lettersIn (namedIn l text)) (alphabet-most l opened) (n .known) }
+
 -- ---- a lookup that is not refused
 
 -- the numbers of its refusals
@@ -230,8 +239,5 @@ looks-up-text-002 l text e =
     let h : Head = headOf l in
     let named : Option (List ℕ) = namedIn l text in
     let o = unrefused l (byText h named) (lettersIn named) (text-says h named) e in
-    let t = text-fit h named (o .key-passed) in
-    let n = named-002 l (chars text) (t .0) in
-    answered l (byText h named) (lettersIn named) o
-    (record { allowed = t .1; below = letters-more _ _ (lettersIn named) (alphabet-most l (o .opened)) (n .known) })
-    ∙ sym (n .asked)
+    answered l (byText h named) (lettersIn named) o (named-fit l text (o .opened) (o .key-passed))
+    ∙ sym (named-002 l (chars text) (text-fit h named (o .key-passed) .0) .asked)

@@ -77,7 +77,7 @@ nextNumbers = 1 ∷ 2 ∷ 3 ∷ 4 ∷ 5 ∷ 6 ∷ 7 ∷ 8 ∷ 9 ∷ 10 ∷ 14 �
 front : (buffer k : List ℕ) → length k ≤ length buffer → take (length k) (sets buffer 0 k) ≡ k
 front buffer k b = ap (take (length k)) (sets-eq k buffer 0 (omega arith)) ∙ take-at k (drop (0 + length k) buffer) (length k) refl
 
-some-found : (found : Option (List ℕ)) → isNone found ≡ false → found ≡ some (lettersIn found)
+pub some-found : (found : Option (List ℕ)) → isNone found ≡ false → found ≡ some (lettersIn found)
 unfolding isNone lettersIn
 some-found none e = let z : _≡_ {A = ℕ} 0 1 = cc in absurd (omega arith)
 some-found (some k) e = refl

@@ -1,0 +1,309 @@
+-- Demand 3: what a store that is not refused does to an image, to its answers and to its stored keys, and for which reasons a store is
+-- refused. The image after a store is the table after a store (`stored-table`), so the laws on tables are laws on images.
+use Prim.Native.Nat.{ℕ, zero, suc, _+_, _*_, _^_, _≤_, _<_}
+use mathlib.Core.Path.{_≡_, refl, sym, ap, ap₂, _∙_}
+use mathlib.Core.Bool.{Bool, true, false}
+use mathlib.Core.Logic.{_≢_, inr}
+use mathlib.Core.Option.{Option, none, some}
+use mathlib.Core.List.{List, [], _∷_, _++_}
+use native.Mathlib.Nat.{add-zero, pow-le-pow-right, le-trans, lt-of-lt-of-le}
+use native.Mathlib.Decide.{ℕ-discrete}
+use native.Mathlib.Omega.{arith}
+use lib.ListN.{length, getD, take, drop, length-take, length-drop}
+use lib.Seq.{ext-getD, getD-take, getD-drop}
+use lib.IntN.{pos, _+ℤ_}
+use Rattle.trie.specs.Table.{Table, Descent, complete, stopped, descend, answer, missing, fault}
+use Rattle.trie.specs.Storing.{stored, storedBy, added, changeOf}
+use Rattle.trie.specs.Keys.{listing}
+use Rattle.trie.specs.Rules.{Linked}
+use Rattle.trie.proofs.Walk.{complete-within}
+use Rattle.trie.proofs.Faults.{fault-nil, fault-empty, fault-on}
+use Rattle.trie.proofs.Grow.{room}
+use Rattle.trie.proofs.Storing.{stored-answer, stored-answer-other, stored-linked}
+use Rattle.trie.proofs.Rising.{stored-rising}
+use Rattle.trie.proofs.Count.{stored-count}
+use Rattle.head.specs.declared.Head.{Head}
+use Rattle.head.specs.Fields.{fieldsLen, headOf, permitted, nodeWidth, usedLen}
+use Rattle.head.proofs.Fields.{head-outside}
+use Rattle.head.proofs.Permitted.{bounds}
+use Rattle.head.proofs.Places.{place-least}
+use Rattle.field.specs.Field.{digits}
+use Rattle.field.proofs.Range.{between-true}
+use Rattle.alphabet.specs.Letters.{letters, lettersIn, keyOfText}
+use Rattle.node.specs.Image.{dataPlace, tableOf}
+use Rattle.node.specs.Writes.{carriedOut, dataWrite, storeWrites}
+use Rattle.node.proofs.Places.{data-from}
+use Rattle.node.proofs.Heads.{withTotal, used-more}
+use Rattle.node.proofs.Storing.{length-carried, Storable, store-new, store-over, store-head}
+use Rattle.node.specs.Frame.{Touched}
+use Rattle.node.proofs.Frame.{EndsIn, frame, none-before, none-after}
+use Rattle.paper.specs.Hearing.{Row, Outcome, first, heard, outcome, doneNumbers}
+use Rattle.paper.specs.Rows.{badLink, row9, row10, isNone, row10text, rowAt, row6path}
+use Rattle.paper.specs.Orders.{alphabetIn, openingOf, byLetters, byText, lookingUp, newOf}
+use Rattle.paper.specs.Calls.{tableIn, storedKeys, lookUpBy, lookUpOf, namedIn, lookUpTextOf, storedImage}
+use Rattle.paper.specs.Accepted.{Accepted}
+use Rattle.paper.proofs.Hearing.{untrue, first-nil, first-none, no-row, first-part, second-part, heard-done}
+use Rattle.paper.proofs.Keying.{below-letters, Fit, text-fit}
+use Rattle.paper.proofs.Nexting.{some-found}
+use Rattle.paper.proofs.Checking.{not-bad, accepted-opens, accepted-linked}
+
+-- what a store that is not refused has, but for the working numbers lent
+pub record Granted (l key : List ℕ) (value : ℕ) : Type 0 where
+  pub accepted : Accepted l
+  pub fit : Fit (headOf l) key
+  pub value-fits : value < 256 ^ headOf l .d
+  pub addresses : 0 < newOf (headOf l) l key value → headOf l .g + newOf (headOf l) l key value < 256 ^ headOf l .a
+  pub room : 0 < newOf (headOf l) l key value → usedLen (headOf l) + newOf (headOf l) l key value * nodeWidth (headOf l) ≤ length l
+
+-- ---- the head and the table after it
+
+-- what the writes of a store make of them, where the key's walk ended so and g is the G there will be
+record Written (l : List ℕ) (d : Descent) (v g : ℕ) : Type 0 where
+  head : headOf (carriedOut l (storeWrites (headOf l) d v)) ≡ withTotal (headOf l) g
+  table : tableOf (withTotal (headOf l) g) (carriedOut l (storeWrites (headOf l) d v)) ≡ storedBy d (tableOf (headOf l) l) (headOf l .g) v
+
+none-added : (v : ℕ) → added 0 v ≡ 0
+unfolding added
+none-added zero = refl
+none-added (suc v) = refl
+
+module _ {l key : List ℕ} {value : ℕ} (s : Granted l key value) where
+  -- where the key's walk ends
+  ends : EndsIn (headOf l) (descend (tableIn l) 0 key)
+  ends = go (descend (tableIn l) 0 key) refl
+    where
+      go : (d : Descent) → descend (tableIn l) 0 key ≡ d → EndsIn (headOf l) d
+      go (complete q) e = complete-within (tableIn l) (headOf l .g) key (s .accepted .within) e
+      go (stopped q x xs) e = let r = room key (accepted-linked (s .accepted)) (s .fit .below) e in (r .node, r .letters)
+
+  written : (d : Descent) (v : ℕ) → descend (tableIn l) 0 key ≡ d → value ≡ v → EndsIn (headOf l) d
+      → Written l d v (headOf l .g + added (missing d) v)
+  unfolding tableIn newOf storeWrites storedBy carriedOut missing added dataWrite
+  written (complete q) v e f i =
+      let h : Head = headOf l in
+      let same : h .g + added 0 v ≡ h .g = ap (h .g +_) (none-added v) ∙ add-zero (h .g) in
+      rw same
+      (record {
+        head = head-outside l (digits (h .d) v) (dataPlace h q) (omega (arith, data-from h q, place-least h q));
+        table = store-over h l q v (s .accepted .room) i (rw (← f) (s .value-fits));
+      })
+  written (stopped q x xs) zero e f i = rw (add-zero (headOf l .g)) (record { head = refl; table = refl })
+  written (stopped q x xs) (suc v) e f i =
+      let h : Head = headOf l in
+      let k : newOf h l key value ≡ suc (length xs) = rw (e, f) in
+      let few : h .g + suc (length xs) < 256 ^ h .a = omega (arith, s .addresses (omega arith)) in
+      let lies : usedLen h + suc (length xs) * nodeWidth h ≤ length l = rw k at (s .room (omega arith)) in
+      let able : Storable h l q x xs (suc v) = record {
+        node = i .0;
+        letters = i .1;
+        addresses = few;
+        value = rw (← f) (s .value-fits);
+        room = rw (used-more h (suc (length xs))) lies;
+      } in
+      let b = bounds h (s .accepted .head-permitted) in
+      record {
+        head = store-head h l q x xs v (omega (arith, s .accepted .long-enough)) (lt-of-lt-of-le few (pow-le-pow-right (omega arith) (b .a-most)));
+        table = store-new h l q x xs v able;
+      }
+
+  pub stored-head : headOf (storedImage l key value) ≡ withTotal (headOf l) (headOf l .g + newOf (headOf l) l key value)
+  unfolding storedImage newOf tableIn
+  stored-head = written (descend (tableIn l) 0 key) value refl refl ends .head
+
+  pub stored-table : tableIn (storedImage l key value) ≡ stored (tableIn l) (headOf l .g) key value
+  unfolding storedImage newOf tableIn stored
+  stored-table =
+      let w = written (descend (tableIn l) 0 key) value refl refl ends in
+      ap (λ (k : Head). tableOf k (storedImage l key value)) (w .head) ∙ w .table
+
+-- whether it is granted or not
+pub stored-length : (l key : List ℕ) (value : ℕ) → length (storedImage l key value) ≡ length l
+unfolding storedImage
+stored-length l key value = length-carried l (storeWrites (headOf l) (descend (tableIn l) 0 key) value)
+
+-- ---- the bytes
+
+module _ {l key : List ℕ} {value : ℕ} (s : Granted l key value) where
+  -- "No other byte changes."
+  pub stored-frame : (p : ℕ) → ¬ Touched (headOf l) (descend (tableIn l) 0 key) value p → getD (storedImage l key value) p 0 ≡ getD l p 0
+  unfolding storedImage
+  stored-frame p miss = frame (headOf l) l (descend (tableIn l) 0 key) value p (ends s) miss
+
+  -- "bytes from U on are spare", with the U there is now
+  pub stored-spare : (p : ℕ) → usedLen (headOf (storedImage l key value)) ≤ p → getD (storedImage l key value) p 0 ≡ getD l p 0
+  unfolding newOf tableIn
+  stored-spare p b = stored-frame p (none-after (ends s) (rw (stored-head s) at b))
+
+  pub stored-alphabet : alphabetIn (headOf (storedImage l key value)) (storedImage l key value) ≡ alphabetIn (headOf l) l
+  unfolding alphabetIn
+  stored-alphabet =
+      let f : ℕ = headOf l .f in
+      let n : length (storedImage l key value) ≡ length l = stored-length l key value in
+      rw (stored-head s)
+      (ext-getD 0 (take f (drop fieldsLen (storedImage l key value))) (take f (drop fieldsLen l)) (simp (length-take, length-drop, n))
+      (λ i b.
+      let c : i < f = omega (arith, simp length-take at b) in
+      simp (getD-take, getD-drop) (stored-frame (fieldsLen + i) (none-before (omega arith) (omega arith)))))
+
+  -- ---- the rules
+
+  pub stored-room : usedLen (headOf (storedImage l key value)) ≤ length (storedImage l key value)
+  stored-room = rw (stored-head s, stored-length l key value, used-more (headOf l) k) (go (ℕ-discrete k 0))
+    where
+      k : ℕ
+      k = newOf (headOf l) l key value
+
+      go : Dec (k ≡ 0) → usedLen (headOf l) + k * nodeWidth (headOf l) ≤ length l
+      go (yes z) = rw z (omega (arith, s .accepted .room))
+      go (no z) = s .room (omega arith)
+
+  stored-links : Linked (stored (tableIn l) (headOf l .g) key value) (headOf l .g + newOf (headOf l) l key value) (headOf l .n)
+  unfolding newOf tableIn
+  stored-links = stored-linked (accepted-linked (s .accepted)) key (s .fit .below) value
+
+  stored-permitted : permitted (headOf (storedImage l key value)) ≡ true
+  unfolding permitted
+  stored-permitted = ap permitted (stored-head s) ∙ s .accepted .head-permitted
+
+  pub accepted-again : Accepted (storedImage l key value)
+  accepted-again =
+      let a = s .accepted in
+      record {
+        long-enough = rw (stored-length l key value) (a .long-enough);
+        short-enough = rw (stored-length l key value) (a .short-enough);
+        head-permitted = stored-permitted;
+        alphabet-good = rw (stored-alphabet, stored-head s) (a .alphabet-good);
+        room = stored-room;
+        within = rw (stored-table s, stored-head s) (stored-links .within);
+        rising = rw (stored-table s) (stored-rising (tableIn l) (headOf l .g) key value (a .within) (a .rising));
+        named = rw (stored-table s, stored-head s) (stored-links .named);
+        once = rw (stored-table s) (stored-links .once);
+      }
+
+-- ---- a lookup in an accepted image
+
+-- rows that say nothing can be left off the end
+silent-end : (xs ys : List Row) → first ys ≡ none → first (xs ++ ys) ≡ first xs
+silent-end xs ys e = go (first xs) refl
+  where
+    go : (r : Row) → first xs ≡ r → first (xs ++ ys) ≡ first xs
+    go none f = second-part xs ys f ∙ e ∙ sym f
+    go (some t) f = first-part xs ys f ∙ sym f
+
+quiet : {at : Option ℕ} → at ≡ none → rowAt at ≡ none
+unfolding rowAt
+quiet e = ap rowAt e
+
+module _ {l : List ℕ} (a : Accepted l) where
+  -- on no key's path is there a bad link
+  unfaulted : (q : ℕ) (k : List ℕ) → fault (badLink (headOf l .g)) (tableIn l) q k ≡ none
+  unfaulted q [] = fault-nil (badLink (headOf l .g)) (tableIn l) q
+  unfaulted q (x ∷ xs) = go (ℕ-discrete c 0) (unfaulted c xs)
+    where
+      c : ℕ
+      c = tableIn l .child q x
+
+      bad : ℕ → ℕ → Bool
+      bad = badLink (headOf l .g)
+
+      go : Dec (c ≡ 0) → fault bad (tableIn l) c xs ≡ none → fault bad (tableIn l) q (x ∷ xs) ≡ none
+      go (yes e) rest = fault-empty bad (tableIn l) q x xs e
+      go (no e) rest =
+          fault-on bad (tableIn l) q x xs refl e (not-bad (headOf l .g) q c .1 (inr (a .within q x, a .rising q x e))) ∙ rest
+
+  -- none of 1 to 4 and no 6 is heard, so the part for the key alone decides
+  key-decides : (keyed : List Row) (key : List ℕ) → first (lookingUp l keyed key) ≡ first keyed
+  unfolding lookingUp row6path tableIn
+  key-decides keyed key =
+      second-part (openingOf l) _ (accepted-opens a)
+      ∙ silent-end keyed _ (first-none (rowAt (fault (badLink (headOf l .g)) (tableIn l) 0 key)) [] (quiet (unfaulted 0 key)) ∙ first-nil)
+
+  pub looks-up-accepted : (keyed : List Row) (key : List ℕ)
+      → lookUpBy l keyed key ≡ heard (first keyed) [] (outcome (doneNumbers 0 (pos 0) (answer (tableIn l) key)) [])
+  unfolding lookUpBy
+  looks-up-accepted keyed key =
+      ap (λ (r : Row). heard r [] (outcome (doneNumbers 0 (pos 0) (answer (tableIn l) key)) [])) (key-decides keyed key)
+
+-- ---- what keys answer after a store
+
+-- a key that is fit passes 9 and 10
+pub fit-letters : {h : Head} {key : List ℕ} → Fit h key → first (byLetters h key) ≡ none
+unfolding byLetters row9 row10
+fit-letters {h} {key} f = no-row 9 0 _ (untrue (f .allowed)) ∙ no-row 10 0 _ (untrue (below-letters (h .n) key .1 (f .below))) ∙ first-nil
+
+pub fit-text : {h : Head} {key : List ℕ} → Fit h key → first (byText h (some key)) ≡ none
+unfolding byText row10text isNone row9 lettersIn
+fit-text f = no-row 10 0 _ refl ∙ no-row 9 0 _ (untrue (f .allowed)) ∙ first-nil
+
+heard-alike : (r : Row) (kept : List (List ℕ)) {x y : Outcome} → (r ≡ none → x ≡ y) → heard r kept x ≡ heard r kept y
+unfolding heard
+heard-alike none kept e = e refl
+heard-alike (some t) kept e = refl
+
+module _ {l key : List ℕ} {value : ℕ} (s : Granted l key value) where
+  -- whether the key comes as letters or as text
+  answers-by : (keyed : List Row) → first keyed ≡ none → lookUpBy (storedImage l key value) keyed key ≡ outcome (doneNumbers 0 (pos 0) value) []
+  answers-by keyed e =
+      looks-up-accepted (accepted-again s) keyed key
+      ∙ heard-done (first keyed) [] _ e
+      ∙ ap (λ (t : Table). outcome (doneNumbers 0 (pos 0) (answer t key)) []) (stored-table s)
+      ∙ ap (λ (v : ℕ). outcome (doneNumbers 0 (pos 0) v) []) (stored-answer (accepted-linked (s .accepted)) key (s .fit .below) value)
+
+  others-by : (keyed : List Row) (k : List ℕ) → (first keyed ≡ none → k ≢ key) → lookUpBy (storedImage l key value) keyed k ≡ lookUpBy l keyed k
+  others-by keyed k other =
+      let same : (first keyed ≡ none) → answer (tableIn (storedImage l key value)) k ≡ answer (tableIn l) k =
+      λ e.
+      ap (λ (t : Table). answer t k) (stored-table s)
+      ∙ stored-answer-other (accepted-linked (s .accepted)) key (s .fit .below) value k (other e) in
+      looks-up-accepted (accepted-again s) keyed k
+      ∙ heard-alike (first keyed) [] (λ e. ap (λ (v : ℕ). outcome (doneNumbers 0 (pos 0) v) []) (same e))
+      ∙ sym (looks-up-accepted (s .accepted) keyed k)
+
+  -- 9 and 10 are what they were, and a text names the key it named
+  by-letters : (k : List ℕ) → lookUpOf (storedImage l key value) k ≡ lookUpBy (storedImage l key value) (byLetters (headOf l) k) k
+  unfolding lookUpOf byLetters row9 row10
+  by-letters k = ap (λ (h : Head). lookUpBy (storedImage l key value) (byLetters h k) k) (stored-head s)
+
+  pub same-name : (text : List ℕ) → namedIn (storedImage l key value) text ≡ namedIn l text
+  unfolding namedIn
+  same-name text = ap (λ (alphabet : List ℕ). keyOfText (letters alphabet) text) (stored-alphabet s)
+
+  by-text : (text : List ℕ) {named : Option (List ℕ)} → namedIn l text ≡ named
+      → lookUpTextOf (storedImage l key value) text ≡ lookUpBy (storedImage l key value) (byText (headOf l) named) (lettersIn named)
+  unfolding lookUpTextOf byText row9
+  by-text text {named} e =
+      ap (λ (o : Option (List ℕ)). lookUpBy (storedImage l key value) (byText (headOf (storedImage l key value)) o) (lettersIn o)) (same-name text ∙ e)
+      ∙ ap (λ (h : Head). lookUpBy (storedImage l key value) (byText h named) (lettersIn named)) (stored-head s)
+
+  -- the key answers the value
+  pub stored-answers : lookUpOf (storedImage l key value) key ≡ outcome (doneNumbers 0 (pos 0) value) []
+  stored-answers = by-letters key ∙ answers-by (byLetters (headOf l) key) (fit-letters (s .fit))
+
+  -- every other key answers, or is refused, as before
+  pub others-answer : (k : List ℕ) → k ≢ key → lookUpOf (storedImage l key value) k ≡ lookUpOf l k
+  unfolding lookUpOf
+  others-answer k other = by-letters k ∙ others-by (byLetters (headOf l) k) k (λ _. other)
+
+  -- so does a text that names the key, and any other text
+  pub text-answers : (text : List ℕ) → namedIn l text ≡ some key
+      → lookUpTextOf (storedImage l key value) text ≡ outcome (doneNumbers 0 (pos 0) value) []
+  unfolding lettersIn
+  text-answers text e = by-text text e ∙ answers-by (byText (headOf l) (some key)) (fit-text (s .fit))
+
+  pub other-texts-answer : (text : List ℕ) → namedIn l text ≢ some key → lookUpTextOf (storedImage l key value) text ≡ lookUpTextOf l text
+  unfolding lookUpTextOf
+  other-texts-answer text other =
+      let named : Option (List ℕ) = namedIn l text in
+      by-text text refl
+      ∙ others-by (byText (headOf l) named) (lettersIn named)
+      (λ e f. other (some-found named (text-fit (headOf l) named e .0) ∙ ap (λ (k : List ℕ). some k) f))
+
+  -- ---- how many keys are stored
+
+  -- "the change in the number of stored keys: -1, 0 or 1"
+  pub stored-change : pos (length (storedKeys (storedImage l key value))) ≡ pos (length (storedKeys l)) +ℤ changeOf (answer (tableIn l) key) value
+  unfolding storedKeys
+  stored-change =
+      let b = between-true (length key) (headOf l .min) (headOf l .max) (s .fit .allowed) in
+      ap₂ (λ (h : Head) (t : Table). pos (length (listing t (h .n) (h .min) (h .max)))) (stored-head s) (stored-table s)
+      ∙ stored-count (accepted-linked (s .accepted)) key (s .fit .below) value (headOf l .min) (headOf l .max) (b .0) (b .1)
