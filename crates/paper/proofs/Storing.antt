@@ -1,17 +1,19 @@
 -- Demand 3: what a store that is not refused does to an image, to its answers and to its stored keys, and for which reasons a store is
 -- refused. The image after a store is the table after a store (`stored-table`), so the laws on tables are laws on images.
-use Prim.Native.Nat.{ℕ, zero, suc, _+_, _*_, _^_, _≤_, _<_}
+use Prim.Native.Nat.{ℕ, zero, suc, _+_, _-_, _*_, _^_, _≤_, _<_}
 use mathlib.Core.Path.{_≡_, refl, sym, ap, ap₂, _∙_}
-use mathlib.Core.Bool.{Bool, true, false}
-use mathlib.Core.Logic.{_≢_, inr}
+use mathlib.Core.Bool.{Bool, true, false, _&&_, and-false}
+use mathlib.Core.Logic.{_↔_, _≢_, inr}
 use mathlib.Core.Option.{Option, none, some}
 use mathlib.Core.List.{List, [], _∷_, _++_}
-use native.Mathlib.Nat.{add-zero, pow-le-pow-right, le-trans, lt-of-lt-of-le}
-use native.Mathlib.Decide.{ℕ-discrete}
+use native.Mathlib.Nat.{add-zero, one-le-pow, pow-le-pow-right, lt-of-lt-of-le}
+use native.Mathlib.Decide.{ℕ-discrete, decLe, decLt}
 use native.Mathlib.Omega.{arith}
+use lib.Dec.{ltb}
 use lib.ListN.{length, getD, take, drop, length-take, length-drop}
 use lib.Seq.{ext-getD, getD-take, getD-drop}
 use lib.IntN.{pos, _+ℤ_}
+use borrow.Author.Tests.{ltb-false, lt-ltb, le-ltb}
 use Rattle.trie.specs.Table.{Table, Descent, complete, stopped, descend, answer, missing, fault}
 use Rattle.trie.specs.Storing.{stored, storedBy, added, changeOf}
 use Rattle.trie.specs.Keys.{listing}
@@ -29,7 +31,7 @@ use Rattle.head.proofs.Permitted.{bounds}
 use Rattle.head.proofs.Places.{place-least}
 use Rattle.field.specs.Field.{digits}
 use Rattle.field.proofs.Range.{between-true}
-use Rattle.alphabet.specs.Letters.{letters, lettersIn, keyOfText}
+use Rattle.alphabet.specs.Letters.{among, letters, lettersIn, keyOfText}
 use Rattle.node.specs.Image.{dataPlace, tableOf}
 use Rattle.node.specs.Writes.{carriedOut, dataWrite, storeWrites}
 use Rattle.node.proofs.Places.{data-from}
@@ -37,15 +39,17 @@ use Rattle.node.proofs.Heads.{withTotal, used-more}
 use Rattle.node.proofs.Storing.{length-carried, Storable, store-new, store-over, store-head}
 use Rattle.node.specs.Frame.{Touched}
 use Rattle.node.proofs.Frame.{EndsIn, frame, none-before, none-after}
-use Rattle.paper.specs.Hearing.{Row, Outcome, first, heard, outcome, doneNumbers}
-use Rattle.paper.specs.Rows.{badLink, row9, row10, isNone, row10text, rowAt, row6path}
-use Rattle.paper.specs.Orders.{alphabetIn, openingOf, byLetters, byText, lookingUp, newOf}
-use Rattle.paper.specs.Calls.{tableIn, storedKeys, lookUpBy, lookUpOf, namedIn, lookUpTextOf, storedImage}
+use Rattle.paper.specs.Hearing.{Said, Row, Outcome, first, heard, outcome, doneNumbers}
+use Rattle.paper.specs.Rows.{row5, badLink, row9, row10, isNone, row10text, row11, row12, row13, rowAt, row6path}
+use Rattle.paper.specs.Orders.{alphabetIn, openingOf, checking, byLetters, byText, lookingUp, adding, newOf, storing}
+use Rattle.paper.specs.Calls.{tableIn, workAfter, storedKeys, lookUpBy, lookUpOf, namedIn, lookUpTextOf, storedImage, storeBy, storeOf, storeTextOf}
 use Rattle.paper.specs.Accepted.{Accepted}
-use Rattle.paper.proofs.Hearing.{untrue, first-nil, first-none, no-row, first-part, second-part, heard-done}
-use Rattle.paper.proofs.Keying.{below-letters, Fit, text-fit}
+use Rattle.paper.proofs.Hearing.{untrue, not-given, was-false, first-nil, first-none, yes-row, no-row, first-part, second-part, passed-row, passed-parts, heard-done}
+use Rattle.paper.proofs.Numbers.{AllSay, end, _then_, given-says, parts-say, first-says, one-of, none-heard}
+use Rattle.paper.proofs.Keying.{below-letters, Fit, letters-fit, text-fit, keyNumbers, letters-say, text-says}
+use Rattle.paper.proofs.Looking.{named-fit}
 use Rattle.paper.proofs.Nexting.{some-found}
-use Rattle.paper.proofs.Checking.{not-bad, accepted-opens, accepted-linked}
+use Rattle.paper.proofs.Checking.{not-bad, accepted-opens, check-accepts, accepted-checks, checking-says, passed-lent, accepted-linked}
 
 -- what a store that is not refused has, but for the working numbers lent
 pub record Granted (l key : List ℕ) (value : ℕ) : Type 0 where
@@ -307,3 +311,221 @@ module _ {l key : List ℕ} {value : ℕ} (s : Granted l key value) where
       let b = between-true (length key) (headOf l .min) (headOf l .max) (s .fit .allowed) in
       ap₂ (λ (h : Head) (t : Table). pos (length (listing t (h .n) (h .min) (h .max)))) (stored-head s) (stored-table s)
       ∙ stored-count (accepted-linked (s .accepted)) key (s .fit .below) value (headOf l .min) (headOf l .max) (b .0) (b .1)
+
+-- ---- 11, 12 and 13: none of them is given exactly where the value, the new addresses and the new nodes fit
+
+-- a test "with k above 0"
+with-new : (k most x : ℕ) → ((ltb 0 k && ltb most x) ≡ false) ↔ (0 < k → x ≤ most)
+with-new k most x = (λ e b. ltb-false most x (rw (lt-ltb 0 k b) at e), λ f. go (decLt 0 k) f)
+  where
+    go : Dec (0 < k) → (0 < k → x ≤ most) → (ltb 0 k && ltb most x) ≡ false
+    go (yes b) f = rw (le-ltb most x (f b)) (and-false (ltb 0 k))
+    go (no b) f = rw (le-ltb 0 k (omega arith))
+
+module _ (h : Head) where
+  pub none-11 : (value : ℕ) → (row11 h value ≡ none) ↔ (value < 256 ^ h .d)
+  unfolding row11
+  none-11 value = (
+    λ e. omega (arith, ltb-false (256 ^ h .d - 1) value (was-false 11 0 _ e), one-le-pow (h .d) 256 (omega arith)),
+    λ b. not-given 11 0 (le-ltb (256 ^ h .d - 1) value (omega arith)),
+  )
+
+  -- "Values passed are 32 bits wide, so 11 is never given for D = 4."
+  pub eleven-never : (value : ℕ) → h .d ≡ 4 → value < 2 ^ 32 → row11 h value ≡ none
+  eleven-never value e b = none-11 value .1 (rw e b)
+
+  pub none-12 : (k : ℕ) → (row12 h k ≡ none) ↔ (0 < k → h .g + k < 256 ^ h .a)
+  unfolding row12
+  none-12 k =
+      let w = with-new k (256 ^ h .a - 1) (h .g + k) in
+      (
+        λ e b. omega (arith, w .0 (was-false 12 0 _ e) b, one-le-pow (h .a) 256 (omega arith)),
+        λ f. not-given 12 0 (w .1 (λ b. omega (arith, f b))),
+      )
+
+  pub none-13 : (k len : ℕ) → (row13 h k len ≡ none) ↔ (0 < k → usedLen h + k * nodeWidth h ≤ len)
+  unfolding row13
+  none-13 k len =
+      let w = with-new k len (usedLen h + k * nodeWidth h) in
+      (λ e. w .0 (was-false 13 0 _ e), λ f. not-given 13 0 (w .1 f))
+
+-- ---- a store by any part for the key
+
+-- the numbers of its refusals, and of those in an accepted image
+abbrev pub storeNumbers : List ℕ
+storeNumbers = 1 ∷ 2 ∷ 3 ∷ 4 ∷ 5 ∷ 6 ∷ 7 ∷ 8 ∷ 9 ∷ 10 ∷ 11 ∷ 12 ∷ 13 ∷ []
+
+abbrev pub acceptedNumbers : List ℕ
+acceptedNumbers = 5 ∷ 9 ∷ 10 ∷ 11 ∷ 12 ∷ 13 ∷ []
+
+-- an answer with another number than what is done is a refusal
+kept-lent : (r : Row) (kept : List (List ℕ)) (done : Outcome) → done .numbers .number ≡ 0 → heard r kept done .numbers .number ≢ 0
+    → heard r kept done .lent ≡ kept
+unfolding heard
+kept-lent none kept done e z = absurd (z e)
+kept-lent (some s) kept done e z = refl
+
+module _ (l work : List ℕ) (keyed : List Row) (key : List ℕ) (value : ℕ) where
+  -- the part for the value
+  abbrev valued : List Row
+  valued = adding (headOf l) value (newOf (headOf l) l key value) (length l)
+
+  -- what an order that passed tells of its parts
+  order-passed : first (storing l work keyed key value) ≡ none → (first (checking l work) ≡ none) × (first keyed ≡ none) × (first valued ≡ none)
+  unfolding storing
+  order-passed e =
+      let after8 = passed-parts (checking l work) (keyed ++ valued) e in
+      let after10 = passed-parts keyed valued (after8 .1) in
+      (after8 .0, after10 .0, after10 .1)
+
+  -- a store that passes every row is granted
+  pub granted : first (storing l work keyed key value) ≡ none → (first keyed ≡ none → Fit (headOf l) key) → Granted l key value
+  unfolding adding
+  granted e fit =
+      let h : Head = headOf l in
+      let k : ℕ = newOf h l key value in
+      let (checks, keys, values) = order-passed e in
+      let after11 = passed-row (row11 h value) (row12 h k ∷ row13 h k (length l) ∷ []) values in
+      let after12 = passed-row (row12 h k) (row13 h k (length l) ∷ []) (after11 .1) in
+      let after13 = passed-row (row13 h k (length l)) [] (after12 .1) in
+      record {
+        accepted = check-accepts l work checks;
+        fit = fit keys;
+        value-fits = none-11 h value .0 (after11 .0);
+        addresses = none-12 h k .0 (after12 .0);
+        room = none-13 h k (length l) .0 (after13 .0);
+      }
+
+  -- and one that is granted passes them, where its key does and the working numbers are enough
+  pub grants : Granted l key value → headOf l .g + 1 ≤ length work → first keyed ≡ none → first (storing l work keyed key value) ≡ none
+  unfolding storing adding
+  grants s lent passes =
+      let h : Head = headOf l in
+      let k : ℕ = newOf h l key value in
+      second-part (checking l work) (keyed ++ valued) (accepted-checks l work (s .accepted) lent)
+      ∙ second-part keyed valued passes
+      ∙ first-none (row11 h value) _ (none-11 h value .1 (s .value-fits))
+      ∙ first-none (row12 h k) _ (none-12 h k .1 (s .addresses))
+      ∙ first-none (row13 h k (length l)) _ (none-13 h k (length l) .1 (s .room))
+      ∙ first-nil
+
+  -- in an accepted image 5 is asked, then the key's part, then the value's
+  pub accepted-order : Accepted l → first (storing l work keyed key value) ≡ first (row5 (headOf l) (length work) ∷ (keyed ++ valued))
+  unfolding storing checking row5
+  accepted-order a = go (decLe (headOf l .g + 1) (length work))
+    where
+      go : Dec (headOf l .g + 1 ≤ length work) → first (storing l work keyed key value) ≡ first (row5 (headOf l) (length work) ∷ (keyed ++ valued))
+      go (yes b) =
+          second-part (checking l work) (keyed ++ valued) (accepted-checks l work a b)
+          ∙ sym (no-row 5 0 (keyed ++ valued) (le-ltb (length work) (headOf l .g + 1) b))
+      go (no b) =
+          let c : ltb (length work) (headOf l .g + 1) ≡ true = lt-ltb (length work) (headOf l .g + 1) (omega arith) in
+          first-part (checking l work) (keyed ++ valued) (second-part (openingOf l) _ (accepted-opens a) ∙ yes-row 5 0 _ c)
+          ∙ sym (yes-row 5 0 (keyed ++ valued) c)
+
+  valued-says : AllSay (11 ∷ 12 ∷ 13 ∷ []) valued
+  unfolding adding row11 row12 row13 among
+  valued-says =
+      let h : Head = headOf l in
+      let k : ℕ = newOf h l key value in
+      given-says 11 0 (ltb (256 ^ h .d - 1) value) refl
+      then given-says 12 0 (ltb 0 k && ltb (256 ^ h .a - 1) (h .g + k)) refl
+      then given-says 13 0 (ltb 0 k && ltb (length l) (usedLen h + k * nodeWidth h)) refl
+      then end
+
+  module _ (says : AllSay keyNumbers keyed) where
+    -- the reasons for which a store in an accepted image is refused
+    pub store-refuses : {s : Said} → Accepted l → first (storing l work keyed key value) ≡ some s → among (s .number) acceptedNumbers ≡ true
+    unfolding row5 among
+    store-refuses a e =
+        let five : AllSay (5 ∷ []) (row5 (headOf l) (length work) ∷ []) = given-says 5 0 (ltb (length work) (headOf l .g + 1)) refl then end in
+        one-of (first-says (parts-say five (parts-say says valued-says))) (sym (accepted-order a) ∙ e)
+
+    -- number 0 is said by no row
+    pub store-passed : storeBy l work keyed key value .numbers .number ≡ 0 → first (storing l work keyed key value) ≡ none
+    unfolding storeBy storing among
+    store-passed z = none-heard _ _ (first-says (parts-say (checking-says l work) (parts-say says valued-says))) refl z
+
+    -- what a store that is done answers and leaves
+    pub store-by-leaves : storeBy l work keyed key value .numbers .number ≡ 0
+        → storeBy l work keyed key value
+        ≡ outcome (doneNumbers 0 (changeOf (answer (tableIn l) key) value) 0) (storedImage l key value ∷ workAfter l work ∷ [])
+    unfolding storeBy
+    store-by-leaves z = heard-done (first (storing l work keyed key value)) _ _ (store-passed z)
+
+  -- one that is granted is done
+  pub store-by-done : Granted l key value → headOf l .g + 1 ≤ length work → first keyed ≡ none → storeBy l work keyed key value .numbers .number ≡ 0
+  unfolding storeBy doneNumbers
+  store-by-done s lent passes = ap (λ (o : Outcome). o .numbers .number) (heard-done _ _ _ (grants s lent passes))
+
+  -- "A refused call changes nothing in the image or in any other lent buffer but the working numbers"
+  pub refused-keeps : storeBy l work keyed key value .numbers .number ≢ 0 → storeBy l work keyed key value .lent ≡ l ∷ workAfter l work ∷ []
+  unfolding storeBy doneNumbers
+  refused-keeps z = kept-lent (first (storing l work keyed key value)) (l ∷ workAfter l work ∷ []) _ refl z
+
+-- ---- by letters
+
+module _ (l work key : List ℕ) (value : ℕ) where
+  passed-letters : storeOf l work key value .numbers .number ≡ 0 → first (storing l work (byLetters (headOf l) key) key value) ≡ none
+  unfolding storeOf
+  passed-letters z = store-passed l work (byLetters (headOf l) key) key value (letters-say (headOf l) key) z
+
+  pub store-granted : storeOf l work key value .numbers .number ≡ 0 → Granted l key value
+  store-granted z = granted l work (byLetters (headOf l) key) key value (passed-letters z) (letters-fit (headOf l) key)
+
+  pub store-leaves : storeOf l work key value .numbers .number ≡ 0
+      → storeOf l work key value
+      ≡ outcome (doneNumbers 0 (changeOf (answer (tableIn l) key) value) 0) (storedImage l key value ∷ workAfter l work ∷ [])
+  unfolding storeOf
+  store-leaves z = store-by-leaves l work (byLetters (headOf l) key) key value (letters-say (headOf l) key) z
+
+  -- it is done exactly where enough working numbers are lent and it is granted
+  pub store-done-exactly : (storeOf l work key value .numbers .number ≡ 0) ↔ ((headOf l .g + 1 ≤ length work) × Granted l key value)
+  unfolding storeOf
+  store-done-exactly = (
+    λ z. (passed-lent l work (order-passed l work (byLetters (headOf l) key) key value (passed-letters z) .0), store-granted z),
+    λ s. store-by-done l work (byLetters (headOf l) key) key value (s .1) (s .0) (fit-letters (s .1 .fit)),
+  )
+
+-- ---- by text
+
+module _ (l work text : List ℕ) (value : ℕ) where
+  passed-text : storeTextOf l work text value .numbers .number ≡ 0
+      → first (storing l work (byText (headOf l) (namedIn l text)) (lettersIn (namedIn l text)) value) ≡ none
+  unfolding storeTextOf
+  passed-text z =
+      store-passed l work (byText (headOf l) (namedIn l text)) (lettersIn (namedIn l text)) value (text-says (headOf l) (namedIn l text)) z
+
+  parts-passed : storeTextOf l work text value .numbers .number ≡ 0
+      → (first (checking l work) ≡ none)
+      × (first (byText (headOf l) (namedIn l text)) ≡ none)
+      × (first (valued l work (byText (headOf l) (namedIn l text)) (lettersIn (namedIn l text)) value) ≡ none)
+  parts-passed z = order-passed l work (byText (headOf l) (namedIn l text)) (lettersIn (namedIn l text)) value (passed-text z)
+
+  pub store-text-granted : storeTextOf l work text value .numbers .number ≡ 0 → Granted l (lettersIn (namedIn l text)) value
+  store-text-granted z =
+      granted l work (byText (headOf l) (namedIn l text)) (lettersIn (namedIn l text)) value (passed-text z)
+      (named-fit l text (accepted-opens (check-accepts l work (parts-passed z .0))))
+
+  pub store-text-leaves : storeTextOf l work text value .numbers .number ≡ 0
+      → storeTextOf l work text value
+      ≡ outcome (doneNumbers 0 (changeOf (answer (tableIn l) (lettersIn (namedIn l text))) value) 0)
+      (storedImage l (lettersIn (namedIn l text)) value ∷ workAfter l work ∷ [])
+  unfolding storeTextOf
+  store-text-leaves z =
+      store-by-leaves l work (byText (headOf l) (namedIn l text)) (lettersIn (namedIn l text)) value (text-says (headOf l) (namedIn l text)) z
+
+  -- the key that it names
+  pub store-text-names : storeTextOf l work text value .numbers .number ≡ 0 → namedIn l text ≡ some (lettersIn (namedIn l text))
+  store-text-names z = some-found (namedIn l text) (text-fit (headOf l) (namedIn l text) (parts-passed z .1) .0)
+
+  pub store-text-done-exactly : (storeTextOf l work text value .numbers .number ≡ 0)
+      ↔ ((headOf l .g + 1 ≤ length work) × (key : List ℕ) × (namedIn l text ≡ some key) × Granted l key value)
+  unfolding storeTextOf lettersIn
+  store-text-done-exactly = (
+    λ z. (passed-lent l work (parts-passed z .0), lettersIn (namedIn l text), store-text-names z, store-text-granted z),
+    λ s.
+        let (lent, key, e, g) = s in
+        ap (λ (named : Option (List ℕ)). storeBy l work (byText (headOf l) named) (lettersIn named) value .numbers .number) e
+        ∙ store-by-done l work (byText (headOf l) (some key)) key value g lent (fit-text (g .fit)),
+  )
