@@ -6,6 +6,7 @@ use mathlib.Core.Option.{none}
 use mathlib.Core.List.{List, [], _∷_, _++_, append-assoc}
 use native.Mathlib.Nat.{one-mul}
 use native.Mathlib.Omega.{arith}
+use lib.IntN.{pos}
 use lib.ListN.{length, take, drop, replicate, length-append, length-replicate}
 use lib.Seq.{sets, sets-eq, length-sets, take-at, drop-at}
 use Rattle.field.specs.Field.{cleared}
@@ -23,10 +24,11 @@ use Rattle.alphabet.specs.Letters.{among}
 use Rattle.node.specs.Image.{tableOf}
 use Rattle.node.proofs.Tables.{framed}
 use Rattle.node.proofs.Nodes.{Blank, blank-child, blank-value, blank-cleared}
-use Rattle.paper.specs.Hearing.{first}
+use Rattle.paper.specs.Hearing.{first, outcome, doneNumbers}
 use Rattle.paper.specs.Orders.{alphabetIn, opening}
 use Rattle.paper.specs.Calls.{tableIn, freshHead, freshImage, makeOf, storedKeys}
 use Rattle.paper.specs.Accepted.{Accepted}
+use Rattle.paper.proofs.Hearing.{heard-done}
 use Rattle.paper.proofs.Numbers.{first-says, none-heard}
 use Rattle.paper.proofs.Opening.{Passed, passed, opening-says, unspoilt-good}
 
@@ -66,15 +68,23 @@ pub record Made (h : Head) (alphabet image : List ℕ) : Type 0 where
   pub all-letters : h .f ≡ length alphabet
   pub judged : Passed h alphabet (length image)
 
-pub make-done : (image : List ℕ) (n a d : ℕ) (alphabet : List ℕ) (least most : ℕ)
-    → makeOf image n a d alphabet least most .numbers .number ≡ 0
-    → Made (freshHead n a d alphabet least most) alphabet image
-unfolding makeOf freshHead among
-make-done image n a d alphabet least most e =
-    let h : Head = freshHead n a d alphabet least most in
-    let done : first (opening h alphabet (length image)) ≡ none =
-    none-heard _ _ (first-says (opening-says h alphabet (length image))) refl e in
-    record { root-alone = refl; all-letters = refl; judged = passed h alphabet (length image) done }
+module _ (image : List ℕ) (n a d : ℕ) (alphabet : List ℕ) (least most : ℕ)
+    (done : makeOf image n a d alphabet least most .numbers .number ≡ 0) where
+  -- the head that it writes
+  abbrev h : Head
+  h = freshHead n a d alphabet least most
+
+  passes : first (opening h alphabet (length image)) ≡ none
+  unfolding makeOf among
+  passes = none-heard _ _ (first-says (opening-says h alphabet (length image))) refl done
+
+  pub make-done : Made h alphabet image
+  unfolding freshHead
+  make-done = record { root-alone = refl; all-letters = refl; judged = passed h alphabet (length image) passes }
+
+  pub make-leaves : makeOf image n a d alphabet least most ≡ outcome (doneNumbers 0 (pos 0) 0) (freshImage h alphabet image ∷ [])
+  unfolding makeOf
+  make-leaves = heard-done (first (opening h alphabet (length image))) _ _ passes
 
 module _ {h : Head} {alphabet image : List ℕ} (m : Made h alphabet image) where
   pub fresh-length : length (freshImage h alphabet image) ≡ length image

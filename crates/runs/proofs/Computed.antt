@@ -6,9 +6,9 @@ use mathlib.Core.List.{List, [], _∷_, map}
 use lib.IntN.{pos}
 use lib.ListN.{replicate}
 use Rattle.paper.specs.Rows.{row1, row2, row3, row4, row6, row7, row8, row9, row10, row10text, row11, row12, row13, row6path}
-use Rattle.paper.specs.Calls.{freshHead, freshImage}
+use Rattle.paper.specs.Calls.{freshHead, freshImage, lookUpOf}
 use Rattle.paper.specs.Cases.{file}
-use Rattle.runs.specs.Runs.{Entry, Call, lookUp, lookUpText, store, storeText, heardOf, Run, ran, startOf}
+use Rattle.runs.specs.Runs.{Entry, lastOf, Call, lookUp, lookUpText, store, storeText, Run, ran, startOf}
 
 abbrev alphabet : List ℕ
 alphabet = 0x41 ∷ 0x42 ∷ 0x43 ∷ []
@@ -44,8 +44,12 @@ expected =
       sum = pos 2;
     }
 
+-- BA, B, C and A, which was never stored
+abbrev keys : List (List ℕ)
+keys = (1 ∷ 0 ∷ []) ∷ (1 ∷ []) ∷ (2 ∷ []) ∷ (0 ∷ []) ∷ []
+
 pub computed : (end ≡ expected)
-    × (map (λ (c : Call). heardOf (end .image) c .numbers .value) (lookUp (1 ∷ 0 ∷ []) ∷ lookUp (1 ∷ []) ∷ lookUpText (0x43 ∷ []) ∷ [])
-    ≡ 0 ∷ 6 ∷ 7 ∷ [])
-unfolding row1 row2 row3 row4 row6 row7 row8 row9 row10 row10text row11 row12 row13 row6path freshHead freshImage ran startOf
-computed = (refl, refl)
+    × (map (λ (k : List ℕ). lookUpOf (end .image) k .numbers .value) keys ≡ 0 ∷ 6 ∷ 7 ∷ 0 ∷ [])
+    × (map (lastOf (end .plain)) keys ≡ 0 ∷ 6 ∷ 7 ∷ 0 ∷ [])
+unfolding row1 row2 row3 row4 row6 row7 row8 row9 row10 row10text row11 row12 row13 row6path freshHead freshImage lastOf ran startOf
+computed = (refl, refl, refl)

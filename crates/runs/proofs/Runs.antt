@@ -122,9 +122,8 @@ module _ {h : Head} {alphabet : List ℕ} {r : Run} (i : Holds h alphabet r) whe
       t : Table
       t = stored (tableIn (r .image)) (headOf (r .image) .g) key value
 
-      go : (b : Bool) → sameKey key k ≡ b → answer t k ≡ cond (sameKey key k) value (lastOf (r .plain) k)
-      go true e =
-          rw (e, ← same-key key k e) (stored-answer (accepted-linked (s .accepted)) key (s .fit .below) value)
+      go : (b : Bool) → sameKey key k ≡ b → answer t k ≡ lastOf (record { key = key; value = value } ∷ r .plain) k
+      go true e = rw (e, ← same-key key k e) (stored-answer (accepted-linked (s .accepted)) key (s .fit .below) value)
       go false e =
           let other : k ≢ key = λ q. true≢false (sym (same-itself key) ∙ ap (sameKey key) (sym q) ∙ e) in
           rw e (stored-answer-other (accepted-linked (s .accepted)) key (s .fit .below) value k other ∙ i .answers k f)
@@ -183,63 +182,15 @@ unfolding ran
 ran-append r [] ds = refl
 ran-append r (c ∷ cs) ds = ran-append (after r c) cs ds
 
--- ---- what is read off it
+-- ---- from a fresh image
+
+-- where a run of calls ends that begins with the fresh image of this head, which is what a make leaves that is done (`make-leaves`)
+abbrev pub ranFrom : Head → List ℕ → List ℕ → List Call → Run
+ranFrom h alphabet image cs = ran (startOf (freshImage h alphabet image)) cs
 
 -- what is left by a look up that tells a value
 abbrev pub telling : ℕ → Outcome
 telling v = outcome (doneNumbers 0 (pos 0) v) []
-
-module _ {h : Head} {alphabet : List ℕ} {r : Run} (i : Holds h alphabet r) where
-  -- 9 and 10 ask what they asked at the start
-  letters-same : (k : List ℕ) → byLetters (headOf (r .image)) k ≡ byLetters h k
-  unfolding byLetters row9 row10
-  letters-same k = ap (λ (j : Head). byLetters j k) (i .same-head)
-
-  text-same : (named : Option (List ℕ)) → byText (headOf (r .image)) named ≡ byText h named
-  unfolding byText row9 row10text
-  text-same named = ap (λ (j : Head). byText j named) (i .same-head)
-
-  named-same : (text : List ℕ) → namedIn (r .image) text ≡ keyOfText (letters alphabet) text
-  unfolding namedIn
-  named-same text = ap (λ (a : List ℕ). keyOfText (letters a) text) (i .same-alphabet)
-
-  fit-same : (k : List ℕ) → Fit (headOf (r .image)) k → Fit h k
-  fit-same k f = record { allowed = rw (i .same-head) at (f .allowed); below = rw (i .same-head) at (f .below) }
-
-  -- whatever the part for the key is, if what passes it is a key with allowed letters
-  looked : (keyed : List Row) (k : List ℕ) → (first keyed ≡ none → Fit h k)
-      → lookUpBy (r .image) keyed k ≡ heard (first keyed) [] (telling (lastOf (r .plain) k))
-  looked keyed k f = looks-up-accepted (i .accepted) keyed k ∙ heard-alike (first keyed) [] (λ e. ap telling (i .answers k (f e)))
-
-  looked-letters : (k : List ℕ) → lookUpOf (r .image) k ≡ heard (first (byLetters h k)) [] (telling (lastOf (r .plain) k))
-  unfolding lookUpOf
-  looked-letters k =
-      rw (← letters-same k)
-      (looked (byLetters (headOf (r .image)) k) k (λ e. fit-same k (letters-fit (headOf (r .image)) k e)))
-
-  looked-text : (text : List ℕ) → lookUpTextOf (r .image) text
-      ≡ heard (first (byText h (keyOfText (letters alphabet) text))) [] (telling (lastOf (r .plain) (lettersIn (keyOfText (letters alphabet) text))))
-  unfolding lookUpTextOf
-  looked-text text =
-      let named : Option (List ℕ) = namedIn (r .image) text in
-      rw (← named-same text, ← text-same named)
-      (looked (byText (headOf (r .image)) named) (lettersIn named)
-      (λ e. fit-same (lettersIn named) (named-fit (r .image) text (accepted-opens (i .accepted)) e)))
-
-  counted : (work : List ℕ) → headOf (r .image) .g + 1 ≤ length work
-      → (m : ℕ) × (pos m ≡ r .sum) × (countOf (r .image) work ≡ outcome (doneNumbers 0 (pos 0) m) (workAfter (r .image) work ∷ []))
-  unfolding countOf
-  counted work b = (
-    length (storedKeys (r .image)),
-    sym (i .sums),
-    heard-done (first (checking (r .image) work)) _ _ (accepted-checks (r .image) work (i .accepted) b),
-  )
-
--- ---- from a fresh image
-
--- where a run of calls ends that begins with the fresh image of this head
-abbrev pub ranFrom : Head → List ℕ → List ℕ → List Call → Run
-ranFrom h alphabet image cs = ran (startOf (freshImage h alphabet image)) cs
 
 module _ (image : List ℕ) (n a d : ℕ) (alphabet : List ℕ) (least most : ℕ)
     (done : makeOf image n a d alphabet least most .numbers .number ≡ 0) (cs : List Call) where
@@ -249,25 +200,58 @@ module _ (image : List ℕ) (n a d : ℕ) (alphabet : List ℕ) (least most : �
   abbrev r : Run
   r = ranFrom h alphabet image cs
 
-  run-holds : Holds h alphabet r
-  run-holds = holds (startOf (freshImage h alphabet image)) cs (start (make-done image n a d alphabet least most done))
+  at-end : Holds h alphabet r
+  at-end = holds (startOf (freshImage h alphabet image)) cs (start (make-done image n a d alphabet least most done))
 
   pub run-accepted : Accepted (r .image)
-  run-accepted = run-holds .accepted
+  run-accepted = at-end .accepted
+
+  -- 9 and 10 ask what they asked at the start
+  letters-same : (k : List ℕ) → byLetters (headOf (r .image)) k ≡ byLetters h k
+  unfolding byLetters row9 row10
+  letters-same k = ap (λ (j : Head). byLetters j k) (at-end .same-head)
+
+  text-same : (named : Option (List ℕ)) → byText (headOf (r .image)) named ≡ byText h named
+  unfolding byText row9 row10text
+  text-same named = ap (λ (j : Head). byText j named) (at-end .same-head)
+
+  named-same : (text : List ℕ) → namedIn (r .image) text ≡ keyOfText (letters alphabet) text
+  unfolding namedIn
+  named-same text = ap (λ (b : List ℕ). keyOfText (letters b) text) (at-end .same-alphabet)
+
+  fit-same : {k : List ℕ} → Fit (headOf (r .image)) k → Fit h k
+  fit-same f = record { allowed = rw (at-end .same-head) at (f .allowed); below = rw (at-end .same-head) at (f .below) }
+
+  -- whatever the part for the key is, if a key that passes it is fit
+  looked : (keyed : List Row) (k : List ℕ) → (first keyed ≡ none → Fit (headOf (r .image)) k)
+      → lookUpBy (r .image) keyed k ≡ heard (first keyed) [] (telling (lastOf (r .plain) k))
+  looked keyed k fits =
+      looks-up-accepted run-accepted keyed k
+      ∙ heard-alike (first keyed) [] (λ e. ap telling (at-end .answers k (fit-same (fits e))))
 
   -- "answers as a plain list of last values": 9 or 10 for a key that no image with this head has, the last value for any other
   pub run-answers : (k : List ℕ) → lookUpOf (r .image) k ≡ heard (first (byLetters h k)) [] (telling (lastOf (r .plain) k))
-  run-answers = looked-letters run-holds
+  unfolding lookUpOf
+  run-answers k = rw (← letters-same k) (looked (byLetters (headOf (r .image)) k) k (letters-fit (headOf (r .image)) k))
 
   pub run-answers-text : (text : List ℕ) → lookUpTextOf (r .image) text
       ≡ heard (first (byText h (keyOfText (letters alphabet) text))) []
       (telling (lastOf (r .plain) (lettersIn (keyOfText (letters alphabet) text))))
-  run-answers-text = looked-text run-holds
+  unfolding lookUpTextOf
+  run-answers-text text =
+      let named : Option (List ℕ) = namedIn (r .image) text in
+      rw (← named-same text, ← text-same named)
+      (looked (byText (headOf (r .image)) named) (lettersIn named) (named-fit (r .image) text (accepted-opens run-accepted)))
 
   -- "The sum of these from a fresh image equals the number of keys stored now", and that is the number that is told
   pub run-sums : r .sum ≡ pos (length (storedKeys (r .image)))
-  run-sums = run-holds .sums
+  run-sums = at-end .sums
 
   pub run-counts : (work : List ℕ) → headOf (r .image) .g + 1 ≤ length work
       → (m : ℕ) × (pos m ≡ r .sum) × (countOf (r .image) work ≡ outcome (doneNumbers 0 (pos 0) m) (workAfter (r .image) work ∷ []))
-  run-counts = counted run-holds
+  unfolding countOf
+  run-counts work b = (
+    length (storedKeys (r .image)),
+    sym run-sums,
+    heard-done (first (checking (r .image) work)) _ _ (accepted-checks (r .image) work run-accepted b),
+  )
