@@ -77,7 +77,8 @@ frame h l (stopped q x xs) (suc v) p s miss =
     let m : List ℕ = carriedOut l (newNodes h (suc (h .g)) xs (suc v)) in
     let g : ℕ = h .g + suc (length xs) in
     ap (λ (r : List ℕ). getD r p 0) (carried-append l (newNodes h (suc (h .g)) xs (suc v)) _)
-    ∙ beside (sets m 0 (digits 4 g)) (digits (h .a) (suc (h .g))) (linkPlace h q x) p (h .a) (length-digits (h .a) (suc (h .g))) (λ b. miss (one-link b))
+    ∙ beside (sets m 0 (digits 4 g)) (digits (h .a) (suc (h .g))) (linkPlace h q x) p (h .a) (length-digits (h .a) (suc (h .g)))
+    (λ b. miss (one-link b))
     ∙ beside m (digits 4 g) 0 p 4 (length-digits 4 g) (λ b. miss (node-total b))
     ∙ beside-nodes h p l (suc (h .g)) xs (suc v) (s .1 .1) (rw (← add-one (h .g)) (λ b. miss (new-nodes b)))
 
@@ -89,7 +90,7 @@ none-before {h} low high (one-link {q} {x} b) = omega (arith, link-from h q x, p
 none-before {h} low high (new-nodes b) = omega (arith, used-le h 0 (omega arith), place-least h 0)
 
 -- nor are those from the new used length on
-pub none-after : {h : Head} {d : Descent} {v p : ℕ} → EndsIn h d → usedLen (withTotal h (h .g + added (missing d) v)) ≤ p → ¬ Touched h d v p
+none-after : {h : Head} {d : Descent} {v p : ℕ} → EndsIn h d → usedLen (withTotal h (h .g + added (missing d) v)) ≤ p → ¬ Touched h d v p
 unfolding added missing
 none-after {h} s high (data-of-key {q} {v} b) = omega (arith, inside-used (data-inside h q) s, used-more h (added 0 v))
 none-after {h} s high (node-total {xs = xs} b) = omega (arith, used-more h (suc (length xs)), used-le h 0 (omega arith), place-least h 0)

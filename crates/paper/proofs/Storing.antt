@@ -1,7 +1,7 @@
 -- Demand 3: what a store that is not refused does to an image, to its answers and to its stored keys, and for which reasons a store is
 -- refused. The image after a store is the table after a store (`stored-table`), so the laws on tables are laws on images.
 use Prim.Native.Nat.{ℕ, zero, suc, _+_, _-_, _*_, _^_, _≤_, _<_}
-use mathlib.Core.Path.{_≡_, refl, sym, ap, ap₂, _∙_}
+use mathlib.Core.Path.{_≡_, refl, sym, ap, ap₂, subst, _∙_}
 use mathlib.Core.Bool.{Bool, true, false, _&&_, and-false}
 use mathlib.Core.Logic.{_↔_, _≢_, inr}
 use mathlib.Core.Option.{Option, none, some}
@@ -14,10 +14,12 @@ use lib.ListN.{length, getD, take, drop, length-take, length-drop}
 use lib.Seq.{ext-getD, getD-take, getD-drop}
 use lib.IntN.{pos, _+ℤ_}
 use borrow.Author.Tests.{ltb-false, lt-ltb, le-ltb}
+use Rattle.field.specs.Field.{digits}
+use Rattle.field.proofs.Range.{between-true}
 use Rattle.trie.specs.Table.{Table, Descent, complete, stopped, descend, answer, missing, fault}
-use Rattle.trie.specs.Storing.{stored, storedBy, added, changeOf}
 use Rattle.trie.specs.Keys.{listing}
 use Rattle.trie.specs.Rules.{Linked}
+use Rattle.trie.specs.Storing.{stored, storedBy, added, changeOf}
 use Rattle.trie.proofs.Walk.{complete-within}
 use Rattle.trie.proofs.Faults.{fault-nil, fault-empty, fault-on}
 use Rattle.trie.proofs.Grow.{room}
@@ -29,16 +31,14 @@ use Rattle.head.specs.Fields.{fieldsLen, headOf, permitted, nodeWidth, usedLen}
 use Rattle.head.proofs.Fields.{head-outside}
 use Rattle.head.proofs.Permitted.{bounds}
 use Rattle.head.proofs.Places.{place-least}
-use Rattle.field.specs.Field.{digits}
-use Rattle.field.proofs.Range.{between-true}
 use Rattle.alphabet.specs.Letters.{among, letters, lettersIn, keyOfText}
 use Rattle.node.specs.Image.{dataPlace, tableOf}
 use Rattle.node.specs.Writes.{carriedOut, dataWrite, storeWrites}
+use Rattle.node.specs.Frame.{Touched}
 use Rattle.node.proofs.Places.{data-from}
 use Rattle.node.proofs.Heads.{withTotal, used-more}
 use Rattle.node.proofs.Storing.{length-carried, Storable, store-new, store-over, store-head}
-use Rattle.node.specs.Frame.{Touched}
-use Rattle.node.proofs.Frame.{EndsIn, frame, none-before, none-after}
+use Rattle.node.proofs.Frame.{EndsIn, frame, none-before, spare}
 use Rattle.paper.specs.Hearing.{Said, Row, Outcome, first, heard, outcome, doneNumbers}
 use Rattle.paper.specs.Rows.{row5, badLink, row9, row10, isNone, row10text, row11, row12, row13, rowAt, row6path}
 use Rattle.paper.specs.Orders.{alphabetIn, openingOf, checking, byLetters, byText, lookingUp, adding, newOf, storing}
@@ -47,9 +47,9 @@ use Rattle.paper.specs.Accepted.{Accepted}
 use Rattle.paper.proofs.Hearing.{untrue, not-given, was-false, first-nil, first-none, yes-row, no-row, first-part, second-part, passed-row, passed-parts, heard-done}
 use Rattle.paper.proofs.Numbers.{AllSay, end, _then_, given-says, parts-say, first-says, one-of, none-heard}
 use Rattle.paper.proofs.Keying.{below-letters, Fit, letters-fit, text-fit, keyNumbers, letters-say, text-says}
+use Rattle.paper.proofs.Checking.{not-bad, accepted-opens, check-accepts, accepted-checks, checking-says, passed-lent, accepted-linked}
 use Rattle.paper.proofs.Looking.{named-fit}
 use Rattle.paper.proofs.Nexting.{some-found}
-use Rattle.paper.proofs.Checking.{not-bad, accepted-opens, check-accepts, accepted-checks, checking-says, passed-lent, accepted-linked}
 
 -- what a store that is not refused has, but for the working numbers lent
 pub record Granted (l key : List ℕ) (value : ℕ) : Type 0 where
@@ -104,9 +104,10 @@ module _ {l key : List ℕ} {value : ℕ} (s : Granted l key value) where
         value = rw (← f) (s .value-fits);
         room = rw (used-more h (suc (length xs))) lies;
       } in
-      let b = bounds h (s .accepted .head-permitted) in
+      let most = bounds h (s .accepted .head-permitted) .a-most in
+      let narrow : h .g + suc (length xs) < 2 ^ 32 = lt-of-lt-of-le few (pow-le-pow-right (omega arith) most) in
       record {
-        head = store-head h l q x xs v (omega (arith, s .accepted .long-enough)) (lt-of-lt-of-le few (pow-le-pow-right (omega arith) (b .a-most)));
+        head = store-head h l q x xs v (omega (arith, s .accepted .long-enough)) narrow;
         table = store-new h l q x xs v able;
       }
 
@@ -129,14 +130,15 @@ stored-length l key value = length-carried l (storeWrites (headOf l) (descend (t
 
 module _ {l key : List ℕ} {value : ℕ} (s : Granted l key value) where
   -- "No other byte changes."
-  pub stored-frame : (p : ℕ) → ¬ Touched (headOf l) (descend (tableIn l) 0 key) value p → getD (storedImage l key value) p 0 ≡ getD l p 0
+  pub stored-frame : (p : ℕ) → ¬ Touched (headOf l) (descend (tableIn l) 0 key) value p
+      → getD (storedImage l key value) p 0 ≡ getD l p 0
   unfolding storedImage
   stored-frame p miss = frame (headOf l) l (descend (tableIn l) 0 key) value p (ends s) miss
 
   -- "bytes from U on are spare", with the U there is now
   pub stored-spare : (p : ℕ) → usedLen (headOf (storedImage l key value)) ≤ p → getD (storedImage l key value) p 0 ≡ getD l p 0
-  unfolding newOf tableIn
-  stored-spare p b = stored-frame p (none-after (ends s) (rw (stored-head s) at b))
+  unfolding storedImage newOf tableIn
+  stored-spare p b = spare (headOf l) l (descend (tableIn l) 0 key) value p (ends s) (subst (λ (h : Head). usedLen h ≤ p) (stored-head s) b)
 
   pub stored-alphabet : alphabetIn (headOf (storedImage l key value)) (storedImage l key value) ≡ alphabetIn (headOf l) l
   unfolding alphabetIn
@@ -151,7 +153,7 @@ module _ {l key : List ℕ} {value : ℕ} (s : Granted l key value) where
 
   -- ---- the rules
 
-  pub stored-room : usedLen (headOf (storedImage l key value)) ≤ length (storedImage l key value)
+  stored-room : usedLen (headOf (storedImage l key value)) ≤ length (storedImage l key value)
   stored-room = rw (stored-head s, stored-length l key value, used-more (headOf l) k) (go (ℕ-discrete k 0))
     where
       k : ℕ
@@ -246,16 +248,18 @@ heard-alike (some t) kept e = refl
 
 module _ {l key : List ℕ} {value : ℕ} (s : Granted l key value) where
   -- whether the key comes as letters or as text
-  answers-by : (keyed : List Row) → first keyed ≡ none → lookUpBy (storedImage l key value) keyed key ≡ outcome (doneNumbers 0 (pos 0) value) []
+  answers-by : (keyed : List Row) → first keyed ≡ none
+      → lookUpBy (storedImage l key value) keyed key ≡ outcome (doneNumbers 0 (pos 0) value) []
   answers-by keyed e =
       looks-up-accepted (accepted-again s) keyed key
       ∙ heard-done (first keyed) [] _ e
       ∙ ap (λ (t : Table). outcome (doneNumbers 0 (pos 0) (answer t key)) []) (stored-table s)
       ∙ ap (λ (v : ℕ). outcome (doneNumbers 0 (pos 0) v) []) (stored-answer (accepted-linked (s .accepted)) key (s .fit .below) value)
 
-  others-by : (keyed : List Row) (k : List ℕ) → (first keyed ≡ none → k ≢ key) → lookUpBy (storedImage l key value) keyed k ≡ lookUpBy l keyed k
+  others-by : (keyed : List Row) (k : List ℕ) → (first keyed ≡ none → k ≢ key)
+      → lookUpBy (storedImage l key value) keyed k ≡ lookUpBy l keyed k
   others-by keyed k other =
-      let same : (first keyed ≡ none) → answer (tableIn (storedImage l key value)) k ≡ answer (tableIn l) k =
+      let same : first keyed ≡ none → answer (tableIn (storedImage l key value)) k ≡ answer (tableIn l) k =
       λ e.
       ap (λ (t : Table). answer t k) (stored-table s)
       ∙ stored-answer-other (accepted-linked (s .accepted)) key (s .fit .below) value k (other e) in
@@ -276,8 +280,9 @@ module _ {l key : List ℕ} {value : ℕ} (s : Granted l key value) where
       → lookUpTextOf (storedImage l key value) text ≡ lookUpBy (storedImage l key value) (byText (headOf l) named) (lettersIn named)
   unfolding lookUpTextOf byText row9
   by-text text {named} e =
-      ap (λ (o : Option (List ℕ)). lookUpBy (storedImage l key value) (byText (headOf (storedImage l key value)) o) (lettersIn o)) (same-name text ∙ e)
-      ∙ ap (λ (h : Head). lookUpBy (storedImage l key value) (byText h named) (lettersIn named)) (stored-head s)
+      let after : List ℕ = storedImage l key value in
+      ap (λ (o : Option (List ℕ)). lookUpBy after (byText (headOf after) o) (lettersIn o)) (same-name text ∙ e)
+      ∙ ap (λ (h : Head). lookUpBy after (byText h named) (lettersIn named)) (stored-head s)
 
   -- the key answers the value
   pub stored-answers : lookUpOf (storedImage l key value) key ≡ outcome (doneNumbers 0 (pos 0) value) []
@@ -294,7 +299,8 @@ module _ {l key : List ℕ} {value : ℕ} (s : Granted l key value) where
   unfolding lettersIn
   text-answers text e = by-text text e ∙ answers-by (byText (headOf l) (some key)) (fit-text (s .fit))
 
-  pub other-texts-answer : (text : List ℕ) → namedIn l text ≢ some key → lookUpTextOf (storedImage l key value) text ≡ lookUpTextOf l text
+  pub other-texts-answer : (text : List ℕ) → namedIn l text ≢ some key
+      → lookUpTextOf (storedImage l key value) text ≡ lookUpTextOf l text
   unfolding lookUpTextOf
   other-texts-answer text other =
       let named : Option (List ℕ) = namedIn l text in
@@ -305,7 +311,8 @@ module _ {l key : List ℕ} {value : ℕ} (s : Granted l key value) where
   -- ---- how many keys are stored
 
   -- "the change in the number of stored keys: -1, 0 or 1"
-  pub stored-change : pos (length (storedKeys (storedImage l key value))) ≡ pos (length (storedKeys l)) +ℤ changeOf (answer (tableIn l) key) value
+  pub stored-change : pos (length (storedKeys (storedImage l key value)))
+      ≡ pos (length (storedKeys l)) +ℤ changeOf (answer (tableIn l) key) value
   unfolding storedKeys
   stored-change =
       let b = between-true (length key) (headOf l .min) (headOf l .max) (s .fit .allowed) in
@@ -337,8 +344,7 @@ module _ (h : Head) where
   pub none-12 : (k : ℕ) → (row12 h k ≡ none) ↔ (0 < k → h .g + k < 256 ^ h .a)
   unfolding row12
   none-12 k =
-      let w = with-new k (256 ^ h .a - 1) (h .g + k) in
-      (
+      let w = with-new k (256 ^ h .a - 1) (h .g + k) in (
         λ e b. omega (arith, w .0 (was-false 12 0 _ e) b, one-le-pow (h .a) 256 (omega arith)),
         λ f. not-given 12 0 (w .1 (λ b. omega (arith, f b))),
       )
@@ -358,6 +364,20 @@ storeNumbers = 1 ∷ 2 ∷ 3 ∷ 4 ∷ 5 ∷ 6 ∷ 7 ∷ 8 ∷ 9 ∷ 10 ∷ 11 �
 abbrev pub acceptedNumbers : List ℕ
 acceptedNumbers = 5 ∷ 9 ∷ 10 ∷ 11 ∷ 12 ∷ 13 ∷ []
 
+-- the part for the value: 11, 12 and 13
+abbrev pub valued : List ℕ → List ℕ → ℕ → List Row
+valued l key value = adding (headOf l) value (newOf (headOf l) l key value) (length l)
+
+valued-says : (l key : List ℕ) (value : ℕ) → AllSay (11 ∷ 12 ∷ 13 ∷ []) (valued l key value)
+unfolding adding row11 row12 row13 among
+valued-says l key value =
+    let h : Head = headOf l in
+    let k : ℕ = newOf h l key value in
+    given-says 11 0 (ltb (256 ^ h .d - 1) value) refl
+    then given-says 12 0 (ltb 0 k && ltb (256 ^ h .a - 1) (h .g + k)) refl
+    then given-says 13 0 (ltb 0 k && ltb (length l) (usedLen h + k * nodeWidth h)) refl
+    then end
+
 -- an answer with another number than what is done is a refusal
 kept-lent : (r : Row) (kept : List (List ℕ)) (done : Outcome) → done .numbers .number ≡ 0 → heard r kept done .numbers .number ≢ 0
     → heard r kept done .lent ≡ kept
@@ -366,16 +386,13 @@ kept-lent none kept done e z = absurd (z e)
 kept-lent (some s) kept done e z = refl
 
 module _ (l work : List ℕ) (keyed : List Row) (key : List ℕ) (value : ℕ) where
-  -- the part for the value
-  abbrev valued : List Row
-  valued = adding (headOf l) value (newOf (headOf l) l key value) (length l)
-
   -- what an order that passed tells of its parts
-  order-passed : first (storing l work keyed key value) ≡ none → (first (checking l work) ≡ none) × (first keyed ≡ none) × (first valued ≡ none)
+  order-passed : first (storing l work keyed key value) ≡ none
+      → (first (checking l work) ≡ none) × (first keyed ≡ none) × (first (valued l key value) ≡ none)
   unfolding storing
   order-passed e =
-      let after8 = passed-parts (checking l work) (keyed ++ valued) e in
-      let after10 = passed-parts keyed valued (after8 .1) in
+      let after8 = passed-parts (checking l work) (keyed ++ valued l key value) e in
+      let after10 = passed-parts keyed (valued l key value) (after8 .1) in
       (after8 .0, after10 .0, after10 .1)
 
   -- a store that passes every row is granted
@@ -402,49 +419,49 @@ module _ (l work : List ℕ) (keyed : List Row) (key : List ℕ) (value : ℕ) w
   grants s lent passes =
       let h : Head = headOf l in
       let k : ℕ = newOf h l key value in
-      second-part (checking l work) (keyed ++ valued) (accepted-checks l work (s .accepted) lent)
-      ∙ second-part keyed valued passes
+      second-part (checking l work) (keyed ++ valued l key value) (accepted-checks l work (s .accepted) lent)
+      ∙ second-part keyed (valued l key value) passes
       ∙ first-none (row11 h value) _ (none-11 h value .1 (s .value-fits))
       ∙ first-none (row12 h k) _ (none-12 h k .1 (s .addresses))
       ∙ first-none (row13 h k (length l)) _ (none-13 h k (length l) .1 (s .room))
       ∙ first-nil
 
   -- in an accepted image 5 is asked, then the key's part, then the value's
-  pub accepted-order : Accepted l → first (storing l work keyed key value) ≡ first (row5 (headOf l) (length work) ∷ (keyed ++ valued))
+  pub accepted-order : Accepted l
+      → first (storing l work keyed key value) ≡ first (row5 (headOf l) (length work) ∷ (keyed ++ valued l key value))
   unfolding storing checking row5
   accepted-order a = go (decLe (headOf l .g + 1) (length work))
     where
-      go : Dec (headOf l .g + 1 ≤ length work) → first (storing l work keyed key value) ≡ first (row5 (headOf l) (length work) ∷ (keyed ++ valued))
-      go (yes b) =
-          second-part (checking l work) (keyed ++ valued) (accepted-checks l work a b)
-          ∙ sym (no-row 5 0 (keyed ++ valued) (le-ltb (length work) (headOf l .g + 1) b))
-      go (no b) =
-          let c : ltb (length work) (headOf l .g + 1) ≡ true = lt-ltb (length work) (headOf l .g + 1) (omega arith) in
-          first-part (checking l work) (keyed ++ valued) (second-part (openingOf l) _ (accepted-opens a) ∙ yes-row 5 0 _ c)
-          ∙ sym (yes-row 5 0 (keyed ++ valued) c)
+      rest : List Row
+      rest = keyed ++ valued l key value
 
-  valued-says : AllSay (11 ∷ 12 ∷ 13 ∷ []) valued
-  unfolding adding row11 row12 row13 among
-  valued-says =
-      let h : Head = headOf l in
-      let k : ℕ = newOf h l key value in
-      given-says 11 0 (ltb (256 ^ h .d - 1) value) refl
-      then given-says 12 0 (ltb 0 k && ltb (256 ^ h .a - 1) (h .g + k)) refl
-      then given-says 13 0 (ltb 0 k && ltb (length l) (usedLen h + k * nodeWidth h)) refl
-      then end
+      go : Dec (headOf l .g + 1 ≤ length work) → first (storing l work keyed key value) ≡ first (row5 (headOf l) (length work) ∷ rest)
+      go (yes b) =
+          second-part (checking l work) rest (accepted-checks l work a b)
+          ∙ sym (no-row 5 0 rest (le-ltb (length work) (headOf l .g + 1) b))
+      go (no b) =
+          let few : ltb (length work) (headOf l .g + 1) ≡ true = lt-ltb (length work) (headOf l .g + 1) (omega arith) in
+          first-part (checking l work) rest (second-part (openingOf l) _ (accepted-opens a) ∙ yes-row 5 0 _ few)
+          ∙ sym (yes-row 5 0 rest few)
 
   module _ (says : AllSay keyNumbers keyed) where
     -- the reasons for which a store in an accepted image is refused
-    pub store-refuses : {s : Said} → Accepted l → first (storing l work keyed key value) ≡ some s → among (s .number) acceptedNumbers ≡ true
+    pub store-refuses : {s : Said} → Accepted l → first (storing l work keyed key value) ≡ some s
+        → among (s .number) acceptedNumbers ≡ true
     unfolding row5 among
     store-refuses a e =
-        let five : AllSay (5 ∷ []) (row5 (headOf l) (length work) ∷ []) = given-says 5 0 (ltb (length work) (headOf l .g + 1)) refl then end in
-        one-of (first-says (parts-say five (parts-say says valued-says))) (sym (accepted-order a) ∙ e)
+        let five : AllSay (5 ∷ []) (row5 (headOf l) (length work) ∷ []) =
+        given-says 5 0 (ltb (length work) (headOf l .g + 1)) refl then end in
+        one-of (first-says (parts-say five (parts-say says (valued-says l key value)))) (sym (accepted-order a) ∙ e)
+
+    pub storing-says : AllSay storeNumbers (storing l work keyed key value)
+    unfolding storing
+    storing-says = parts-say (checking-says l work) (parts-say says (valued-says l key value))
 
     -- number 0 is said by no row
     pub store-passed : storeBy l work keyed key value .numbers .number ≡ 0 → first (storing l work keyed key value) ≡ none
-    unfolding storeBy storing among
-    store-passed z = none-heard _ _ (first-says (parts-say (checking-says l work) (parts-say says valued-says))) refl z
+    unfolding storeBy among
+    store-passed z = none-heard _ _ (first-says storing-says) refl z
 
     -- what a store that is done answers and leaves
     pub store-by-leaves : storeBy l work keyed key value .numbers .number ≡ 0
@@ -454,12 +471,14 @@ module _ (l work : List ℕ) (keyed : List Row) (key : List ℕ) (value : ℕ) w
     store-by-leaves z = heard-done (first (storing l work keyed key value)) _ _ (store-passed z)
 
   -- one that is granted is done
-  pub store-by-done : Granted l key value → headOf l .g + 1 ≤ length work → first keyed ≡ none → storeBy l work keyed key value .numbers .number ≡ 0
+  pub store-by-done : Granted l key value → headOf l .g + 1 ≤ length work → first keyed ≡ none
+      → storeBy l work keyed key value .numbers .number ≡ 0
   unfolding storeBy doneNumbers
   store-by-done s lent passes = ap (λ (o : Outcome). o .numbers .number) (heard-done _ _ _ (grants s lent passes))
 
   -- "A refused call changes nothing in the image or in any other lent buffer but the working numbers"
-  pub refused-keeps : storeBy l work keyed key value .numbers .number ≢ 0 → storeBy l work keyed key value .lent ≡ l ∷ workAfter l work ∷ []
+  pub refused-keeps : storeBy l work keyed key value .numbers .number ≢ 0
+      → storeBy l work keyed key value .lent ≡ l ∷ workAfter l work ∷ []
   unfolding storeBy doneNumbers
   refused-keeps z = kept-lent (first (storing l work keyed key value)) (l ∷ workAfter l work ∷ []) _ refl z
 
@@ -499,7 +518,7 @@ module _ (l work text : List ℕ) (value : ℕ) where
   parts-passed : storeTextOf l work text value .numbers .number ≡ 0
       → (first (checking l work) ≡ none)
       × (first (byText (headOf l) (namedIn l text)) ≡ none)
-      × (first (valued l work (byText (headOf l) (namedIn l text)) (lettersIn (namedIn l text)) value) ≡ none)
+      × (first (valued l (lettersIn (namedIn l text)) value) ≡ none)
   parts-passed z = order-passed l work (byText (headOf l) (namedIn l text)) (lettersIn (namedIn l text)) value (passed-text z)
 
   pub store-text-granted : storeTextOf l work text value .numbers .number ≡ 0 → Granted l (lettersIn (namedIn l text)) value
