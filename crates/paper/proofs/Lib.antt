@@ -1,4 +1,5 @@
 pub mod Checking
+pub mod Fresh
 pub mod Hearing
 pub mod Keying
 pub mod Looking

@@ -241,7 +241,7 @@ pub fit-text : {h : Head} {key : List ℕ} → Fit h key → first (byText h (so
 unfolding byText row10text isNone row9 lettersIn
 fit-text f = no-row 10 0 _ refl ∙ no-row 9 0 _ (untrue (f .allowed)) ∙ first-nil
 
-heard-alike : (r : Row) (kept : List (List ℕ)) {x y : Outcome} → (r ≡ none → x ≡ y) → heard r kept x ≡ heard r kept y
+pub heard-alike : (r : Row) (kept : List (List ℕ)) {x y : Outcome} → (r ≡ none → x ≡ y) → heard r kept x ≡ heard r kept y
 unfolding heard
 heard-alike none kept e = e refl
 heard-alike (some t) kept e = refl

@@ -1,0 +1,55 @@
+-- One run from P1's fresh image, computed: what was stored last is in front of the plain list, a refused store is not in it, and the
+-- changes sum up to the two keys that are left.
+use Prim.Native.Nat.{ℕ}
+use mathlib.Core.Path.{_≡_, refl}
+use mathlib.Core.List.{List, [], _∷_, map}
+use lib.IntN.{pos}
+use lib.ListN.{replicate}
+use Rattle.paper.specs.Rows.{row1, row2, row3, row4, row6, row7, row8, row9, row10, row10text, row11, row12, row13, row6path}
+use Rattle.paper.specs.Calls.{freshHead, freshImage, lookUpOf}
+use Rattle.paper.specs.Cases.{file}
+use Rattle.runs.specs.Runs.{Entry, lastOf, Call, lookUp, lookUpText, store, storeText, Run, ran, startOf}
+
+abbrev alphabet : List ℕ
+alphabet = 0x41 ∷ 0x42 ∷ 0x43 ∷ []
+
+abbrev work : List ℕ
+work = replicate 4 7
+
+abbrev entry : List ℕ → ℕ → Entry
+entry k v = record { key = k; value = v }
+
+-- BA = 9, B = 5, BA = 256, C = 7 by text, D = 1 by text, B = 6 by text, BA = 0, and two look ups on the way
+abbrev calls : List Call
+calls =
+    store work (1 ∷ 0 ∷ []) 9
+    ∷ store work (1 ∷ []) 5
+    ∷ store work (1 ∷ 0 ∷ []) 256
+    ∷ lookUp (1 ∷ 0 ∷ [])
+    ∷ storeText work (0x43 ∷ []) 7
+    ∷ storeText work (0x44 ∷ []) 1
+    ∷ storeText work (0x42 ∷ []) 6
+    ∷ lookUpText (0x42 ∷ [])
+    ∷ store work (1 ∷ 0 ∷ []) 0
+    ∷ []
+
+abbrev end : Run
+end = ran (startOf (freshImage (freshHead 3 1 1 alphabet 1 3) alphabet (replicate 60 0xAA))) calls
+
+abbrev expected : Run
+expected =
+    record {
+      image = file 3 (0 ∷ 1 ∷ 3 ∷ 0 ∷ 2 ∷ 0 ∷ 0 ∷ 6 ∷ 0 ∷ 0 ∷ 0 ∷ 0 ∷ 0 ∷ 0 ∷ 0 ∷ 7 ∷ []) 13;
+      plain = entry (1 ∷ 0 ∷ []) 0 ∷ entry (1 ∷ []) 6 ∷ entry (2 ∷ []) 7 ∷ entry (1 ∷ []) 5 ∷ entry (1 ∷ 0 ∷ []) 9 ∷ [];
+      sum = pos 2;
+    }
+
+-- BA, B, C and A, which was never stored
+abbrev keys : List (List ℕ)
+keys = (1 ∷ 0 ∷ []) ∷ (1 ∷ []) ∷ (2 ∷ []) ∷ (0 ∷ []) ∷ []
+
+pub computed : (end ≡ expected)
+    × (map (λ (k : List ℕ). lookUpOf (end .image) k .numbers .value) keys ≡ 0 ∷ 6 ∷ 7 ∷ 0 ∷ [])
+    × (map (lastOf (end .plain)) keys ≡ 0 ∷ 6 ∷ 7 ∷ 0 ∷ [])
+unfolding row1 row2 row3 row4 row6 row7 row8 row9 row10 row10text row11 row12 row13 row6path freshHead freshImage lastOf ran startOf
+computed = (refl, refl, refl)

@@ -1,0 +1,257 @@
+-- Demand 3, "A run of calls from a fresh image answers as a plain list of last values", and 01's sum of the changes. One invariant says
+-- both: it holds of a fresh image, every call keeps it, and what is asked of a run is read off it. Every beginning of a run is a run, so
+-- that a call in the middle is answered by the same laws.
+use Prim.Native.Nat.{ℕ, _+_, _≤_}
+use mathlib.Core.Path.{_≡_, refl, sym, _∙_, ap}
+use mathlib.Core.Bool.{Bool, true, false, true≢false, cond}
+use mathlib.Core.Logic.{_≢_}
+use mathlib.Core.Option.{Option, none, some, Option·some-ne-none}
+use mathlib.Core.List.{List, [], _∷_, _++_}
+use lib.Dec.{eqb}
+use lib.IntN.{ℤ, pos, _+ℤ_, +ℤ-idr}
+use lib.ListN.{length}
+use borrow.Author.Tests.{eq-eqb, ne-eqb, eqb-true}
+use Rattle.field.proofs.Range.{both}
+use Rattle.trie.specs.Table.{Table, answer}
+use Rattle.trie.specs.Storing.{stored, changeOf}
+use Rattle.trie.proofs.Storing.{stored-answer, stored-answer-other}
+use Rattle.head.specs.declared.Head.{Head}
+use Rattle.head.specs.Fields.{headOf}
+use Rattle.alphabet.specs.Letters.{letters, lettersIn, keyOfText}
+use Rattle.node.proofs.Heads.{withTotal}
+use Rattle.paper.specs.Hearing.{Said, Row, Outcome, outcome, first, heard, refusedNumbers, doneNumbers}
+use Rattle.paper.specs.Rows.{row9, row10, row10text}
+use Rattle.paper.specs.Orders.{alphabetIn, newOf, checking, byLetters, byText, lookingUp, storing, nexting}
+use Rattle.paper.specs.Calls.{tableIn, workAfter, freshHead, freshImage, makeOf, storedKeys, countOf, lookUpBy, lookUpOf, namedIn, lookUpTextOf, storedImage, storeBy, nextIn}
+use Rattle.paper.specs.Accepted.{Accepted}
+use Rattle.paper.proofs.Hearing.{heard-done}
+use Rattle.paper.proofs.Numbers.{AllSay}
+use Rattle.paper.proofs.Keying.{keyNumbers, Fit, letters-fit, letters-say, text-says}
+use Rattle.paper.proofs.Checking.{accepted-opens, accepted-checks, accepted-linked}
+use Rattle.paper.proofs.Looking.{named-fit}
+use Rattle.paper.proofs.Storing.{Granted, accepted-again, stored-head, stored-alphabet, stored-table, stored-change, looks-up-accepted, heard-alike, granted, store-passed}
+use Rattle.paper.proofs.Fresh.{Made, make-done, fresh-head, fresh-alphabet, fresh-accepted, fresh-answers, fresh-keys}
+use Rattle.runs.specs.Runs.{sameKey, lastOf, Call, check, count, lookUp, lookUpText, store, storeText, nextKey, firstLeft, Run, after, ran, startOf}
+
+-- ---- the plain list
+
+same-itself : (k : List ℕ) → sameKey k k ≡ true
+unfolding sameKey
+same-itself [] = refl
+same-itself (x ∷ k) = rw (eq-eqb x x refl, same-itself k)
+
+same-key : (k m : List ℕ) → sameKey k m ≡ true → k ≡ m
+unfolding sameKey
+same-key [] [] e = refl
+same-key [] (y ∷ m) e = cc
+same-key (x ∷ k) [] e = cc
+same-key (x ∷ k) (y ∷ m) e =
+    let u = both (eqb x y) (sameKey k m) e in
+    let here : x ≡ y = eqb-true x y (u .0) in
+    let there : k ≡ m = same-key k m (u .1) in
+    cc
+
+-- ---- the invariant
+
+pub record Holds (h : Head) (alphabet : List ℕ) (r : Run) : Type 0 where
+  pub accepted : Accepted (r .image)
+  -- the head has changed in its G alone, the alphabet not at all
+  pub same-head : headOf (r .image) ≡ withTotal h (headOf (r .image) .g)
+  pub same-alphabet : alphabetIn (headOf (r .image)) (r .image) ≡ alphabet
+  pub answers : (k : List ℕ) → Fit h k → answer (tableIn (r .image)) k ≡ lastOf (r .plain) k
+  pub sums : r .sum ≡ pos (length (storedKeys (r .image)))
+
+only-total : (h : Head) {k : Head} {g : ℕ} → k ≡ withTotal h g → k ≡ withTotal h (k .g)
+only-total h {k} {g} e = e ∙ ap (withTotal h) (sym (ap (λ (j : Head). j .g) e))
+
+start : {h : Head} {alphabet image : List ℕ} → Made h alphabet image → Holds h alphabet (startOf (freshImage h alphabet image))
+unfolding startOf lastOf
+start {h} {alphabet} {image} m =
+    record {
+      accepted = fresh-accepted m;
+      same-head = only-total h {g = h .g} (fresh-head m);
+      same-alphabet = fresh-alphabet m;
+      answers = λ k _. fresh-answers m k;
+      sums = ap (λ (ks : List (List ℕ)). pos (length ks)) (sym (fresh-keys m));
+    }
+
+-- ---- a store
+
+-- how a store ends: granted and done, or refused with the image as it was
+data Ended (l key : List ℕ) (value : ℕ) : Outcome → Type 0 where
+  was-done : {work : List ℕ} → Granted l key value
+      → Ended l key value (outcome (doneNumbers 0 (changeOf (answer (tableIn l) key) value) 0) (storedImage l key value ∷ work ∷ []))
+  was-refused : (s : Said) {work : List ℕ} → s .number ≢ 0 → Ended l key value (outcome (refusedNumbers s) (l ∷ work ∷ []))
+
+ended : (l work : List ℕ) (keyed : List Row) (key : List ℕ) (value : ℕ) → AllSay keyNumbers keyed → (first keyed ≡ none → Fit (headOf l) key)
+    → Ended l key value (storeBy l work keyed key value)
+unfolding storeBy heard refusedNumbers
+ended l work keyed key value says fits = go (first (storing l work keyed key value)) refl
+  where
+    go : (row : Row) → first (storing l work keyed key value) ≡ row → Ended l key value (storeBy l work keyed key value)
+    go none e = rw e (was-done (granted l work keyed key value e fits))
+    go (some s) e = rw e (was-refused s (λ z. Option·some-ne-none s (sym e ∙ store-passed l work keyed key value says (rw e z))))
+
+-- where a run stands after a store that left this outcome
+abbrev storedRun : Run → List ℕ → ℕ → Outcome → Run
+storedRun r key value o =
+    record {
+      image = firstLeft (o .lent);
+      plain = cond (eqb (o .numbers .number) 0) (record { key = key; value = value } ∷ r .plain) (r .plain);
+      sum = r .sum +ℤ o .numbers .change;
+    }
+
+module _ {h : Head} {alphabet : List ℕ} {r : Run} (i : Holds h alphabet r) where
+  -- a call that answers no change and leaves the image
+  unchanged : {change : ℤ} → change ≡ pos 0 → Holds h alphabet (record { image = r .image; plain = r .plain; sum = r .sum +ℤ change })
+  unchanged e =
+      record {
+        accepted = i .accepted;
+        same-head = i .same-head;
+        same-alphabet = i .same-alphabet;
+        answers = i .answers;
+        sums = ap (r .sum +ℤ_) e ∙ +ℤ-idr (r .sum) ∙ i .sums;
+      }
+
+  -- the key answers its new value, every other key as before
+  answers-stored : {key : List ℕ} {value : ℕ} → Granted (r .image) key value → (k : List ℕ) → Fit h k
+      → answer (tableIn (storedImage (r .image) key value)) k ≡ lastOf (record { key = key; value = value } ∷ r .plain) k
+  unfolding lastOf
+  answers-stored {key} {value} s k f = ap (λ (t : Table). answer t k) (stored-table s) ∙ go (sameKey key k) refl
+    where
+      t : Table
+      t = stored (tableIn (r .image)) (headOf (r .image) .g) key value
+
+      go : (b : Bool) → sameKey key k ≡ b → answer t k ≡ lastOf (record { key = key; value = value } ∷ r .plain) k
+      go true e = rw (e, ← same-key key k e) (stored-answer (accepted-linked (s .accepted)) key (s .fit .below) value)
+      go false e =
+          let other : k ≢ key = λ q. true≢false (sym (same-itself key) ∙ ap (sameKey key) (sym q) ∙ e) in
+          rw e (stored-answer-other (accepted-linked (s .accepted)) key (s .fit .below) value k other ∙ i .answers k f)
+
+  -- however a store ended
+  step-store : {key : List ℕ} {value : ℕ} {o : Outcome} → Ended (r .image) key value o → Holds h alphabet (storedRun r key value o)
+  unfolding firstLeft doneNumbers refusedNumbers
+  step-store {key} {value} (was-done s) =
+      let g : ℕ = headOf (r .image) .g + newOf (headOf (r .image)) (r .image) key value in
+      record {
+        accepted = accepted-again s;
+        same-head = only-total h {g = g} (stored-head s ∙ ap (λ (k : Head). withTotal k g) (i .same-head));
+        same-alphabet = stored-alphabet s ∙ i .same-alphabet;
+        answers = answers-stored s;
+        sums = ap (_+ℤ changeOf (answer (tableIn (r .image)) key) value) (i .sums) ∙ sym (stored-change s);
+      }
+  step-store (was-refused s d) = rw (ne-eqb (s .number) 0 d) (unchanged refl)
+
+-- ---- every call
+
+-- a call that changes no key answers no change, done or refused
+no-change : (row : Row) (kept : List (List ℕ)) (done : Outcome) → done .numbers .change ≡ pos 0 → heard row kept done .numbers .change ≡ pos 0
+unfolding heard refusedNumbers
+no-change none kept done e = e
+no-change (some s) kept done e = refl
+
+module _ {h : Head} {alphabet : List ℕ} where
+  step : (r : Run) (c : Call) → Holds h alphabet r → Holds h alphabet (after r c)
+  unfolding after doneNumbers
+  step r (check work) i = unchanged i (no-change (first (checking (r .image) work)) _ _ refl)
+  step r (count work) i = unchanged i (no-change (first (checking (r .image) work)) _ _ refl)
+  step r (lookUp key) i = unchanged i (no-change (first (lookingUp (r .image) (byLetters (headOf (r .image)) key) key)) _ _ refl)
+  step r (lookUpText text) i =
+      let named : Option (List ℕ) = namedIn (r .image) text in
+      unchanged i (no-change (first (lookingUp (r .image) (byText (headOf (r .image)) named) (lettersIn named))) _ _ refl)
+  step r (store work key value) i =
+      let h : Head = headOf (r .image) in
+      step-store i (ended (r .image) work (byLetters h key) key value (letters-say h key) (letters-fit h key))
+  step r (storeText work text value) i =
+      let h : Head = headOf (r .image) in
+      let named : Option (List ℕ) = namedIn (r .image) text in
+      step-store i
+      (ended (r .image) work (byText h named) (lettersIn named) value (text-says h named)
+      (named-fit (r .image) text (accepted-opens (i .accepted))))
+  step r (nextKey work key onward buffer) i =
+      unchanged i (no-change (first (nexting (r .image) work key (length buffer) (nextIn (r .image) key onward))) _ _ refl)
+
+  holds : (r : Run) (cs : List Call) → Holds h alphabet r → Holds h alphabet (ran r cs)
+  unfolding ran
+  holds r [] i = i
+  holds r (c ∷ cs) i = holds (after r c) cs (step r c i)
+
+-- a run of calls, then another
+pub ran-append : (r : Run) (cs ds : List Call) → ran r (cs ++ ds) ≡ ran (ran r cs) ds
+unfolding ran
+ran-append r [] ds = refl
+ran-append r (c ∷ cs) ds = ran-append (after r c) cs ds
+
+-- ---- from a fresh image
+
+-- where a run of calls ends that begins with the fresh image of this head, which is what a make leaves that is done (`make-leaves`)
+abbrev pub ranFrom : Head → List ℕ → List ℕ → List Call → Run
+ranFrom h alphabet image cs = ran (startOf (freshImage h alphabet image)) cs
+
+-- what is left by a look up that tells a value
+abbrev pub telling : ℕ → Outcome
+telling v = outcome (doneNumbers 0 (pos 0) v) []
+
+module _ (image : List ℕ) (n a d : ℕ) (alphabet : List ℕ) (least most : ℕ)
+    (done : makeOf image n a d alphabet least most .numbers .number ≡ 0) (cs : List Call) where
+  abbrev h : Head
+  h = freshHead n a d alphabet least most
+
+  abbrev r : Run
+  r = ranFrom h alphabet image cs
+
+  at-end : Holds h alphabet r
+  at-end = holds (startOf (freshImage h alphabet image)) cs (start (make-done image n a d alphabet least most done))
+
+  pub run-accepted : Accepted (r .image)
+  run-accepted = at-end .accepted
+
+  -- 9 and 10 ask what they asked at the start
+  letters-same : (k : List ℕ) → byLetters (headOf (r .image)) k ≡ byLetters h k
+  unfolding byLetters row9 row10
+  letters-same k = ap (λ (j : Head). byLetters j k) (at-end .same-head)
+
+  text-same : (named : Option (List ℕ)) → byText (headOf (r .image)) named ≡ byText h named
+  unfolding byText row9 row10text
+  text-same named = ap (λ (j : Head). byText j named) (at-end .same-head)
+
+  named-same : (text : List ℕ) → namedIn (r .image) text ≡ keyOfText (letters alphabet) text
+  unfolding namedIn
+  named-same text = ap (λ (b : List ℕ). keyOfText (letters b) text) (at-end .same-alphabet)
+
+  fit-same : {k : List ℕ} → Fit (headOf (r .image)) k → Fit h k
+  fit-same f = record { allowed = rw (at-end .same-head) at (f .allowed); below = rw (at-end .same-head) at (f .below) }
+
+  -- whatever the part for the key is, if a key that passes it is fit
+  looked : (keyed : List Row) (k : List ℕ) → (first keyed ≡ none → Fit (headOf (r .image)) k)
+      → lookUpBy (r .image) keyed k ≡ heard (first keyed) [] (telling (lastOf (r .plain) k))
+  looked keyed k fits =
+      looks-up-accepted run-accepted keyed k
+      ∙ heard-alike (first keyed) [] (λ e. ap telling (at-end .answers k (fit-same (fits e))))
+
+  -- "answers as a plain list of last values": 9 or 10 for a key that no image with this head has, the last value for any other
+  pub run-answers : (k : List ℕ) → lookUpOf (r .image) k ≡ heard (first (byLetters h k)) [] (telling (lastOf (r .plain) k))
+  unfolding lookUpOf
+  run-answers k = rw (← letters-same k) (looked (byLetters (headOf (r .image)) k) k (letters-fit (headOf (r .image)) k))
+
+  pub run-answers-text : (text : List ℕ) → lookUpTextOf (r .image) text
+      ≡ heard (first (byText h (keyOfText (letters alphabet) text))) []
+      (telling (lastOf (r .plain) (lettersIn (keyOfText (letters alphabet) text))))
+  unfolding lookUpTextOf
+  run-answers-text text =
+      let named : Option (List ℕ) = namedIn (r .image) text in
+      rw (← named-same text, ← text-same named)
+      (looked (byText (headOf (r .image)) named) (lettersIn named) (named-fit (r .image) text (accepted-opens run-accepted)))
+
+  -- "The sum of these from a fresh image equals the number of keys stored now", and that is the number that is told
+  pub run-sums : r .sum ≡ pos (length (storedKeys (r .image)))
+  run-sums = at-end .sums
+
+  pub run-counts : (work : List ℕ) → headOf (r .image) .g + 1 ≤ length work
+      → (m : ℕ) × (pos m ≡ r .sum) × (countOf (r .image) work ≡ outcome (doneNumbers 0 (pos 0) m) (workAfter (r .image) work ∷ []))
+  unfolding countOf
+  run-counts work b = (
+    length (storedKeys (r .image)),
+    sym run-sums,
+    heard-done (first (checking (r .image) work)) _ _ (accepted-checks (r .image) work run-accepted b),
+  )
