@@ -202,7 +202,7 @@ quiet e = ap rowAt e
 
 module _ {l : List ℕ} (a : Accepted l) where
   -- on no key's path is there a bad link
-  unfaulted : (q : ℕ) (k : List ℕ) → fault (badLink (headOf l .g)) (tableIn l) q k ≡ none
+  pub unfaulted : (q : ℕ) (k : List ℕ) → fault (badLink (headOf l .g)) (tableIn l) q k ≡ none
   unfaulted q [] = fault-nil (badLink (headOf l .g)) (tableIn l) q
   unfaulted q (x ∷ xs) = go (ℕ-discrete c 0) (unfaulted c xs)
     where

@@ -2,7 +2,8 @@
 use mathlib.Core.Path.{ap, _∙_}
 use Prim.Native.Nat.{ℕ}
 use mir.Facts.{toZ-ofZ}
-use borrow.Author.Needs.{needs}
+use mir.Syntax.{w32}
+use borrow.Author.Needs.{needs, sfits-of}
 use Rattle.trie.specs.Storing.{changeOf}
 use Rattle.storing.proofs.replace.Statement.{statement}
 use Rattle.storing.proofs.replace.Tie as tie
@@ -26,7 +27,7 @@ returns c =
     let a = read .before .before .before .args in
     (
       set .set-data .ensures .0,
-      toZ-ofZ (c .change .ok) ∙ c .change .ensures ∙ ap (λ (old : ℕ). changeOf old (a .value)) (read .«data» .ensures),
+      toZ-ofZ {w = w32} (sfits-of (c .change .ok)) ∙ c .change .ensures ∙ ap (λ (old : ℕ). changeOf old (a .value)) (read .«data» .ensures),
     )
 
 pub replace-spec : {M : Type 1} → statement M

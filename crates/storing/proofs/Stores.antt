@@ -1,0 +1,77 @@
+-- The outcome of the whole part behind 10, by what the walk told: an accepted image is open and has no bad link, and the head in hand is
+-- its own.
+use Prim.Native.Nat.{ℕ, _+_, _^_, _≤_, _<_}
+use mathlib.Core.Path.{_≡_, sym, _∙_, ap}
+use mathlib.Core.Bool.{true}
+use mathlib.Core.Option.{none, some}
+use mathlib.Core.List.{List, [], _∷_}
+use native.Mathlib.Omega.{arith}
+use lib.IntN.{ℤ}
+use lib.ListN.{length, drop, length-drop}
+use Rattle.trie.specs.Table.{descend}
+use Rattle.trie.specs.Storing.{changeOf}
+use Rattle.head.specs.declared.Head.{Head}
+use Rattle.head.specs.Fields.{headOf, permitted}
+use Rattle.node.specs.Image.{Open, tableOf}
+use Rattle.node.specs.Writes.{carriedOut, dataWrite}
+use Rattle.paper.specs.declared.Refusal.{Refusal}
+use Rattle.paper.specs.declared.Stored.{Stored}
+use Rattle.paper.specs.Hearing.{outcome}
+use Rattle.paper.specs.Answers.{storedOf}
+use Rattle.paper.specs.Calls.{tableIn}
+use Rattle.paper.specs.Accepted.{Accepted}
+use Rattle.paper.proofs.Checking.{accepted-open}
+use Rattle.paper.proofs.Storing.{unfaulted}
+use Rattle.walk.specs.declared.Position.{Position}
+use Rattle.walk.specs.declared.Walked.{Walked}
+use Rattle.walk.specs.Descent.{atRoot, walkedFrom}
+use Rattle.walk.proofs.Descents.{walked-complete, walked-stopped, walked-bad}
+use Rattle.storing.specs.Storing.{storeAt, StoresIn, Extends}
+use Rattle.storing.proofs.Adding.{too-great, replaced}
+
+module _ {l : List ℕ} {h : Head} (a : Accepted l) (same : h ≡ headOf l) where
+  pub head-permitted : permitted h ≡ true
+  head-permitted = rw same (a .head-permitted)
+
+  pub opened : Open h l
+  opened = rw same (accepted-open a)
+
+  module _ (k : List ℕ) (value : ℕ) where
+    -- by the head in hand
+    in-hand : (r : Stored) {l′ : List ℕ} → outcome (storedOf r) (l′ ∷ []) ≡ storeAt h l (descend (tableOf h l) 0 k) value
+        → StoresIn l k value r l′
+    unfolding tableIn
+    in-hand r e = rw same at e
+
+    pub stores-too-great : {most : ℕ} → most + 1 ≡ 256 ^ h .d → most < value → StoresIn l k value (Stored.Refused Refusal.ValueTooGreat) l
+    stores-too-great m b = in-hand (Stored.Refused Refusal.ValueTooGreat) (too-great h l _ value m b)
+
+    module _ {o : Walked} (walked : o ≡ walkedFrom (h .g) (tableOf h l) atRoot k) where
+      -- the node that a complete path ends at, and the position where one stops
+      pub ends-within : {q : ℕ} → o ≡ Walked.Complete q → q ≤ h .g
+      ends-within e = walked-complete _ _ k walked e .within
+
+      pub stops-within : {p : Position} → o ≡ Walked.Stopped p → p .node ≤ h .g
+      stops-within e = walked-stopped _ _ k walked e .within
+
+      pub stops-before : {p : Position} → o ≡ Walked.Stopped p → p .depth < length k
+      stops-before {p} e =
+          let s = walked-stopped _ _ k walked e in
+          omega (arith, length-drop (p .depth) k, ap length (s .left))
+
+      pub stores-over : value < 256 ^ h .d → {q : ℕ} → o ≡ Walked.Complete q → {c : ℤ} {l′ : List ℕ}
+          → c ≡ changeOf (tableOf h l .value q) value → l′ ≡ carriedOut l (dataWrite h q value ∷ []) → StoresIn l k value (Stored.Change c) l′
+      stores-over fits {q} e c w = in-hand (Stored.Change _) (rw (walked-complete _ _ k walked e .descent) (replaced h l q value fits c w))
+
+      pub stores-extended : {p : Position} → o ≡ Walked.Stopped p → (r : Stored) {l′ : List ℕ}
+          → Extends h l (p .node) (drop (p .depth) k) value r l′ → StoresIn l k value r l′
+      stores-extended e r extends =
+          let s = walked-stopped _ _ k walked e in
+          in-hand r (rw (s .descent) (extends (s .letter) (s .rest) (s .left)))
+
+      pub never-bad : {q : ℕ} → o ≡ Walked.Bad q → ⊥
+      unfolding tableIn
+      never-bad {q} e =
+          let f : none ≡ some q = sym (unfaulted a 0 k) ∙ rw same at (walked-bad _ _ k walked e) in
+          let z : _≡_ {A = ℕ} 0 1 = cc in
+          omega arith
