@@ -8,7 +8,7 @@ use mathlib.Core.List.{List, [], _∷_}
 use native.Mathlib.Omega.{arith}
 use lib.IntN.{ℤ}
 use lib.ListN.{length, drop, length-drop}
-use Rattle.trie.specs.Table.{descend}
+use Rattle.trie.specs.Table.{Table, descend}
 use Rattle.trie.specs.Storing.{changeOf}
 use Rattle.head.specs.declared.Head.{Head}
 use Rattle.head.specs.Fields.{headOf, permitted}
@@ -22,12 +22,21 @@ use Rattle.paper.specs.Calls.{tableIn}
 use Rattle.paper.specs.Accepted.{Accepted}
 use Rattle.paper.proofs.Checking.{accepted-open}
 use Rattle.paper.proofs.Storing.{unfaulted}
+use Rattle.key.specs.declared.Key.{Key}
+use Rattle.key.specs.Hand.{lettersOf}
+use Rattle.key.proofs.Hand.{letters-count}
 use Rattle.walk.specs.declared.Position.{Position}
 use Rattle.walk.specs.declared.Walked.{Walked}
 use Rattle.walk.specs.Descent.{atRoot, walkedFrom}
-use Rattle.walk.proofs.Descents.{walked-complete, walked-stopped, walked-bad}
+use Rattle.walk.proofs.Descents.{Halted, walked-complete, walked-stopped, walked-bad}
 use Rattle.storing.specs.Storing.{storeAt, StoresIn, Extends}
 use Rattle.storing.proofs.Adding.{too-great, replaced}
+
+-- a walk stops before the key's end
+pub stops-before : (key : Key) → length (key .letters) ≡ 64 → key .len ≤ 64 → {g : ℕ} {t : Table} {p : Position} → Halted g t (lettersOf key) p
+    → p .depth < key .len
+stops-before key whole short {p = p} s =
+    omega (arith, length-drop (p .depth) (lettersOf key), ap length (s .left), letters-count key whole short)
 
 module _ {l : List ℕ} {h : Head} (a : Accepted l) (same : h ≡ headOf l) where
   pub head-permitted : permitted h ≡ true
@@ -47,18 +56,6 @@ module _ {l : List ℕ} {h : Head} (a : Accepted l) (same : h ≡ headOf l) wher
     stores-too-great m b = in-hand (Stored.Refused Refusal.ValueTooGreat) (too-great h l _ value m b)
 
     module _ {o : Walked} (walked : o ≡ walkedFrom (h .g) (tableOf h l) atRoot k) where
-      -- the node that a complete path ends at, and the position where one stops
-      pub ends-within : {q : ℕ} → o ≡ Walked.Complete q → q ≤ h .g
-      ends-within e = walked-complete _ _ k walked e .within
-
-      pub stops-within : {p : Position} → o ≡ Walked.Stopped p → p .node ≤ h .g
-      stops-within e = walked-stopped _ _ k walked e .within
-
-      pub stops-before : {p : Position} → o ≡ Walked.Stopped p → p .depth < length k
-      stops-before {p} e =
-          let s = walked-stopped _ _ k walked e in
-          omega (arith, length-drop (p .depth) k, ap length (s .left))
-
       pub stores-over : value < 256 ^ h .d → {q : ℕ} → o ≡ Walked.Complete q → {c : ℤ} {l′ : List ℕ}
           → c ≡ changeOf (tableOf h l .value q) value → l′ ≡ carriedOut l (dataWrite h q value ∷ []) → StoresIn l k value (Stored.Change c) l′
       stores-over fits {q} e c w = in-hand (Stored.Change _) (rw (walked-complete _ _ k walked e .descent) (replaced h l q value fits c w))
