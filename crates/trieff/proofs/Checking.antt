@@ -19,12 +19,11 @@ use Rattle.paper.specs.Answers.{rowOf, refusalNumbers, doneOf, countedOf}
 use Rattle.paper.specs.Calls.{tableIn, storedKeys, workAfter, checkOf, countOf}
 use Rattle.paper.specs.Promises.{Checks, Counts}
 use Rattle.paper.specs.Accepted.{Accepted}
-use Rattle.paper.proofs.Hearing.{heard-refused, heard-done}
+use Rattle.paper.proofs.Hearing.{heard-refused, heard-done, told-refused, told-passed}
 use Rattle.paper.proofs.Checking.{check-accepts, accepted-open}
 use Rattle.paper.proofs.Nexting.{counted-fits}
 use Rattle.opening.specs.declared.Opened.{Opened}
 use Rattle.audit.specs.Audit.{Checked}
-use Rattle.trieff.proofs.Told.{told-refused, told-passed}
 
 module _ {l work : List ℕ} {r : Opened} {work′ codes : List ℕ} (o : Checked l work r work′ codes) where
   -- whatever the numbers of the answer, the working numbers are left as 01 says

@@ -2,4 +2,3 @@ mod Checking
 mod Making
 mod Reading
 mod Seeking
-mod Told

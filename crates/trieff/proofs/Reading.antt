@@ -20,7 +20,7 @@ use Rattle.paper.specs.Rows.{badLink, rowAt, row6path}
 use Rattle.paper.specs.Orders.{alphabetIn, openingOf, byLetters, byText, lookingUp}
 use Rattle.paper.specs.Calls.{tableIn, namedIn, lookUpBy, lookUpOf, lookUpTextOf}
 use Rattle.paper.specs.Promises.{LooksUp, LooksUpText}
-use Rattle.paper.proofs.Hearing.{first-part, second-part, first-some, first-none, first-nil, heard-refused, heard-done}
+use Rattle.paper.proofs.Hearing.{first-part, second-part, first-some, first-none, first-nil, heard-refused, heard-done, told-refused, told-passed}
 use Rattle.paper.proofs.Looking.{alphabet-most}
 use Rattle.key.specs.declared.Key.{Key}
 use Rattle.key.specs.declared.Typed.{Typed}
@@ -31,7 +31,6 @@ use Rattle.opening.specs.declared.Opened.{Opened}
 use Rattle.opening.specs.Opened.{Opens}
 use Rattle.walk.specs.Descent.{lookedBy, lookedIn}
 use Rattle.audit.proofs.Verdicts.{opened-open}
-use Rattle.trieff.proofs.Told.{told-refused, told-passed}
 
 -- ---- with any rows for the key
 

@@ -25,7 +25,7 @@ use Rattle.paper.specs.Orders.{checking, byNext, nexting}
 use Rattle.paper.specs.Calls.{tableIn, storedKeys, nextIn, foundIn, workAfter, nextKeyOf}
 use Rattle.paper.specs.Promises.{Nexts}
 use Rattle.paper.specs.Accepted.{Accepted}
-use Rattle.paper.proofs.Hearing.{first-part, second-part, yes-row, no-row, first-nil, heard-refused, heard-done}
+use Rattle.paper.proofs.Hearing.{first-part, second-part, yes-row, no-row, first-nil, heard-refused, heard-done, told-refused, told-passed}
 use Rattle.paper.proofs.Checking.{accepted-open}
 use Rattle.key.specs.declared.Key.{Key}
 use Rattle.key.specs.Hand.{inHand, Holds, lettersOf, Ready}
@@ -37,7 +37,6 @@ use Rattle.order.specs.declared.Search.{Search}
 use Rattle.order.specs.Search.{sought, toldOf, Room, Told}
 use Rattle.order.proofs.Searching.{was-missing, was-found}
 use Rattle.trieff.specs.Seeking.{Sought}
-use Rattle.trieff.proofs.Told.{told-refused, told-passed}
 
 -- ---- over the rows
 
