@@ -1,4 +1,3 @@
 mod Checking
 mod Making
 mod Reading
-mod Seeking

@@ -31,12 +31,10 @@ use Rattle.key.specs.declared.Key.{Key}
 use Rattle.key.specs.Hand.{inHand, Holds, lettersOf, Ready}
 use Rattle.key.proofs.Hand.{hand-holds}
 use Rattle.key.proofs.Judging.{next-ready}
-use Rattle.opening.specs.declared.Opened.{Opened}
-use Rattle.audit.specs.Audit.{Checked}
 use Rattle.order.specs.declared.Search.{Search}
 use Rattle.order.specs.Search.{sought, toldOf, Room, Told}
 use Rattle.order.proofs.Searching.{was-missing, was-found}
-use Rattle.trieff.specs.Seeking.{Sought}
+use Rattle.seeking.specs.Seeking.{Sought}
 
 -- ---- over the rows
 
@@ -57,7 +55,7 @@ module _ (l work key : List ℕ) (after : Bool) (buffer : List ℕ) where
   abbrev Leaves : Found → List ℕ → Type 0
   Leaves r buffer′ = Nexts l work key after buffer r (workAfter l work) buffer′
 
-  refuses : (why : Refusal) → first order ≡ some (saidOf why) → Leaves (Found.Refused why) buffer
+  pub refuses : (why : Refusal) → first order ≡ some (saidOf why) → Leaves (Found.Refused why) buffer
   unfolding foundOf refusalNumbers
   refuses why e = sym (asked ∙ heard-refused _ _ _ e)
 
@@ -187,15 +185,3 @@ module _ {l : List ℕ} {h : Head} {key : List ℕ} {hand : Key} (p : Behind l h
     sought-found f laid work checked =
         let (k, is, count, value, front) = key-found told-next f in
         found l work key after buffer checked (p .unheard) (rw (p .same) at room) k is count value (rw front at laid)
-
--- ---- the whole call, by what the check told
-
-module _ {l work : List ℕ} {r : Opened} {work′ codes : List ℕ} (o : Checked l work r work′ codes)
-    (key : List ℕ) (after : Bool) (buffer : List ℕ) where
-  pub nexts-refused : {why : Refusal} → r .verdict ≡ Verdict.Refused why → Nexts l work key after buffer (Found.Refused why) work′ buffer
-  nexts-refused {why} e =
-      rw (o .numbers) (refuses l work key after buffer why (first-part (checking l work) _ (told-refused (o .verdict) e)))
-
-  pub nexts-sought : (f : Found) {buffer′ : List ℕ} → r .verdict ≡ Verdict.Passed → Sought l key after buffer f buffer′
-      → Nexts l work key after buffer f work′ buffer′
-  nexts-sought f e s = rw (o .numbers) (s work (told-passed (o .verdict) e))

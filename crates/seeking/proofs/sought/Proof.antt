@@ -1,12 +1,12 @@
--- `trieff::sought` meets its contract: 9 and 10 by the key in hand, 14 here, 15 or the key by the search; the buffer is written only where
+-- `seeking::sought` meets its contract: 9 and 10 by the key in hand, 14 here, 15 or the key by the search; the buffer is written only where
 -- a key was found. Assumes nothing.
 use native.Mathlib.Omega.{arith}
 use borrow.Author.Needs.{needs}
 use Rattle.head.proofs.Permitted.{bounds}
-use Rattle.trieff.proofs.Seeking.{head-permitted, Behind, behind, found-short, found-within, found-front, found-room}
-use Rattle.trieff.proofs.Seeking.{sought-unkeyed, sought-short, sought-missing, sought-found}
-use Rattle.trieff.proofs.sought.Statement.{statement}
-use Rattle.trieff.proofs.sought.Tie as tie
+use Rattle.seeking.proofs.Seeking.{head-permitted, Behind, behind, found-short, found-within, found-front, found-room}
+use Rattle.seeking.proofs.Seeking.{sought-unkeyed, sought-short, sought-missing, sought-found}
+use Rattle.seeking.proofs.sought.Statement.{statement}
+use Rattle.seeking.proofs.sought.Tie as tie
 
 of-requires : tie.Need-of-requires
 of-requires c κs = search needs
