@@ -26,7 +26,7 @@ use Rattle.paper.proofs.Hearing.{is-given, not-given, first-nil, first-some, fi
 use Rattle.paper.proofs.Opening.{passed}
 use Rattle.opening.specs.declared.Opened.{Opened}
 use Rattle.opening.specs.Opened.{Opens}
-use Rattle.audit.specs.Audit.{Checked, Audited, Linked, BadFrom, Tally, FoundFrom}
+use Rattle.audit.specs.Audit.{Checked, Audited, LinksJudged, BadFrom, Tally, FoundFrom}
 use Rattle.audit.proofs.Clearing.{cleared-rest}
 use Rattle.audit.proofs.Seeking.{lowest-same}
 
@@ -67,7 +67,7 @@ found t n g v work test tally same e =
     ∙ lowest-same (λ y. eqb (getD work y 0) v) (λ y. test (times t n y (g + 1))) 1 g (λ y low high. rw (tally y low (omega arith)) (same _))
 
 module _ {h : Head} {l work work′ : List ℕ} {bad : ℕ} (b : BadFrom h l work bad work′) where
-  pub linked-bad : bad < h .g + 1 → Linked h l work (Verdict.Refused (Refusal.Link bad)) work′
+  pub linked-bad : bad < h .g + 1 → LinksJudged h l work (Verdict.Refused (Refusal.Link bad)) work′
   unfolding rowOf linking row6
   linked-bad low = record { verdict = sym (first-some _ _ (given-at 6 _ 0 (h .g + 1) (b .lowest-bad) (omega arith))); kept = b .kept }
 
@@ -79,7 +79,7 @@ module _ {h : Head} {l work work′ : List ℕ} {bad : ℕ} (b : BadFrom h l wor
     seventh : x ≡ lowest (λ y. leb 2 (times (tableOf h l) (h .n) y (h .g + 1))) 1 (h .g)
     seventh = found (tableOf h l) (h .n) (h .g) 2 work′ (leb 2) (b .tally (omega arith)) twice sought
 
-    pub linked-twice : x < h .g + 1 → Linked h l work (Verdict.Refused (Refusal.LinkedTwice x)) work′
+    pub linked-twice : x < h .g + 1 → LinksJudged h l work (Verdict.Refused (Refusal.LinkedTwice x)) work′
     unfolding rowOf linking row7
     linked-twice low =
         record {
@@ -95,12 +95,12 @@ module _ {h : Head} {l work work′ : List ℕ} {bad : ℕ} (b : BadFrom h l wor
       eighth : y ≡ lowest (λ z. eqb (times (tableOf h l) (h .n) z (h .g + 1)) 0) 1 (h .g)
       eighth = found (tableOf h l) (h .n) (h .g) 0 work′ (λ m. eqb m 0) (b .tally (omega arith)) never missed
 
-      pub linked-missing : y < h .g + 1 → Linked h l work (Verdict.Refused (Refusal.NotLinked y)) work′
+      pub linked-missing : y < h .g + 1 → LinksJudged h l work (Verdict.Refused (Refusal.NotLinked y)) work′
       unfolding rowOf row8
       linked-missing low =
           record { verdict = sym (past-7 ∙ first-some _ _ (given-at 8 _ 1 (h .g) eighth (omega arith))); kept = b .kept }
 
-      pub linked-all : h .g + 1 ≤ y → Linked h l work Verdict.Passed work′
+      pub linked-all : h .g + 1 ≤ y → LinksJudged h l work Verdict.Passed work′
       unfolding rowOf row8
       linked-all none-missing =
           record {
@@ -117,7 +117,7 @@ audited-few {h} {l} {work} few =
     record { verdict = sym (first-some _ _ e); numbers = sym (ap (λ r. clearedBy r (h .g + 1) work) (first-some _ [] e)) }
 
 pub audited-linked : {h : Head} {l work clear work′ last : List ℕ} {r : Verdict} → h .g + 1 ≤ length work
-    → clear ≡ replicate (h .g + 1) 0 ++ drop (h .g + 1) work → Linked h l clear r work′
+    → clear ≡ replicate (h .g + 1) 0 ++ drop (h .g + 1) work → LinksJudged h l clear r work′
     → last ≡ replicate (h .g + 1) 0 ++ drop (h .g + 1) work′ → Audited h l work r last
 unfolding row5 clearedBy
 audited-linked {h} {l} {work} enough e k f =
