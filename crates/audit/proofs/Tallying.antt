@@ -16,7 +16,7 @@ use Rattle.head.specs.declared.Head.{Head}
 use Rattle.node.specs.Image.{tableOf}
 use Rattle.paper.specs.Rows.{badLink, holdsBad, timesIn, times}
 use Rattle.paper.proofs.Checking.{link-within, holds-bad}
-use Rattle.audit.specs.Audit.{Kept, Counted, Tallied, Tally, BadFrom}
+use Rattle.audit.specs.Audit.{Kept, LinksCounted, Tallied, Tally, BadFrom}
 use Rattle.audit.proofs.Seeking.{Seeking, seeking-none, seeking-more, seeking-found, seeking-all}
 
 -- ---- the working numbers from G+1 on
@@ -35,7 +35,7 @@ kept-set {g} {x} work v h = record { long = length-set work x v; rest = drop-set
 -- the first i of n links are counted
 pub record Counting (g n : ℕ) (t : Table) (q : ℕ) (work work′ : List ℕ) (i : ℕ) : Type 0 where
   pub within : i ≤ n
-  pub counted : Counted g t q i work work′
+  pub counted : LinksCounted g t q i work work′
   pub kept : Kept g work work′
 
 pub counting-none : (g n : ℕ) (t : Table) (q : ℕ) (work : List ℕ) → Counting g n t q work work 0

@@ -1,6 +1,6 @@
 -- Which row is heard at each way out, from what the stages returned. A tally that stops at 2 is 2 exactly where the address stands in two
 -- links or more, and 0 exactly where it stands in none: so a search in the working numbers finds the place of 7 and of 8.
-use mathlib.Core.Path.{_≡_, sym, ap, _∙_}
+use mathlib.Core.Path.{_≡_, refl, sym, ap, _∙_}
 use mathlib.Core.Bool.{Bool}
 use mathlib.Core.Option.{none, some}
 use mathlib.Core.List.{List, [], _∷_, _++_}
@@ -18,15 +18,15 @@ use Rattle.node.specs.Image.{Open, tableOf}
 use Rattle.paper.specs.declared.Refusal.{Refusal}
 use Rattle.paper.specs.declared.Verdict.{Verdict}
 use Rattle.paper.specs.Hearing.{Row, first}
-use Rattle.paper.specs.Answers.{said, saidOf, rowOf}
+use Rattle.paper.specs.Answers.{said, rowOf}
 use Rattle.paper.specs.Rows.{givenLowest, row5, row6, row7, row8, times}
 use Rattle.paper.specs.Orders.{alphabetIn, openingOf, linking, checking}
 use Rattle.paper.specs.Calls.{clearedBy, workAfter}
-use Rattle.paper.proofs.Hearing.{is-given, not-given, first-nil, first-some, first-none, first-part, second-part}
+use Rattle.paper.proofs.Hearing.{is-given, not-given, first-nil, first-some, first-none, first-part, second-part, told-refused, told-passed}
 use Rattle.paper.proofs.Opening.{passed}
 use Rattle.opening.specs.declared.Opened.{Opened}
 use Rattle.opening.specs.Opened.{Opens}
-use Rattle.audit.specs.Audit.{Checked, Audited, Linked, BadFrom, Tally, FoundFrom}
+use Rattle.audit.specs.Audit.{Checked, Audited, LinksJudged, BadFrom, Tally, FoundFrom}
 use Rattle.audit.proofs.Clearing.{cleared-rest}
 use Rattle.audit.proofs.Seeking.{lowest-same}
 
@@ -67,7 +67,7 @@ found t n g v work test tally same e =
     ∙ lowest-same (λ y. eqb (getD work y 0) v) (λ y. test (times t n y (g + 1))) 1 g (λ y low high. rw (tally y low (omega arith)) (same _))
 
 module _ {h : Head} {l work work′ : List ℕ} {bad : ℕ} (b : BadFrom h l work bad work′) where
-  pub linked-bad : bad < h .g + 1 → Linked h l work (Verdict.Refused (Refusal.Link bad)) work′
+  pub linked-bad : bad < h .g + 1 → LinksJudged h l work (Verdict.Refused (Refusal.Link bad)) work′
   unfolding rowOf linking row6
   linked-bad low = record { verdict = sym (first-some _ _ (given-at 6 _ 0 (h .g + 1) (b .lowest-bad) (omega arith))); kept = b .kept }
 
@@ -79,7 +79,7 @@ module _ {h : Head} {l work work′ : List ℕ} {bad : ℕ} (b : BadFrom h l wor
     seventh : x ≡ lowest (λ y. leb 2 (times (tableOf h l) (h .n) y (h .g + 1))) 1 (h .g)
     seventh = found (tableOf h l) (h .n) (h .g) 2 work′ (leb 2) (b .tally (omega arith)) twice sought
 
-    pub linked-twice : x < h .g + 1 → Linked h l work (Verdict.Refused (Refusal.LinkedTwice x)) work′
+    pub linked-twice : x < h .g + 1 → LinksJudged h l work (Verdict.Refused (Refusal.LinkedTwice x)) work′
     unfolding rowOf linking row7
     linked-twice low =
         record {
@@ -95,12 +95,12 @@ module _ {h : Head} {l work work′ : List ℕ} {bad : ℕ} (b : BadFrom h l wor
       eighth : y ≡ lowest (λ z. eqb (times (tableOf h l) (h .n) z (h .g + 1)) 0) 1 (h .g)
       eighth = found (tableOf h l) (h .n) (h .g) 0 work′ (λ m. eqb m 0) (b .tally (omega arith)) never missed
 
-      pub linked-missing : y < h .g + 1 → Linked h l work (Verdict.Refused (Refusal.NotLinked y)) work′
+      pub linked-missing : y < h .g + 1 → LinksJudged h l work (Verdict.Refused (Refusal.NotLinked y)) work′
       unfolding rowOf row8
       linked-missing low =
           record { verdict = sym (past-7 ∙ first-some _ _ (given-at 8 _ 1 (h .g) eighth (omega arith))); kept = b .kept }
 
-      pub linked-all : h .g + 1 ≤ y → Linked h l work Verdict.Passed work′
+      pub linked-all : h .g + 1 ≤ y → LinksJudged h l work Verdict.Passed work′
       unfolding rowOf row8
       linked-all none-missing =
           record {
@@ -117,7 +117,7 @@ audited-few {h} {l} {work} few =
     record { verdict = sym (first-some _ _ e); numbers = sym (ap (λ r. clearedBy r (h .g + 1) work) (first-some _ [] e)) }
 
 pub audited-linked : {h : Head} {l work clear work′ last : List ℕ} {r : Verdict} → h .g + 1 ≤ length work
-    → clear ≡ replicate (h .g + 1) 0 ++ drop (h .g + 1) work → Linked h l clear r work′
+    → clear ≡ replicate (h .g + 1) 0 ++ drop (h .g + 1) work → LinksJudged h l clear r work′
     → last ≡ replicate (h .g + 1) 0 ++ drop (h .g + 1) work′ → Audited h l work r last
 unfolding row5 clearedBy
 audited-linked {h} {l} {work} enough e k f =
@@ -139,30 +139,25 @@ abbrev others : List ℕ → List ℕ → List Row
 others l work = row5 (headOf l) (length work) ∷ linking (headOf l) (tableOf (headOf l) l)
 
 module _ {l : List ℕ} {r : Opened} {codes : List ℕ} (o : Opens l r codes) where
-  module _ (work : List ℕ) {why : Refusal} (e : r .verdict ≡ Verdict.Refused why) where
-    refused : first (openingOf l) ≡ some (saidOf why)
-    unfolding rowOf
-    refused = sym (o .verdict) ∙ ap rowOf e
-
-    pub checked-refused : Checked l work r work codes
-    unfolding checking workAfter clearedBy
-    checked-refused =
-        record {
-          verdict = o .verdict ∙ refused ∙ sym (first-part (openingOf l) (others l work) refused);
-          numbers = sym (ap (λ s. clearedBy s (headOf l .g + 1) work) (first-part (openingOf l) (fifth l work) refused));
-          head = o .head;
-          decoded = o .decoded;
-        }
+  pub checked-refused : (work : List ℕ) {why : Refusal} → r .verdict ≡ Verdict.Refused why → Checked l work r work codes
+  unfolding checking workAfter clearedBy
+  checked-refused work e =
+      let refused = told-refused (o .verdict) e in
+      record {
+        verdict = o .verdict ∙ refused ∙ sym (first-part (openingOf l) (others l work) refused);
+        numbers = sym (ap (λ s. clearedBy s (headOf l .g + 1) work) (first-part (openingOf l) (fifth l work) refused));
+        head = o .head;
+        decoded = o .decoded;
+      }
 
   module _ (e : r .verdict ≡ Verdict.Passed) where
     none-given : rowOf (r .verdict) ≡ none
-    unfolding rowOf
-    none-given = ap rowOf e
+    none-given = told-passed refl e
 
     pub opened-open : Open (r .head) l
     unfolding openingOf
     opened-open =
-        let p = passed (headOf l) (alphabetIn (headOf l) l) (length l) (sym (o .verdict) ∙ none-given) in
+        let p = passed (headOf l) (alphabetIn (headOf l) l) (length l) (told-passed (o .verdict) e) in
         rw (o .head none-given) (record { head-permitted = p .head-permitted; room = p .room })
 
     pub checked-audited : {work work′ : List ℕ} {v : Verdict} → Audited (r .head) l work v work′
@@ -170,7 +165,7 @@ module _ {l : List ℕ} {r : Opened} {codes : List ℕ} (o : Opens l r codes) wh
     unfolding checking workAfter
     checked-audited {work} {work′} {v} a =
         let same : r .head ≡ headOf l = o .head none-given in
-        let n : first (openingOf l) ≡ none = sym (o .verdict) ∙ none-given in
+        let n : first (openingOf l) ≡ none = told-passed (o .verdict) e in
         let b : Audited (headOf l) l work v work′ = rw same at a in
         let d = o .decoded none-given in
         record {

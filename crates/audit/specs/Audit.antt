@@ -38,7 +38,7 @@ pub record Kept (g : ℕ) (work work′ : List ℕ) : Type 0 where
   pub rest : drop (g + 1) work′ ≡ drop (g + 1) work
 
 -- 6 to 8
-pub record Linked (h : Head) (l work : List ℕ) (r : Verdict) (work′ : List ℕ) : Type 0 where
+pub record LinksJudged (h : Head) (l work : List ℕ) (r : Verdict) (work′ : List ℕ) : Type 0 where
   pub verdict : rowOf r ≡ first (linking h (tableOf h l))
   pub kept : Kept (h .g) work work′
 
@@ -53,13 +53,13 @@ pub record BadFrom (h : Head) (l work : List ℕ) (bad : ℕ) (work′ : List �
   pub kept : Kept (h .g) work work′
 
 -- the first i links of node q are counted: none is bad, and each address is met as often as it stands in them
-pub record Counted (g : ℕ) (t : Table) (q i : ℕ) (work work′ : List ℕ) : Type 0 where
+pub record LinksCounted (g : ℕ) (t : Table) (q i : ℕ) (work work′ : List ℕ) : Type 0 where
   pub good : holdsBad g t q i ≡ false
   pub met : (x m : ℕ) → 1 ≤ x → x ≤ g → getD work x 0 ≡ min 2 m → getD work′ x 0 ≡ min 2 (m + timesIn t x q i)
 
 -- the links of a node: all counted, or one is bad
 pub record Tallied (h : Head) (l : List ℕ) (q : ℕ) (work : List ℕ) (r : Bool) (work′ : List ℕ) : Type 0 where
-  pub counted : r ≡ true → Counted (h .g) (tableOf h l) q (h .n) work work′
+  pub counted : r ≡ true → LinksCounted (h .g) (tableOf h l) q (h .n) work work′
   pub bad : r ≡ false → holdsBad (h .g) (tableOf h l) q (h .n) ≡ true
   pub kept : Kept (h .g) work work′
 

@@ -5,7 +5,7 @@ ghost use Prim.Native.Nat.{_≤_, _+_};
 ghost use mathlib.Core.List.{_++_};
 ghost use lib.ListN.{length, drop, replicate};
 ghost use Rattle.node.specs.Image.{Open, Masks};
-ghost use Rattle.audit.specs.Audit.{Checked, Audited, Linked, BadFrom, Tallied, FoundFrom};
+ghost use Rattle.audit.specs.Audit.{Checked, Audited, LinksJudged, BadFrom, Tallied, FoundFrom};
 use head::Head;
 use opening::Opened;
 use paper::Refusal;
@@ -50,7 +50,7 @@ fn links(image: &[u8], h: Head, work: &mut [u32]) -> Verdict
     requires { ⌜ Open h (now image) ⌝ }
     requires { ⌜ h .g + 1 ≤ length (now work) ⌝ }
     requires { ⌜ now work ≡ replicate (h .g + 1) 0 ++ drop (h .g + 1) (now work) ⌝ }
-    ensures { λ r. ⌜ Linked h (now (image .entry)) (now (work .entry)) r (now (work .exit)) ⌝ }
+    ensures { λ r. ⌜ LinksJudged h (now (image .entry)) (now (work .entry)) r (now (work .exit)) ⌝ }
 {
     let nodes = (h.g as usize) + 1;
     let bad = first_bad_node(image, h, work);

@@ -34,9 +34,6 @@ walkable {h} {l} a e =
 pub short : {h : Head} {l : List ℕ} → Walkable h l → h .max ≤ 64
 short {h} w = omega (arith, bounds h (w .opened .head-permitted))
 
-pub has-room : {h : Head} {l path nodes : List ℕ} → Walkable h l → length path ≡ 64 → length nodes ≡ 65 → Room h path nodes
-has-room w p n = record { letters = omega (arith, short w); ends = omega (arith, short w) }
-
 -- a key that was found is on the path, with its length
 pub record Met (h : Head) (l path nodes : List ℕ) (n : ℕ) : Type 0 where
   pub deep : n ≤ h .max
@@ -48,3 +45,18 @@ met {h} {l} told e =
     let (k, is, same) = was-found h l told e in
     let reached = told .reached k is in
     record { deep = rw same (reached .short); along = rw same (reached .along) }
+
+-- what a walk keeps from key to key: letters and nodes enough for every key, and the last key on the path
+pub record Walking (h : Head) (l path nodes : List ℕ) (n : ℕ) : Type 0 where
+  pub letters : length path ≡ 64
+  pub ends : length nodes ≡ 65
+  pub key : Met h l path nodes n
+
+module _ {h : Head} {l path nodes : List ℕ} (w : Walkable h l) where
+  pub has-room : length path ≡ 64 → length nodes ≡ 65 → Room h path nodes
+  has-room p n = record { letters = omega (arith, short w); ends = omega (arith, short w) }
+
+  -- what the search for the key after the last one asks for
+  pub walks-on : {n : ℕ} → Walking h l path nodes n
+      → Open h l × (Within (tableOf h l) (h .g) × ((n ≤ h .max) × (Room h path nodes × Along h l n path nodes)))
+  walks-on k = (w .opened, (w .within, (k .key .deep, (has-room (k .letters) (k .ends), k .key .along))))

@@ -363,10 +363,7 @@ module _ (l work : List ℕ) where
   unfolding checkOf doneNumbers heard among
   check-exactly b = (λ z. check-accepts (none-heard _ _ (first-says checking-says) refl z), λ a. rw (accepted-checks a b))
 
-  -- ---- what a check that passed leaves to count on
-
-  pub passed-lent : first (checking l work) ≡ none → headOf l .g + 1 ≤ length work
-  passed-lent e = checked e .lent
+-- ---- what an accepted image leaves to count on
 
 pub accepted-open : {l : List ℕ} → Accepted l → Open (headOf l) l
 accepted-open a = record { head-permitted = a .head-permitted; room = a .room }
@@ -374,10 +371,3 @@ accepted-open a = record { head-permitted = a .head-permitted; room = a .room }
 pub accepted-linked : {l : List ℕ} → Accepted l → Linked (tableIn l) (headOf l .g) (headOf l .n)
 unfolding tableIn
 accepted-linked {l} a = record { framed = framed (headOf l) l; within = a .within; named = a .named; once = a .once }
-
-pub passed-open : (l work : List ℕ) → first (checking l work) ≡ none → Open (headOf l) l
-passed-open l work e = accepted-open (check-accepts l work e)
-
-pub passed-linked : (l work : List ℕ) → first (checking l work) ≡ none → Linked (tableOf (headOf l) l) (headOf l .g) (headOf l .n)
-unfolding tableIn
-passed-linked l work e = accepted-linked (check-accepts l work e)

@@ -1,11 +1,14 @@
 -- Laws on rows, orders and outcomes, for every call alike: a row that is given ends its order, one that is not is passed over, orders
 -- are joined, and an order that passed tells of each row that its test failed. Each is by cases on the row.
 use Prim.Native.Nat.{ℕ}
-use mathlib.Core.Path.{_≡_, refl}
+use mathlib.Core.Path.{_≡_, refl, sym, _∙_, ap}
 use mathlib.Core.Bool.{Bool, true, false, not}
 use mathlib.Core.Option.{none, some}
 use mathlib.Core.List.{List, [], _∷_, _++_}
 use native.Mathlib.Omega.{arith}
+use Rattle.paper.specs.declared.Refusal.{Refusal}
+use Rattle.paper.specs.declared.Verdict.{Verdict}
+use Rattle.paper.specs.Answers.{saidOf, rowOf}
 use Rattle.paper.specs.Hearing.{Said, Row, Outcome, given, first, heard, outcome, refusedNumbers}
 
 -- ---- one row
@@ -77,6 +80,16 @@ unfolding first
 passed-parts [] ys e = (refl, e)
 passed-parts (none ∷ xs) ys e = passed-parts xs ys e
 passed-parts (some t ∷ xs) ys e = let z : _≡_ {A = ℕ} 0 1 = cc in absurd (omega arith)
+
+-- ---- a verdict, which tells the row that its part of an order came to
+
+pub told-refused : {v : Verdict} {row : Row} {why : Refusal} → rowOf v ≡ row → v ≡ Verdict.Refused why → row ≡ some (saidOf why)
+unfolding rowOf
+told-refused told e = sym told ∙ ap rowOf e
+
+pub told-passed : {v : Verdict} {row : Row} → rowOf v ≡ row → v ≡ Verdict.Passed → row ≡ none
+unfolding rowOf
+told-passed told e = sym told ∙ ap rowOf e
 
 -- ---- an outcome
 

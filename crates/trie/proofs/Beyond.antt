@@ -9,7 +9,7 @@ use mathlib.Core.List.{List, [], _∷_, _++_, map, append-nil, append-assoc, map
 use mathlib.Core.List.{List·Memᴰ·not-nil, Memᴰ·of-map}
 use mathlib.Core.Logic.{_≢_}
 use mathlib.Core.Option.{some}
-use mathlib.Core.Path.{_≡_, refl, sym, _∙_, ap, ap₂, subst}
+use mathlib.Core.Path.{_≡_, refl, sym, _∙_, ap, ap₂}
 use lib.ListN.{length, length-append}
 use Rattle.trie.specs.Table.{Table, complete, descend, Letters}
 use Rattle.trie.specs.Keys.{present, ownKey, byLetter, keysUnder, firstMeeting, meets, sift}
@@ -17,7 +17,7 @@ use Rattle.trie.specs.Beyond.{firstOf, keysFrom, beyond}
 use Rattle.trie.proofs.Letters.{letters-before, letters-after}
 use Rattle.trie.proofs.Order.{meets-empty, meets-lower, meets-cons, meets-higher, meets-none, meets-letter}
 use Rattle.trie.proofs.Sift.{sift-append, sift-map, sift-none, sift-every, sift-all, first-sift}
-use Rattle.trie.proofs.Listing.{under, byLetter-cases, own-cases, follow-cases, Listed, link-listed, under-listed}
+use Rattle.trie.proofs.Listing.{under, byLetter-cases, own-cases, follow-cases}
 use Rattle.trie.proofs.Walk.{Walk, end, on, walk, follow-empty, follow-on}
 
 -- one letter in front of a path's keys, and what follows them
@@ -147,13 +147,6 @@ module _ (t : Table) (n : ℕ) where
       let (y, r, e, low, high, b) = byLetter-cases (under t n short left q) x (n - x) a in
       let (full, c) = follow-cases (t .child q y) _ b in
       (y, r, e, omega arith, omega arith, full, c)
-
-  -- a key from a letter on is a listed key
-  pub from-listed : (short left q x : ℕ) (k : List ℕ) → List·Memᴰ k (keysFrom t n short left q x) → Listed t n short left q k
-  from-listed short left q x k a =
-      let (y, r, e, low, room, linked, b) = from-cases short left q x a in
-      let f = under-listed t n (pred short) (pred left) (t .child q y) r b in
-      subst (Listed t n short left q) (sym e) (link-listed t n short left q y low room linked f)
 
   -- The keys behind a path.
 

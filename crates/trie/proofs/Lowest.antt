@@ -20,15 +20,6 @@ module _ (p : ℕ → Bool) where
   unfolding lowest
   lowest-on a k e = rw e
 
-  pub lowest-at : (a k : ℕ) {x : ℕ} → a ≤ x → x < a + k → p x ≡ true → ((y : ℕ) → a ≤ y → y < x → p y ≡ false) → lowest p a k ≡ x
-  lowest-at a zero low high e before = absurd (omega arith)
-  lowest-at a (suc k) {x} low high e before =
-      go (ℕ-discrete a x) (λ b. lowest-at (suc a) k b (omega arith) e (λ y l. before y (omega arith)))
-    where
-      go : Dec (a ≡ x) → (a < x → lowest p (suc a) k ≡ x) → lowest p a (suc k) ≡ x
-      go (yes s) on = lowest-here a k (rw s e) ∙ s
-      go (no d) on = let b : a < x = omega arith in lowest-on a k (before a (omega arith) b) ∙ on b
-
   pub lowest-none : (a k : ℕ) → NonePasses a k → lowest p a k ≡ a + k
   unfolding lowest
   lowest-none a zero none = omega arith

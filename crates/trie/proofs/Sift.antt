@@ -11,7 +11,7 @@ use mathlib.Core.Path.{_≡_, refl, sym, _∙_, ap}
 use lib.ListN.{length}
 use Rattle.trie.specs.Keys.{firstMeeting, meets, sift, Ascending}
 use Rattle.trie.specs.Beyond.{firstOf}
-use Rattle.trie.proofs.Order.{meets-any, meets-letter}
+use Rattle.trie.proofs.Order.{meets-any}
 
 pub sift-in : (p : List ℕ → Bool) (k : List ℕ) (l : List (List ℕ)) → p k ≡ true → sift p (k ∷ l) ≡ k ∷ sift p l
 unfolding sift
@@ -112,13 +112,6 @@ first-listed p (x ∷ l) {k} h =
     (λ e. let same : x ≡ k = Option·some-injective x k (rw e at h) in (List·Memᴰ·head (sym same), ap p (sym same) ∙ e))
     (λ e. let f = first-listed p l (rw e at h) in (List·Memᴰ·tail (f .0), f .1))
 
--- every key is at or after the empty key, and after it where it is another
+-- every key is at or after the empty key
 pub sift-all : (l : List (List ℕ)) → sift (meets false []) l ≡ l
 sift-all l = sift-every (meets false []) l (λ k a. meets-any k)
-
-pub sift-others : (l : List (List ℕ)) → ¬ List·Memᴰ [] l → sift (meets true []) l ≡ l
-sift-others l out = sift-every (meets true []) l met
-  where
-    met : (k : List ℕ) → List·Memᴰ k l → meets true [] k ≡ true
-    met [] a = absurd (out a)
-    met (x ∷ k) a = meets-letter x k

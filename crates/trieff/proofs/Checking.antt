@@ -1,30 +1,32 @@
--- The outcome of check and of number of keys, at each way out: the audit's verdict is what is heard of 1 to 8, and in an image that passed
--- them the keys are few enough to be counted.
-use Prim.Native.Nat.{ℕ, _^_, _<_}
-use mathlib.Core.Path.{_≡_, sym, _∙_, ap}
+-- The outcome of the calls that begin with the check, at each way out: the audit's verdict is what is heard of 1 to 8, and an image that
+-- passed them is one to walk through.
+use Prim.Native.Nat.{ℕ}
+use mathlib.Core.Path.{_≡_, refl, sym, _∙_, ap}
+use mathlib.Core.Bool.{Bool}
 use mathlib.Core.List.{List, [], _∷_}
-use native.Mathlib.Omega.{arith}
 use lib.ListN.{length}
 use lib.IntN.{pos}
-use Rattle.trie.specs.Rules.{Within}
 use Rattle.trie.specs.Keys.{listing}
 use Rattle.head.specs.Fields.{headOf}
-use Rattle.node.specs.Image.{Open, tableOf}
+use Rattle.node.specs.Image.{tableOf}
 use Rattle.paper.specs.declared.Refusal.{Refusal}
 use Rattle.paper.specs.declared.Verdict.{Verdict}
 use Rattle.paper.specs.declared.Done.{Done}
 use Rattle.paper.specs.declared.Counted.{Counted}
+use Rattle.paper.specs.declared.Found.{Found}
 use Rattle.paper.specs.Hearing.{Numbers, outcome, doneNumbers}
-use Rattle.paper.specs.Answers.{rowOf, refusalNumbers, doneOf, countedOf}
+use Rattle.paper.specs.Answers.{refusalNumbers, doneOf, countedOf}
+use Rattle.paper.specs.Orders.{checking}
 use Rattle.paper.specs.Calls.{tableIn, storedKeys, workAfter, checkOf, countOf}
-use Rattle.paper.specs.Promises.{Checks, Counts}
+use Rattle.paper.specs.Promises.{Checks, Counts, Nexts}
 use Rattle.paper.specs.Accepted.{Accepted}
-use Rattle.paper.proofs.Hearing.{heard-refused, heard-done}
-use Rattle.paper.proofs.Checking.{check-accepts, accepted-open}
-use Rattle.paper.proofs.Nexting.{counted-fits}
+use Rattle.paper.proofs.Hearing.{first-part, heard-refused, heard-done, told-refused, told-passed}
+use Rattle.paper.proofs.Checking.{check-accepts}
 use Rattle.opening.specs.declared.Opened.{Opened}
 use Rattle.audit.specs.Audit.{Checked}
-use Rattle.trieff.proofs.Told.{told-refused, told-passed}
+use Rattle.order.proofs.Walkable.{Walkable, walkable}
+use Rattle.seeking.specs.Seeking.{Sought}
+use Rattle.seeking.proofs.Seeking.{refuses}
 
 module _ {l work : List ℕ} {r : Opened} {work′ codes : List ℕ} (o : Checked l work r work′ codes) where
   -- whatever the numbers of the answer, the working numbers are left as 01 says
@@ -45,32 +47,28 @@ module _ {l work : List ℕ} {r : Opened} {work′ codes : List ℕ} (o : Checke
 
   module _ (e : r .verdict ≡ Verdict.Passed) where
     pub checked-head : r .head ≡ headOf l
-    unfolding rowOf
-    checked-head = o .head (ap rowOf e)
+    checked-head = o .head (told-passed refl e)
 
     pub checked-accepted : Accepted l
     checked-accepted = check-accepts l work (told-passed (o .verdict) e)
 
-    pub checked-open : Open (r .head) l
-    checked-open = rw checked-head (accepted-open checked-accepted)
+    pub checked-walkable : Walkable (r .head) l
+    checked-walkable = walkable checked-accepted checked-head
 
-    pub checked-within : Within (tableOf (r .head) l) (r .head .g)
-    unfolding tableIn
-    checked-within = rw checked-head (checked-accepted .within)
-
-    abbrev keys : List (List ℕ)
-    keys = listing (tableOf (r .head) l) (r .head .n) (r .head .min) (r .head .max)
-
-    same-keys : length keys ≡ length (storedKeys l)
-    unfolding storedKeys tableIn
-    same-keys = rw checked-head
-
-    pub keys-few : length keys < 2 ^ 32
-    keys-few = omega (arith, same-keys, counted-fits checked-accepted)
-
-    pub counts-done : {n : ℕ} → n ≡ length keys → Counts l work (Counted.Keys n) work′
-    unfolding countOf countedOf
+    pub counts-done : {n : ℕ} → n ≡ length (listing (tableOf (r .head) l) (r .head .n) (r .head .min) (r .head .max))
+        → Counts l work (Counted.Keys n) work′
+    unfolding countOf countedOf storedKeys tableIn
     counts-done c =
         left _
-        ∙ ap (λ (m : ℕ). outcome (doneNumbers 0 (pos 0) m) (workAfter l work ∷ [])) (c ∙ same-keys)
+        ∙ ap (λ (m : ℕ). outcome (doneNumbers 0 (pos 0) m) (workAfter l work ∷ [])) (rw checked-head at c)
         ∙ sym (heard-done _ _ _ (told-passed (o .verdict) e))
+
+  -- whatever is asked for, and whatever buffer was lent
+  module _ (key : List ℕ) (after : Bool) (buffer : List ℕ) where
+    pub nexts-refused : {why : Refusal} → r .verdict ≡ Verdict.Refused why → Nexts l work key after buffer (Found.Refused why) work′ buffer
+    nexts-refused {why} e =
+        rw (o .numbers) (refuses l work key after buffer why (first-part (checking l work) _ (told-refused (o .verdict) e)))
+
+    pub nexts-sought : (f : Found) {buffer′ : List ℕ} → r .verdict ≡ Verdict.Passed → Sought l key after buffer f buffer′
+        → Nexts l work key after buffer f work′ buffer′
+    nexts-sought f e s = rw (o .numbers) (s work (told-passed (o .verdict) e))

@@ -1,5 +1,3 @@
 mod Checking
 mod Making
 mod Reading
-mod Seeking
-mod Told

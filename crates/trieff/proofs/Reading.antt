@@ -20,7 +20,7 @@ use Rattle.paper.specs.Rows.{badLink, rowAt, row6path}
 use Rattle.paper.specs.Orders.{alphabetIn, openingOf, byLetters, byText, lookingUp}
 use Rattle.paper.specs.Calls.{tableIn, namedIn, lookUpBy, lookUpOf, lookUpTextOf}
 use Rattle.paper.specs.Promises.{LooksUp, LooksUpText}
-use Rattle.paper.proofs.Hearing.{first-part, second-part, first-some, first-none, first-nil, heard-refused, heard-done}
+use Rattle.paper.proofs.Hearing.{first-part, second-part, first-some, first-none, first-nil, heard-refused, heard-done, told-refused, told-passed}
 use Rattle.paper.proofs.Looking.{alphabet-most}
 use Rattle.key.specs.declared.Key.{Key}
 use Rattle.key.specs.declared.Typed.{Typed}
@@ -31,7 +31,6 @@ use Rattle.opening.specs.declared.Opened.{Opened}
 use Rattle.opening.specs.Opened.{Opens}
 use Rattle.walk.specs.Descent.{lookedBy, lookedIn}
 use Rattle.audit.proofs.Verdicts.{opened-open}
-use Rattle.trieff.proofs.Told.{told-refused, told-passed}
 
 -- ---- with any rows for the key
 
@@ -92,8 +91,7 @@ module _ {l : List ℕ} {r : Opened} {codes : List ℕ} (o : Opens l r codes) wh
     opened = told-passed (o .verdict) e
 
     same-head : r .head ≡ headOf l
-    unfolding rowOf
-    same-head = o .head (ap rowOf e)
+    same-head = o .head (told-passed refl e)
 
     module _ (keyed : Head → List Row) {key : List ℕ} {hand : Key} {v : Verdict} (j : Keyed (r .head) (keyed (r .head)) key hand v) where
       judged : rowOf v ≡ first (keyed (headOf l))
@@ -132,8 +130,8 @@ module _ {l : List ℕ} {r : Opened} {codes : List ℕ} (o : Opens l r codes) wh
     module _ (text : List ℕ) {t : Typed} (v : Verdict) (made : t ≡ typedAs (keyOfText (take (r .count) codes) text))
         (told : (named : Option (List ℕ)) → t ≡ typedAs named → rowOf v ≡ first (byText (r .head) named)) where
       names : t ≡ typedAs (namedIn l text)
-      unfolding namedIn rowOf
-      names = rw (o .decoded (ap rowOf e) .codes) at made
+      unfolding namedIn
+      names = rw (o .decoded (told-passed refl e) .codes) at made
 
       text-ready : v ≡ Verdict.Passed → Ready (r .head) (t .key) × (namedIn l text ≡ some (lettersOf (t .key)))
       unfolding namedIn

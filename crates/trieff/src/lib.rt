@@ -1,14 +1,9 @@
 // The public calls. None has a `requires`: any bytes, key, text or value may be handed over. Each promises one line, that the numbers of
 // its answer and every lent buffer's last content are the outcome that document 01 states (crate `paper`).
-ghost use mathlib.Core.Path.{_≡_};
-ghost use Rattle.head.specs.Fields.{headOf};
-ghost use Rattle.paper.specs.Accepted.{Accepted};
 ghost use Rattle.paper.specs.Promises.{Makes, Checks, Counts, LooksUp, LooksUpText, Nexts};
-ghost use Rattle.trieff.specs.Seeking.{Sought};
 use head::Head;
 use key::Key;
 use key::Typed;
-use order::Search;
 use paper::Counted;
 use paper::Done;
 use paper::Found;
@@ -134,39 +129,6 @@ pub fn next_key(
     let verdict = checked.verdict;
     match verdict {
         Verdict::Refused(why) => Found::Refused(why),
-        Verdict::Passed => sought(image, checked.head, letters, after, buffer),
-    }
-}
-
-// 9, 10, 14, 15 of next key, in an image that has been checked. The search writes to a path of its own, since a buffer that is refused
-// keeps what it held.
-fn sought(image: &[u8], h: Head, letters: &[u8], after: bool, buffer: &mut [u8]) -> Found
-    requires { ⌜ Accepted (now image) ⌝ }
-    requires { ⌜ h ≡ headOf (now image) ⌝ }
-    ensures { λ r. ⌜ Sought (now (image .entry)) (now (letters .entry)) after (now (buffer .entry)) r (now (buffer .exit)) ⌝ }
-{
-    let key = Key::of(letters);
-    let judged = key.judge_next(h);
-    match judged {
-        Verdict::Refused(why) => Found::Refused(why),
-        Verdict::Passed => {
-            if buffer.len() < (h.max as usize) {
-                return Found::Refused(Refusal::ShortBuffer);
-            }
-            let mut path = [0u8; 64];
-            let mut nodes = [0u32; 65];
-            let found = order::next(image, h, key, after, &mut path, &mut nodes);
-            match found {
-                Search::Missing => Found::Refused(Refusal::NoKey),
-                Search::Found { length, value } => {
-                    field::lay(buffer, 0, &path[..length]);
-                    let count = length as u32;
-                    Found::Key {
-                        length: count,
-                        value,
-                    }
-                }
-            }
-        }
+        Verdict::Passed => seeking::sought(image, checked.head, letters, after, buffer),
     }
 }

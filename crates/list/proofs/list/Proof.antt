@@ -1,18 +1,20 @@
 -- `list::list` meets its contract. Each key that is found leaves its path, from which the next one is sought; a line takes 288 bytes at most
 -- and begins at 65,248 or before. The measure is how many keys are left. Assumes nothing.
-use mathlib.Core.Path.{sym}
+use mathlib.Core.Path.{_≡_, sym}
+use Prim.Native.Nat.{_≤_}
 use native.Mathlib.Omega.{arith}
 use borrow.Author.Needs.{needs}
+use lib.ListN.{length}
 use lib.Seq.{length-take-le}
 use Rattle.lines.proofs.Laying.{laid-long}
 use Rattle.lines.proofs.Texts.{entries-long}
-use Rattle.order.proofs.Walkable.{Walkable, walkable, short, has-room, met}
-use Rattle.list.proofs.Listing.{Listing}
+use Rattle.order.proofs.Walkable.{Walkable, walkable, short, met, Walking, walks-on}
 use Rattle.list.proofs.list.Statement.{statement}
 use Rattle.list.proofs.list.Tie as tie
 
 abbrev Inv-loop : tie.InvT-loop
-Inv-loop image h out₀ path₀ nodes₀ left₀ head root end₀ len₀ out path nodes left end len = Listing h image out path nodes end len
+Inv-loop image h out₀ path₀ nodes₀ left₀ head root end₀ len₀ out path nodes left end len =
+    (length out ≡ 65536) × (end ≤ 65536) × Walking h image path nodes len
 
 abbrev μ-loop : tie.MeasureT-loop
 μ-loop image h out₀ path₀ nodes₀ left₀ head root end₀ len₀ out path nodes left end len = left
@@ -48,15 +50,11 @@ loop-holds : tie.Need-loop-holds Inv-loop μ-loop
 loop-holds c =
     let rooted = c .before in
     let started = rooted .before .before .before in
-    let titled = started .before .before .before in
-    record {
-      buffer = search needs;
-      letters = search needs;
-      ends = search needs;
-      filled = omega (arith, rooted .root-line .ensures, titled .entries .ensures .ends, entries-long (titled .before .before .count .result));
-      deep = omega arith;
-      along = started .start .ensures .1 _;
-    }
+    let titled = started .before .before .before in (
+      search needs,
+      omega (arith, rooted .root-line .ensures, titled .entries .ensures .ends, entries-long (titled .before .before .count .result)),
+      record { letters = search needs; ends = search needs; key = record { deep = omega arith; along = started .start .ensures .1 _ } },
+    )
 
 slice-aggregate-onward : tie.Need-slice-aggregate-onward Inv-loop μ-loop
 slice-aggregate-onward c = search needs
@@ -65,11 +63,7 @@ slice-aggregate-onward-2 : tie.Need-slice-aggregate-onward-2 Inv-loop μ-loop
 slice-aggregate-onward-2 c = search needs
 
 onward-requires : tie.Need-onward-requires Inv-loop μ-loop
-onward-requires c κs =
-    let loop = c .before .before .before in
-    let w = ready loop in
-    let p = loop .loop .inv in
-    (w .opened, (w .within, (p .deep, (has-room w (p .letters) (p .ends), p .along))))
+onward-requires c κs = let loop = c .before .before .before in walks-on (ready loop) (loop .loop .inv .2)
 
 enum-known-found : tie.Need-enum-known-found Inv-loop μ-loop
 enum-known-found c = search needs
@@ -96,7 +90,7 @@ entry-requires c κs =
     let m = met (onward .onward .ensures .0) (told .before .found .given .1) in
     let loop = onward .before .before .before .before in
     let p = loop .loop .inv in
-    omega (arith, m .deep, short (ready loop), c .before .before .room .ensures, p .buffer, p .letters)
+    omega (arith, m .deep, short (ready loop), c .before .before .room .ensures, p .0, p .2 .letters)
 
 sub-left : tie.Need-sub-left Inv-loop μ-loop
 sub-left c = search needs
@@ -109,21 +103,17 @@ loop-again c =
     let told = c .before .before .before .before .before .before in
     let onward = told .before .before .before .before .before in
     let m = met (onward .onward .ensures .0) (told .before .found .given .1) in
-    let loop = onward .before .before .before .before in
-    record {
-      buffer = search needs;
-      letters = search needs;
-      ends = search needs;
-      filled = omega (arith, m .deep, short (ready loop), c .before .entry .ensures .1, c .before .before .before .before .room .ensures);
-      deep = m .deep;
-      along = m .along;
-    }
+    let most = short (ready (onward .before .before .before .before)) in (
+      search needs,
+      omega (arith, m .deep, most, c .before .entry .ensures .1, c .before .before .before .before .room .ensures),
+      record { letters = search needs; ends = search needs; key = m },
+    )
 
 array-share-prefix-out : tie.Need-array-share-prefix-out Inv-loop μ-loop
 array-share-prefix-out c = search needs
 
 slice-aggregate-write-all : tie.Need-slice-aggregate-write-all Inv-loop μ-loop
-slice-aggregate-write-all c = sym (length-take-le _ _ (let p = c .before .before .loop .inv in omega (arith, p .filled, p .buffer)))
+slice-aggregate-write-all c = sym (length-take-le _ _ (let p = c .before .before .loop .inv in omega (arith, p .0, p .1)))
 
 write-all-requires : tie.Need-write-all-requires Inv-loop μ-loop
 write-all-requires c κs = search needs

@@ -1,7 +1,7 @@
 -- `trieff::count` meets its contract: 1 to 8 by the audit, and in an image that passed them as many keys as there are nodes at most.
 -- Assumes nothing.
 use borrow.Author.Needs.{needs}
-use Rattle.trieff.proofs.Checking.{checked-open, checked-within, keys-few, counts-refused, counts-done}
+use Rattle.trieff.proofs.Checking.{checked-walkable, counts-refused, counts-done}
 use Rattle.trieff.proofs.count.Statement.{statement}
 use Rattle.trieff.proofs.count.Tie as tie
 
@@ -16,9 +16,8 @@ enum-told c = search needs
 
 count-requires : tie.Need-count-requires
 count-requires c κs =
-    let o = c .before .before .before .before .check .ensures in
-    let e = c .enum-told .given .1 in
-    (checked-open o e, (checked-within o e, keys-few o e))
+    let w = checked-walkable (c .before .before .before .before .check .ensures) (c .enum-told .given .1) in
+    (w .opened, (w .within, w .few))
 
 same-length : tie.Need-same-length
 same-length c = search needs

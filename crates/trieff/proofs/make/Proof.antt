@@ -4,9 +4,9 @@ use mathlib.Core.Path.{_≡_, refl, sym, _∙_}
 use mathlib.Core.Option.{none}
 use borrow.Author.Needs.{needs}
 use borrow.Author.Tests.{not-true, not-false}
+use Rattle.paper.proofs.Hearing.{told-refused, told-passed}
 use Rattle.paper.proofs.Opening.{heard-1, passed}
 use Rattle.trieff.proofs.Making.{heardOf, makes-refused, makes-done, too-many}
-use Rattle.trieff.proofs.Told.{told-refused, told-passed}
 use Rattle.trieff.proofs.make.Statement.{statement}
 use Rattle.trieff.proofs.make.Tie as tie
 

@@ -1,12 +1,13 @@
--- `trieff::sought` meets its contract: 9 and 10 by the key in hand, 14 here, 15 or the key by the search; the buffer is written only where
+-- `seeking::sought` meets its contract: 9 and 10 by the key in hand, 14 here, 15 or the key by the search; the buffer is written only where
 -- a key was found. Assumes nothing.
+use mathlib.Core.Path.{refl}
 use native.Mathlib.Omega.{arith}
 use borrow.Author.Needs.{needs}
-use Rattle.head.proofs.Permitted.{bounds}
-use Rattle.trieff.proofs.Seeking.{head-permitted, Behind, behind, found-short, found-within, found-front, found-room}
-use Rattle.trieff.proofs.Seeking.{sought-unkeyed, sought-short, sought-missing, sought-found}
-use Rattle.trieff.proofs.sought.Statement.{statement}
-use Rattle.trieff.proofs.sought.Tie as tie
+use Rattle.order.proofs.Walkable.{short, has-room, met}
+use Rattle.seeking.proofs.Seeking.{head-permitted, Behind, behind, found-within, found-front, found-room}
+use Rattle.seeking.proofs.Seeking.{sought-unkeyed, sought-short, sought-missing, sought-found}
+use Rattle.seeking.proofs.sought.Statement.{statement}
+use Rattle.seeking.proofs.sought.Tie as tie
 
 of-requires : tie.Need-of-requires
 of-requires c κs = search needs
@@ -45,8 +46,7 @@ slice-aggregate-next-2 c = search needs
 next-requires : tie.Need-next-requires
 next-requires c κs =
     let k = known (c .before .before .before .before) in
-    let b = bounds _ (k .image .head-permitted) in
-    (k .image, (k .within, (k .ready, (k .short, record { letters = b .max-most; ends = omega arith }))))
+    (k .walk .opened, (k .walk .within, (k .ready, (k .short, has-room (k .walk) refl refl))))
 
 enum-told-2 : tie.Need-enum-told-2
 enum-told-2 c = search needs
@@ -77,7 +77,7 @@ cast-count c =
     let found = c .before .before .before .before .before .before in
     let next = found .before .before .before .before in
     let k = known (next .before .before .before .before .before) in
-    omega (arith, found-short (next .next .ensures .0) (found .found .given .1), bounds _ (k .image .head-permitted) .max-most)
+    omega (arith, met (next .next .ensures .0) (found .found .given .1) .deep, short (k .walk))
 
 returns-2 : tie.Need-returns-2
 returns-2 c =

@@ -10,11 +10,10 @@ use borrow.Author.Tests.{lt-ltb, le-ltb}
 use lib.ListN.{length, take}
 use lib.Seq.{sets, length-take-le}
 use Rattle.trie.specs.Table.{answer}
-use Rattle.trie.specs.Rules.{Within}
 use Rattle.head.specs.declared.Head.{Head}
 use Rattle.head.specs.Fields.{headOf, permitted}
 use Rattle.alphabet.specs.Letters.{lettersIn}
-use Rattle.node.specs.Image.{Open, tableOf}
+use Rattle.node.specs.Image.{tableOf}
 use Rattle.paper.specs.declared.Refusal.{Refusal}
 use Rattle.paper.specs.declared.Verdict.{Verdict}
 use Rattle.paper.specs.declared.Found.{Found}
@@ -25,19 +24,16 @@ use Rattle.paper.specs.Orders.{checking, byNext, nexting}
 use Rattle.paper.specs.Calls.{tableIn, storedKeys, nextIn, foundIn, workAfter, nextKeyOf}
 use Rattle.paper.specs.Promises.{Nexts}
 use Rattle.paper.specs.Accepted.{Accepted}
-use Rattle.paper.proofs.Hearing.{first-part, second-part, yes-row, no-row, first-nil, heard-refused, heard-done}
-use Rattle.paper.proofs.Checking.{accepted-open}
+use Rattle.paper.proofs.Hearing.{first-part, second-part, yes-row, no-row, first-nil, heard-refused, heard-done, told-refused, told-passed}
 use Rattle.key.specs.declared.Key.{Key}
 use Rattle.key.specs.Hand.{inHand, Holds, lettersOf, Ready}
 use Rattle.key.proofs.Hand.{hand-holds}
 use Rattle.key.proofs.Judging.{next-ready}
-use Rattle.opening.specs.declared.Opened.{Opened}
-use Rattle.audit.specs.Audit.{Checked}
 use Rattle.order.specs.declared.Search.{Search}
 use Rattle.order.specs.Search.{sought, toldOf, Room, Told}
 use Rattle.order.proofs.Searching.{was-missing, was-found}
-use Rattle.trieff.specs.Seeking.{Sought}
-use Rattle.trieff.proofs.Told.{told-refused, told-passed}
+use Rattle.order.proofs.Walkable.{Walkable, walkable, met}
+use Rattle.seeking.specs.Seeking.{Sought}
 
 -- ---- over the rows
 
@@ -58,7 +54,7 @@ module _ (l work key : List ℕ) (after : Bool) (buffer : List ℕ) where
   abbrev Leaves : Found → List ℕ → Type 0
   Leaves r buffer′ = Nexts l work key after buffer r (workAfter l work) buffer′
 
-  refuses : (why : Refusal) → first order ≡ some (saidOf why) → Leaves (Found.Refused why) buffer
+  pub refuses : (why : Refusal) → first order ≡ some (saidOf why) → Leaves (Found.Refused why) buffer
   unfolding foundOf refusalNumbers
   refuses why e = sym (asked ∙ heard-refused _ _ _ e)
 
@@ -112,26 +108,22 @@ module _ {h : Head} {l : List ℕ} {o : Option (List ℕ)} {r : Search} {path no
       (k, is, count, cc, ap (λ (m : ℕ). take m path) count ∙ t .reached k is .letters)
 
   -- is no longer than max, and so stands in the path and has room in a buffer that 14 passed
-  pub found-short : n ≤ h .max
-  found-short = let (k, is, count, _, _) = key-found in omega (arith, t .reached k is .short)
-
   module _ (room : Room h path nodes) where
     pub found-within : n ≤ length path
-    found-within = omega (arith, found-short, room .letters)
+    found-within = omega (arith, met t f .deep, room .letters)
 
     pub found-front : n ≡ length (take n path)
     found-front = sym (length-take-le n path found-within)
 
     pub found-room : {most : ℕ} → h .max ≤ most → 0 + length (take n path) ≤ most
-    found-room b = omega (arith, found-short, found-front)
+    found-room b = omega (arith, met t f .deep, found-front)
 
 -- ---- behind the check, by a head that is the image's and a key in hand
 
 -- what the search asks for and rests on, where 9 and 10 have passed the key
 pub record Behind (l : List ℕ) (h : Head) (key : List ℕ) (hand : Key) : Type 0 where
   pub same : h ≡ headOf l
-  pub image : Open h l
-  pub within : Within (tableOf h l) (h .g)
+  pub walk : Walkable h l
   pub unheard : first (byNext (headOf l) key) ≡ none
   pub ready : Ready h hand
   pub letters : lettersOf hand ≡ key
@@ -139,7 +131,7 @@ pub record Behind (l : List ℕ) (h : Head) (key : List ℕ) (hand : Key) : Type
 
 module _ {l : List ℕ} {h : Head} (a : Accepted l) (same : h ≡ headOf l) where
   pub head-permitted : permitted h ≡ true
-  head-permitted = rw same (a .head-permitted)
+  head-permitted = walkable a same .opened .head-permitted
 
   module _ (key : List ℕ) {hand : Key} (v : Verdict) (made : hand ≡ inHand key)
       (told : (k : List ℕ) → Holds hand k → rowOf v ≡ first (byNext h k)) where
@@ -154,13 +146,11 @@ module _ {l : List ℕ} {h : Head} (a : Accepted l) (same : h ≡ headOf l) wher
     sought-unkeyed after buffer e work checked = unkeyed l work key after buffer checked judged e
 
     pub behind : v ≡ Verdict.Passed → Behind l h key hand
-    unfolding tableIn
     behind e =
         let r = next-ready h head-permitted holds (told-passed (told key holds) e) in
         record {
           same = same;
-          image = rw same (accepted-open a);
-          within = rw same (a .within);
+          walk = walkable a same;
           unheard = told-passed judged e;
           ready = r .0;
           letters = r .1;
@@ -188,15 +178,3 @@ module _ {l : List ℕ} {h : Head} {key : List ℕ} {hand : Key} (p : Behind l h
     sought-found f laid work checked =
         let (k, is, count, value, front) = key-found told-next f in
         found l work key after buffer checked (p .unheard) (rw (p .same) at room) k is count value (rw front at laid)
-
--- ---- the whole call, by what the check told
-
-module _ {l work : List ℕ} {r : Opened} {work′ codes : List ℕ} (o : Checked l work r work′ codes)
-    (key : List ℕ) (after : Bool) (buffer : List ℕ) where
-  pub nexts-refused : {why : Refusal} → r .verdict ≡ Verdict.Refused why → Nexts l work key after buffer (Found.Refused why) work′ buffer
-  nexts-refused {why} e =
-      rw (o .numbers) (refuses l work key after buffer why (first-part (checking l work) _ (told-refused (o .verdict) e)))
-
-  pub nexts-sought : (f : Found) {buffer′ : List ℕ} → r .verdict ≡ Verdict.Passed → Sought l key after buffer f buffer′
-      → Nexts l work key after buffer f work′ buffer′
-  nexts-sought f e s = rw (o .numbers) (s work (told-passed (o .verdict) e))

@@ -1,0 +1,44 @@
+// The part of next key behind the check, for an image that has been checked: 9, 10, 14, 15 and the first stored key that meets the request.
+ghost use mathlib.Core.Path.{_≡_};
+ghost use Rattle.head.specs.Fields.{headOf};
+ghost use Rattle.paper.specs.Accepted.{Accepted};
+ghost use Rattle.seeking.specs.Seeking.{Sought};
+use head::Head;
+use key::Key;
+use order::Search;
+use paper::Found;
+use paper::Refusal;
+use paper::Verdict;
+
+// Refusals: 9 for a key longer than max, 10, 14, 15. The search writes to a path of its own, since a buffer that is refused keeps what it
+// held.
+pub fn sought(image: &[u8], h: Head, letters: &[u8], after: bool, buffer: &mut [u8]) -> Found
+    requires { ⌜ Accepted (now image) ⌝ }
+    requires { ⌜ h ≡ headOf (now image) ⌝ }
+    ensures { λ r. ⌜ Sought (now (image .entry)) (now (letters .entry)) after (now (buffer .entry)) r (now (buffer .exit)) ⌝ }
+{
+    let key = Key::of(letters);
+    let judged = key.judge_next(h);
+    match judged {
+        Verdict::Refused(why) => Found::Refused(why),
+        Verdict::Passed => {
+            if buffer.len() < (h.max as usize) {
+                return Found::Refused(Refusal::ShortBuffer);
+            }
+            let mut path = [0u8; 64];
+            let mut nodes = [0u32; 65];
+            let found = order::next(image, h, key, after, &mut path, &mut nodes);
+            match found {
+                Search::Missing => Found::Refused(Refusal::NoKey),
+                Search::Found { length, value } => {
+                    field::lay(buffer, 0, &path[..length]);
+                    let count = length as u32;
+                    Found::Key {
+                        length: count,
+                        value,
+                    }
+                }
+            }
+        }
+    }
+}
