@@ -47,7 +47,7 @@ use Rattle.paper.specs.Accepted.{Accepted}
 use Rattle.paper.proofs.Hearing.{untrue, not-given, was-false, first-nil, first-none, yes-row, no-row, first-part, second-part, passed-row, passed-parts, heard-done}
 use Rattle.paper.proofs.Numbers.{AllSay, end, _then_, given-says, parts-say, first-says, one-of, none-heard}
 use Rattle.paper.proofs.Keying.{below-letters, Fit, letters-fit, text-fit, keyNumbers, letters-say, text-says}
-use Rattle.paper.proofs.Checking.{not-bad, accepted-opens, check-accepts, accepted-checks, checking-says, passed-lent, accepted-linked}
+use Rattle.paper.proofs.Checking.{not-bad, accepted-opens, check-accepts, accepted-checks, checking-says, checked, accepted-linked}
 use Rattle.paper.proofs.Looking.{named-fit}
 use Rattle.paper.proofs.Nexting.{some-found}
 
@@ -502,7 +502,7 @@ module _ (l work key : List ℕ) (value : ℕ) where
   pub store-done-exactly : (storeOf l work key value .numbers .number ≡ 0) ↔ ((headOf l .g + 1 ≤ length work) × Granted l key value)
   unfolding storeOf
   store-done-exactly = (
-    λ z. (passed-lent l work (order-passed l work (byLetters (headOf l) key) key value (passed-letters z) .0), store-granted z),
+    λ z. (checked l work (order-passed l work (byLetters (headOf l) key) key value (passed-letters z) .0) .lent, store-granted z),
     λ s. store-by-done l work (byLetters (headOf l) key) key value (s .1) (s .0) (fit-letters (s .1 .fit)),
   )
 
@@ -542,7 +542,7 @@ module _ (l work text : List ℕ) (value : ℕ) where
       ↔ ((headOf l .g + 1 ≤ length work) × (key : List ℕ) × (namedIn l text ≡ some key) × Granted l key value)
   unfolding storeTextOf lettersIn
   store-text-done-exactly = (
-    λ z. (passed-lent l work (parts-passed z .0), lettersIn (namedIn l text), store-text-names z, store-text-granted z),
+    λ z. (checked l work (parts-passed z .0) .lent, lettersIn (namedIn l text), store-text-names z, store-text-granted z),
     λ s.
         let (lent, key, e, g) = s in
         ap (λ (named : Option (List ℕ)). storeBy l work (byText (headOf l) named) (lettersIn named) value .numbers .number) e

@@ -1,3 +1,5 @@
 mod Checking
+mod Keyed
 mod Making
 mod Reading
+mod Storing

@@ -30,7 +30,7 @@ use Rattle.key.proofs.Judging.{letters-ready, typed-ready}
 use Rattle.opening.specs.declared.Opened.{Opened}
 use Rattle.opening.specs.Opened.{Opens}
 use Rattle.walk.specs.Descent.{lookedBy, lookedIn}
-use Rattle.audit.proofs.Verdicts.{opened-open}
+use Rattle.trieff.proofs.Keyed.{Behind, Keyed}
 
 -- ---- with any rows for the key
 
@@ -69,13 +69,7 @@ module _ (l : List ℕ) (keyed : List Row) (key : List ℕ) where
       unfolding lookedIn
       found e = ap (λ (x : Looked). outcome (lookedOf x) []) e ∙ by-fault _ refl
 
--- ---- a key in hand, judged after an image was opened
-
--- the verdict on a key's rows and, where it passed them, the key in hand
-record Keyed (h : Head) (keyed : List Row) (key : List ℕ) (hand : Key) (v : Verdict) : Type 0 where
-  told : rowOf v ≡ first keyed
-  ready : v ≡ Verdict.Passed → Ready h hand
-  same : v ≡ Verdict.Passed → lettersOf hand ≡ key
+-- ---- after an image was opened
 
 module _ {l : List ℕ} {r : Opened} {codes : List ℕ} (o : Opens l r codes) where
   pub looks-up-unopened : (key : List ℕ) {why : Refusal} → r .verdict ≡ Verdict.Refused why → LooksUp l key (Looked.Refused why)
@@ -86,72 +80,30 @@ module _ {l : List ℕ} {r : Opened} {codes : List ℕ} (o : Opens l r codes) wh
   unfolding lookUpTextOf
   looks-up-text-unopened text e = unopened l (byText (headOf l) (namedIn l text)) (lettersIn (namedIn l text)) (o .verdict) e
 
-  module _ (e : r .verdict ≡ Verdict.Passed) where
-    opened : first (openingOf l) ≡ none
-    opened = told-passed (o .verdict) e
+module _ {l : List ℕ} {r : Opened} {codes : List ℕ} (b : Behind l r codes) where
+  module _ {keyed : List Row} {key : List ℕ} {hand : Key} {v : Verdict} (j : Keyed (r .head) keyed key hand v) where
+    after-refused : {why : Refusal} → v ≡ Verdict.Refused why → Answers l keyed key (Looked.Refused why)
+    after-refused f = unkeyed l keyed key (b .opened) (j .told) f
 
-    same-head : r .head ≡ headOf l
-    same-head = o .head (told-passed refl e)
+    after-passed : v ≡ Verdict.Passed → {x : Looked} → x ≡ lookedIn (r .head .g) (tableOf (r .head) l) (lettersOf hand) → Answers l keyed key x
+    after-passed f g = found l keyed key (b .opened) (told-passed (j .told) f) (rw (b .same, j .same f) at g)
 
-    module _ (keyed : Head → List Row) {key : List ℕ} {hand : Key} {v : Verdict} (j : Keyed (r .head) (keyed (r .head)) key hand v) where
-      judged : rowOf v ≡ first (keyed (headOf l))
-      judged = j .told ∙ ap (λ (h : Head). first (keyed h)) same-head
+  module _ {key : List ℕ} {hand : Key} {v : Verdict} (j : Keyed (r .head) (byLetters (headOf l) key) key hand v) where
+    pub looks-up-unkeyed : {why : Refusal} → v ≡ Verdict.Refused why → LooksUp l key (Looked.Refused why)
+    unfolding lookUpOf
+    looks-up-unkeyed = after-refused j
 
-      after-refused : {why : Refusal} → v ≡ Verdict.Refused why → Answers l (keyed (headOf l)) key (Looked.Refused why)
-      after-refused f = unkeyed l (keyed (headOf l)) key opened judged f
+    pub looks-up-found : v ≡ Verdict.Passed → {x : Looked} → x ≡ lookedIn (r .head .g) (tableOf (r .head) l) (lettersOf hand) → LooksUp l key x
+    unfolding lookUpOf
+    looks-up-found = after-passed j
 
-      after-passed : v ≡ Verdict.Passed → {x : Looked} → x ≡ lookedIn (r .head .g) (tableOf (r .head) l) (lettersOf hand)
-          → Answers l (keyed (headOf l)) key x
-      after-passed f g = found l (keyed (headOf l)) key opened (told-passed judged f) (rw (same-head, j .same f) at g)
+  module _ (text : List ℕ) {hand : Key} {v : Verdict}
+      (j : Keyed (r .head) (byText (headOf l) (namedIn l text)) (lettersIn (namedIn l text)) hand v) where
+    pub looks-up-text-unkeyed : {why : Refusal} → v ≡ Verdict.Refused why → LooksUpText l text (Looked.Refused why)
+    unfolding lookUpTextOf
+    looks-up-text-unkeyed = after-refused j
 
-    module _ (key : List ℕ) {hand : Key} (v : Verdict) (made : hand ≡ inHand key)
-        (told : (k : List ℕ) → Holds hand k → rowOf v ≡ first (byLetters (r .head) k)) where
-      holds : Holds hand key
-      holds = rw made (hand-holds key)
-
-      hand-ready : v ≡ Verdict.Passed → Ready (r .head) hand × (lettersOf hand ≡ key)
-      hand-ready f = letters-ready (r .head) (opened-open o e .head-permitted) holds (told-passed (told key holds) f)
-
-      by-letters : Keyed (r .head) (byLetters (r .head) key) key hand v
-      by-letters = record { told = told key holds; ready = λ f. hand-ready f .0; same = λ f. hand-ready f .1 }
-
-      pub letters-in-hand : v ≡ Verdict.Passed → Ready (r .head) hand
-      letters-in-hand = by-letters .ready
-
-      pub looks-up-unkeyed : {why : Refusal} → v ≡ Verdict.Refused why → LooksUp l key (Looked.Refused why)
-      unfolding lookUpOf
-      looks-up-unkeyed = after-refused (λ h. byLetters h key) by-letters
-
-      pub looks-up-found : v ≡ Verdict.Passed → {x : Looked} → x ≡ lookedIn (r .head .g) (tableOf (r .head) l) (lettersOf hand)
-          → LooksUp l key x
-      unfolding lookUpOf
-      looks-up-found f = after-passed (λ h. byLetters h key) by-letters f
-
-    module _ (text : List ℕ) {t : Typed} (v : Verdict) (made : t ≡ typedAs (keyOfText (take (r .count) codes) text))
-        (told : (named : Option (List ℕ)) → t ≡ typedAs named → rowOf v ≡ first (byText (r .head) named)) where
-      names : t ≡ typedAs (namedIn l text)
-      unfolding namedIn
-      names = rw (o .decoded (told-passed refl e) .codes) at made
-
-      text-ready : v ≡ Verdict.Passed → Ready (r .head) (t .key) × (namedIn l text ≡ some (lettersOf (t .key)))
-      unfolding namedIn
-      text-ready f =
-          let alphabet : List ℕ = letters (alphabetIn (headOf l) l) in
-          let few : length alphabet ≤ r .head .n = rw same-head (alphabet-most l opened) in
-          typed-ready (r .head) t alphabet text (opened-open o e .head-permitted) names refl few (told-passed (told _ names) f)
-
-      by-text : Keyed (r .head) (byText (r .head) (namedIn l text)) (lettersIn (namedIn l text)) (t .key) v
-      unfolding lettersIn
-      by-text = record { told = told _ names; ready = λ f. text-ready f .0; same = λ f. ap lettersIn (sym (text-ready f .1)) }
-
-      pub text-in-hand : v ≡ Verdict.Passed → Ready (r .head) (t .key)
-      text-in-hand = by-text .ready
-
-      pub looks-up-text-unkeyed : {why : Refusal} → v ≡ Verdict.Refused why → LooksUpText l text (Looked.Refused why)
-      unfolding lookUpTextOf
-      looks-up-text-unkeyed = after-refused (λ h. byText h (namedIn l text)) by-text
-
-      pub looks-up-text-found : v ≡ Verdict.Passed → {x : Looked} → x ≡ lookedIn (r .head .g) (tableOf (r .head) l) (lettersOf (t .key))
-          → LooksUpText l text x
-      unfolding lookUpTextOf
-      looks-up-text-found f = after-passed (λ h. byText h (namedIn l text)) by-text f
+    pub looks-up-text-found : v ≡ Verdict.Passed → {x : Looked} → x ≡ lookedIn (r .head .g) (tableOf (r .head) l) (lettersOf hand)
+        → LooksUpText l text x
+    unfolding lookUpTextOf
+    looks-up-text-found = after-passed j

@@ -1,6 +1,6 @@
 // The public calls. None has a `requires`: any bytes, key, text or value may be handed over. Each promises one line, that the numbers of
 // its answer and every lent buffer's last content are the outcome that document 01 states (crate `paper`).
-ghost use Rattle.paper.specs.Promises.{Makes, Checks, Counts, LooksUp, LooksUpText, Nexts};
+ghost use Rattle.paper.specs.Promises.{Makes, Checks, Counts, LooksUp, LooksUpText, Stores, StoresText, Nexts};
 use head::Head;
 use key::Key;
 use key::Typed;
@@ -9,6 +9,7 @@ use paper::Done;
 use paper::Found;
 use paper::Looked;
 use paper::Refusal;
+use paper::Stored;
 use paper::Verdict;
 
 // Makes a fresh image in the lent slice: head, alphabet and a zero root. Refusals: 1, 2, 3, 4.
@@ -108,6 +109,49 @@ pub fn look_up_text(image: &[u8], text: &[u8]) -> Looked
             match judged {
                 Verdict::Refused(at_text) => Looked::Refused(at_text),
                 Verdict::Passed => walk::look(image, h, typed.key),
+            }
+        }
+    }
+}
+
+// Stores a value under a key given by its letters, 0 to delete it; the answer is the change in the number of stored keys. Refusals: 1 to 8,
+// 9, 10, 11, 12, 13.
+pub fn store(image: &mut [u8], work: &mut [u32], letters: &[u8], value: u32) -> Stored
+    ensures { λ r. ⌜ Stores (now (image .entry)) (now (work .entry)) (now (letters .entry)) value r (now (image .exit)) (now (work .exit)) ⌝ }
+{
+    let mut codes = [0u32; 256];
+    let checked = audit::check(image, work, &mut codes);
+    let verdict = checked.verdict;
+    match verdict {
+        Verdict::Refused(why) => Stored::Refused(why),
+        Verdict::Passed => {
+            let h = checked.head;
+            let key = Key::of(letters);
+            let judged = key.judge(h);
+            match judged {
+                Verdict::Refused(at_key) => Stored::Refused(at_key),
+                Verdict::Passed => storing::store(image, h, key, value as u64),
+            }
+        }
+    }
+}
+
+// The same for a key given by its text. Refusals: 1 to 8, 10, 9, 11, 12, 13.
+pub fn store_text(image: &mut [u8], work: &mut [u32], text: &[u8], value: u32) -> Stored
+    ensures { λ r. ⌜ StoresText (now (image .entry)) (now (work .entry)) (now (text .entry)) value r (now (image .exit)) (now (work .exit)) ⌝ }
+{
+    let mut codes = [0u32; 256];
+    let checked = audit::check(image, work, &mut codes);
+    let verdict = checked.verdict;
+    match verdict {
+        Verdict::Refused(why) => Stored::Refused(why),
+        Verdict::Passed => {
+            let h = checked.head;
+            let typed = Typed::of(text, &codes, checked.count);
+            let judged = typed.judge(h);
+            match judged {
+                Verdict::Refused(at_text) => Stored::Refused(at_text),
+                Verdict::Passed => storing::store(image, h, typed.key, value as u64),
             }
         }
     }

@@ -1,7 +1,7 @@
 -- `trieff::look_up` meets its contract: 1 to 4 by the opening, 9 and 10 by the key in hand, 6 or the value by the walk. Assumes nothing.
 use borrow.Author.Needs.{needs}
-use Rattle.audit.proofs.Verdicts.{opened-open}
-use Rattle.trieff.proofs.Reading.{letters-in-hand, looks-up-unopened, looks-up-unkeyed, looks-up-found}
+use Rattle.trieff.proofs.Keyed.{behind-opening, by-letters}
+use Rattle.trieff.proofs.Reading.{looks-up-unopened, looks-up-unkeyed, looks-up-found}
 use Rattle.trieff.proofs.look_up.Statement.{statement}
 use Rattle.trieff.proofs.look_up.Tie as tie
 
@@ -20,7 +20,7 @@ of-requires c κs = search needs
 judge-requires : tie.Need-judge-requires
 judge-requires c κs =
     let told = c .before .before in
-    opened-open (told .before .before .«open» .ensures) (told .enum-told .given .1) .head-permitted
+    behind-opening (told .before .before .«open» .ensures) (told .enum-told .given .1) .image .head-permitted
 
 enum-known-judged : tie.Need-enum-known-judged
 enum-known-judged c = search needs
@@ -32,9 +32,8 @@ look-requires : tie.Need-look-requires
 look-requires c κs =
     let judge = c .before .before in
     let told = judge .before .before .before in
-    let o = told .before .before .«open» .ensures in
-    let e = told .enum-told .given .1 in
-    (opened-open o e, letters-in-hand o e _ _ (judge .before .of .ensures) (judge .judge .ensures) (c .enum-told2 .given .1))
+    let b = behind-opening (told .before .before .«open» .ensures) (told .enum-told .given .1) in
+    (b .image, by-letters b _ _ (judge .before .of .ensures) (judge .judge .ensures) .ready (c .enum-told2 .given .1))
 
 returns : tie.Need-returns
 returns c = looks-up-unopened (c .before .before .before .«open» .ensures) _ (c .before .verdict .given .1)
@@ -43,17 +42,15 @@ returns-2 : tie.Need-returns-2
 returns-2 c =
     let judge = c .before .before .before in
     let told = judge .before .before .before in
-    let o = told .before .before .«open» .ensures in
-    let f = c .before .judged .given .1 in
-    looks-up-unkeyed o (told .enum-told .given .1) _ _ (judge .before .of .ensures) (judge .judge .ensures) f
+    let b = behind-opening (told .before .before .«open» .ensures) (told .enum-told .given .1) in
+    looks-up-unkeyed b (by-letters b _ _ (judge .before .of .ensures) (judge .judge .ensures)) (c .before .judged .given .1)
 
 returns-3 : tie.Need-returns-3
 returns-3 c =
     let judge = c .before .before .before in
     let told = judge .before .before .before in
-    let o = told .before .before .«open» .ensures in
-    let f = c .before .enum-told2 .given .1 in
-    looks-up-found o (told .enum-told .given .1) _ _ (judge .before .of .ensures) (judge .judge .ensures) f (c .look .ensures)
+    let b = behind-opening (told .before .before .«open» .ensures) (told .enum-told .given .1) in
+    looks-up-found b (by-letters b _ _ (judge .before .of .ensures) (judge .judge .ensures)) (c .before .enum-told2 .given .1) (c .look .ensures)
 
 pub look-up-spec : {M : Type 1} → statement M
 look-up-spec =

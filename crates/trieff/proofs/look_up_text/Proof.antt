@@ -1,10 +1,8 @@
 -- `trieff::look_up_text` meets its contract: 1 to 4 by the opening, 10 and 9 by what the text names, 6 or the value by the walk.
 -- Assumes nothing.
-use mathlib.Core.Path.{ap}
 use borrow.Author.Needs.{needs}
-use Rattle.paper.specs.Answers.{rowOf}
-use Rattle.audit.proofs.Verdicts.{opened-open}
-use Rattle.trieff.proofs.Reading.{text-in-hand, looks-up-text-unopened, looks-up-text-unkeyed, looks-up-text-found}
+use Rattle.trieff.proofs.Keyed.{behind-opening, by-text}
+use Rattle.trieff.proofs.Reading.{looks-up-text-unopened, looks-up-text-unkeyed, looks-up-text-found}
 use Rattle.trieff.proofs.look_up_text.Statement.{statement}
 use Rattle.trieff.proofs.look_up_text.Tie as tie
 
@@ -18,15 +16,14 @@ enum-told : tie.Need-enum-told
 enum-told c = search needs
 
 of-requires : tie.Need-of-requires
-unfolding rowOf
 of-requires c κs =
     let told = c .before .before in
-    told .before .before .«open» .ensures .decoded (ap rowOf (told .enum-told .given .1)) .count
+    behind-opening (told .before .before .«open» .ensures) (told .enum-told .given .1) .decoded .count
 
 judge-requires : tie.Need-judge-requires
 judge-requires c κs =
     let told = c .before .before .before in
-    opened-open (told .before .before .«open» .ensures) (told .enum-told .given .1) .head-permitted
+    behind-opening (told .before .before .«open» .ensures) (told .enum-told .given .1) .image .head-permitted
 
 enum-known-judged : tie.Need-enum-known-judged
 enum-known-judged c = search needs
@@ -38,9 +35,8 @@ look-requires : tie.Need-look-requires
 look-requires c κs =
     let judge = c .before .before in
     let told = judge .before .before .before .before in
-    let o = told .before .before .«open» .ensures in
-    let e = told .enum-told .given .1 in
-    (opened-open o e, text-in-hand o e _ _ (judge .before .of .ensures) (judge .judge .ensures) (c .enum-told2 .given .1))
+    let b = behind-opening (told .before .before .«open» .ensures) (told .enum-told .given .1) in
+    (b .image, by-text b _ _ (judge .before .of .ensures) (judge .judge .ensures) .ready (c .enum-told2 .given .1))
 
 returns : tie.Need-returns
 returns c = looks-up-text-unopened (c .before .before .before .«open» .ensures) _ (c .before .verdict .given .1)
@@ -49,17 +45,15 @@ returns-2 : tie.Need-returns-2
 returns-2 c =
     let judge = c .before .before .before in
     let told = judge .before .before .before .before in
-    let o = told .before .before .«open» .ensures in
-    let f = c .before .judged .given .1 in
-    looks-up-text-unkeyed o (told .enum-told .given .1) _ _ (judge .before .of .ensures) (judge .judge .ensures) f
+    let b = behind-opening (told .before .before .«open» .ensures) (told .enum-told .given .1) in
+    looks-up-text-unkeyed b _ (by-text b _ _ (judge .before .of .ensures) (judge .judge .ensures)) (c .before .judged .given .1)
 
 returns-3 : tie.Need-returns-3
 returns-3 c =
     let judge = c .before .before .before in
     let told = judge .before .before .before .before in
-    let o = told .before .before .«open» .ensures in
-    let f = c .before .enum-told2 .given .1 in
-    looks-up-text-found o (told .enum-told .given .1) _ _ (judge .before .of .ensures) (judge .judge .ensures) f (c .look .ensures)
+    let b = behind-opening (told .before .before .«open» .ensures) (told .enum-told .given .1) in
+    looks-up-text-found b _ (by-text b _ _ (judge .before .of .ensures) (judge .judge .ensures)) (c .before .enum-told2 .given .1) (c .look .ensures)
 
 pub look-up-text-spec : {M : Type 1} → statement M
 look-up-text-spec =
