@@ -22,8 +22,10 @@ use Rattle.paper.specs.Answers.{said, rowOf}
 use Rattle.paper.specs.Rows.{givenLowest, row5, row6, row7, row8, times}
 use Rattle.paper.specs.Orders.{alphabetIn, openingOf, linking, checking}
 use Rattle.paper.specs.Calls.{clearedBy, workAfter}
+use Rattle.paper.specs.Accepted.{Accepted}
 use Rattle.paper.proofs.Hearing.{is-given, not-given, first-nil, first-some, first-none, first-part, second-part, told-refused, told-passed}
 use Rattle.paper.proofs.Opening.{passed}
+use Rattle.paper.proofs.Checking.{check-accepts}
 use Rattle.opening.specs.declared.Opened.{Opened}
 use Rattle.opening.specs.Opened.{Opens}
 use Rattle.audit.specs.Audit.{Checked, Audited, LinksJudged, BadFrom, Tally, FoundFrom}
@@ -174,3 +176,12 @@ module _ {l : List ℕ} {r : Opened} {codes : List ℕ} (o : Opens l r codes) wh
           head = λ _. same;
           decoded = λ _. record { count = d .count; codes = d .codes };
         }
+
+-- ---- what a check that passed tells its caller
+
+module _ {l work : List ℕ} {r : Opened} {work′ codes : List ℕ} (o : Checked l work r work′ codes) (e : r .verdict ≡ Verdict.Passed) where
+  pub checked-accepted : Accepted l
+  checked-accepted = check-accepts l work (told-passed (o .verdict) e)
+
+  pub checked-head : r .head ≡ headOf l
+  checked-head = o .head (told-passed refl e)

@@ -1,13 +1,12 @@
 -- The outcome of the calls that begin with the check, at each way out: the audit's verdict is what is heard of 1 to 8, and an image that
 -- passed them is one to walk through.
 use Prim.Native.Nat.{ℕ}
-use mathlib.Core.Path.{_≡_, refl, sym, _∙_, ap}
+use mathlib.Core.Path.{_≡_, sym, _∙_, ap}
 use mathlib.Core.Bool.{Bool}
 use mathlib.Core.List.{List, [], _∷_}
 use lib.ListN.{length}
 use lib.IntN.{pos}
 use Rattle.trie.specs.Keys.{listing}
-use Rattle.head.specs.Fields.{headOf}
 use Rattle.node.specs.Image.{tableOf}
 use Rattle.paper.specs.declared.Refusal.{Refusal}
 use Rattle.paper.specs.declared.Verdict.{Verdict}
@@ -19,11 +18,10 @@ use Rattle.paper.specs.Answers.{refusalNumbers, doneOf, countedOf}
 use Rattle.paper.specs.Orders.{checking}
 use Rattle.paper.specs.Calls.{tableIn, storedKeys, workAfter, checkOf, countOf}
 use Rattle.paper.specs.Promises.{Checks, Counts, Nexts}
-use Rattle.paper.specs.Accepted.{Accepted}
 use Rattle.paper.proofs.Hearing.{first-part, heard-refused, heard-done, told-refused, told-passed}
-use Rattle.paper.proofs.Checking.{check-accepts}
 use Rattle.opening.specs.declared.Opened.{Opened}
 use Rattle.audit.specs.Audit.{Checked}
+use Rattle.audit.proofs.Verdicts.{checked-accepted, checked-head}
 use Rattle.order.proofs.Walkable.{Walkable, walkable}
 use Rattle.seeking.specs.Seeking.{Sought}
 use Rattle.seeking.proofs.Seeking.{refuses}
@@ -46,21 +44,15 @@ module _ {l work : List ℕ} {r : Opened} {work′ codes : List ℕ} (o : Checke
   counts-refused e = left _ ∙ sym (heard-refused _ _ _ (told-refused (o .verdict) e))
 
   module _ (e : r .verdict ≡ Verdict.Passed) where
-    pub checked-head : r .head ≡ headOf l
-    checked-head = o .head (told-passed refl e)
-
-    pub checked-accepted : Accepted l
-    checked-accepted = check-accepts l work (told-passed (o .verdict) e)
-
     pub checked-walkable : Walkable (r .head) l
-    checked-walkable = walkable checked-accepted checked-head
+    checked-walkable = walkable (checked-accepted o e) (checked-head o e)
 
     pub counts-done : {n : ℕ} → n ≡ length (listing (tableOf (r .head) l) (r .head .n) (r .head .min) (r .head .max))
         → Counts l work (Counted.Keys n) work′
     unfolding countOf countedOf storedKeys tableIn
     counts-done c =
         left _
-        ∙ ap (λ (m : ℕ). outcome (doneNumbers 0 (pos 0) m) (workAfter l work ∷ [])) (rw checked-head at c)
+        ∙ ap (λ (m : ℕ). outcome (doneNumbers 0 (pos 0) m) (workAfter l work ∷ [])) (rw (checked-head o e) at c)
         ∙ sym (heard-done _ _ _ (told-passed (o .verdict) e))
 
   -- whatever is asked for, and whatever buffer was lent

@@ -1,8 +1,6 @@
 -- `list::main` meets its contract: an image that the check has passed is accepted, and its head is the one that was read. Assumes nothing.
-use mathlib.Core.Path.{sym, ap, _∙_}
 use borrow.Author.Needs.{needs}
-use Rattle.paper.specs.Answers.{rowOf}
-use Rattle.paper.proofs.Checking.{check-accepts}
+use Rattle.audit.proofs.Verdicts.{checked-accepted, checked-head}
 use Rattle.list.proofs.main.Statement.{statement}
 use Rattle.list.proofs.main.Tie as tie
 
@@ -46,11 +44,9 @@ enum-told : tie.Need-enum-told
 enum-told c = search needs
 
 list-requires : tie.Need-list-requires
-unfolding rowOf
 list-requires c κs =
-    let told = c .before .before .before .check .ensures in
-    let passed = ap rowOf (c .enum-told .given .1) in
-    (check-accepts _ _ (sym (told .verdict) ∙ passed), told .head passed)
+    let o = c .before .before .before .check .ensures in
+    (checked-accepted o (c .enum-told .given .1), checked-head o (c .enum-told .given .1))
 
 returns-2 : tie.Need-returns-2
 returns-2 c = search needs

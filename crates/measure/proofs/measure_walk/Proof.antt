@@ -1,9 +1,7 @@
 -- `measure::measure_walk` meets its contract: an image that the check has passed is accepted, and its head is the one that was read.
 -- Assumes nothing.
-use mathlib.Core.Path.{sym, ap, _∙_}
 use borrow.Author.Needs.{needs}
-use Rattle.paper.specs.Answers.{rowOf}
-use Rattle.paper.proofs.Checking.{check-accepts}
+use Rattle.audit.proofs.Verdicts.{checked-accepted, checked-head}
 use Rattle.measure.proofs.measure_walk.Statement.{statement}
 use Rattle.measure.proofs.measure_walk.Tie as tie
 
@@ -17,11 +15,9 @@ enum-told-2 : tie.Need-enum-told-2
 enum-told-2 c = search needs
 
 walk-requires : tie.Need-walk-requires
-unfolding rowOf
 walk-requires c κs =
-    let told = c .before .before .before .before .check .ensures in
-    let passed = ap rowOf (c .enum-told2 .given .1) in
-    (check-accepts _ _ (sym (told .verdict) ∙ passed), told .head passed)
+    let o = c .before .before .before .before .check .ensures in
+    (checked-accepted o (c .enum-told2 .given .1), checked-head o (c .enum-told2 .given .1))
 
 same-length : tie.Need-same-length
 same-length c = search needs
