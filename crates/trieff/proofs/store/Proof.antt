@@ -1,80 +1,84 @@
+-- `trieff::store` meets its contract: 1 to 8 by the audit, 9 and 10 by the key in hand, the rest by what stands behind them.
+-- Assumes nothing.
 use borrow.Author.Needs.{needs}
+use Rattle.audit.proofs.Verdicts.{checked-accepted, checked-head}
+use Rattle.trieff.proofs.Keyed.{behind-check, by-letters}
+use Rattle.trieff.proofs.Storing.{stores-unchecked, stores-unkeyed, stores-stored}
 use Rattle.trieff.proofs.store.Statement.{statement}
 use Rattle.trieff.proofs.store.Tie as tie
-use Rattle.trieff.proofs.store.Reads as reads
-use Rattle.trieff.proofs.store.Lts as lts
-use Rattle.audit.proofs.check.Reads as check-reads
-use Rattle.key.proofs.Key.judge.Reads as judge-reads
-use Rattle.key.proofs.Key.of.Reads as of-reads
-use Rattle.storing.proofs.store.Reads as store-reads
 
--- src/lib.rt:123:9
 check-requires : tie.Need-check-requires
 check-requires c κs = search needs
 
--- src/lib.rt:126:26
 enum-known-verdict : tie.Need-enum-known-verdict
 enum-known-verdict c = search needs
 
--- src/lib.rt:128:17
 enum-told : tie.Need-enum-told
 enum-told c = search needs
 
--- src/lib.rt:129:17
 of-requires : tie.Need-of-requires
 of-requires c κs = search needs
 
--- src/lib.rt:130:17
 judge-requires : tie.Need-judge-requires
-judge-requires c κs = ?
+judge-requires c κs =
+    let told = c .before .before in
+    behind-check (told .before .before .before .before .check .ensures) (told .enum-told .given .1) .image .head-permitted
 
--- src/lib.rt:132:34
 enum-known-judged : tie.Need-enum-known-judged
 enum-known-judged c = search needs
 
--- src/lib.rt:133:51
 enum-told-2 : tie.Need-enum-told-2
 enum-told-2 c = search needs
 
--- src/lib.rt:133:36
 store-requires : tie.Need-store-requires
-store-requires c κs = ?
+store-requires c κs =
+    let judge = c .before .before .before in
+    let told = judge .before .before .before in
+    let o = told .before .before .before .before .check .ensures in
+    let e = told .enum-told .given .1 in
+    let k = by-letters (behind-check o e) _ _ (judge .before .of .ensures) (judge .judge .ensures) in
+    (checked-accepted o e, (checked-head o e, k .ready (c .before .enum-told2 .given .1)))
 
--- src/lib.rt:119:1
 same-length : tie.Need-same-length
 same-length c = search needs
 
--- src/lib.rt:119:1
 same-length-2 : tie.Need-same-length-2
 same-length-2 c = search needs
 
--- src/lib.rt:119:1
 returns : tie.Need-returns
-returns c = ?
+returns c = stores-unchecked (c .before .before .before .before .before .check .ensures) _ _ (c .before .verdict .given .1)
 
--- src/lib.rt:119:1
 same-length-3 : tie.Need-same-length-3
 same-length-3 c = search needs
 
--- src/lib.rt:119:1
 same-length-4 : tie.Need-same-length-4
 same-length-4 c = search needs
 
--- src/lib.rt:119:1
 returns-2 : tie.Need-returns-2
-returns-2 c = ?
+returns-2 c =
+    let judge = c .before .before .before in
+    let told = judge .before .before .before in
+    let o = told .before .before .before .before .check .ensures in
+    let e = told .enum-told .given .1 in
+    let k = by-letters (behind-check o e) _ _ (judge .before .of .ensures) (judge .judge .ensures) in
+    stores-unkeyed o _ e k (c .before .judged .given .1)
 
--- src/lib.rt:119:1
 same-length-5 : tie.Need-same-length-5
 same-length-5 c = search needs
 
--- src/lib.rt:119:1
 same-length-6 : tie.Need-same-length-6
 same-length-6 c = search needs
 
--- src/lib.rt:119:1
 returns-3 : tie.Need-returns-3
-returns-3 c = ?
+returns-3 c =
+    let stored = c .before .before in
+    let passed = stored .before .before in
+    let judge = passed .before .before in
+    let told = judge .before .before .before in
+    let o = told .before .before .before .before .check .ensures in
+    let e = told .enum-told .given .1 in
+    let k = by-letters (behind-check o e) _ _ (judge .before .of .ensures) (judge .judge .ensures) in
+    stores-stored o _ e k (passed .enum-told2 .given .1) _ (stored .store .ensures)
 
 pub store-spec : {M : Type 1} → statement M
 store-spec =

@@ -1,80 +1,86 @@
+-- `trieff::store_text` meets its contract: 1 to 8 by the audit, 10 and 9 by what the text names, the rest by what stands behind them.
+-- Assumes nothing.
 use borrow.Author.Needs.{needs}
+use Rattle.audit.proofs.Verdicts.{checked-accepted, checked-head}
+use Rattle.trieff.proofs.Keyed.{behind-check, by-text}
+use Rattle.trieff.proofs.Storing.{stores-text-unchecked, stores-text-unkeyed, stores-text-stored}
 use Rattle.trieff.proofs.store_text.Statement.{statement}
 use Rattle.trieff.proofs.store_text.Tie as tie
-use Rattle.trieff.proofs.store_text.Reads as reads
-use Rattle.trieff.proofs.store_text.Lts as lts
-use Rattle.audit.proofs.check.Reads as check-reads
-use Rattle.key.proofs.Typed.judge.Reads as judge-reads
-use Rattle.key.proofs.Typed.of.Reads as of-reads
-use Rattle.storing.proofs.store.Reads as store-reads
 
--- src/lib.rt:144:9
 check-requires : tie.Need-check-requires
 check-requires c κs = search needs
 
--- src/lib.rt:147:26
 enum-known-verdict : tie.Need-enum-known-verdict
 enum-known-verdict c = search needs
 
--- src/lib.rt:149:17
 enum-told : tie.Need-enum-told
 enum-told c = search needs
 
--- src/lib.rt:150:17
 of-requires : tie.Need-of-requires
-of-requires c κs = ?
+of-requires c κs =
+    let told = c .before .before in
+    behind-check (told .before .before .before .before .check .ensures) (told .enum-told .given .1) .decoded .count
 
--- src/lib.rt:151:17
 judge-requires : tie.Need-judge-requires
-judge-requires c κs = ?
+judge-requires c κs =
+    let told = c .before .before .before in
+    behind-check (told .before .before .before .before .check .ensures) (told .enum-told .given .1) .image .head-permitted
 
--- src/lib.rt:153:34
 enum-known-judged : tie.Need-enum-known-judged
 enum-known-judged c = search needs
 
--- src/lib.rt:154:51
 enum-told-2 : tie.Need-enum-told-2
 enum-told-2 c = search needs
 
--- src/lib.rt:154:36
 store-requires : tie.Need-store-requires
-store-requires c κs = ?
+store-requires c κs =
+    let judge = c .before .before .before in
+    let told = judge .before .before .before .before in
+    let o = told .before .before .before .before .check .ensures in
+    let e = told .enum-told .given .1 in
+    let k = by-text (behind-check o e) _ _ (judge .before .of .ensures) (judge .judge .ensures) in
+    (checked-accepted o e, (checked-head o e, k .ready (c .before .enum-told2 .given .1)))
 
--- src/lib.rt:140:1
 same-length : tie.Need-same-length
 same-length c = search needs
 
--- src/lib.rt:140:1
 same-length-2 : tie.Need-same-length-2
 same-length-2 c = search needs
 
--- src/lib.rt:140:1
 returns : tie.Need-returns
-returns c = ?
+returns c = stores-text-unchecked (c .before .before .before .before .before .check .ensures) _ _ (c .before .verdict .given .1)
 
--- src/lib.rt:140:1
 same-length-3 : tie.Need-same-length-3
 same-length-3 c = search needs
 
--- src/lib.rt:140:1
 same-length-4 : tie.Need-same-length-4
 same-length-4 c = search needs
 
--- src/lib.rt:140:1
 returns-2 : tie.Need-returns-2
-returns-2 c = ?
+returns-2 c =
+    let judge = c .before .before .before in
+    let told = judge .before .before .before .before in
+    let o = told .before .before .before .before .check .ensures in
+    let e = told .enum-told .given .1 in
+    let k = by-text (behind-check o e) _ _ (judge .before .of .ensures) (judge .judge .ensures) in
+    stores-text-unkeyed o _ e _ k (c .before .judged .given .1)
 
--- src/lib.rt:140:1
 same-length-5 : tie.Need-same-length-5
 same-length-5 c = search needs
 
--- src/lib.rt:140:1
 same-length-6 : tie.Need-same-length-6
 same-length-6 c = search needs
 
--- src/lib.rt:140:1
 returns-3 : tie.Need-returns-3
-returns-3 c = ?
+returns-3 c =
+    let stored = c .before .before in
+    let passed = stored .before .before in
+    let judge = passed .before .before in
+    let told = judge .before .before .before .before in
+    let o = told .before .before .before .before .check .ensures in
+    let e = told .enum-told .given .1 in
+    let k = by-text (behind-check o e) _ _ (judge .before .of .ensures) (judge .judge .ensures) in
+    stores-text-stored o _ e _ k (passed .enum-told2 .given .1) _ (stored .store .ensures)
 
 pub store-text-spec : {M : Type 1} → statement M
 store-text-spec =
