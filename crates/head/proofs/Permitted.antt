@@ -2,7 +2,8 @@
 -- exactly where each of its links is.
 use mathlib.Core.Path.{_≡_}
 use mathlib.Core.Bool.{true}
-use Prim.Native.Nat.{_≤_}
+use Prim.Native.Nat.{_^_, _≤_}
+use native.Mathlib.Nat.{pow-le-pow-right}
 use native.Mathlib.Omega.{arith}
 use Rattle.field.specs.Range.{between}
 use Rattle.field.proofs.Range.{both, between-true, true-between}
@@ -54,3 +55,7 @@ bounded h b =
       true-between (h .min) 0 (h .max) (omega arith) (b .min-most),
       true-between (h .max) 0 mostLetters (omega arith) (b .max-most),
     )
+
+-- addresses of A bytes are 32 bits wide
+pub addresses-fit : {h : Head} → Bounds h → 256 ^ h .a ≤ 2 ^ 32
+addresses-fit b = pow-le-pow-right (omega arith) (b .a-most)

@@ -3,6 +3,7 @@
 use Prim.Native.Nat.{ℕ}
 use mathlib.Core.Path.{_≡_, refl, sym, _∙_, ap}
 use mathlib.Core.Bool.{Bool, true, false, not}
+use mathlib.Core.Logic.{_≢_}
 use mathlib.Core.Option.{none, some}
 use mathlib.Core.List.{List, [], _∷_, _++_}
 use native.Mathlib.Omega.{arith}
@@ -81,6 +82,14 @@ passed-parts [] ys e = (refl, e)
 passed-parts (none ∷ xs) ys e = passed-parts xs ys e
 passed-parts (some t ∷ xs) ys e = let z : _≡_ {A = ℕ} 0 1 = cc in absurd (omega arith)
 
+-- rows that say nothing can be left off the end
+pub silent-end : (xs ys : List Row) → first ys ≡ none → first (xs ++ ys) ≡ first xs
+silent-end xs ys e = go (first xs) refl
+  where
+    go : (r : Row) → first xs ≡ r → first (xs ++ ys) ≡ first xs
+    go none f = second-part xs ys f ∙ e ∙ sym f
+    go (some t) f = first-part xs ys f ∙ sym f
+
 -- ---- a verdict, which tells the row that its part of an order came to
 
 pub told-refused : {v : Verdict} {row : Row} {why : Refusal} → rowOf v ≡ row → v ≡ Verdict.Refused why → row ≡ some (saidOf why)
@@ -100,3 +109,16 @@ heard-refused r kept done e = rw e
 pub heard-done : (r : Row) (kept : List (List ℕ)) (done : Outcome) → r ≡ none → heard r kept done ≡ done
 unfolding heard
 heard-done r kept done e = rw e
+
+-- two outcomes that differ only where something is done
+pub heard-alike : (r : Row) (kept : List (List ℕ)) {x y : Outcome} → (r ≡ none → x ≡ y) → heard r kept x ≡ heard r kept y
+unfolding heard
+heard-alike none kept e = e refl
+heard-alike (some t) kept e = refl
+
+-- an answer with another number than what is done is a refusal
+pub kept-lent : (r : Row) (kept : List (List ℕ)) (done : Outcome) → done .numbers .number ≡ 0 → heard r kept done .numbers .number ≢ 0
+    → heard r kept done .lent ≡ kept
+unfolding heard
+kept-lent none kept done e z = absurd (z e)
+kept-lent (some s) kept done e z = refl

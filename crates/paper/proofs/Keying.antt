@@ -4,7 +4,7 @@ use Prim.Native.Nat.{ℕ, _≤_}
 use mathlib.Core.Path.{_≡_, refl, _∙_}
 use mathlib.Core.Logic.{_↔_}
 use mathlib.Core.Bool.{true, false, not}
-use mathlib.Core.Option.{Option, none}
+use mathlib.Core.Option.{Option, none, some}
 use mathlib.Core.List.{List, [], _∷_}
 use lib.Dec.{ltb}
 use lib.ListN.{length}
@@ -17,6 +17,7 @@ use Rattle.alphabet.specs.Letters.{among, lettersIn}
 use Rattle.paper.specs.Hearing.{first}
 use Rattle.paper.specs.Rows.{row9, row9next, allBelow, row10, isNone, row10text}
 use Rattle.paper.specs.Orders.{byLetters, byText, byNext}
+use Rattle.paper.specs.Granted.{Fit}
 use Rattle.paper.proofs.Hearing.{untrue, was-false, first-nil, no-row, passed-row}
 use Rattle.paper.proofs.Numbers.{Says, AllSay, end, _then_, given-says}
 
@@ -30,11 +31,6 @@ below-letters n (x ∷ k) = (
 )
 
 -- ---- a key that passes
-
--- what the rows of a key tell, whether it came as letters or as text
-pub record Fit (h : Head) (key : List ℕ) : Type 0 where
-  pub allowed : between (length key) (h .min) (h .max) ≡ true
-  pub below : Letters (h .n) key
 
 pub letters-fit : (h : Head) (key : List ℕ) → first (byLetters h key) ≡ none → Fit h key
 unfolding byLetters row9 row10
@@ -56,6 +52,15 @@ text-fit h named e =
     let ten : row10text named ≡ none = cc in
     let nine : row9 h (lettersIn named) ≡ none = cc in
     (was-false 10 0 _ ten, not-false _ (was-false 9 0 _ nine))
+
+-- a key that is fit passes
+pub fit-letters : {h : Head} {key : List ℕ} → Fit h key → first (byLetters h key) ≡ none
+unfolding byLetters row9 row10
+fit-letters {h} {key} f = no-row 9 0 _ (untrue (f .allowed)) ∙ no-row 10 0 _ (untrue (below-letters (h .n) key .1 (f .below))) ∙ first-nil
+
+pub fit-text : {h : Head} {key : List ℕ} → Fit h key → first (byText h (some key)) ≡ none
+unfolding byText row10text isNone row9 lettersIn
+fit-text f = no-row 10 0 _ refl ∙ no-row 9 0 _ (untrue (f .allowed)) ∙ first-nil
 
 -- the key from which the next one is sought: "For next key, 9 means only a key longer than max"
 pub record Askable (h : Head) (key : List ℕ) : Type 0 where

@@ -28,10 +28,11 @@ use Rattle.paper.specs.Rows.{badLink, isNone, rowAt, row6path}
 use Rattle.paper.specs.Orders.{alphabetIn, openingOf, byLetters, byText, lookingUp}
 use Rattle.paper.specs.Calls.{tableIn, lookUpBy, lookUpOf, namedIn, lookUpTextOf}
 use Rattle.paper.specs.Walk002.{dataRead, linkRead, unlessEmpty, queryFrom, query002, indexOf, queryChars, queryText002}
+use Rattle.paper.specs.Granted.{Fit}
 use Rattle.paper.proofs.Hearing.{passed-row, passed-parts, heard-done}
 use Rattle.paper.proofs.Numbers.{Says, AllSay, end, _then_, at-says, parts-say, first-says, one-of, none-heard}
 use Rattle.paper.proofs.Opening.{Passed, passed, opening-says, unspoilt-good, alphabet-whole}
-use Rattle.paper.proofs.Keying.{keyNumbers, Fit, letters-fit, text-fit, letters-say, text-says}
+use Rattle.paper.proofs.Keying.{keyNumbers, letters-fit, text-fit, letters-say, text-says}
 use Rattle.paper.proofs.Checking.{good-link}
 
 -- ---- 002's reads and the table

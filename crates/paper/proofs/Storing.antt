@@ -6,7 +6,7 @@ use mathlib.Core.Bool.{Bool, true, false, _&&_, and-false}
 use mathlib.Core.Logic.{_↔_, _≢_, inr}
 use mathlib.Core.Option.{Option, none, some}
 use mathlib.Core.List.{List, [], _∷_, _++_}
-use native.Mathlib.Nat.{add-zero, one-le-pow, pow-le-pow-right, lt-of-lt-of-le}
+use native.Mathlib.Nat.{add-zero, one-le-pow}
 use native.Mathlib.Decide.{ℕ-discrete, decLe, decLt}
 use native.Mathlib.Omega.{arith}
 use lib.Dec.{ltb}
@@ -23,13 +23,13 @@ use Rattle.trie.specs.Storing.{stored, storedBy, added, changeOf}
 use Rattle.trie.proofs.Walk.{complete-within}
 use Rattle.trie.proofs.Faults.{fault-nil, fault-empty, fault-on}
 use Rattle.trie.proofs.Grow.{room}
-use Rattle.trie.proofs.Storing.{stored-answer, stored-answer-other, stored-linked}
+use Rattle.trie.proofs.Storing.{none-added, stored-answer, stored-answer-other, stored-linked}
 use Rattle.trie.proofs.Rising.{stored-rising}
 use Rattle.trie.proofs.Count.{stored-count}
 use Rattle.head.specs.declared.Head.{Head}
 use Rattle.head.specs.Fields.{fieldsLen, headOf, permitted, nodeWidth, usedLen}
 use Rattle.head.proofs.Fields.{head-outside}
-use Rattle.head.proofs.Permitted.{bounds}
+use Rattle.head.proofs.Permitted.{bounds, addresses-fit}
 use Rattle.head.proofs.Places.{place-least}
 use Rattle.alphabet.specs.Letters.{among, letters, lettersIn, keyOfText}
 use Rattle.node.specs.Image.{dataPlace, tableOf}
@@ -40,24 +40,17 @@ use Rattle.node.proofs.Heads.{withTotal, used-more}
 use Rattle.node.proofs.Storing.{length-carried, Storable, store-new, store-over, store-head}
 use Rattle.node.proofs.Frame.{EndsIn, frame, none-before, spare}
 use Rattle.paper.specs.Hearing.{Said, Row, Outcome, first, heard, outcome, doneNumbers}
-use Rattle.paper.specs.Rows.{row5, badLink, row9, row10, isNone, row10text, row11, row12, row13, rowAt, row6path}
+use Rattle.paper.specs.Rows.{row5, badLink, row9, row10, row11, row12, row13, rowAt, row6path}
 use Rattle.paper.specs.Orders.{alphabetIn, openingOf, checking, byLetters, byText, lookingUp, adding, newOf, storing}
 use Rattle.paper.specs.Calls.{tableIn, workAfter, storedKeys, lookUpBy, lookUpOf, namedIn, lookUpTextOf, storedImage, storeBy, storeOf, storeTextOf}
 use Rattle.paper.specs.Accepted.{Accepted}
-use Rattle.paper.proofs.Hearing.{untrue, not-given, was-false, first-nil, first-none, yes-row, no-row, first-part, second-part, passed-row, passed-parts, heard-done}
+use Rattle.paper.specs.Granted.{Fit, Granted}
+use Rattle.paper.proofs.Hearing.{not-given, was-false, first-nil, first-none, yes-row, no-row, first-part, second-part, passed-row, passed-parts, silent-end, heard-done, heard-alike, kept-lent}
 use Rattle.paper.proofs.Numbers.{AllSay, end, _then_, given-says, parts-say, first-says, one-of, none-heard}
-use Rattle.paper.proofs.Keying.{below-letters, Fit, letters-fit, text-fit, keyNumbers, letters-say, text-says}
+use Rattle.paper.proofs.Keying.{letters-fit, text-fit, fit-letters, fit-text, keyNumbers, letters-say, text-says}
 use Rattle.paper.proofs.Checking.{not-bad, accepted-opens, check-accepts, accepted-checks, checking-says, checked, accepted-linked}
 use Rattle.paper.proofs.Looking.{named-fit}
 use Rattle.paper.proofs.Nexting.{some-found}
-
--- what a store that is not refused has, but for the working numbers lent
-pub record Granted (l key : List ℕ) (value : ℕ) : Type 0 where
-  pub accepted : Accepted l
-  pub fit : Fit (headOf l) key
-  pub value-fits : value < 256 ^ headOf l .d
-  pub addresses : 0 < newOf (headOf l) l key value → headOf l .g + newOf (headOf l) l key value < 256 ^ headOf l .a
-  pub room : 0 < newOf (headOf l) l key value → usedLen (headOf l) + newOf (headOf l) l key value * nodeWidth (headOf l) ≤ length l
 
 -- ---- the head and the table after it
 
@@ -65,11 +58,6 @@ pub record Granted (l key : List ℕ) (value : ℕ) : Type 0 where
 record Written (l : List ℕ) (d : Descent) (v g : ℕ) : Type 0 where
   head : headOf (carriedOut l (storeWrites (headOf l) d v)) ≡ withTotal (headOf l) g
   table : tableOf (withTotal (headOf l) g) (carriedOut l (storeWrites (headOf l) d v)) ≡ storedBy d (tableOf (headOf l) l) (headOf l .g) v
-
-none-added : (v : ℕ) → added 0 v ≡ 0
-unfolding added
-none-added zero = refl
-none-added (suc v) = refl
 
 module _ {l key : List ℕ} {value : ℕ} (s : Granted l key value) where
   -- where the key's walk ends
@@ -104,10 +92,9 @@ module _ {l key : List ℕ} {value : ℕ} (s : Granted l key value) where
         value = rw (← f) (s .value-fits);
         room = rw (used-more h (suc (length xs))) lies;
       } in
-      let most = bounds h (s .accepted .head-permitted) .a-most in
-      let narrow : h .g + suc (length xs) < 2 ^ 32 = lt-of-lt-of-le few (pow-le-pow-right (omega arith) most) in
+      let narrow = addresses-fit (bounds h (s .accepted .head-permitted)) in
       record {
-        head = store-head h l q x xs v (omega (arith, s .accepted .long-enough)) narrow;
+        head = store-head h l q x xs v (omega (arith, s .accepted .long-enough)) (omega arith);
         table = store-new h l q x xs v able;
       }
 
@@ -188,14 +175,6 @@ module _ {l key : List ℕ} {value : ℕ} (s : Granted l key value) where
 
 -- ---- a lookup in an accepted image
 
--- rows that say nothing can be left off the end
-silent-end : (xs ys : List Row) → first ys ≡ none → first (xs ++ ys) ≡ first xs
-silent-end xs ys e = go (first xs) refl
-  where
-    go : (r : Row) → first xs ≡ r → first (xs ++ ys) ≡ first xs
-    go none f = second-part xs ys f ∙ e ∙ sym f
-    go (some t) f = first-part xs ys f ∙ sym f
-
 quiet : {at : Option ℕ} → at ≡ none → rowAt at ≡ none
 unfolding rowAt
 quiet e = ap rowAt e
@@ -231,20 +210,6 @@ module _ {l : List ℕ} (a : Accepted l) where
       ap (λ (r : Row). heard r [] (outcome (doneNumbers 0 (pos 0) (answer (tableIn l) key)) [])) (key-decides keyed key)
 
 -- ---- what keys answer after a store
-
--- a key that is fit passes 9 and 10
-pub fit-letters : {h : Head} {key : List ℕ} → Fit h key → first (byLetters h key) ≡ none
-unfolding byLetters row9 row10
-fit-letters {h} {key} f = no-row 9 0 _ (untrue (f .allowed)) ∙ no-row 10 0 _ (untrue (below-letters (h .n) key .1 (f .below))) ∙ first-nil
-
-pub fit-text : {h : Head} {key : List ℕ} → Fit h key → first (byText h (some key)) ≡ none
-unfolding byText row10text isNone row9 lettersIn
-fit-text f = no-row 10 0 _ refl ∙ no-row 9 0 _ (untrue (f .allowed)) ∙ first-nil
-
-pub heard-alike : (r : Row) (kept : List (List ℕ)) {x y : Outcome} → (r ≡ none → x ≡ y) → heard r kept x ≡ heard r kept y
-unfolding heard
-heard-alike none kept e = e refl
-heard-alike (some t) kept e = refl
 
 module _ {l key : List ℕ} {value : ℕ} (s : Granted l key value) where
   -- whether the key comes as letters or as text
@@ -377,13 +342,6 @@ valued-says l key value =
     then given-says 12 0 (ltb 0 k && ltb (256 ^ h .a - 1) (h .g + k)) refl
     then given-says 13 0 (ltb 0 k && ltb (length l) (usedLen h + k * nodeWidth h)) refl
     then end
-
--- an answer with another number than what is done is a refusal
-kept-lent : (r : Row) (kept : List (List ℕ)) (done : Outcome) → done .numbers .number ≡ 0 → heard r kept done .numbers .number ≢ 0
-    → heard r kept done .lent ≡ kept
-unfolding heard
-kept-lent none kept done e z = absurd (z e)
-kept-lent (some s) kept done e z = refl
 
 module _ (l work : List ℕ) (keyed : List Row) (key : List ℕ) (value : ℕ) where
   -- what an order that passed tells of its parts

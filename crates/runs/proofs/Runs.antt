@@ -24,14 +24,15 @@ use Rattle.paper.specs.Rows.{row9, row10, row10text}
 use Rattle.paper.specs.Orders.{alphabetIn, newOf, checking, byLetters, byText, lookingUp, storing, nexting}
 use Rattle.paper.specs.Calls.{tableIn, workAfter, freshHead, freshImage, makeOf, storedKeys, countOf, lookUpBy, lookUpOf, namedIn, lookUpTextOf, storedImage, storeBy, nextIn}
 use Rattle.paper.specs.Accepted.{Accepted}
-use Rattle.paper.proofs.Hearing.{heard-done}
+use Rattle.paper.specs.Granted.{Fit, Granted}
+use Rattle.paper.proofs.Hearing.{heard-done, heard-alike}
 use Rattle.paper.proofs.Numbers.{AllSay}
-use Rattle.paper.proofs.Keying.{keyNumbers, Fit, letters-fit, letters-say, text-says}
+use Rattle.paper.proofs.Keying.{keyNumbers, letters-fit, letters-say, text-says}
 use Rattle.paper.proofs.Checking.{accepted-opens, accepted-checks, accepted-linked}
 use Rattle.paper.proofs.Looking.{named-fit}
-use Rattle.paper.proofs.Storing.{Granted, accepted-again, stored-head, stored-alphabet, stored-table, stored-change, looks-up-accepted, heard-alike, granted, store-passed}
+use Rattle.paper.proofs.Storing.{accepted-again, stored-head, stored-alphabet, stored-table, stored-change, looks-up-accepted, granted, store-passed}
 use Rattle.paper.proofs.Fresh.{Made, make-done, fresh-head, fresh-alphabet, fresh-accepted, fresh-answers, fresh-keys}
-use Rattle.runs.specs.Runs.{sameKey, lastOf, Call, check, count, lookUp, lookUpText, store, storeText, nextKey, firstLeft, Run, after, ran, startOf}
+use Rattle.runs.specs.Runs.{sameKey, lastOf, Call, check, count, lookUp, lookUpText, store, storeText, nextKey, firstLeft, Run, after, ran, startOf, ranFrom, telling}
 
 -- ---- the plain list
 
@@ -183,14 +184,6 @@ ran-append r [] ds = refl
 ran-append r (c ∷ cs) ds = ran-append (after r c) cs ds
 
 -- ---- from a fresh image
-
--- where a run of calls ends that begins with the fresh image of this head, which is what a make leaves that is done (`make-leaves`)
-abbrev pub ranFrom : Head → List ℕ → List ℕ → List Call → Run
-ranFrom h alphabet image cs = ran (startOf (freshImage h alphabet image)) cs
-
--- what is left by a look up that tells a value
-abbrev pub telling : ℕ → Outcome
-telling v = outcome (doneNumbers 0 (pos 0) v) []
 
 module _ (image : List ℕ) (n a d : ℕ) (alphabet : List ℕ) (least most : ℕ)
     (done : makeOf image n a d alphabet least most .numbers .number ≡ 0) (cs : List Call) where

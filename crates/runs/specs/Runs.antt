@@ -6,9 +6,10 @@ use mathlib.Core.Bool.{Bool, true, false, _&&_, cond}
 use mathlib.Core.List.{List, [], _∷_}
 use lib.Dec.{eqb}
 use lib.IntN.{ℤ, pos, _+ℤ_}
+use Rattle.head.specs.declared.Head.{Head}
 use Rattle.alphabet.specs.Letters.{lettersIn}
-use Rattle.paper.specs.Hearing.{Outcome}
-use Rattle.paper.specs.Calls.{checkOf, countOf, lookUpOf, lookUpTextOf, namedIn, storeOf, storeTextOf, nextKeyOf}
+use Rattle.paper.specs.Hearing.{Outcome, outcome, doneNumbers}
+use Rattle.paper.specs.Calls.{freshImage, checkOf, countOf, lookUpOf, lookUpTextOf, namedIn, storeOf, storeTextOf, nextKeyOf}
 
 -- ---- the plain list
 
@@ -106,3 +107,11 @@ ran r (c ∷ cs) = ran (after r c) cs
 -- from an image with nothing in it
 unfoldable pub startOf : List ℕ → Run
 startOf l = record { image = l; plain = []; sum = pos 0 }
+
+-- from the fresh image of a head and an alphabet, which is what a make leaves that is done
+abbrev pub ranFrom : Head → List ℕ → List ℕ → List Call → Run
+ranFrom h alphabet image cs = ran (startOf (freshImage h alphabet image)) cs
+
+-- what a look up leaves that tells a value
+abbrev pub telling : ℕ → Outcome
+telling v = outcome (doneNumbers 0 (pos 0) v) []

@@ -12,6 +12,7 @@ use lib.Dec.{ltb}
 use lib.ListN.{length}
 use Rattle.trie.specs.Table.{Descent, complete, stopped, missing, valueAt}
 use Rattle.trie.specs.Storing.{added, changeOf}
+use Rattle.trie.proofs.Storing.{none-added}
 use Rattle.head.specs.declared.Head.{Head}
 use Rattle.head.specs.Fields.{usedLen}
 use Rattle.node.specs.Image.{tableOf}
@@ -55,12 +56,6 @@ change-over (suc u) (suc v) a b = refl
 some-new : (k : ℕ) (b : Bool) → (ltb 0 (suc k) && b) ≡ b
 some-new k b = rw (lt-ltb 0 (suc k) (omega arith)) refl
 
--- a complete path misses no node, whatever the value
-none-missed : (value : ℕ) → added 0 value ≡ 0
-unfolding added
-none-missed zero = refl
-none-missed (suc v) = refl
-
 module _ (h : Head) (l : List ℕ) where
   -- what is heard and left where the walk ended so
   abbrev Leaves : Descent → ℕ → Stored → List ℕ → Type 0
@@ -100,7 +95,7 @@ module _ (h : Head) (l : List ℕ) where
   pub replaced : (q value : ℕ) → value < 256 ^ h .d → {c : ℤ} {l′ : List ℕ} → c ≡ changeOf (tableOf h l .value q) value
       → l′ ≡ carriedOut l (dataWrite h q value ∷ []) → Leaves (complete q) value (Stored.Change c) l′
   unfolding missing valueAt storeWrites
-  replaced q value fits c w = done (complete q) value (ap (λ (k : ℕ). first (adding h value k (length l))) (none-missed value) ∙ none-new value fits) c w
+  replaced q value fits c w = done (complete q) value (ap (λ (k : ℕ). first (adding h value k (length l))) (none-added value) ∙ none-new value fits) c w
 
   -- a path that stops, and 0
   left-alone : (q x : ℕ) (xs : List ℕ) → 0 < 256 ^ h .d → Leaves (stopped q x xs) 0 (Stored.Change (pos 0)) l

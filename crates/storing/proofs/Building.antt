@@ -1,24 +1,18 @@
 -- The writes of a new path, as they are done: what is still to be laid leaves what all of it would have left.
 use Prim.Native.Nat.{ℕ, suc, _+_, _-_, _^_, _≤_, _<_}
 use mathlib.Core.Path.{_≡_, refl, sym, _∙_, ap}
-use mathlib.Core.List.{List, [], _∷_, _++_}
-use native.Mathlib.Nat.{pow-le-pow-right}
+use mathlib.Core.List.{List, [], _∷_}
 use native.Mathlib.Omega.{arith}
 use lib.ListN.{length, drop}
 use lib.Seq.{drop-length}
 use Rattle.field.specs.Field.{putField}
 use Rattle.head.specs.declared.Head.{Head}
 use Rattle.head.specs.Fields.{nodeWidth, nodePlace, usedLen}
-use Rattle.head.proofs.Permitted.{Bounds}
 use Rattle.head.proofs.Places.{place-le}
 use Rattle.node.specs.Writes.{carriedOut, pathWrite, lastWrite, newNodes, totalWrite, linkWrite}
 use Rattle.node.proofs.Heads.{withTotal}
 use Rattle.node.proofs.Storing.{length-carried, carried-append}
 use Rattle.storing.specs.Storing.{Space, Builds}
-
--- addresses of A bytes are 32 bits wide
-pub addresses-fit : {h : Head} → Bounds h → 256 ^ h .a ≤ 2 ^ 32
-addresses-fit {h} b = pow-le-pow-right (omega arith) (b .a-most)
 
 -- what 12 and 13 leave
 pub space : {h : Head} {l : List ℕ} {total : ℕ} → total < 256 ^ h .a → usedLen (withTotal h total) ≤ length l → Space h l total

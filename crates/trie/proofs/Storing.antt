@@ -14,6 +14,12 @@ use Rattle.trie.proofs.Walk.{answer-stopped, complete-within, where-sto
 use Rattle.trie.proofs.Put.{put-answer, put-answer-other, put-value-other, put-linked}
 use Rattle.trie.proofs.Grow.{room, growPath-answer, growPath-linked, growPath-descend, growPath-value, growPath-child-other}
 
+-- a complete path misses no node, whatever the value
+pub none-added : (v : ℕ) → added 0 v ≡ 0
+unfolding added
+none-added zero = refl
+none-added (suc v) = refl
+
 -- The three stores of a value v at a key k, the table that each makes, and its greatest address.
 pub data Store (t : Table) (g : ℕ) (k : List ℕ) : ℕ → Table → ℕ → Type 0 where
   over : {q v : ℕ} → descend t 0 k ≡ complete q → Store t g k v (put t q v) g

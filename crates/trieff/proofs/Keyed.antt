@@ -1,7 +1,7 @@
 -- A key in hand, judged behind the opening or behind the check: what its verdict says of the rows for the key, and what the key is where it
 -- passed them. It is said once for the letters and once for the text, whoever asks.
-use Prim.Native.Nat.{ℕ, _+_, _≤_}
-use mathlib.Core.Path.{_≡_, refl, sym, _∙_, ap}
+use Prim.Native.Nat.{ℕ, _≤_}
+use mathlib.Core.Path.{_≡_, refl, sym, ap}
 use mathlib.Core.Option.{Option, none, some}
 use mathlib.Core.List.{List}
 use lib.ListN.{length, take}

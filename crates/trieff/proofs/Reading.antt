@@ -1,15 +1,13 @@
 -- The outcome of a lookup, at each way out: 1 to 4 refused, the key refused, or what is found on its path. It is said once for any rows of
 -- the key, and the letters and the text given differ in those alone.
-use Prim.Native.Nat.{ℕ, _+_, _≤_}
+use Prim.Native.Nat.{ℕ}
 use mathlib.Core.Path.{_≡_, refl, sym, _∙_, ap}
 use mathlib.Core.Option.{Option, none, some}
 use mathlib.Core.List.{List, [], _∷_, _++_}
-use lib.ListN.{length, take}
 use lib.IntN.{pos}
 use Rattle.trie.specs.Table.{answer, fault}
-use Rattle.head.specs.declared.Head.{Head}
 use Rattle.head.specs.Fields.{headOf}
-use Rattle.alphabet.specs.Letters.{letters, lettersIn, keyOfText}
+use Rattle.alphabet.specs.Letters.{lettersIn}
 use Rattle.node.specs.Image.{tableOf}
 use Rattle.paper.specs.declared.Refusal.{Refusal}
 use Rattle.paper.specs.declared.Verdict.{Verdict}
@@ -17,16 +15,12 @@ use Rattle.paper.specs.declared.Looked.{Looked}
 use Rattle.paper.specs.Hearing.{Row, first, heard, outcome, doneNumbers}
 use Rattle.paper.specs.Answers.{rowOf, refusalNumbers, lookedOf}
 use Rattle.paper.specs.Rows.{badLink, rowAt, row6path}
-use Rattle.paper.specs.Orders.{alphabetIn, openingOf, byLetters, byText, lookingUp}
+use Rattle.paper.specs.Orders.{openingOf, byLetters, byText, lookingUp}
 use Rattle.paper.specs.Calls.{tableIn, namedIn, lookUpBy, lookUpOf, lookUpTextOf}
 use Rattle.paper.specs.Promises.{LooksUp, LooksUpText}
 use Rattle.paper.proofs.Hearing.{first-part, second-part, first-some, first-none, first-nil, heard-refused, heard-done, told-refused, told-passed}
-use Rattle.paper.proofs.Looking.{alphabet-most}
 use Rattle.key.specs.declared.Key.{Key}
-use Rattle.key.specs.declared.Typed.{Typed}
-use Rattle.key.specs.Hand.{inHand, Holds, typedAs, lettersOf, Ready}
-use Rattle.key.proofs.Hand.{hand-holds}
-use Rattle.key.proofs.Judging.{letters-ready, typed-ready}
+use Rattle.key.specs.Hand.{lettersOf}
 use Rattle.opening.specs.declared.Opened.{Opened}
 use Rattle.opening.specs.Opened.{Opens}
 use Rattle.walk.specs.Descent.{lookedBy, lookedIn}

@@ -5,7 +5,7 @@ use mathlib.Core.Path.{_≡_, refl, sym, _∙_, ap}
 use mathlib.Core.Option.{none, some}
 use mathlib.Core.List.{List, [], _∷_, _++_}
 use lib.ListN.{length}
-use Rattle.trie.specs.Table.{descend, answer}
+use Rattle.trie.specs.Table.{answer}
 use Rattle.trie.specs.Storing.{changeOf}
 use Rattle.head.specs.Fields.{headOf}
 use Rattle.alphabet.specs.Letters.{lettersIn}

@@ -1,6 +1,6 @@
 -- `storing::build` meets its contract: the new nodes are laid, then the node total and the link are written, and none of this changes the
 -- image's length. Assumes nothing.
-use Prim.Native.Nat.{suc, _+_, _-_, _≤_, _<_}
+use Prim.Native.Nat.{suc, _+_, _-_, _<_}
 use mathlib.Core.Path.{_≡_, ap, _∙_}
 use mathlib.Core.List.{_∷_}
 use native.Mathlib.Omega.{arith}
@@ -13,7 +13,7 @@ use Rattle.head.proofs.Places.{place-least}
 use Rattle.node.proofs.Storing.{length-carried}
 use Rattle.key.specs.Hand.{lettersOf}
 use Rattle.key.proofs.Hand.{letters-from, letter-below}
-use Rattle.storing.proofs.Building.{built, addresses-fit}
+use Rattle.storing.proofs.Building.{built}
 use Rattle.storing.proofs.build.Statement.{statement}
 use Rattle.storing.proofs.build.Tie as tie
 
@@ -72,8 +72,7 @@ set-link-requires : tie.Need-set-link-requires
 set-link-requires c κs =
     let wrote = c .before .before .before .before in
     let start = wrote .before .before .before .before .before .before .before .before in
-    let p = start .pre in
-    (
+    let p = start .pre in (
       record { head-permitted = p .0 .head-permitted; room = omega (arith, long wrote, p .0 .room) },
       (p .1 .1 .0 .node, (below start, omega (arith, p .1 .1 .0 .depth, p .1 .1 .1 .0, p .1 .1 .1 .1 .addresses))),
     )

@@ -1,14 +1,11 @@
 -- `storing::extend` meets its contract: 12 and 13 are asked of the greatest address that the new nodes would have. Assumes nothing.
-use Prim.Native.Nat.{suc, _+_, _-_, _^_, _≤_, _<_}
+use Prim.Native.Nat.{_+_, _-_, _^_, _<_}
 use mathlib.Core.Path.{_≡_, refl, sym, ap, _∙_}
-use mathlib.Core.Bool.{true, false}
 use native.Mathlib.Omega.{arith}
 use borrow.Author.Needs.{needs}
 use borrow.Author.Tests.{leb-true, leb-false, not-true, not-false}
 use lib.ListN.{length, drop, length-drop}
-use Rattle.head.specs.Fields.{permitted, usedLen}
-use Rattle.head.proofs.Permitted.{bounds}
-use Rattle.node.proofs.Heads.{withTotal, used-total}
+use Rattle.head.specs.Fields.{permitted}
 use Rattle.key.specs.Hand.{lettersOf}
 use Rattle.key.proofs.Hand.{letters-count}
 use Rattle.storing.proofs.Adding.{extends-none, extends-no-address, extends-no-room, extends-done}

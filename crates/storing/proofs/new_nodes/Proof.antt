@@ -6,11 +6,11 @@ use mathlib.Core.List.{_∷_}
 use native.Mathlib.Omega.{arith}
 use borrow.Author.Needs.{needs}
 use lib.ListN.{length, getD, drop}
-use Rattle.head.proofs.Permitted.{bounds}
+use Rattle.head.proofs.Permitted.{bounds, addresses-fit}
 use Rattle.key.specs.Hand.{lettersOf}
 use Rattle.key.proofs.Hand.{letters-count, letters-from, letter-below}
 use Rattle.storing.specs.Storing.{Space}
-use Rattle.storing.proofs.Building.{Laying, laying-start, laying-most, laying-room, laying-on, laying-end, addresses-fit}
+use Rattle.storing.proofs.Building.{Laying, laying-start, laying-room, laying-on, laying-end}
 use Rattle.storing.proofs.new_nodes.Statement.{statement}
 use Rattle.storing.proofs.new_nodes.Tie as tie
 

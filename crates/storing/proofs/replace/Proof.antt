@@ -24,8 +24,7 @@ returns : tie.Need-returns
 returns c =
     let set = c .before .before .before in
     let read = set .before .before in
-    let a = read .before .before .before .args in
-    (
+    let a = read .before .before .before .args in (
       set .set-data .ensures .0,
       toZ-ofZ {w = w32} (sfits-of (c .change .ok)) ∙ c .change .ensures ∙ ap (λ (old : ℕ). changeOf old (a .value)) (read .«data» .ensures),
     )
