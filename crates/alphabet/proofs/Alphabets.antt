@@ -2,14 +2,14 @@
 -- exactly if it stands there at all, and then what stands at that place is the character.
 use mathlib.Core.Path.{_≡_, refl, sym, _∙_}
 use mathlib.Core.Bool.{Bool, true, false, not, _&&_, _||_, and-false, or-assoc, or-false}
-use Prim.Native.Nat.{ℕ, suc, _+_, _≤_, _<_}
+use Prim.Native.Nat.{ℕ, suc, _+_, _≤_}
 use native.Mathlib.Omega.{arith}
 use mathlib.Core.List.{List, [], _∷_, _++_}
 use mathlib.Core.Option.{Option, none, some}
 use Rattle.field.proofs.Range.{both}
 use Rattle.utf8.specs.Text.{chars, charsFrom}
 use lib.Dec.{eqb, ltb, leb·suc-suc}
-use lib.ListN.{length, getD}
+use lib.ListN.{length}
 use borrow.Author.Tests.{eq-eqb, ne-eqb, eqb-true, eqb-false, lt-ltb}
 use Rattle.alphabet.specs.Letters.{among, allDifferent, isAlphabet, goodAlphabet, lettersIn, letters, letterOf}
 
@@ -72,15 +72,6 @@ letter-below (d ∷ cs) c = go (eqb c d) refl (letter-below cs c)
     go : (t : Bool) → eqb c d ≡ t → ltb (letterOf cs c) (length cs) ≡ among c cs → ltb (letterOf (d ∷ cs) c) (suc (length cs)) ≡ among c (d ∷ cs)
     go true e h = rw e (lt-ltb 0 (suc (length cs)) (omega arith))
     go false e h = rw e (leb·suc-suc (suc (letterOf cs c)) (length cs) ∙ h)
-
-pub letter-at : (cs : List ℕ) (c : ℕ) → letterOf cs c < length cs → getD cs (letterOf cs c) 0 ≡ c
-unfolding letterOf
-letter-at [] c h = omega arith
-letter-at (d ∷ cs) c h = go (eqb c d) refl (letter-at cs c)
-  where
-    go : (t : Bool) → eqb c d ≡ t → (letterOf cs c < length cs → getD cs (letterOf cs c) 0 ≡ c) → getD (d ∷ cs) (letterOf (d ∷ cs) c) 0 ≡ c
-    go true e next = rw e (sym (eqb-true c d e))
-    go false e next = rw e (next (omega (arith, rw e at h)))
 
 pub letter-here : (c : ℕ) (cs : List ℕ) → letterOf (c ∷ cs) c ≡ 0
 unfolding letterOf

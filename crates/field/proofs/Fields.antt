@@ -10,9 +10,9 @@ use borrow.Author.Count.{below-more}
 use mathlib.Core.List.{List, [], _∷_, _++_}
 use lib.Bits.{bitAnd, and-mask}
 use lib.Arith.{digits-lt, digits-div, digits-mod, mod-mul}
-use lib.ListN.{length, getD, set, take, drop, replicate, length-append, length-drop, length-replicate, List·getD-append}
-use lib.Seq.{sets, getD-take, getD-drop, getD-append-add, getD-at, take-suc}
-use Rattle.field.specs.Field.{Bytes, Zeros, fieldAt, digits, putField, cleared}
+use lib.ListN.{length, getD, set, take, drop, replicate, length-append, length-drop, List·getD-append}
+use lib.Seq.{sets, getD-drop, getD-at, take-suc}
+use Rattle.field.specs.Field.{Bytes, Zeros, fieldAt, digits, putField}
 use Rattle.field.proofs.Laid.{getD-outside, getD-inside, sets-append, set-sets, sets-same}
 
 -- ---- a field is what its bytes are
@@ -90,19 +90,10 @@ field-masked l end w mask p h four e =
     ∙ field-last l (end - 4) (4 - w) w p
     ∙ ap (λ (x : ℕ). fieldAt l x w) from
 
--- ---- of a part, of an append, of zeros
-
-pub field-take : (l : List ℕ) (n at w : ℕ) → at + w ≤ n → fieldAt (take n l) at w ≡ fieldAt l at w
-field-take l n at w h = field-same (take n l) l at at w (λ k b. getD-take n l (at + k) 0 (omega arith))
-
-pub field-drop : (l : List ℕ) (n at w : ℕ) → fieldAt (drop n l) at w ≡ fieldAt l (n + at) w
-field-drop l n at w = field-same (drop n l) l at (n + at) w (λ k b. rw (add-assoc n at k) (getD-drop n l (at + k) 0))
+-- ---- of an append, of zeros
 
 pub field-left : (a b : List ℕ) (at w : ℕ) → at + w ≤ length a → fieldAt (a ++ b) at w ≡ fieldAt a at w
 field-left a b at w h = field-same (a ++ b) a at at w (λ k c. List·getD-append a b 0 (at + k) (omega arith))
-
-pub field-right : (a b : List ℕ) (at w : ℕ) → fieldAt (a ++ b) (length a + at) w ≡ fieldAt b at w
-field-right a b at w = field-same (a ++ b) b (length a + at) at w (λ k c. rw (add-assoc (length a) at k) (getD-append-add a b (at + k) 0))
 
 zero-at : (n k : ℕ) → _≡_ {A = ℕ} (getD (replicate n 0) k 0) 0
 zero-at zero k = refl
@@ -196,8 +187,3 @@ put-last l at w v =
     sets-append l at (digits w (v / 256)) (v % 256 ∷ [])
     ∙ ap (λ (k : ℕ). set (sets l at (digits w (v / 256))) (at + k) (v % 256)) n
     ∙ sym (set-sets l (digits w (v / 256)) at (at + w) (v % 256) (inr (omega arith)))
-
-pub field-cleared : (l : List ℕ) (at n k u : ℕ) → k + u ≤ n → at + n ≤ length l → fieldAt (cleared l at n) (at + k) u ≡ 0
-field-cleared l at n k u h f =
-    let e : length {A = ℕ} (replicate n 0) ≡ n = length-replicate n 0 in
-    field-inside l (replicate n 0) at k u (omega arith) (omega arith) ∙ field-zeros n k u

@@ -8,9 +8,9 @@ use native.Mathlib.Omega.{arith}
 use mathlib.Core.List.{List, _++_}
 use lib.ListN.{length, getD}
 use lib.Seq.{sets}
-use Rattle.field.specs.Field.{Bytes, fieldAt, digits, putField}
+use Rattle.field.specs.Field.{fieldAt, digits, putField}
 use Rattle.field.proofs.Laid.{getD-outside, getD-inside, sets-append}
-use Rattle.field.proofs.Fields.{field-same, field-bound, field-outside, field-digits, length-digits, read-written-fits}
+use Rattle.field.proofs.Fields.{field-same, field-outside, field-digits, length-digits, read-written-fits}
 use Rattle.head.specs.declared.Head.{Head}
 use Rattle.head.specs.Fields.{headOf, headBytes, fieldsLen}
 use Rattle.head.proofs.Permitted.{Bounds}
@@ -32,12 +32,6 @@ pub record Fit (h : Head) : Type 0 where
 
 pub fit-bounds : {h : Head} → Bounds h → h .g < 2 ^ 32 → Fit h
 fit-bounds b g = omega arith
-
-pub fit-bytes : (l : List ℕ) → Bytes l → Fit (headOf l)
-unfolding headOf
-fit-bytes l b =
-    let fits : (at : ℕ) → fieldAt l at 4 < 2 ^ 32 = λ at. field-bound l at 4 b in
-    record { g-fits = fits 0; n-fits = fits 4; a-fits = fits 8; d-fits = fits 12; f-fits = fits 16; min-fits = fits 20; max-fits = fits 24 }
 
 -- ---- a head is what the first 28 bytes are
 

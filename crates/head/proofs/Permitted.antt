@@ -6,7 +6,7 @@ use Prim.Native.Nat.{_^_, _≤_}
 use native.Mathlib.Nat.{pow-le-pow-right}
 use native.Mathlib.Omega.{arith}
 use Rattle.field.specs.Range.{between}
-use Rattle.field.proofs.Range.{both, between-true, true-between}
+use Rattle.field.proofs.Range.{both, between-true}
 use Rattle.head.specs.declared.Head.{Head}
 use Rattle.head.specs.Fields.{permitted, mostLinks, mostLinkBytes, mostDataBytes, mostAlphabet, mostLetters}
 
@@ -43,18 +43,6 @@ bounds h e =
       min-most = between-true (h .min) 0 (h .max) (t4 .1) .1;
       max-most = between-true (h .max) 0 mostLetters (t5 .1) .1;
     }
-
-pub bounded : (h : Head) → Bounds h → permitted h ≡ true
-unfolding permitted
-bounded h b =
-    rw (
-      true-between (h .n) 1 mostLinks (b .n-least) (b .n-most),
-      true-between (h .a) 1 mostLinkBytes (b .a-least) (b .a-most),
-      true-between (h .d) 1 mostDataBytes (b .d-least) (b .d-most),
-      true-between (h .f) 0 mostAlphabet (omega arith) (b .f-most),
-      true-between (h .min) 0 (h .max) (omega arith) (b .min-most),
-      true-between (h .max) 0 mostLetters (omega arith) (b .max-most),
-    )
 
 -- addresses of A bytes are 32 bits wide
 pub addresses-fit : {h : Head} → Bounds h → 256 ^ h .a ≤ 2 ^ 32

@@ -11,12 +11,6 @@ use Rattle.head.specs.Fields.{nodeWidth, nodePlace, usedLen}
 use Rattle.head.proofs.Places.{place-add}
 use Rattle.node.specs.Image.{tableOf}
 
--- min and max do not matter
-pub table-head : (h k : Head) (l : List ℕ) → h .g ≡ k .g → h .n ≡ k .n → h .a ≡ k .a → h .d ≡ k .d → h .f ≡ k .f → tableOf h l ≡ tableOf k l
-unfolding tableOf
-table-head h k l g n a d f j =
-    tableOf (record { g = g j; n = n j; a = a j; d = d j; f = f j; min = h .min; max = h .max }) l
-
 -- the head with another G
 abbrev pub withTotal : Head → ℕ → Head
 withTotal h g = record { g = g; n = h .n; a = h .a; d = h .d; f = h .f; min = h .min; max = h .max }

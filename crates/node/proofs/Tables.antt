@@ -2,14 +2,11 @@
 -- So tables are equal where those fields are.
 use mathlib.Core.Path.{_≡_, refl}
 use mathlib.Core.Bool.{Bool, true, false, _&&_, cond, and-false}
-use Prim.Native.Nat.{ℕ, _^_, _≤_, _<_}
-use native.Mathlib.Nat.{one-le-pow}
-use native.Mathlib.Omega.{arith}
+use Prim.Native.Nat.{ℕ, _≤_, _<_}
 use borrow.Author.Tests.{le-leb, lt-leb, lt-ltb, le-ltb, leb-true, ltb-true}
 use mathlib.Core.List.{List}
 use lib.Dec.{leb, ltb}
-use Rattle.field.specs.Field.{Bytes, fieldAt}
-use Rattle.field.proofs.Fields.{field-bound}
+use Rattle.field.specs.Field.{fieldAt}
 use Rattle.field.proofs.Range.{both}
 use Rattle.trie.specs.Table.{Table}
 use Rattle.trie.specs.Rules.{Framed}
@@ -52,17 +49,6 @@ module _ (h : Head) (l : List ℕ) where
       }
 
   -- ---- in either case
-
-  pub child-bound : (q i : ℕ) → Bytes l → tableOf h l .child q i < 256 ^ h .a
-  unfolding tableOf
-  child-bound q i p =
-      either (λ (x : ℕ). x < 256 ^ h .a) (leb q (h .g) && ltb i (h .n))
-      (field-bound l (linkPlace h q i) (h .a) p) (one-le-pow (h .a) 256 (omega arith))
-
-  pub value-bound : (q : ℕ) → Bytes l → tableOf h l .value q < 256 ^ h .d
-  unfolding tableOf
-  value-bound q p =
-      either (λ (x : ℕ). x < 256 ^ h .d) (leb q (h .g)) (field-bound l (dataPlace h q) (h .d) p) (one-le-pow (h .d) 256 (omega arith))
 
   pub child-same : (m : List ℕ) (q i : ℕ)
       → (q ≤ h .g → i < h .n → fieldAt l (linkPlace h q i) (h .a) ≡ fieldAt m (linkPlace h q i) (h .a))

@@ -1,23 +1,21 @@
 -- How many keys are listed. A list in order is known by its keys, so two tables that answer alike for every key but one have listings
--- that differ in that key at most; and a node with no link and no data lists nothing, so a new one changes no listing.
-use Prim.Native.Nat.{ℕ, zero, suc, pred, _+_, _-_, _≤_}
+-- that differ in that key at most; and a node with no link and no data lists nothing.
+use Prim.Native.Nat.{ℕ, zero, suc, _+_, _-_, _≤_}
 use native.Mathlib.Omega.{arith}
 use native.Mathlib.Numerals.{add-one}
 use mathlib.Core.List.{List, [], _∷_, _++_, List·Memᴰ, List·Memᴰ·head, List·Memᴰ·tail}
 use mathlib.Core.List.{List·Memᴰ·cases-cons, List·Memᴰ·append-cases, Memᴰ·append-left, Memᴰ·append-right, Memᴰ·cast}
 use mathlib.Core.Logic.{_↔_, _≢_, ⊎-elim}
-use mathlib.Core.Path.{_≡_, refl, sym, _∙_, ap, ap₂, subst, fun-ext}
+use mathlib.Core.Path.{_≡_, refl, sym, _∙_, ap, subst}
 use lib.IntN.{pos, negsuc, _+ℤ_, +ℤ-idr}
 use lib.ListN.{length, length-append}
 use borrow.Author.Tests.{le-ltb}
-use Rattle.trie.specs.Table.{Table, complete, follow, descend, answer, missing, Letters}
-use Rattle.trie.specs.Keys.{present, ownKey, byLetter, keysUnder, listing, Ascending}
+use Rattle.trie.specs.Table.{Table, descend, answer, missing, Letters}
+use Rattle.trie.specs.Keys.{keysUnder, listing, Ascending}
 use Rattle.trie.specs.Rules.{Framed, Linked}
-use Rattle.trie.specs.Storing.{put, grow, growPath, stored, storedBy, added, changeOf}
+use Rattle.trie.specs.Storing.{stored, added, changeOf}
 use Rattle.trie.proofs.Listing.{listing-holds, keysUnder-ascending, held-once, same-keys}
 use Rattle.trie.proofs.Beyond.{own-none, under-split, from-childless}
-use Rattle.trie.proofs.Walk.{follow-empty, follow-on, answer-complete, complete-letters}
-use Rattle.trie.proofs.Grow.{Grown, new, old, grown, Fresh, Room, room-fresh, room-next}
 use Rattle.trie.proofs.Storing.{stored-answer, stored-answer-other, stored-linked}
 
 -- One key more.
@@ -157,50 +155,9 @@ stored-count {t} {g} {n} l k letters v least most low high =
     } in
     rw (stored-answer l k letters v) at (listing-change a)
 
--- a value put as the data of a key's own node
-pub put-count : {t : Table} {g n : ℕ} → Linked t g n → (k : List ℕ) {q : ℕ} → descend t 0 k ≡ complete q
-    → (v least most : ℕ) → least ≤ length k → length k ≤ most
-    → pos (length (listing (put t q v) n least most)) ≡ pos (length (listing t n least most)) +ℤ changeOf (t .value q) v
-unfolding stored storedBy
-put-count {t} {g} {n} l k e v least most low high =
-    rw (answer-complete t k e, e, stored) at (stored-count l k (complete-letters t 0 k (l .framed) e) v least most low high)
-
--- New nodes.
+-- ---- a node with nothing in it
 
 -- a node with no link and no data lists nothing
 pub blank-keys : (t : Table) (n short left c : ℕ) → ((i : ℕ) → t .child c i ≡ 0) → t .value c ≡ 0 → keysUnder t n short left c ≡ []
 blank-keys t n short left c no-links no-data =
     rw (under-split t n short left c, own-none t short c no-data, from-childless t n short left c 0 no-links)
-
-own-same : (t s : Table) (short q : ℕ) → s .value q ≡ t .value q → ownKey s short q ≡ ownKey t short q
-unfolding ownKey
-own-same t s zero q e = ap present e
-own-same t s (suc short) q e = refl
-
--- what a link lists: the new one leads to a node that lists nothing
-link-keys : {t : Table} {q x c p i y : ℕ} → Fresh t q x c → (keys keys′ : ℕ → List (List ℕ)) → keys c ≡ []
-    → ((r : ℕ) → keys′ r ≡ keys r)
-    → Grown t q x c p i y
-    → follow y [] keys′ ≡ follow (t .child p i) [] keys
-link-keys {t} {q} {x} {c} {p} {i} f keys keys′ none same (new e d) =
-    follow-on c [] keys′ (f .no-root) ∙ same c ∙ none ∙ sym (follow-empty (t .child p i) [] keys (rw (e, d) (f .empty)))
-link-keys {t} {p = p} {i} f keys keys′ none same old = ap (follow (t .child p i) []) (fun-ext same)
-
--- linking a new node changes no listing
-pub grow-keys : {t : Table} {q x c : ℕ} → Fresh t q x c → (n short left p : ℕ)
-    → keysUnder (grow t q x c) n short left p ≡ keysUnder t n short left p
-unfolding keysUnder grow
-grow-keys {t} {q} {x} {c} f n short zero p = own-same t (grow t q x c) short p refl
-grow-keys {t} {q} {x} {c} f n short (suc left) p =
-    let none = blank-keys t n (pred short) left c (f .no-links) (f .no-data) in
-    ap₂
-    (λ (own : List (List ℕ)) (keys : ℕ → List (List ℕ)). own ++ byLetter keys 0 n)
-    (own-same t (grow t q x c) short p refl)
-    (fun-ext (λ i. link-keys f _ _ none (grow-keys f n (pred short) left) (grown t q x c p i)))
-
--- nor does a new path
-pub growPath-keys : {t : Table} {g n q x : ℕ} (xs : List ℕ) → Room t g n q x xs → (m short left p : ℕ)
-    → keysUnder (growPath t q x xs (suc g)) m short left p ≡ keysUnder t m short left p
-unfolding growPath
-growPath-keys [] r m short left p = grow-keys (room-fresh r) m short left p
-growPath-keys (y ∷ ys) r m short left p = growPath-keys ys (room-next r) m short left p ∙ grow-keys (room-fresh r) m short left p

@@ -139,6 +139,3 @@ short {n = n} framed (on {q} {x} h w) = (go (decLt x n), short framed w)
     go : Dec (x < n) → x < n
     go (yes l) = l
     go (no l) = absurd (h (framed .no-letter q x (omega arith)))
-
-pub complete-letters : (t : Table) (a : ℕ) (k : List ℕ) {g n q : ℕ} → Framed t g n → descend t a k ≡ complete q → Letters n k
-complete-letters t a k framed e = short framed (walk t a k e)
