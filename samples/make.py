@@ -52,8 +52,9 @@ class Image:
             lines.append("%s %d" % (".".join(map(str, key)) or "-", value))
         return "".join(line + "\n" for line in lines).encode()
 
-    def used(self):
-        return self.whole()[:self.first + (self.g + 1) * self.width]
+    def used(self, spare=0):
+        """The used bytes, with room for so many nodes more."""
+        return self.whole()[:self.first + (self.g + 1 + spare) * self.width]
 
 
 def p3():
@@ -112,7 +113,7 @@ def samples(folder):
 
 def bench(folder):
     write(folder, "full.trieff", numbered(16777216, 1 << 36)[0].whole())
-    write(folder, "twenty.trieff", numbered(16777216, 20000)[0].used())
+    write(folder, "twenty.trieff", numbered(16777216, 20000)[0].used(16))
     for name, most in (("many", 1 << 36), ("few", 10)):
         image, stored = numbered(65536, most)
         write(folder, name + ".trieff", image.used())
