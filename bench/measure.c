@@ -1,7 +1,7 @@
 /* Calls one door of the library over an image in a file, so that callgrind can count what it takes. Usage:
      measure IMAGE check|count|walk
      measure IMAGE look_up_text|next_key TEXT
-     measure IMAGE store|store_text|store_inner TEXT VALUE
+     measure IMAGE store|store_text TEXT VALUE
    It prints what the call answers. Where a call takes letters, each byte of TEXT is sought in the image's alphabet of one-byte letters. After a
    store the label must answer the value. */
 #include <stdbool.h>
@@ -20,8 +20,6 @@ uint64_t measure_store(uint8_t *image, size_t image_len, uint32_t *work, size_t 
                        const uint8_t *letters, size_t letters_len, uint32_t value);
 uint64_t measure_store_text(uint8_t *image, size_t image_len, uint32_t *work, size_t work_len,
                             const uint8_t *text, size_t text_len, uint32_t value);
-uint64_t measure_store_inner(uint8_t *image, size_t image_len, uint32_t *work, size_t work_len,
-                             const uint8_t *letters, size_t letters_len, uint32_t value);
 
 static const uint8_t *letters_of(const uint8_t *image, const char *text, uint8_t *letters)
 {
@@ -56,8 +54,6 @@ int main(int argc, char **argv)
         answer = measure_store(image, len, work, 8388608, letters_of(image, text, letters), strlen(text), value);
     else if (strcmp(call, "store_text") == 0)
         answer = measure_store_text(image, len, work, 8388608, (const uint8_t *)text, strlen(text), value);
-    else if (strcmp(call, "store_inner") == 0)
-        answer = measure_store_inner(image, len, work, 8388608, letters_of(image, text, letters), strlen(text), value);
     else
         return fprintf(stderr, "no call %s\n", call), 2;
     printf("%llu\n", (unsigned long long)answer);

@@ -1,10 +1,9 @@
-// Doors for the programs of bench/: each calls one public call and answers its number, or the value where it is done; two check an image
-// and then call inner functions. They promise nothing of their own; what they call is proved.
+// Doors for the programs of bench/: each calls one public call and answers its number, or the value where it is done. They promise nothing
+// of their own; what they call is proved.
 ghost use mathlib.Core.Path.{_≡_};
 ghost use Rattle.head.specs.Fields.{headOf};
 ghost use Rattle.paper.specs.Accepted.{Accepted};
 use head::Head;
-use key::Key;
 use order::Search;
 use paper::Counted;
 use paper::Done;
@@ -28,15 +27,6 @@ pub extern "C" fn measure_count(image: &[u8], work: &mut [u32]) -> u64 {
     match answer {
         Counted::Keys(n) => n as u64,
         Counted::Refused(_) => 0,
-    }
-}
-
-#[no_mangle]
-pub extern "C" fn measure_look_up(image: &[u8], letters: &[u8]) -> u64 {
-    let answer = trieff::look_up(image, letters);
-    match answer {
-        Looked::Value(v) => v,
-        Looked::Refused(_) => 0,
     }
 }
 
@@ -84,34 +74,6 @@ pub extern "C" fn measure_store_text(
 ) -> u64 {
     let answer = trieff::store_text(image, work, text, value);
     number(answer)
-}
-
-// A check, a key judged, then one store in the image that is now known to be accepted.
-#[no_mangle]
-pub extern "C" fn measure_store_inner(
-    image: &mut [u8],
-    work: &mut [u32],
-    letters: &[u8],
-    value: u32,
-) -> u64 {
-    let mut codes = [0u32; 256];
-    let checked = audit::check(image, work, &mut codes);
-    let verdict = checked.verdict;
-    match verdict {
-        Verdict::Refused(why) => why.number() as u64,
-        Verdict::Passed => {
-            let h = checked.head;
-            let key = Key::of(letters);
-            let judged = key.judge(h);
-            match judged {
-                Verdict::Refused(at_key) => at_key.number() as u64,
-                Verdict::Passed => {
-                    let answer = storing::store(image, h, key, value as u64);
-                    number(answer)
-                }
-            }
-        }
-    }
 }
 
 // The number of a store's answer: 0 where it is done.
