@@ -13,7 +13,9 @@ const P3: [u8; 43] =
     *b"\0\0\0\x02\0\0\0\x03\0\0\0\x01\0\0\0\x01\0\0\0\x03\0\0\0\x01\0\0\0\x03ABC\0\x01\0\0\x02\0\0\x05\0\0\0\x09";
 
 fn main() {
-    making();
+    p1();
+    alphabets();
+    limits();
     let image = P3;
     read(&image);
     run(false);
@@ -27,10 +29,14 @@ fn main() {
     full();
 }
 
-// P1 in 35 bytes and in one byte less; Run's alphabets; each of 1, 2 and 4 at its limit.
-fn making() {
+// P1: fresh in 35 bytes, and in one byte less.
+fn p1() {
     make(b"P1", &mut [0xAA; 35], 3, 1, 1, b"ABC", 1, 3);
     make(b"P1 in 34 bytes", &mut [0xAA; 34], 3, 1, 1, b"ABC", 1, 3);
+}
+
+// Run: alphabets that are none, and one that is at the end of Table 3-7.
+fn alphabets() {
     lettered(b"alphabet C0 80", 1, b"\xC0\x80");
     lettered(b"alphabet ED A0 80", 1, b"\xED\xA0\x80");
     lettered(b"alphabet F4 8F BF BF", 1, b"\xF4\x8F\xBF\xBF");
@@ -38,20 +44,24 @@ fn making() {
     lettered(b"alphabet AB with N = 1", 1, b"AB");
     lettered(b"alphabet C3 cut short", 1, b"\xC3");
     lettered(b"alphabet of letter numbers alone", 2, b"");
+    lettered(b"F = 1025", 1, &[65; 1025]);
+}
+
+// 1, 2 and 4 at their limits, with no alphabet.
+fn limits() {
     make(b"27 bytes", &mut [0xAA; 27], 1, 1, 1, b"", 0, 0);
     make(b"28 bytes", &mut [0xAA; 28], 1, 1, 1, b"", 0, 0);
     make(b"29 bytes", &mut [0xAA; 29], 1, 1, 1, b"", 0, 0);
-    make(b"30 bytes", &mut [0xAA; 30], 1, 1, 1, b"", 0, 0);
-    make(b"N = 0", &mut [0xAA; 30], 0, 1, 1, b"", 0, 0);
-    make(b"N = 257", &mut [0xAA; 30], 257, 1, 1, b"", 0, 0);
-    make(b"A = 0", &mut [0xAA; 30], 1, 0, 1, b"", 0, 0);
-    make(b"A = 5", &mut [0xAA; 30], 1, 5, 1, b"", 0, 0);
-    make(b"D = 0", &mut [0xAA; 30], 1, 1, 0, b"", 0, 0);
-    make(b"D = 5", &mut [0xAA; 30], 1, 1, 5, b"", 0, 0);
-    make(b"F = 1025", &mut [0xAA; 30], 1, 1, 1, &[65; 1025], 0, 0);
-    make(b"min above max", &mut [0xAA; 30], 1, 1, 1, b"", 4, 3);
-    make(b"max = 65", &mut [0xAA; 30], 1, 1, 1, b"", 0, 65);
-    make(b"max = 64", &mut [0xAA; 30], 1, 1, 1, b"", 64, 64);
+    numbered(b"30 bytes", 1, 1, 1, 0, 0);
+    numbered(b"N = 0", 0, 1, 1, 0, 0);
+    numbered(b"N = 257", 257, 1, 1, 0, 0);
+    numbered(b"A = 0", 1, 0, 1, 0, 0);
+    numbered(b"A = 5", 1, 5, 1, 0, 0);
+    numbered(b"D = 0", 1, 1, 0, 0, 0);
+    numbered(b"D = 5", 1, 1, 5, 0, 0);
+    numbered(b"min above max", 1, 1, 1, 4, 3);
+    numbered(b"max = 65", 1, 1, 1, 0, 65);
+    numbered(b"max = 64", 1, 1, 1, 64, 64);
 }
 
 // P4, P5 and P12 on the image of P3, and the number of its keys.
@@ -309,9 +319,13 @@ fn within(
     put(text, label, &mut copy[..room], key, name, value);
 }
 
-// Makes an image with this alphabet.
+// A fresh image with this alphabet, and one without.
 fn lettered(label: &[u8], n: u32, alphabet: &[u8]) {
     make(label, &mut [0xAA; 40], n, 1, 1, alphabet, 1, 3);
+}
+
+fn numbered(label: &[u8], n: u32, a: u32, d: u32, min: u32, max: u32) {
+    make(label, &mut [0xAA; 30], n, a, d, b"", min, max);
 }
 
 fn make(
