@@ -10,7 +10,7 @@ array-borrow-prefix-space : tie.Need-array-borrow-prefix-space
 array-borrow-prefix-space c = search needs
 
 slice-aggregate-buffer : tie.Need-slice-aggregate-buffer
-slice-aggregate-buffer c = sym (length-take-le _ _ (c .before .before .before .before .pre))
+slice-aggregate-buffer c = sym (length-take-le _ _ (search needs))
 
 slice-aggregate-next-key : tie.Need-slice-aggregate-next-key
 slice-aggregate-next-key c = search needs
@@ -18,14 +18,11 @@ slice-aggregate-next-key c = search needs
 next-key-requires : tie.Need-next-key-requires
 next-key-requires c κs = search needs
 
-slice-aggregate-write-all : tie.Need-slice-aggregate-write-all
-slice-aggregate-write-all c = search needs
+slice-aggregate-named : tie.Need-slice-aggregate-named
+slice-aggregate-named c = search needs
 
-write-all-requires : tie.Need-write-all-requires
-write-all-requires c κs = search needs
-
-write-all-requires-2 : tie.Need-write-all-requires-2
-write-all-requires-2 c κs = search needs
+named-requires : tie.Need-named-requires
+named-requires c κs = search needs
 
 enum-known-answer : tie.Need-enum-known-answer
 enum-known-answer c = search needs
@@ -54,6 +51,9 @@ numbers-requires c κs = search needs
 bytes-requires : tie.Need-bytes-requires
 bytes-requires c κs = search needs
 
+line-end-requires : tie.Need-line-end-requires
+line-end-requires c κs = search needs
+
 returns : tie.Need-returns
 returns c = search needs
 
@@ -65,9 +65,8 @@ next-key-spec =
     slice-aggregate-buffer
     slice-aggregate-next-key
     next-key-requires
-    slice-aggregate-write-all
-    write-all-requires
-    write-all-requires-2
+    slice-aggregate-named
+    named-requires
     enum-known-answer
     done-requires
     enum-known-answer-2
@@ -77,4 +76,5 @@ next-key-spec =
     slice-aggregate-numbers
     numbers-requires
     bytes-requires
+    line-end-requires
     returns)
