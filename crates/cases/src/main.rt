@@ -142,7 +142,8 @@ fn next() {
     next_key(b"a buffer of 2 letters", &image, &[1], true, 2);
 }
 
-// Every call on images that 1, 2, 3 and 4 refuse, on P8 to P11, and with Run's G = FFFFFFFF, with and without the bytes of the alphabet.
+// Every call on images that 1 to 4 refuse, on P8 to P11, on one that 7 and 8 refuse, and with Run's G = FFFFFFFF, with and without the
+// bytes of the alphabet.
 fn images() {
     cut(b"27 bytes", P3, 27);
     every(b"max = 259", &mut spoiled(26, 1));
@@ -153,6 +154,7 @@ fn images() {
     every(b"P9", &mut two_nodes([0, 2, 0, 0, 0, 0, 0, 0]));
     every(b"P10", &mut two_nodes([0, 0, 0, 0, 0, 0, 0, 0]));
     every(b"P11", &mut two_nodes([0, 1, 0, 0, 0, 1, 0, 0]));
+    every(b"7 at 1 and 8 at 2", &mut twice_and_never());
     let torn = two_nodes([0, 1, 0, 0, 0, 2, 0, 0]);
     look(b"a link above G on the path", &torn, &[1, 1], b"BB");
     look(b"the same, beside the path", &torn, &[1], b"B");
@@ -195,6 +197,7 @@ fn characters() {
     make(b"long letters", &mut image, 2, 2, 4, alphabet, 1, 2);
     put(true, b"both letters", &mut image, &[1, 0], name, 0xFFFFFFFF);
     look(b"both letters", &image, &[1, 0], name);
+    put(false, b"both letters = 258", &mut image, &[1, 0], name, 258);
     put(true, b"C3", &mut image, &[0], b"\xC3", 1);
     put(true, b"A9", &mut image, &[0], b"\xA9", 1);
 }
@@ -257,6 +260,14 @@ fn great() -> [u8; 43] {
     image[1] = 0xFF;
     image[2] = 0xFF;
     image[3] = 0xFF;
+    image
+}
+
+// The image of P3 with node 1 linked twice and node 2 not at all.
+fn twice_and_never() -> [u8; 43] {
+    let mut image = P3;
+    image[33] = 1;
+    image[35] = 0;
     image
 }
 
