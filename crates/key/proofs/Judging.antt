@@ -23,11 +23,11 @@ use Rattle.paper.specs.Rows.{row9, row9next, row10, row10text, allBelow, isNone
 use Rattle.paper.specs.Orders.{byLetters, byNext, byText}
 use Rattle.paper.proofs.Hearing.{was-false, yes-row, no-row, passed-row}
 use Rattle.paper.proofs.Keying.{below-letters}
+use Rattle.paper.proofs.Named.{named-letters}
 use Rattle.key.specs.declared.Key.{Key}
 use Rattle.key.specs.declared.Typed.{Typed}
 use Rattle.key.specs.Hand.{inHand, Holds, typedAs, lettersOf, Ready}
 use Rattle.key.proofs.Hand.{hand-holds}
-use Rattle.key.proofs.Named.{named-letters}
 
 -- the letters of a key in hand that is not too long
 pub held : {hand : Key} {k : List ℕ} → Holds hand k → hand .len ≤ mostLetters → lettersOf hand ≡ k

@@ -1,4 +1,3 @@
 pub mod Hand
 pub mod Judging
-pub mod Named
 mod Typing

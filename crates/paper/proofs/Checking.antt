@@ -368,6 +368,10 @@ module _ (l work : List ℕ) where
 pub accepted-open : {l : List ℕ} → Accepted l → Open (headOf l) l
 accepted-open a = record { head-permitted = a .head-permitted; room = a .room }
 
+-- by a head in hand that is the image's own
+pub head-open : {l : List ℕ} {h : Head} → Accepted l → h ≡ headOf l → Open h l
+head-open a same = rw same (accepted-open a)
+
 pub accepted-linked : {l : List ℕ} → Accepted l → Linked (tableIn l) (headOf l .g) (headOf l .n)
 unfolding tableIn
 accepted-linked {l} a = record { framed = framed (headOf l) l; within = a .within; named = a .named; once = a .once }

@@ -6,6 +6,7 @@ use mathlib.Core.Logic.{_↔_}
 use mathlib.Core.Bool.{true, false, not}
 use mathlib.Core.Option.{Option, none, some}
 use mathlib.Core.List.{List, [], _∷_}
+use native.Mathlib.Omega.{arith}
 use lib.Dec.{ltb}
 use lib.ListN.{length}
 use borrow.Author.Tests.{lt-ltb, le-ltb, ltb-true, not-false}
@@ -29,6 +30,12 @@ below-letters n (x ∷ k) = (
   λ e. let u = both (ltb x n) (allBelow n k) e in (ltb-true x n (u .0), below-letters n k .0 (u .1)),
   λ s. rw (lt-ltb x n (s .0), below-letters n k .1 (s .1)),
 )
+
+-- a text that names a key names this one
+pub some-found : (found : Option (List ℕ)) → isNone found ≡ false → found ≡ some (lettersIn found)
+unfolding isNone lettersIn
+some-found none e = let z : _≡_ {A = ℕ} 0 1 = cc in absurd (omega arith)
+some-found (some k) e = refl
 
 -- ---- a key that passes
 

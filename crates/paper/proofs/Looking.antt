@@ -10,11 +10,12 @@ use native.Mathlib.Decide.{ℕ-discrete}
 use native.Mathlib.Omega.{arith}
 use lib.Dec.{ltb}
 use lib.ListN.{length}
-use borrow.Author.Tests.{le-ltb, lt-leb, ltb-true}
+use borrow.Author.Tests.{le-ltb, lt-leb}
 use Rattle.field.specs.Field.{fieldAt}
 use Rattle.field.proofs.Range.{between-true}
 use Rattle.utf8.specs.Text.{chars}
 use Rattle.trie.specs.Table.{Letters, follow, descend, valueAt, answer, fault}
+use Rattle.trie.proofs.Letters.{letters-more}
 use Rattle.trie.proofs.Walk.{follow-empty, follow-on}
 use Rattle.trie.proofs.Faults.{fault-none, value-nil, value-empty, value-on}
 use Rattle.head.specs.declared.Head.{Head}
@@ -32,7 +33,8 @@ use Rattle.paper.specs.Granted.{Fit}
 use Rattle.paper.proofs.Hearing.{passed-row, passed-parts, heard-done}
 use Rattle.paper.proofs.Numbers.{Says, AllSay, end, _then_, at-says, parts-say, first-says, one-of, none-heard}
 use Rattle.paper.proofs.Opening.{Passed, passed, opening-says, unspoilt-good, alphabet-whole}
-use Rattle.paper.proofs.Keying.{keyNumbers, letters-fit, text-fit, letters-say, text-says}
+use Rattle.paper.proofs.Keying.{keyNumbers, some-found, letters-fit, text-fit, letters-say, text-says}
+use Rattle.paper.proofs.Named.{named-letters}
 use Rattle.paper.proofs.Checking.{good-link}
 
 -- ---- 002's reads and the table
@@ -95,7 +97,7 @@ module _ (h : Head) (l : List ℕ) where
 -- where characters have letters, those are what 002 finds for them
 abbrev Spells : Head → List ℕ → List ℕ → Option (List ℕ) → Type 0
 Spells h alphabet cs none = Unit {0}
-Spells h alphabet cs (some k) = (map (indexOf h alphabet) cs ≡ k) × Letters (length alphabet) k
+Spells h alphabet cs (some k) = map (indexOf h alphabet) cs ≡ k
 
 module _ (h : Head) (alphabet : List ℕ) where
   index-in : (c : ℕ) → ltb (letterOf alphabet c) (length alphabet) ≡ true → indexOf h alphabet c ≡ letterOf alphabet c
@@ -112,17 +114,13 @@ module _ (h : Head) (alphabet : List ℕ) where
       x = letterOf alphabet c
 
       go : (t : Bool) → ltb x (length alphabet) ≡ t → Spells h alphabet (c ∷ cs) (cond (ltb x (length alphabet)) (some (x ∷ k)) none)
-      go true e = rw e (rw (index-in c e, s .0), (ltb-true x (length alphabet) e, s .1))
+      go true e = rw e (rw (index-in c e, s))
       go false e = rw e tt
 
   spells : (cs : List ℕ) → Spells h alphabet cs (lettersOf alphabet cs)
   unfolding lettersOf
-  spells [] = (refl, tt)
+  spells [] = refl
   spells (c ∷ cs) = spells-more c cs (lettersOf alphabet cs) (spells cs)
-
-letters-more : (m n : ℕ) (k : List ℕ) → m ≤ n → Letters m k → Letters n k
-letters-more m n [] b s = tt
-letters-more m n (x ∷ k) b s = (omega (arith, s .0), letters-more m n k b (s .1))
 
 -- the letters of the image's alphabet
 abbrev allowedIn : List ℕ → List ℕ
@@ -149,27 +147,28 @@ alphabet-most l e = go (ℕ-discrete (headOf l .f) 0)
         )
 
 -- a text that names a key: 002 makes the same of it
-record Named (l : List ℕ) (cs : Option (List ℕ)) (named : Option (List ℕ)) : Type 0 where
-  asked : queryChars l cs ≡ query002 l (lettersIn named)
-  known : Letters (length (allowedIn l)) (lettersIn named)
-
-named-002 : (l : List ℕ) (cs : Option (List ℕ)) → isNone (keyOfChars (allowedIn l) cs) ≡ false → Named l cs (keyOfChars (allowedIn l) cs)
+named-002 : (l : List ℕ) (cs : Option (List ℕ)) → isNone (keyOfChars (allowedIn l) cs) ≡ false
+    → queryChars l cs ≡ query002 l (lettersIn (keyOfChars (allowedIn l) cs))
 unfolding keyOfChars queryChars isNone lettersIn
 named-002 l none e = let z : _≡_ {A = ℕ} 0 1 = cc in absurd (omega arith)
 named-002 l (some cs) e = go (lettersOf (allowedIn l) cs) (spells (headOf l) (allowedIn l) cs) e
   where
-    go : (named : Option (List ℕ)) → Spells (headOf l) (allowedIn l) cs named → isNone named ≡ false → Named l (some cs) named
+    go : (named : Option (List ℕ)) → Spells (headOf l) (allowedIn l) cs named → isNone named ≡ false
+        → queryChars l (some cs) ≡ query002 l (lettersIn named)
     go none s f = let z : _≡_ {A = ℕ} 0 1 = cc in absurd (omega arith)
-    go (some k) s f = record { asked = ap (query002 l) (s .0); known = s .1 }
+    go (some k) s f = ap (query002 l) s
 
 -- the letters of the key that a text names are letters of the image
 pub named-fit : (l text : List ℕ) → first (openingOf l) ≡ none → first (byText (headOf l) (namedIn l text)) ≡ none
     → Fit (headOf l) (lettersIn (namedIn l text))
-unfolding namedIn keyOfText
+unfolding namedIn
 named-fit l text opened passes =
     let t = text-fit (headOf l) (namedIn l text) passes in
-    let n = named-002 l (chars text) (t .0) in
-    record { allowed = t .1; below = letters-more _ _ (lettersIn (namedIn l text)) (alphabet-most l opened) (n .known) }
+    record {
+      allowed = t .1;
+      below = letters-more _ _ (lettersIn (namedIn l text)) (alphabet-most l opened)
+          (named-letters (allowedIn l) text (some-found (namedIn l text) (t .0)));
+    }
 
 -- ---- a lookup that is not refused
 
@@ -241,4 +240,4 @@ looks-up-text-002 l text e =
     let named : Option (List ℕ) = namedIn l text in
     let o = unrefused l (byText h named) (lettersIn named) (text-says h named) e in
     answered l (byText h named) (lettersIn named) o (named-fit l text (o .opened) (o .key-passed))
-    ∙ sym (named-002 l (chars text) (text-fit h named (o .key-passed) .0) .asked)
+    ∙ sym (named-002 l (chars text) (text-fit h named (o .key-passed) .0))

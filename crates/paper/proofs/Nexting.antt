@@ -1,7 +1,7 @@
 -- 01 on next key, about the outcomes that its promise cites: what it gives is the first stored key that meets the request, 15 is given
 -- exactly where there is none, and calls of it one after the other list the stored keys, each once and in order. Every key on the way is
 -- stored, so that 9 and 10 let it pass; the rest are the laws on lists in order.
-use Prim.Native.Nat.{ℕ, zero, suc, _+_, _^_, _≤_, _<_}
+use Prim.Native.Nat.{ℕ, suc, _+_, _^_, _≤_, _<_}
 use mathlib.Core.Path.{_≡_, refl, sym, _∙_, ap}
 use mathlib.Core.Logic.{_↔_, _≢_}
 use mathlib.Core.Bool.{Bool, true, false}
@@ -14,12 +14,12 @@ use lib.ListN.{length, take, drop}
 use lib.Seq.{sets, sets-eq, take-at}
 use borrow.Author.Tests.{le-ltb, ltb-false}
 use Rattle.trie.specs.Table.{Letters, answer}
-use Rattle.trie.specs.Keys.{meets, sift, withKey, inTurn, Ascending}
+use Rattle.trie.specs.Keys.{meets, sift, withKey, Ascending}
 use Rattle.trie.specs.Beyond.{firstOf}
 use Rattle.trie.proofs.Order.{before-irrefl}
 use Rattle.trie.proofs.Listing.{First, first-some, first-none, under-listed, listing-holds, keysUnder-ascending}
 use Rattle.trie.proofs.Sift.{first-sift, first-listed, sift-all, sift-out, sift-every}
-use Rattle.trie.proofs.InTurn.{in-turn}
+use Rattle.trie.proofs.InTurn.{same-turns, in-turn}
 use Rattle.trie.proofs.Few.{listing-few}
 use Rattle.head.specs.Fields.{headOf}
 use Rattle.head.proofs.Permitted.{bounds}
@@ -35,7 +35,7 @@ use Rattle.paper.specs.InTurn.{keyLeft, keyHeard, askedAfter, askedForAl
 use Rattle.paper.specs.Accepted.{Accepted}
 use Rattle.paper.proofs.Hearing.{was-false, first-nil, yes-row, no-row, second-part, passed-row, passed-parts, heard-refused, heard-done}
 use Rattle.paper.proofs.Numbers.{AllSay, end, _then_, given-says, parts-say, first-says, none-heard}
-use Rattle.paper.proofs.Keying.{Askable, askable-passes, next-says}
+use Rattle.paper.proofs.Keying.{some-found, Askable, askable-passes, next-says}
 use Rattle.paper.proofs.Checking.{checking-says, accepted-checks, accepted-linked}
 
 -- ---- the stored keys
@@ -76,11 +76,6 @@ nextNumbers = 1 ∷ 2 ∷ 3 ∷ 4 ∷ 5 ∷ 6 ∷ 7 ∷ 8 ∷ 9 ∷ 10 ∷ 14 �
 -- a key at the front of a buffer that has room for it is read back
 front : (buffer k : List ℕ) → length k ≤ length buffer → take (length k) (sets buffer 0 k) ≡ k
 front buffer k b = ap (take (length k)) (sets-eq k buffer 0 (omega arith)) ∙ take-at k (drop (0 + length k) buffer) (length k) refl
-
-pub some-found : (found : Option (List ℕ)) → isNone found ≡ false → found ≡ some (lettersIn found)
-unfolding isNone lettersIn
-some-found none e = let z : _≡_ {A = ℕ} 0 1 = cc in absurd (omega arith)
-some-found (some k) e = refl
 
 module _ (l work key : List ℕ) (after : Bool) (buffer : List ℕ) where
   -- what next key tells and leaves where it gives k
@@ -169,22 +164,6 @@ module _ (l work key : List ℕ) (after : Bool) (buffer : List ℕ) where
       (lettersIn found, gives (after8 .0) (after10 .0) room (some-found found (was-false 15 0 _ (after15 .0))))
 
 -- ---- calls one after the other
-
-with-same : (found : Option (List ℕ)) (f g : List ℕ → List (List ℕ)) → ((m : List ℕ) → found ≡ some m → f m ≡ g m)
-    → withKey found f ≡ withKey found g
-unfolding withKey
-with-same none f g h = refl
-with-same (some m) f g h = h m refl
-
--- two that answer alike on every key that one of them leads to
-same-turns : (next other : List ℕ → Option (List ℕ)) (On : List ℕ → Type 0)
-    → ((k : List ℕ) → On k → next k ≡ other k)
-    → ((k m : List ℕ) → other k ≡ some m → On m)
-    → (times : ℕ) (k : List ℕ) → On k → inTurn next times k ≡ inTurn other times k
-unfolding inTurn
-same-turns next other On same on zero k p = refl
-same-turns next other On same on (suc times) k p =
-    rw (same k p) (with-same (other k) _ _ (λ m e. ap (m ∷_) (same-turns next other On same on times m (on k m e))))
 
 -- the first key, then those after it
 first-and-after : (keys : List (List ℕ)) (rest : List ℕ → List (List ℕ)) → Ascending keys

@@ -47,10 +47,9 @@ use Rattle.paper.specs.Accepted.{Accepted}
 use Rattle.paper.specs.Granted.{Fit, Granted}
 use Rattle.paper.proofs.Hearing.{not-given, was-false, first-nil, first-none, yes-row, no-row, first-part, second-part, passed-row, passed-parts, silent-end, heard-done, heard-alike, kept-lent}
 use Rattle.paper.proofs.Numbers.{AllSay, end, _then_, given-says, parts-say, first-says, one-of, none-heard}
-use Rattle.paper.proofs.Keying.{letters-fit, text-fit, fit-letters, fit-text, keyNumbers, letters-say, text-says}
+use Rattle.paper.proofs.Keying.{some-found, letters-fit, text-fit, fit-letters, fit-text, keyNumbers, letters-say, text-says}
 use Rattle.paper.proofs.Checking.{not-bad, accepted-opens, check-accepts, accepted-checks, checking-says, checked, accepted-linked}
 use Rattle.paper.proofs.Looking.{named-fit}
-use Rattle.paper.proofs.Nexting.{some-found}
 
 -- ---- the head and the table after it
 

@@ -1,8 +1,6 @@
--- The outcome of the whole part behind 10, by what the walk told: an accepted image is open and has no bad link, and the head in hand is
--- its own.
+-- The outcome of the whole part behind 10, by what the walk told: an accepted image has no bad link, and the head in hand is its own.
 use Prim.Native.Nat.{ℕ, _+_, _^_, _≤_, _<_}
 use mathlib.Core.Path.{_≡_, sym, _∙_, ap}
-use mathlib.Core.Bool.{true}
 use mathlib.Core.Option.{none, some}
 use mathlib.Core.List.{List, [], _∷_}
 use native.Mathlib.Omega.{arith}
@@ -11,8 +9,8 @@ use lib.ListN.{length, drop, length-drop}
 use Rattle.trie.specs.Table.{Table, descend}
 use Rattle.trie.specs.Storing.{changeOf}
 use Rattle.head.specs.declared.Head.{Head}
-use Rattle.head.specs.Fields.{headOf, permitted}
-use Rattle.node.specs.Image.{Open, tableOf}
+use Rattle.head.specs.Fields.{headOf}
+use Rattle.node.specs.Image.{tableOf}
 use Rattle.node.specs.Writes.{carriedOut, dataWrite}
 use Rattle.paper.specs.declared.Refusal.{Refusal}
 use Rattle.paper.specs.declared.Stored.{Stored}
@@ -20,7 +18,6 @@ use Rattle.paper.specs.Hearing.{outcome}
 use Rattle.paper.specs.Answers.{storedOf}
 use Rattle.paper.specs.Calls.{tableIn}
 use Rattle.paper.specs.Accepted.{Accepted}
-use Rattle.paper.proofs.Checking.{accepted-open}
 use Rattle.paper.proofs.Storing.{unfaulted}
 use Rattle.key.specs.declared.Key.{Key}
 use Rattle.key.specs.Hand.{lettersOf}
@@ -39,12 +36,6 @@ stops-before key whole short {p = p} s =
     omega (arith, length-drop (p .depth) (lettersOf key), ap length (s .left), letters-count key whole short)
 
 module _ {l : List ℕ} {h : Head} (a : Accepted l) (same : h ≡ headOf l) where
-  pub head-permitted : permitted h ≡ true
-  head-permitted = rw same (a .head-permitted)
-
-  pub opened : Open h l
-  opened = rw same (accepted-open a)
-
   module _ (k : List ℕ) (value : ℕ) where
     -- by the head in hand
     in-hand : (r : Stored) {l′ : List ℕ} → outcome (storedOf r) (l′ ∷ []) ≡ storeAt h l (descend (tableOf h l) 0 k) value

@@ -4,7 +4,7 @@ use Prim.Native.Nat.{ℕ, zero, suc, _≤_}
 use native.Mathlib.Omega.{arith}
 use mathlib.Core.Bool.{true, false}
 use mathlib.Core.List.{List, [], _∷_, List·Memᴰ, List·Memᴰ·head, nil≢cons, head-eq-of-cons-eq, tail-eq-of-cons-eq}
-use mathlib.Core.Option.{Option}
+use mathlib.Core.Option.{Option, none, some}
 use mathlib.Core.Path.{_≡_, refl, sym, _∙_, ap, subst}
 use lib.ListN.{length, drop-of-length-le}
 use Rattle.trie.specs.Keys.{before, meets, firstMeeting, sift, withKey, inTurn, Ascending}
@@ -63,3 +63,21 @@ module _ (keys : List (List ℕ)) (up : Ascending keys) where
   pub in-turn : (times : ℕ) → length keys ≤ times → (k : List ℕ)
       → inTurn (λ j. firstMeeting (meets true j) keys) times k ≡ sift (meets true k) keys
   in-turn times enough k = answers times k (omega (arith, sift-length (meets true k) keys))
+
+-- ---- two ways of asking
+
+with-same : (found : Option (List ℕ)) (f g : List ℕ → List (List ℕ)) → ((m : List ℕ) → found ≡ some m → f m ≡ g m)
+    → withKey found f ≡ withKey found g
+unfolding withKey
+with-same none f g h = refl
+with-same (some m) f g h = h m refl
+
+-- two that answer alike on every key that one of them leads to
+pub same-turns : (next other : List ℕ → Option (List ℕ)) (On : List ℕ → Type 0)
+    → ((k : List ℕ) → On k → next k ≡ other k)
+    → ((k m : List ℕ) → other k ≡ some m → On m)
+    → (times : ℕ) (k : List ℕ) → On k → inTurn next times k ≡ inTurn other times k
+unfolding inTurn
+same-turns next other On same on zero k p = refl
+same-turns next other On same on (suc times) k p =
+    rw (same k p) (with-same (other k) _ _ (λ m e. ap (m ∷_) (same-turns next other On same on times m (on k m e))))

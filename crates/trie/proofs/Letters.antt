@@ -1,5 +1,5 @@
 -- Keys whose letters are all below n. The type computes letter by letter, so each law goes down the key.
-use Prim.Native.Nat.{ℕ, zero, suc, _<_}
+use Prim.Native.Nat.{ℕ, zero, suc, _≤_, _<_}
 use mathlib.Core.List.{List, [], _∷_, _++_}
 use native.Mathlib.Omega.{arith}
 use lib.ListN.{length, getD}
@@ -21,3 +21,7 @@ letters-after n (x ∷ k) m l = letters-after n k m (l .1)
 pub letters-before : (n : ℕ) (k m : List ℕ) → Letters n (k ++ m) → Letters n k
 letters-before n [] m l = tt
 letters-before n (x ∷ k) m l = (l .0, letters-before n k m (l .1))
+
+pub letters-more : (m n : ℕ) (k : List ℕ) → m ≤ n → Letters m k → Letters n k
+letters-more m n [] b s = tt
+letters-more m n (x ∷ k) b s = (omega (arith, s .0), letters-more m n k b (s .1))

@@ -15,7 +15,7 @@ use Rattle.paper.specs.Answers.{rowOf}
 use Rattle.paper.specs.Orders.{alphabetIn, openingOf, byLetters, byText}
 use Rattle.paper.specs.Calls.{namedIn}
 use Rattle.paper.proofs.Hearing.{told-passed}
-use Rattle.paper.proofs.Checking.{check-accepts, accepted-opens, accepted-open}
+use Rattle.paper.proofs.Checking.{accepted-opens, head-open}
 use Rattle.paper.proofs.Looking.{alphabet-most}
 use Rattle.key.specs.declared.Key.{Key}
 use Rattle.key.specs.declared.Typed.{Typed}
@@ -25,7 +25,7 @@ use Rattle.key.proofs.Judging.{letters-ready, typed-ready}
 use Rattle.opening.specs.declared.Opened.{Opened}
 use Rattle.opening.specs.Opened.{Opens, Decoded}
 use Rattle.audit.specs.Audit.{Checked}
-use Rattle.audit.proofs.Verdicts.{opened-open}
+use Rattle.audit.proofs.Verdicts.{opened-open, checked-accepted, checked-head}
 
 -- what is known of an image behind 1 to 4
 pub record Behind (l : List ℕ) (r : Opened) (codes : List ℕ) : Type 0 where
@@ -45,12 +45,11 @@ behind-opening o e =
 
 pub behind-check : {l work : List ℕ} {r : Opened} {work′ codes : List ℕ} → Checked l work r work′ codes → r .verdict ≡ Verdict.Passed
     → Behind l r codes
-behind-check {l} {work} o e =
-    let a = check-accepts l work (told-passed (o .verdict) e) in
+behind-check o e =
     record {
-      opened = accepted-opens a;
-      same = o .head (told-passed refl e);
-      image = rw (o .head (told-passed refl e)) (accepted-open a);
+      opened = accepted-opens (checked-accepted o e);
+      same = checked-head o e;
+      image = head-open (checked-accepted o e) (checked-head o e);
       decoded = o .decoded (told-passed refl e);
     }
 

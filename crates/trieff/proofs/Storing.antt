@@ -4,7 +4,6 @@ use Prim.Native.Nat.{ℕ}
 use mathlib.Core.Path.{_≡_, refl, sym, _∙_, ap}
 use mathlib.Core.Option.{none, some}
 use mathlib.Core.List.{List, [], _∷_, _++_}
-use lib.ListN.{length}
 use Rattle.trie.specs.Table.{answer}
 use Rattle.trie.specs.Storing.{changeOf}
 use Rattle.head.specs.Fields.{headOf}
@@ -14,9 +13,10 @@ use Rattle.paper.specs.declared.Verdict.{Verdict}
 use Rattle.paper.specs.declared.Stored.{Stored}
 use Rattle.paper.specs.Hearing.{Row, Numbers, Outcome, first, heard, outcome, doneNumbers}
 use Rattle.paper.specs.Answers.{saidOf, rowOf, refusalNumbers, storedOf}
-use Rattle.paper.specs.Orders.{checking, adding, newOf, storing, byLetters, byText}
+use Rattle.paper.specs.Orders.{checking, newOf, storing, byLetters, byText}
 use Rattle.paper.specs.Calls.{tableIn, namedIn, workAfter, storedImage, storeBy, storeOf, storeTextOf}
 use Rattle.paper.specs.Promises.{Stores, StoresText}
+use Rattle.paper.proofs.Storing.{valued}
 use Rattle.paper.proofs.Hearing.{first-part, second-part, heard-refused, told-refused, told-passed}
 use Rattle.key.specs.declared.Key.{Key}
 use Rattle.key.specs.Hand.{lettersOf}
@@ -39,18 +39,15 @@ module _ (l work : List ℕ) (keyed : List Row) (key : List ℕ) (value : ℕ) w
   abbrev Leaves : Stored → List ℕ → Type 0
   Leaves r l′ = outcome (storedOf r) (l′ ∷ workAfter l work ∷ []) ≡ storeBy l work keyed key value
 
-  abbrev rest : List Row
-  rest = adding (headOf l) value (newOf (headOf l) l key value) (length l)
-
   abbrev done : Numbers
   done = doneNumbers 0 (changeOf (answer (tableIn l) key) value) 0
 
   asked : storeBy l work keyed key value
-      ≡ heard (first (checking l work ++ (keyed ++ rest))) (l ∷ workAfter l work ∷ []) (outcome done (storedImage l key value ∷ workAfter l work ∷ []))
+      ≡ heard (first (checking l work ++ (keyed ++ valued l key value))) (l ∷ workAfter l work ∷ []) (outcome done (storedImage l key value ∷ workAfter l work ∷ []))
   unfolding storeBy storing
   asked = refl
 
-  refuses : (why : Refusal) → first (checking l work ++ (keyed ++ rest)) ≡ some (saidOf why) → Leaves (Stored.Refused why) l
+  refuses : (why : Refusal) → first (checking l work ++ (keyed ++ valued l key value)) ≡ some (saidOf why) → Leaves (Stored.Refused why) l
   unfolding storedOf refusalNumbers
   refuses why e = sym (asked ∙ heard-refused _ _ _ e)
 
@@ -69,7 +66,7 @@ module _ (l work : List ℕ) (keyed : List Row) (key : List ℕ) (value : ℕ) w
         (asked
         ∙ ap (λ (row : Row). heard row (l ∷ workAfter l work ∷ []) (outcome done (storedImage l key value ∷ workAfter l work ∷ [])))
         (second-part (checking l work) _ checked ∙ second-part keyed _ passed)
-        ∙ more (first rest) done l (storedImage l key value) (workAfter l work))
+        ∙ more (first (valued l key value)) done l (storedImage l key value) (workAfter l work))
 
 -- ---- by what the check told
 

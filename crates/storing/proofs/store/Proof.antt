@@ -6,9 +6,10 @@ use mir.Syntax.{w32}
 use mir.Facts.{toZ-ofZ}
 use borrow.Author.Needs.{needs, sfits-of}
 use lib.ListN.{length}
+use Rattle.paper.proofs.Checking.{head-open}
 use Rattle.key.specs.Hand.{lettersOf}
 use Rattle.walk.proofs.Descents.{walked-complete, walked-stopped}
-use Rattle.storing.proofs.Stores.{head-permitted, opened, stores-too-great, stops-before, stores-over, stores-extended, never-bad}
+use Rattle.storing.proofs.Stores.{stores-too-great, stops-before, stores-over, stores-extended, never-bad}
 use Rattle.storing.proofs.store.Statement.{statement}
 use Rattle.storing.proofs.store.Tie as tie
 
@@ -21,7 +22,7 @@ fits : (c : tie.Else1) → let a = c .before .before .before .args in a .value <
 fits c = omega (arith, c .if1 .left, c .before .greatest .ensures)
 
 greatest-requires : tie.Need-greatest-requires
-greatest-requires c κs = let p = c .before .pre in head-permitted (p .0) (p .1 .0)
+greatest-requires c κs = let p = c .before .pre in head-open (p .0) (p .1 .0) .head-permitted
 
 cast-if1 : tie.Need-cast-if1
 cast-if1 c = search needs
@@ -32,7 +33,7 @@ returns c =
     stores-too-great (start .pre .0) (start .pre .1 .0) (lettersOf (start .args .key)) _ (c .before .greatest .ensures) (c .if1 .taken)
 
 walk-requires : tie.Need-walk-requires
-walk-requires c κs = let p = c .before .before .before .before .pre in (opened (p .0) (p .1 .0), p .1 .1)
+walk-requires c κs = let p = c .before .before .before .before .pre in (head-open (p .0) (p .1 .0), p .1 .1)
 
 enum-known-walked : tie.Need-enum-known-walked
 enum-known-walked c = search needs
@@ -43,7 +44,7 @@ replace-requires c κs =
     let passed = walked .before .before in
     let start = passed .before .before .before in
     let p = start .pre in
-    (opened (p .0) (p .1 .0), (walked-complete _ _ (lettersOf (start .args .key)) (walked .walk .ensures) (c .before .before .walked .given .1) .within, fits passed))
+    (head-open (p .0) (p .1 .0), (walked-complete _ _ (lettersOf (start .args .key)) (walked .walk .ensures) (c .before .before .walked .given .1) .within, fits passed))
 
 enum-known-walked-2 : tie.Need-enum-known-walked-2
 enum-known-walked-2 c = search needs
@@ -55,7 +56,7 @@ extend-requires c κs =
     let start = passed .before .before .before in
     let p = start .pre in
     let s = walked-stopped _ _ (lettersOf (start .args .key)) (walked .walk .ensures) (c .before .before .walked2 .given .1) in
-    (opened (p .0) (p .1 .0), (p .1 .1, (record { node = s .within; depth = stops-before (start .args .key) (whole start) (p .1 .1 .short) s }, fits passed)))
+    (head-open (p .0) (p .1 .0), (p .1 .1, (record { node = s .within; depth = stops-before (start .args .key) (whole start) (p .1 .1 .short) s }, fits passed)))
 
 enum-known-walked-3 : tie.Need-enum-known-walked-3
 enum-known-walked-3 c = search needs
