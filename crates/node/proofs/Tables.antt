@@ -18,10 +18,6 @@ use Rattle.node.proofs.Places.{Inside, link-inside, data-inside}
 pub table-eq : (s t : Table) → ((q i : ℕ) → s .child q i ≡ t .child q i) → ((q : ℕ) → s .value q ≡ t .value q) → s ≡ t
 table-eq s t c v j = record { child = λ q i. c q i j; value = λ q. v q j }
 
-either : (P : ℕ → Type 0) (b : Bool) {x y : ℕ} → P x → P y → P (cond b x y)
-either P true p q = p
-either P false p q = q
-
 where-true : (b : Bool) {x y : ℕ} → (b ≡ true → x ≡ y) → cond b x 0 ≡ cond b y 0
 where-true true e = e refl
 where-true false e = refl
