@@ -205,7 +205,7 @@ fn characters() {
 // Run: A = 1 and G = 255. The paths of five keys, N = 2, use every address and 796 bytes; 800 have room for a node more.
 fn full() {
     let mut space = [0xAAu8; 800];
-    trieff::make(&mut space, 2, 1, 1, b"", 0, 64);
+    calls::make(&mut space, 2, 1, 1, b"", 0, 64);
     let mut key = [0u8; 64];
     let mut image = wide(b"64 new nodes", space, 800, &key, 1);
     key[0] = 1;
@@ -349,14 +349,14 @@ fn make(
     min: u32,
     max: u32,
 ) {
-    let answer = trieff::make(image, n, a, d, alphabet, min, max);
+    let answer = calls::make(image, n, a, d, alphabet, min, max);
     plain(b"", label, answer);
     bytes(image);
     line_end();
 }
 
 fn check(label: &[u8], image: &[u8], work: &mut [u32]) {
-    let answer = trieff::check(image, work);
+    let answer = calls::check(image, work);
     plain(b"check, ", label, answer);
     numbers(work);
     line_end();
@@ -372,7 +372,7 @@ fn plain(call: &[u8], label: &[u8], answer: Done) {
 }
 
 fn count(label: &[u8], image: &[u8], work: &mut [u32]) {
-    let answer = trieff::count(image, work);
+    let answer = calls::count(image, work);
     named(b"number of keys, ", label);
     match answer {
         Counted::Keys(n) => done(0, n as u64),
@@ -383,12 +383,12 @@ fn count(label: &[u8], image: &[u8], work: &mut [u32]) {
 }
 
 fn look_up(label: &[u8], image: &[u8], key: &[u8]) {
-    let answer = trieff::look_up(image, key);
+    let answer = calls::look_up(image, key);
     looked(b"look up letters, ", label, answer);
 }
 
 fn look_up_text(label: &[u8], image: &[u8], name: &[u8]) {
-    let answer = trieff::look_up_text(image, name);
+    let answer = calls::look_up_text(image, name);
     looked(b"look up text, ", label, answer);
 }
 
@@ -402,13 +402,13 @@ fn looked(call: &[u8], label: &[u8], answer: Looked) {
 }
 
 fn store(label: &[u8], image: &mut [u8], work: &mut [u32], key: &[u8], value: u32) {
-    let answer = trieff::store(image, work, key, value);
+    let answer = calls::store(image, work, key, value);
     stored(b"store letters, ", label, answer);
     left(image, work);
 }
 
 fn store_text(label: &[u8], image: &mut [u8], work: &mut [u32], name: &[u8], value: u32) {
-    let answer = trieff::store_text(image, work, name, value);
+    let answer = calls::store_text(image, work, name, value);
     stored(b"store text, ", label, answer);
     left(image, work);
 }
@@ -420,7 +420,7 @@ fn wide(label: &[u8], image: [u8; 800], room: usize, key: &[u8], value: u32) -> 
 {
     let mut after = image;
     let mut work = [7u32; 260];
-    let answer = trieff::store(&mut after[..room], &mut work, key, value);
+    let answer = calls::store(&mut after[..room], &mut work, key, value);
     stored(b"store letters, ", label, answer);
     differ(&image, &after);
     numbers(&work[252..]);
@@ -457,7 +457,7 @@ fn next_key(label: &[u8], image: &[u8], key: &[u8], after: bool, room: usize)
     let mut work = [7u32; 6];
     let mut space = [0xAAu8; 8];
     let buffer = &mut space[..room];
-    let answer = trieff::next_key(image, &mut work, key, after, buffer);
+    let answer = calls::next_key(image, &mut work, key, after, buffer);
     named(b"next key, ", label);
     match answer {
         Found::Key { length, value } => done(length, value),

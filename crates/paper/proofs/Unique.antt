@@ -1,6 +1,7 @@
 -- 01, "Where the written promises must bite": "For each input, that statement leaves only one possible answer and one possible content of
 -- image, key buffer and working numbers, refusals too. Prove that any pair of outcomes allowed by it is equal." An answer is known from its
--- numbers (each list of numbers has a left inverse), and an outcome holds the numbers and the buffers; the rest is one law for all calls.
+-- numbers (each list of numbers has a left inverse), and an outcome holds the numbers and the buffers; the rest is one law for all calls and
+-- for every form of answer: a Rattle enum, a C struct.
 use Prim.Native.Nat.{ℕ, zero, suc}
 use mathlib.Core.Path.{_≡_, refl, sym, _∙_, ap}
 use mathlib.Core.Bool.{Bool}
@@ -80,7 +81,7 @@ tell-refused : {R : Type 0} (done : Numbers → R) (refused : Refusal → R) (r 
 unfolding tellBy
 tell-refused done refused r = by-refusal (done (refusalNumbers r)) (refused (refusalIn (refusalNumbers r))) r ∙ ap refused (refusal-back r)
 
-told-done : Told Done doneOf
+pub told-done : Told Done doneOf
 unfolding tellBy byNumber doneOf doneNumbers
 told-done = record { back = tellBy (λ m. Done.Done) Done.Refused; inverse = inverse }
   where
@@ -88,7 +89,7 @@ told-done = record { back = tellBy (λ m. Done.Done) Done.Refused; inverse = inv
     inverse Done.Done = refl
     inverse (Done.Refused r) = tell-refused (λ m. Done.Done) Done.Refused r
 
-told-counted : Told Counted countedOf
+pub told-counted : Told Counted countedOf
 unfolding tellBy byNumber countedOf doneNumbers
 told-counted = record { back = tellBy (λ m. Counted.Keys (m .value)) Counted.Refused; inverse = inverse }
   where
@@ -96,7 +97,7 @@ told-counted = record { back = tellBy (λ m. Counted.Keys (m .value)) Counted.Re
     inverse (Counted.Keys n) = refl
     inverse (Counted.Refused r) = tell-refused (λ m. Counted.Keys (m .value)) Counted.Refused r
 
-told-looked : Told Looked lookedOf
+pub told-looked : Told Looked lookedOf
 unfolding tellBy byNumber lookedOf doneNumbers
 told-looked = record { back = tellBy (λ m. Looked.Value (m .value)) Looked.Refused; inverse = inverse }
   where
@@ -104,7 +105,7 @@ told-looked = record { back = tellBy (λ m. Looked.Value (m .value)) Looked.Refu
     inverse (Looked.Value v) = refl
     inverse (Looked.Refused r) = tell-refused (λ m. Looked.Value (m .value)) Looked.Refused r
 
-told-stored : Told Stored storedOf
+pub told-stored : Told Stored storedOf
 unfolding tellBy byNumber storedOf doneNumbers
 told-stored = record { back = tellBy (λ m. Stored.Change (m .change)) Stored.Refused; inverse = inverse }
   where
@@ -112,7 +113,7 @@ told-stored = record { back = tellBy (λ m. Stored.Change (m .change)) Stored.Re
     inverse (Stored.Change c) = refl
     inverse (Stored.Refused r) = tell-refused (λ m. Stored.Change (m .change)) Stored.Refused r
 
-told-found : Told Found foundOf
+pub told-found : Told Found foundOf
 unfolding tellBy byNumber foundOf doneNumbers
 told-found = record { back = tellBy (λ m. Found.Key (m .length) (m .value)) Found.Refused; inverse = inverse }
   where
@@ -135,32 +136,33 @@ one e = cc
 two : {a b c d : List ℕ} → (a ∷ c ∷ []) ≡ (b ∷ d ∷ []) → (a ≡ b) × (c ≡ d)
 two e = (cc, cc)
 
--- ---- the eight calls
+-- ---- the eight calls, for whatever form of answer tells its numbers
 
-pub makes-once : (image : List ℕ) (n a d : ℕ) (alphabet : List ℕ) (least most : ℕ) {r s : Done} {i j : List ℕ}
-    → Makes image n a d alphabet least most r i → Makes image n a d alphabet least most s j → (r ≡ s) × (i ≡ j)
-makes-once image n a d alphabet least most {r} {s} p q = let u = one-outcome told-done r s _ _ _ p q in (u .0, one (u .1))
+module _ {R : Type 0} {numbersOf : R → Numbers} (told : Told R numbersOf) {r s : R} {i j v w : List ℕ} where
+  pub makes-once : (image : List ℕ) (n a d : ℕ) (alphabet : List ℕ) (least most : ℕ) → Makes image n a d alphabet least most (numbersOf r) i
+      → Makes image n a d alphabet least most (numbersOf s) j → (r ≡ s) × (i ≡ j)
+  makes-once image n a d alphabet least most p q = let u = one-outcome told r s _ _ _ p q in (u .0, one (u .1))
 
-pub checks-once : (l work : List ℕ) {r s : Done} {i j : List ℕ} → Checks l work r i → Checks l work s j → (r ≡ s) × (i ≡ j)
-checks-once l work {r} {s} p q = let u = one-outcome told-done r s _ _ _ p q in (u .0, one (u .1))
+  pub checks-once : (l work : List ℕ) → Checks l work (numbersOf r) i → Checks l work (numbersOf s) j → (r ≡ s) × (i ≡ j)
+  checks-once l work p q = let u = one-outcome told r s _ _ _ p q in (u .0, one (u .1))
 
-pub counts-once : (l work : List ℕ) {r s : Counted} {i j : List ℕ} → Counts l work r i → Counts l work s j → (r ≡ s) × (i ≡ j)
-counts-once l work {r} {s} p q = let u = one-outcome told-counted r s _ _ _ p q in (u .0, one (u .1))
+  pub counts-once : (l work : List ℕ) → Counts l work (numbersOf r) i → Counts l work (numbersOf s) j → (r ≡ s) × (i ≡ j)
+  counts-once l work p q = let u = one-outcome told r s _ _ _ p q in (u .0, one (u .1))
 
-pub looks-up-once : (l key : List ℕ) {r s : Looked} → LooksUp l key r → LooksUp l key s → r ≡ s
-looks-up-once l key {r} {s} p q = one-outcome told-looked r s _ _ _ p q .0
+  pub looks-up-once : (l key : List ℕ) → LooksUp l key (numbersOf r) → LooksUp l key (numbersOf s) → r ≡ s
+  looks-up-once l key p q = one-outcome told r s _ _ _ p q .0
 
-pub looks-up-text-once : (l text : List ℕ) {r s : Looked} → LooksUpText l text r → LooksUpText l text s → r ≡ s
-looks-up-text-once l text {r} {s} p q = one-outcome told-looked r s _ _ _ p q .0
+  pub looks-up-text-once : (l text : List ℕ) → LooksUpText l text (numbersOf r) → LooksUpText l text (numbersOf s) → r ≡ s
+  looks-up-text-once l text p q = one-outcome told r s _ _ _ p q .0
 
-pub stores-once : (l work key : List ℕ) (value : ℕ) {r s : Stored} {i j v w : List ℕ}
-    → Stores l work key value r i v → Stores l work key value s j w → (r ≡ s) × ((i ≡ j) × (v ≡ w))
-stores-once l work key value {r} {s} p q = let u = one-outcome told-stored r s _ _ _ p q in (u .0, two (u .1))
+  pub stores-once : (l work key : List ℕ) (value : ℕ) → Stores l work key value (numbersOf r) i v → Stores l work key value (numbersOf s) j w
+      → (r ≡ s) × ((i ≡ j) × (v ≡ w))
+  stores-once l work key value p q = let u = one-outcome told r s _ _ _ p q in (u .0, two (u .1))
 
-pub stores-text-once : (l work text : List ℕ) (value : ℕ) {r s : Stored} {i j v w : List ℕ}
-    → StoresText l work text value r i v → StoresText l work text value s j w → (r ≡ s) × ((i ≡ j) × (v ≡ w))
-stores-text-once l work text value {r} {s} p q = let u = one-outcome told-stored r s _ _ _ p q in (u .0, two (u .1))
+  pub stores-text-once : (l work text : List ℕ) (value : ℕ) → StoresText l work text value (numbersOf r) i v
+      → StoresText l work text value (numbersOf s) j w → (r ≡ s) × ((i ≡ j) × (v ≡ w))
+  stores-text-once l work text value p q = let u = one-outcome told r s _ _ _ p q in (u .0, two (u .1))
 
-pub nexts-once : (l work key : List ℕ) (after : Bool) (buffer : List ℕ) {r s : Found} {v w i j : List ℕ}
-    → Nexts l work key after buffer r v i → Nexts l work key after buffer s w j → (r ≡ s) × ((v ≡ w) × (i ≡ j))
-nexts-once l work key after buffer {r} {s} p q = let u = one-outcome told-found r s _ _ _ p q in (u .0, two (u .1))
+  pub nexts-once : (l work key : List ℕ) (after : Bool) (buffer : List ℕ) → Nexts l work key after buffer (numbersOf r) v i
+      → Nexts l work key after buffer (numbersOf s) w j → (r ≡ s) × ((v ≡ w) × (i ≡ j))
+  nexts-once l work key after buffer p q = let u = one-outcome told r s _ _ _ p q in (u .0, two (u .1))

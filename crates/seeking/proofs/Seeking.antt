@@ -52,7 +52,7 @@ module _ (l work key : List ℕ) (after : Bool) (buffer : List ℕ) where
   asked = refl
 
   abbrev Leaves : Found → List ℕ → Type 0
-  Leaves r buffer′ = Nexts l work key after buffer r (workAfter l work) buffer′
+  Leaves r buffer′ = Nexts l work key after buffer (foundOf r) (workAfter l work) buffer′
 
   pub refuses : (why : Refusal) → first order ≡ some (saidOf why) → Leaves (Found.Refused why) buffer
   unfolding foundOf refusalNumbers

@@ -6,6 +6,7 @@ use mathlib.Core.Bool.{Bool}
 use mathlib.Core.Option.{none}
 use mathlib.Core.List.{List}
 use Rattle.paper.specs.declared.Found.{Found}
+use Rattle.paper.specs.Answers.{foundOf}
 use Rattle.paper.specs.Hearing.{first}
 use Rattle.paper.specs.Orders.{checking}
 use Rattle.paper.specs.Calls.{workAfter}
@@ -13,4 +14,4 @@ use Rattle.paper.specs.Promises.{Nexts}
 
 abbrev pub Sought : List ℕ → List ℕ → Bool → List ℕ → Found → List ℕ → Type 0
 Sought l key after buffer r buffer′ =
-    (work : List ℕ) → first (checking l work) ≡ none → Nexts l work key after buffer r (workAfter l work) buffer′
+    (work : List ℕ) → first (checking l work) ≡ none → Nexts l work key after buffer (foundOf r) (workAfter l work) buffer′

@@ -23,7 +23,7 @@ use Rattle.key.specs.Hand.{lettersOf}
 use Rattle.opening.specs.declared.Opened.{Opened}
 use Rattle.audit.specs.Audit.{Checked}
 use Rattle.storing.specs.Storing.{storeAt, StoresIn}
-use Rattle.trieff.proofs.Keyed.{Keyed}
+use Rattle.calls.proofs.Keyed.{Keyed}
 
 -- ---- with any rows for the key
 
@@ -71,12 +71,12 @@ module _ (l work : List ℕ) (keyed : List Row) (key : List ℕ) (value : ℕ) w
 -- ---- by what the check told
 
 module _ {l work : List ℕ} {r : Opened} {work′ codes : List ℕ} (o : Checked l work r work′ codes) (value : ℕ) where
-  pub stores-unchecked : (key : List ℕ) {why : Refusal} → r .verdict ≡ Verdict.Refused why → Stores l work key value (Stored.Refused why) l work′
+  pub stores-unchecked : (key : List ℕ) {why : Refusal} → r .verdict ≡ Verdict.Refused why → Stores l work key value (storedOf (Stored.Refused why)) l work′
   unfolding storeOf
   stores-unchecked key e = rw (o .numbers) (unchecked l work (byLetters (headOf l) key) key value (o .verdict) e)
 
   pub stores-text-unchecked : (text : List ℕ) {why : Refusal} → r .verdict ≡ Verdict.Refused why
-      → StoresText l work text value (Stored.Refused why) l work′
+      → StoresText l work text value (storedOf (Stored.Refused why)) l work′
   unfolding storeTextOf
   stores-text-unchecked text e =
       rw (o .numbers) (unchecked l work (byText (headOf l) (namedIn l text)) (lettersIn (namedIn l text)) value (o .verdict) e)
@@ -95,22 +95,22 @@ module _ {l work : List ℕ} {r : Opened} {work′ codes : List ℕ} (o : Checke
           (stored l work keyed key value (told-passed (o .verdict) e) s (told-passed (j .told) f) (rw (j .same f) at g))
 
     module _ {key : List ℕ} {hand : Key} {v : Verdict} (j : Keyed (r .head) (byLetters (headOf l) key) key hand v) where
-      pub stores-unkeyed : {why : Refusal} → v ≡ Verdict.Refused why → Stores l work key value (Stored.Refused why) l work′
+      pub stores-unkeyed : {why : Refusal} → v ≡ Verdict.Refused why → Stores l work key value (storedOf (Stored.Refused why)) l work′
       unfolding storeOf
       stores-unkeyed = after-refused j
 
       pub stores-stored : v ≡ Verdict.Passed → (s : Stored) {l′ : List ℕ} → StoresIn l (lettersOf hand) value s l′
-          → Stores l work key value s l′ work′
+          → Stores l work key value (storedOf s) l′ work′
       unfolding storeOf
       stores-stored = after-passed j
 
     module _ (text : List ℕ) {hand : Key} {v : Verdict}
         (j : Keyed (r .head) (byText (headOf l) (namedIn l text)) (lettersIn (namedIn l text)) hand v) where
-      pub stores-text-unkeyed : {why : Refusal} → v ≡ Verdict.Refused why → StoresText l work text value (Stored.Refused why) l work′
+      pub stores-text-unkeyed : {why : Refusal} → v ≡ Verdict.Refused why → StoresText l work text value (storedOf (Stored.Refused why)) l work′
       unfolding storeTextOf
       stores-text-unkeyed = after-refused j
 
       pub stores-text-stored : v ≡ Verdict.Passed → (s : Stored) {l′ : List ℕ} → StoresIn l (lettersOf hand) value s l′
-          → StoresText l work text value s l′ work′
+          → StoresText l work text value (storedOf s) l′ work′
       unfolding storeTextOf
       stores-text-stored = after-passed j

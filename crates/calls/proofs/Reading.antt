@@ -24,7 +24,7 @@ use Rattle.key.specs.Hand.{lettersOf}
 use Rattle.opening.specs.declared.Opened.{Opened}
 use Rattle.opening.specs.Opened.{Opens}
 use Rattle.walk.specs.Descent.{lookedBy, lookedIn}
-use Rattle.trieff.proofs.Keyed.{Behind, Keyed}
+use Rattle.calls.proofs.Keyed.{Behind, Keyed}
 
 -- ---- with any rows for the key
 
@@ -66,11 +66,11 @@ module _ (l : List ℕ) (keyed : List Row) (key : List ℕ) where
 -- ---- after an image was opened
 
 module _ {l : List ℕ} {r : Opened} {codes : List ℕ} (o : Opens l r codes) where
-  pub looks-up-unopened : (key : List ℕ) {why : Refusal} → r .verdict ≡ Verdict.Refused why → LooksUp l key (Looked.Refused why)
+  pub looks-up-unopened : (key : List ℕ) {why : Refusal} → r .verdict ≡ Verdict.Refused why → LooksUp l key (lookedOf (Looked.Refused why))
   unfolding lookUpOf
   looks-up-unopened key e = unopened l (byLetters (headOf l) key) key (o .verdict) e
 
-  pub looks-up-text-unopened : (text : List ℕ) {why : Refusal} → r .verdict ≡ Verdict.Refused why → LooksUpText l text (Looked.Refused why)
+  pub looks-up-text-unopened : (text : List ℕ) {why : Refusal} → r .verdict ≡ Verdict.Refused why → LooksUpText l text (lookedOf (Looked.Refused why))
   unfolding lookUpTextOf
   looks-up-text-unopened text e = unopened l (byText (headOf l) (namedIn l text)) (lettersIn (namedIn l text)) (o .verdict) e
 
@@ -83,21 +83,21 @@ module _ {l : List ℕ} {r : Opened} {codes : List ℕ} (b : Behind l r codes) w
     after-passed f g = found l keyed key (b .opened) (told-passed (j .told) f) (rw (b .same, j .same f) at g)
 
   module _ {key : List ℕ} {hand : Key} {v : Verdict} (j : Keyed (r .head) (byLetters (headOf l) key) key hand v) where
-    pub looks-up-unkeyed : {why : Refusal} → v ≡ Verdict.Refused why → LooksUp l key (Looked.Refused why)
+    pub looks-up-unkeyed : {why : Refusal} → v ≡ Verdict.Refused why → LooksUp l key (lookedOf (Looked.Refused why))
     unfolding lookUpOf
     looks-up-unkeyed = after-refused j
 
-    pub looks-up-found : v ≡ Verdict.Passed → {x : Looked} → x ≡ lookedIn (r .head .g) (tableOf (r .head) l) (lettersOf hand) → LooksUp l key x
+    pub looks-up-found : v ≡ Verdict.Passed → {x : Looked} → x ≡ lookedIn (r .head .g) (tableOf (r .head) l) (lettersOf hand) → LooksUp l key (lookedOf x)
     unfolding lookUpOf
     looks-up-found = after-passed j
 
   module _ (text : List ℕ) {hand : Key} {v : Verdict}
       (j : Keyed (r .head) (byText (headOf l) (namedIn l text)) (lettersIn (namedIn l text)) hand v) where
-    pub looks-up-text-unkeyed : {why : Refusal} → v ≡ Verdict.Refused why → LooksUpText l text (Looked.Refused why)
+    pub looks-up-text-unkeyed : {why : Refusal} → v ≡ Verdict.Refused why → LooksUpText l text (lookedOf (Looked.Refused why))
     unfolding lookUpTextOf
     looks-up-text-unkeyed = after-refused j
 
     pub looks-up-text-found : v ≡ Verdict.Passed → {x : Looked} → x ≡ lookedIn (r .head .g) (tableOf (r .head) l) (lettersOf hand)
-        → LooksUpText l text x
+        → LooksUpText l text (lookedOf x)
     unfolding lookUpTextOf
     looks-up-text-found = after-passed j

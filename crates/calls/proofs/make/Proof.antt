@@ -1,4 +1,4 @@
--- `trieff::make` meets its contract: 1 and the part of 2 that a 32-bit F cannot say are judged here, the rest of 1 to 4 by the opening.
+-- `calls::make` meets its contract: 1 and the part of 2 that a 32-bit F cannot say are judged here, the rest of 1 to 4 by the opening.
 -- Assumes nothing.
 use mathlib.Core.Path.{_≡_, refl, sym, _∙_}
 use mathlib.Core.Option.{none}
@@ -6,9 +6,9 @@ use borrow.Author.Needs.{needs}
 use borrow.Author.Tests.{not-true, not-false}
 use Rattle.paper.proofs.Hearing.{told-refused, told-passed}
 use Rattle.paper.proofs.Opening.{heard-1, passed}
-use Rattle.trieff.proofs.Making.{heardOf, makes-refused, makes-done, too-many}
-use Rattle.trieff.proofs.make.Statement.{statement}
-use Rattle.trieff.proofs.make.Tie as tie
+use Rattle.calls.proofs.Making.{heardOf, makes-refused, makes-done, too-many}
+use Rattle.calls.proofs.make.Statement.{statement}
+use Rattle.calls.proofs.make.Tie as tie
 
 length-allowed-requires : tie.Need-length-allowed-requires
 length-allowed-requires c κs = search needs

@@ -1,9 +1,9 @@
--- `trieff::next_key` meets its contract: 1 to 8 by the audit, and the rest by what stands behind it. Assumes nothing.
+-- `calls::next_key` meets its contract: 1 to 8 by the audit, and the rest by what stands behind it. Assumes nothing.
 use borrow.Author.Needs.{needs}
 use Rattle.audit.proofs.Verdicts.{checked-accepted, checked-head}
-use Rattle.trieff.proofs.Checking.{nexts-refused, nexts-sought}
-use Rattle.trieff.proofs.next_key.Statement.{statement}
-use Rattle.trieff.proofs.next_key.Tie as tie
+use Rattle.calls.proofs.Checking.{nexts-refused, nexts-sought}
+use Rattle.calls.proofs.next_key.Statement.{statement}
+use Rattle.calls.proofs.next_key.Tie as tie
 
 check-requires : tie.Need-check-requires
 check-requires c κs = search needs

@@ -14,7 +14,7 @@ use Rattle.paper.specs.declared.Done.{Done}
 use Rattle.paper.specs.declared.Counted.{Counted}
 use Rattle.paper.specs.declared.Found.{Found}
 use Rattle.paper.specs.Hearing.{Numbers, outcome, doneNumbers}
-use Rattle.paper.specs.Answers.{refusalNumbers, doneOf, countedOf}
+use Rattle.paper.specs.Answers.{refusalNumbers, doneOf, countedOf, foundOf}
 use Rattle.paper.specs.Orders.{checking}
 use Rattle.paper.specs.Calls.{tableIn, storedKeys, workAfter, checkOf, countOf}
 use Rattle.paper.specs.Promises.{Checks, Counts, Nexts}
@@ -31,15 +31,15 @@ module _ {l work : List ℕ} {r : Opened} {work′ codes : List ℕ} (o : Checke
   left : (n : Numbers) → outcome n (work′ ∷ []) ≡ outcome n (workAfter l work ∷ [])
   left n = ap (λ (w : List ℕ). outcome n (w ∷ [])) (o .numbers)
 
-  pub checks-refused : {why : Refusal} → r .verdict ≡ Verdict.Refused why → Checks l work (Done.Refused why) work′
+  pub checks-refused : {why : Refusal} → r .verdict ≡ Verdict.Refused why → Checks l work (doneOf (Done.Refused why)) work′
   unfolding checkOf doneOf refusalNumbers
   checks-refused e = left _ ∙ sym (heard-refused _ _ _ (told-refused (o .verdict) e))
 
-  pub checks-done : r .verdict ≡ Verdict.Passed → Checks l work Done.Done work′
+  pub checks-done : r .verdict ≡ Verdict.Passed → Checks l work (doneOf Done.Done) work′
   unfolding checkOf doneOf
   checks-done e = left _ ∙ sym (heard-done _ _ _ (told-passed (o .verdict) e))
 
-  pub counts-refused : {why : Refusal} → r .verdict ≡ Verdict.Refused why → Counts l work (Counted.Refused why) work′
+  pub counts-refused : {why : Refusal} → r .verdict ≡ Verdict.Refused why → Counts l work (countedOf (Counted.Refused why)) work′
   unfolding countOf countedOf refusalNumbers
   counts-refused e = left _ ∙ sym (heard-refused _ _ _ (told-refused (o .verdict) e))
 
@@ -48,7 +48,7 @@ module _ {l work : List ℕ} {r : Opened} {work′ codes : List ℕ} (o : Checke
     checked-walkable = walkable (checked-accepted o e) (checked-head o e)
 
     pub counts-done : {n : ℕ} → n ≡ length (listing (tableOf (r .head) l) (r .head .n) (r .head .min) (r .head .max))
-        → Counts l work (Counted.Keys n) work′
+        → Counts l work (countedOf (Counted.Keys n)) work′
     unfolding countOf countedOf storedKeys tableIn
     counts-done c =
         left _
@@ -57,10 +57,10 @@ module _ {l work : List ℕ} {r : Opened} {work′ codes : List ℕ} (o : Checke
 
   -- whatever is asked for, and whatever buffer was lent
   module _ (key : List ℕ) (after : Bool) (buffer : List ℕ) where
-    pub nexts-refused : {why : Refusal} → r .verdict ≡ Verdict.Refused why → Nexts l work key after buffer (Found.Refused why) work′ buffer
+    pub nexts-refused : {why : Refusal} → r .verdict ≡ Verdict.Refused why → Nexts l work key after buffer (foundOf (Found.Refused why)) work′ buffer
     nexts-refused {why} e =
         rw (o .numbers) (refuses l work key after buffer why (first-part (checking l work) _ (told-refused (o .verdict) e)))
 
     pub nexts-sought : (f : Found) {buffer′ : List ℕ} → r .verdict ≡ Verdict.Passed → Sought l key after buffer f buffer′
-        → Nexts l work key after buffer f work′ buffer′
+        → Nexts l work key after buffer (foundOf f) work′ buffer′
     nexts-sought f e s = rw (o .numbers) (s work (told-passed (o .verdict) e))

@@ -29,12 +29,12 @@ module _ (image : List ℕ) (n a d : ℕ) (alphabet : List ℕ) (least most : �
   abbrev pub heardOf : Row
   heardOf = first (opening fresh alphabet (length image))
 
-  pub makes-refused : (why : Refusal) → heardOf ≡ some (saidOf why) → Makes image n a d alphabet least most (Done.Refused why) image
+  pub makes-refused : (why : Refusal) → heardOf ≡ some (saidOf why) → Makes image n a d alphabet least most (doneOf (Done.Refused why)) image
   unfolding makeOf freshHead doneOf refusalNumbers
   makes-refused why e = sym (heard-refused _ _ _ e)
 
   pub makes-done : {after : List ℕ} → heardOf ≡ none → after ≡ freshImage fresh alphabet image
-      → Makes image n a d alphabet least most Done.Done after
+      → Makes image n a d alphabet least most (doneOf Done.Done) after
   unfolding makeOf freshHead doneOf
   makes-done e f = ap (λ (l : List ℕ). outcome (doneNumbers 0 (pos 0) 0) (l ∷ [])) f ∙ sym (heard-done _ _ _ e)
 

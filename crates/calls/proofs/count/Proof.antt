@@ -1,9 +1,9 @@
--- `trieff::count` meets its contract: 1 to 8 by the audit, and in an image that passed them as many keys as there are nodes at most.
+-- `calls::count` meets its contract: 1 to 8 by the audit, and in an image that passed them as many keys as there are nodes at most.
 -- Assumes nothing.
 use borrow.Author.Needs.{needs}
-use Rattle.trieff.proofs.Checking.{checked-walkable, counts-refused, counts-done}
-use Rattle.trieff.proofs.count.Statement.{statement}
-use Rattle.trieff.proofs.count.Tie as tie
+use Rattle.calls.proofs.Checking.{checked-walkable, counts-refused, counts-done}
+use Rattle.calls.proofs.count.Statement.{statement}
+use Rattle.calls.proofs.count.Tie as tie
 
 check-requires : tie.Need-check-requires
 check-requires c κs = search needs

@@ -1,8 +1,8 @@
--- `trieff::check` meets its contract: the audit tells which of 1 to 8 is heard and how the working numbers are left. Assumes nothing.
+-- `calls::check` meets its contract: the audit tells which of 1 to 8 is heard and how the working numbers are left. Assumes nothing.
 use borrow.Author.Needs.{needs}
-use Rattle.trieff.proofs.Checking.{checks-refused, checks-done}
-use Rattle.trieff.proofs.check.Statement.{statement}
-use Rattle.trieff.proofs.check.Tie as tie
+use Rattle.calls.proofs.Checking.{checks-refused, checks-done}
+use Rattle.calls.proofs.check.Statement.{statement}
+use Rattle.calls.proofs.check.Tie as tie
 
 check-requires : tie.Need-check-requires
 check-requires c κs = search needs
