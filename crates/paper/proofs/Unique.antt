@@ -138,15 +138,15 @@ two e = (cc, cc)
 
 -- ---- the eight calls, for whatever form of answer tells its numbers
 
-module _ {R : Type 0} {numbersOf : R → Numbers} (told : Told R numbersOf) {r s : R} {i j v w : List ℕ} where
-  pub makes-once : (image : List ℕ) (n a d : ℕ) (alphabet : List ℕ) (least most : ℕ) → Makes image n a d alphabet least most (numbersOf r) i
+module _ {R : Type 0} {numbersOf : R → Numbers} (told : Told R numbersOf) {r s : R} where
+  pub makes-once : (image : List ℕ) (n a d : ℕ) (alphabet : List ℕ) (least most : ℕ) {i j : List ℕ} → Makes image n a d alphabet least most (numbersOf r) i
       → Makes image n a d alphabet least most (numbersOf s) j → (r ≡ s) × (i ≡ j)
   makes-once image n a d alphabet least most p q = let u = one-outcome told r s _ _ _ p q in (u .0, one (u .1))
 
-  pub checks-once : (l work : List ℕ) → Checks l work (numbersOf r) i → Checks l work (numbersOf s) j → (r ≡ s) × (i ≡ j)
+  pub checks-once : (l work : List ℕ) {i j : List ℕ} → Checks l work (numbersOf r) i → Checks l work (numbersOf s) j → (r ≡ s) × (i ≡ j)
   checks-once l work p q = let u = one-outcome told r s _ _ _ p q in (u .0, one (u .1))
 
-  pub counts-once : (l work : List ℕ) → Counts l work (numbersOf r) i → Counts l work (numbersOf s) j → (r ≡ s) × (i ≡ j)
+  pub counts-once : (l work : List ℕ) {i j : List ℕ} → Counts l work (numbersOf r) i → Counts l work (numbersOf s) j → (r ≡ s) × (i ≡ j)
   counts-once l work p q = let u = one-outcome told r s _ _ _ p q in (u .0, one (u .1))
 
   pub looks-up-once : (l key : List ℕ) → LooksUp l key (numbersOf r) → LooksUp l key (numbersOf s) → r ≡ s
@@ -155,14 +155,14 @@ module _ {R : Type 0} {numbersOf : R → Numbers} (told : Told R numbersOf) {r s
   pub looks-up-text-once : (l text : List ℕ) → LooksUpText l text (numbersOf r) → LooksUpText l text (numbersOf s) → r ≡ s
   looks-up-text-once l text p q = one-outcome told r s _ _ _ p q .0
 
-  pub stores-once : (l work key : List ℕ) (value : ℕ) → Stores l work key value (numbersOf r) i v → Stores l work key value (numbersOf s) j w
+  pub stores-once : (l work key : List ℕ) (value : ℕ) {i j v w : List ℕ} → Stores l work key value (numbersOf r) i v → Stores l work key value (numbersOf s) j w
       → (r ≡ s) × ((i ≡ j) × (v ≡ w))
   stores-once l work key value p q = let u = one-outcome told r s _ _ _ p q in (u .0, two (u .1))
 
-  pub stores-text-once : (l work text : List ℕ) (value : ℕ) → StoresText l work text value (numbersOf r) i v
+  pub stores-text-once : (l work text : List ℕ) (value : ℕ) {i j v w : List ℕ} → StoresText l work text value (numbersOf r) i v
       → StoresText l work text value (numbersOf s) j w → (r ≡ s) × ((i ≡ j) × (v ≡ w))
   stores-text-once l work text value p q = let u = one-outcome told r s _ _ _ p q in (u .0, two (u .1))
 
-  pub nexts-once : (l work key : List ℕ) (after : Bool) (buffer : List ℕ) → Nexts l work key after buffer (numbersOf r) v i
+  pub nexts-once : (l work key : List ℕ) (after : Bool) (buffer : List ℕ) {v w i j : List ℕ} → Nexts l work key after buffer (numbersOf r) v i
       → Nexts l work key after buffer (numbersOf s) w j → (r ≡ s) × ((v ≡ w) × (i ≡ j))
   nexts-once l work key after buffer p q = let u = one-outcome told r s _ _ _ p q in (u .0, two (u .1))

@@ -2,6 +2,7 @@
 // that call's own. A slice comes as a pointer and a length. include/trieff.h declares all of it for C.
 ghost use mathlib.Core.Path.{_≡_};
 ghost use Rattle.paper.specs.Answers.{refusalNumbers, doneOf, countedOf, lookedOf, storedOf, foundOf};
+ghost use Rattle.paper.specs.Hearing.{doneNumbers};
 ghost use Rattle.paper.specs.Promises.{Makes, Checks, Counts, LooksUp, LooksUpText, Stores, StoresText, Nexts};
 ghost use Rattle.trieff.specs.Face.{numbersOf};
 use paper::Counted;
@@ -123,17 +124,23 @@ fn refused(why: Refusal) -> TrieffAnswer
     }
 }
 
+fn told(length: u32, change: i32, value: u64) -> TrieffAnswer
+    ensures { λ r. ⌜ numbersOf r ≡ doneNumbers length change value ⌝ }
+{
+    TrieffAnswer {
+        number: 0,
+        place: 0,
+        length,
+        change,
+        value,
+    }
+}
+
 fn done(answer: Done) -> TrieffAnswer
     ensures { λ r. ⌜ numbersOf r ≡ doneOf answer ⌝ }
 {
     match answer {
-        Done::Done => TrieffAnswer {
-            number: 0,
-            place: 0,
-            length: 0,
-            change: 0,
-            value: 0,
-        },
+        Done::Done => told(0, 0, 0),
         Done::Refused(why) => refused(why),
     }
 }
@@ -142,13 +149,7 @@ fn counted(answer: Counted) -> TrieffAnswer
     ensures { λ r. ⌜ numbersOf r ≡ countedOf answer ⌝ }
 {
     match answer {
-        Counted::Keys(keys) => TrieffAnswer {
-            number: 0,
-            place: 0,
-            length: 0,
-            change: 0,
-            value: keys as u64,
-        },
+        Counted::Keys(keys) => told(0, 0, keys as u64),
         Counted::Refused(why) => refused(why),
     }
 }
@@ -157,13 +158,7 @@ fn looked(answer: Looked) -> TrieffAnswer
     ensures { λ r. ⌜ numbersOf r ≡ lookedOf answer ⌝ }
 {
     match answer {
-        Looked::Value(value) => TrieffAnswer {
-            number: 0,
-            place: 0,
-            length: 0,
-            change: 0,
-            value,
-        },
+        Looked::Value(value) => told(0, 0, value),
         Looked::Refused(why) => refused(why),
     }
 }
@@ -172,13 +167,7 @@ fn stored(answer: Stored) -> TrieffAnswer
     ensures { λ r. ⌜ numbersOf r ≡ storedOf answer ⌝ }
 {
     match answer {
-        Stored::Change(change) => TrieffAnswer {
-            number: 0,
-            place: 0,
-            length: 0,
-            change,
-            value: 0,
-        },
+        Stored::Change(change) => told(0, change, 0),
         Stored::Refused(why) => refused(why),
     }
 }
@@ -187,13 +176,7 @@ fn found(answer: Found) -> TrieffAnswer
     ensures { λ r. ⌜ numbersOf r ≡ foundOf answer ⌝ }
 {
     match answer {
-        Found::Key { length, value } => TrieffAnswer {
-            number: 0,
-            place: 0,
-            length,
-            change: 0,
-            value,
-        },
+        Found::Key { length, value } => told(length, 0, value),
         Found::Refused(why) => refused(why),
     }
 }
