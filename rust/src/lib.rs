@@ -1,0 +1,5 @@
+//! TRIEFF images over lent memory, for Rust.
+#![no_std]
+#![warn(missing_docs)]
+
+pub mod raw;
