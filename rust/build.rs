@@ -9,7 +9,7 @@ fn main() {
     println!("cargo:rerun-if-env-changed=TRIEFF_LIB");
     let folder = match env::var_os("TRIEFF_LIB") {
         Some(named) => PathBuf::from(named),
-        None => PathBuf::from(env!("CARGO_MANIFEST_DIR")).join("../target/staticlib"),
+        None => PathBuf::from(env::var_os("CARGO_MANIFEST_DIR").unwrap()).join("../target/staticlib"),
     };
     // cargo runs this in the crate's folder, so a relative path would not mean what the caller meant
     if !folder.is_absolute() {
