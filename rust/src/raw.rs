@@ -1,4 +1,6 @@
-//! The C face as it is: `include/trieff.h`, name for name. The functions of the crate's root call it and are safe.
+//! The C face as it is: `include/trieff.h`, name for name. The functions of the crate's root call it and are safe. Here the caller's part is
+//! what the header says: no pointer is null, also where the length is 0, that many elements are there, `work` is aligned, and a slice that is
+//! written to overlaps no other and is changed by nobody else meanwhile.
 
 /// One answer for every call. What a call does not speak of is 0; in a refusal all but `number` and `place` are 0.
 #[repr(C)]
