@@ -1,0 +1,169 @@
+/* What a bench's firmware does with the library: it keeps the labels of buckets in an image, each with its record number, and hears every
+   refusal once. All memory is static. From the repository's root, after `rt staticlib trieff`:
+
+     gcc -std=c11 -O2 -Iinclude -o target/bench examples/bench.c target/staticlib/libtrieff.a && target/bench
+
+   examples/bench.txt holds what it must print. */
+#include "trieff.h"
+
+#include <stdio.h>
+#include <string.h>
+
+/* The labels' image: 16 letters, room for 64 nodes. A node takes 16 * 2 + 4 bytes. */
+enum { N = 16, A = 2, D = 4, MIN = 1, MAX = 12, NODES = 64 };
+static const char alphabet[] = "0123456789ABCDE-";
+static uint8_t image[TRIEFF_LENGTH(NODES, N, A, D, sizeof alphabet - 1)];
+static uint32_t work[NODES];
+
+/* A text as the calls take it: pointer and length in bytes. A slice of an array: pointer and number of elements. */
+#define TEXT(s) (const uint8_t *)(s), strlen(s)
+#define ALL(array) (array), sizeof(array) / sizeof *(array)
+
+/* What the bench shows for an answer. The worker can mend 9 to 11; 12 and 13 need a greater image; 5 and 14 are mistakes of the firmware;
+   15 is the end of the list. After the others the image isn't one to go on with, and the bench loads its copy; the place says where to
+   look. */
+static void show(const char *asked, trieff_answer heard)
+{
+    printf("%s: ", asked);
+    switch (heard.number) {
+    case TRIEFF_DONE: printf("done"); break;
+    case TRIEFF_IMAGE_LENGTH: printf("no image is so short or so long"); break;
+    case TRIEFF_HEAD_FIELD: printf("the head is not one of an image"); break;
+    case TRIEFF_ALPHABET: printf("the alphabet is not N different characters"); break;
+    case TRIEFF_IMAGE_ROOM: printf("the image is cut off"); break;
+    case TRIEFF_TOO_FEW_NUMBERS: printf("lend more working numbers"); break;
+    case TRIEFF_LINK: printf("torn link in node %u", (unsigned)heard.place); break;
+    case TRIEFF_LINKED_TWICE: printf("two links to node %u", (unsigned)heard.place); break;
+    case TRIEFF_NOT_LINKED: printf("no link to node %u", (unsigned)heard.place); break;
+    case TRIEFF_KEY_LENGTH: printf("label too short or too long, tap again"); break;
+    case TRIEFF_LETTER: printf("no label has this character, tap again"); break;
+    case TRIEFF_VALUE_TOO_GREAT: printf("record number too great, tap again"); break;
+    case TRIEFF_NO_ADDRESS: printf("out of addresses, begin an image with a greater A"); break;
+    case TRIEFF_NO_ROOM: printf("image full, lend more memory"); break;
+    case TRIEFF_SHORT_BUFFER: printf("lend a key buffer of max letters"); break;
+    case TRIEFF_NO_KEY: printf("no more labels"); break;
+    default: printf("a number that this firmware does not know"); break;
+    }
+    if (heard.number != TRIEFF_DONE)
+        printf(" (refused %u at %u)", (unsigned)heard.number, (unsigned)heard.place);
+    printf("\n");
+}
+
+static void store(const char *label, uint32_t record)
+{
+    trieff_answer heard = trieff_store_text(ALL(image), ALL(work), TEXT(label), record);
+    if (heard.number == TRIEFF_DONE)
+        printf("store %s = %u: change %d\n", label, (unsigned)record, (int)heard.change);
+    else
+        show(label, heard);
+}
+
+static void look_up(const char *label)
+{
+    trieff_answer heard = trieff_look_up_text(ALL(image), TEXT(label));
+    if (heard.number != TRIEFF_DONE)
+        show(label, heard);
+    else if (heard.value == 0)
+        printf("look up %s: absent\n", label);
+    else
+        printf("look up %s: record %llu\n", label, (unsigned long long)heard.value);
+}
+
+/* Every label in order: the first at or after the empty key, then each after the one before. The key found is copied, since the letters that
+   a call reads and the buffer that it writes may not overlap. Its letters are numbers: places in the alphabet. */
+static void list(void)
+{
+    uint8_t last[MAX] = {0}, key[MAX];
+    size_t length = 0;
+    trieff_answer heard = trieff_count(ALL(image), ALL(work));
+    if (heard.number != TRIEFF_DONE) {
+        show("count", heard);
+        return;
+    }
+    printf("labels: %llu\n", (unsigned long long)heard.value);
+    heard = trieff_next_key(ALL(image), ALL(work), last, length, false, ALL(key));
+    while (heard.number == TRIEFF_DONE) {
+        length = heard.length;
+        memcpy(last, key, length);
+        for (size_t i = 0; i < length; i++)
+            putchar(alphabet[key[i]]);
+        printf(" %llu\n", (unsigned long long)heard.value);
+        heard = trieff_next_key(ALL(image), ALL(work), last, length, true, ALL(key));
+    }
+    show("after the last", heard);
+}
+
+/* A small image for the refusals: letters ABC, keys of 1 to 3 letters, nodes of 4 bytes, of which the first begins at byte 31. It holds
+   BA = 9 and B = 5, so the root links to node 1 at byte 32 and node 1 to node 2 at byte 35. In 54 bytes there is room for two nodes more. */
+static uint8_t small[54];
+
+static void refused_images(void)
+{
+    show("make ABC", trieff_make(ALL(small), 3, 1, 1, TEXT("ABC"), 1, 3));
+    show("store BA = 9", trieff_store_text(ALL(small), ALL(work), TEXT("BA"), 9));
+    show("store B = 5", trieff_store_text(ALL(small), ALL(work), TEXT("B"), 5));
+    show("27 bytes", trieff_check(small, 27, ALL(work)));
+    show("42 bytes", trieff_check(small, 42, ALL(work)));
+    show("257 links in a node", trieff_make(ALL(image), 257, 2, 4, TEXT(""), 1, 3));
+    show("alphabet ABA", trieff_make(ALL(image), 3, 1, 1, TEXT("ABA"), 1, 3));
+    show("2 working numbers for 3 nodes", trieff_check(ALL(small), work, 2));
+
+    /* single bytes go wrong; a lookup sees a bad link only on its own path */
+    small[35] = 7;
+    show("node 1 links to node 7", trieff_check(ALL(small), ALL(work)));
+    show("look up BA", trieff_look_up_text(ALL(small), TEXT("BA")));
+    show("look up B", trieff_look_up_text(ALL(small), TEXT("B")));
+    small[35] = 0;
+    show("node 1 links to nothing", trieff_check(ALL(small), ALL(work)));
+    small[35] = 2;
+    small[33] = 2;
+    show("root and node 1 link to node 2", trieff_check(ALL(small), ALL(work)));
+    small[33] = 0;
+    show("both bytes mended", trieff_check(ALL(small), ALL(work)));
+}
+
+static void refused_keys(void)
+{
+    uint8_t letters[] = {1, 0}, key[3];
+    show("look up BABA", trieff_look_up_text(ALL(small), TEXT("BABA")));
+    show("look up BX", trieff_look_up_text(ALL(small), TEXT("BX")));
+    show("store BA = 256", trieff_store_text(ALL(small), ALL(work), TEXT("BA"), 256));
+    show("store CCC = 1", trieff_store_text(ALL(small), ALL(work), TEXT("CCC"), 1));
+    show("next key, buffer of 2", trieff_next_key(ALL(small), ALL(work), ALL(letters), true, key, 2));
+    show("next key after BA", trieff_next_key(ALL(small), ALL(work), ALL(letters), true, ALL(key)));
+}
+
+/* Links of one byte reach node 255. Keys of letters, two each, until one finds no address for its nodes. */
+static void refused_address(void)
+{
+    static uint8_t many[TRIEFF_LENGTH(300, 16, 1, 1, 0)];
+    static uint32_t numbers[300];
+    trieff_answer heard = trieff_make(ALL(many), 16, 1, 1, TEXT(""), 2, 2);
+    unsigned stored = 0;
+    while (heard.number == TRIEFF_DONE && stored < 256) {
+        uint8_t letters[] = {(uint8_t)(stored / 16), (uint8_t)(stored % 16)};
+        heard = trieff_store(ALL(many), ALL(numbers), ALL(letters), 1);
+        stored += (unsigned)heard.change;
+    }
+    printf("%u keys stored\n", stored);
+    show("one more", heard);
+}
+
+int main(void)
+{
+    show("make the labels' image", trieff_make(ALL(image), N, A, D, TEXT(alphabet), MIN, MAX));
+    store("B04-117-2", 2402);
+    store("B04-117-1", 2401);
+    store("A01-101-1", 2400);
+    store("B04-117-2", 2409);
+    look_up("B04-117-2");
+    look_up("B04-117-3");
+    list();
+    store("B04-117-1", 0);
+    look_up("B04-117-1");
+    list();
+    refused_images();
+    refused_keys();
+    refused_address();
+    return 0;
+}

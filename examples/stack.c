@@ -1,0 +1,75 @@
+/* Measures the stack that each call takes, on an image as deep as keys go: a firmware engineer needs the figure, and the header names it.
+   Each call runs on a stack of its own that was painted before; what is no longer painted was used. It fails if a call takes more than the
+   header says. From the repository's root, after `rt staticlib trieff`:
+
+     gcc -std=c11 -O2 -Iinclude -o target/stack examples/stack.c target/staticlib/libtrieff.a && target/stack */
+#define _XOPEN_SOURCE 700
+#include "trieff.h"
+
+#include <stdio.h>
+#include <string.h>
+#include <ucontext.h>
+
+enum { DEEP = TRIEFF_KEY_MOST, NODES = DEEP + 1, ROOM = 65536, MOST = 2048, COUNT_MOST = 16384, NEXT_MOST = 32768 };
+static uint8_t image[TRIEFF_LENGTH(NODES, 2, 1, 1, 2)];
+static uint32_t work[NODES];
+static uint8_t letters[DEEP], text[DEEP], key[DEEP];
+static uint8_t stack[ROOM];
+static trieff_answer heard;
+
+#define IMAGE image, sizeof image
+#define WORK work, NODES
+
+/* One key of 64 letters, so that each call goes down as far as it can. */
+static void call_make(void) { heard = trieff_make(IMAGE, 2, 1, 1, (const uint8_t *)"AB", 2, 0, DEEP); }
+static void call_store(void) { heard = trieff_store(IMAGE, WORK, letters, DEEP, 7); }
+static void call_store_text(void) { heard = trieff_store_text(IMAGE, WORK, text, DEEP, 7); }
+static void call_check(void) { heard = trieff_check(IMAGE, WORK); }
+static void call_count(void) { heard = trieff_count(IMAGE, WORK); }
+static void call_look_up(void) { heard = trieff_look_up(IMAGE, letters, DEEP); }
+static void call_look_up_text(void) { heard = trieff_look_up_text(IMAGE, text, DEEP); }
+static void call_next_key(void) { heard = trieff_next_key(IMAGE, WORK, letters, 0, false, key, DEEP); }
+static void call_nothing(void) { heard = (trieff_answer){0}; }
+
+static size_t taken_by(void (*call)(void))
+{
+    static ucontext_t here, there;
+    size_t untouched = 0;
+    memset(stack, 0xA5, ROOM);
+    getcontext(&there);
+    there.uc_stack.ss_sp = stack;
+    there.uc_stack.ss_size = ROOM;
+    there.uc_link = &here;
+    makecontext(&there, call, 0);
+    swapcontext(&here, &there);
+    while (untouched < ROOM && stack[untouched] == 0xA5)
+        untouched++;
+    return ROOM - untouched;
+}
+
+int main(void)
+{
+    static const struct { const char *name; void (*call)(void); size_t most; uint64_t value; } calls[] = {
+        {"make", call_make, MOST, 0},
+        {"store", call_store, MOST, 0},
+        {"store_text", call_store_text, MOST, 0},
+        {"check", call_check, MOST, 0},
+        {"look_up", call_look_up, MOST, 7},
+        {"look_up_text", call_look_up_text, MOST, 7},
+        {"count", call_count, COUNT_MOST, 1},
+        {"next_key", call_next_key, NEXT_MOST, 7},
+    };
+    int failed = 0;
+    memset(letters, 1, DEEP);
+    memset(text, 'B', DEEP);
+    call_make();
+    call_store(); /* the linker's own work at a first memset is done here */
+    size_t bare = taken_by(call_nothing);
+    for (size_t i = 0; i < sizeof calls / sizeof *calls; i++) {
+        size_t taken = taken_by(calls[i].call) - bare;
+        int good = heard.number == TRIEFF_DONE && heard.value == calls[i].value && taken <= calls[i].most;
+        printf("%-12s %5zu bytes of stack, at most %zu%s\n", calls[i].name, taken, calls[i].most, good ? "" : ": FAILED");
+        failed |= !good;
+    }
+    return failed;
+}

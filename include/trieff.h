@@ -1,0 +1,129 @@
+/* TRIEFF 0.6.0 images over lent memory: make, check, count, look up, store, list. Link with libtrieff.a, which `rt staticlib trieff` builds.
+
+   What is lent. Every slice is a pointer and the number of its elements: bytes, but 32-bit numbers for `work`. It is lent for the call alone:
+   the library keeps no pointer, has no variables, allocates nothing and never stops the program. It calls memcpy and memset, and
+   nothing else. It does not trust what the slices hold: any bytes, key, text and value may be handed over, and each has its answer. What C
+   cannot check is the caller's part:
+   - A pointer is not NULL, also where the length is 0, and that many elements are really there.
+   - `work` is aligned as uint32_t is, as every array of uint32_t is.
+   - A slice that a call may write to overlaps no other slice of that call.
+   - Nobody else changes a lent slice during the call.
+   - `after` is false or true.
+   Calls that share no slice that is written to may run at the same time. As measured (examples/stack.c), a call takes at most 2 KiB of stack,
+   but count 16 KiB and next_key 32 KiB, since they go down 64 levels.
+
+   What is answered. Each call answers the first refusal that applies, in the order that stands with it, else TRIEFF_DONE. A refused call
+   changes nothing but the working numbers. A call that is done changes only what it is said to write.
+
+   Working numbers. check, count, store and next_key need one for each node in use, G+1, and the answer does not depend on what
+   they held. Once TRIEFF_TOO_FEW_NUMBERS is passed, the first G+1 of them are 0 when the call returns, with the G of entry,
+   whatever the answer; the rest keep what they held. Before that all keep what they held.
+
+   The image. Seven big-endian 32-bit fields G, N, A, D, F, min, max, then F bytes of alphabet, then the nodes 0 to G of W = N*A + D bytes:
+   N links of A bytes, then D bytes of data. The used length is U = 28 + F + (G+1)*W; bytes from U on are spare and are never judged. */
+#ifndef TRIEFF_H
+#define TRIEFF_H
+
+#include <stdbool.h>
+#include <stddef.h>
+#include <stdint.h>
+
+#ifdef __cplusplus
+extern "C" {
+#endif
+
+/* The limits of an image's length, and the greatest number of links in a node, of bytes in a link, of bytes of data, of bytes of alphabet
+   and of letters in a key. */
+#define TRIEFF_IMAGE_LEAST 28
+#define TRIEFF_IMAGE_MOST 16777216
+#define TRIEFF_N_MOST 256
+#define TRIEFF_A_MOST 4
+#define TRIEFF_D_MOST 4
+#define TRIEFF_F_MOST 1024
+#define TRIEFF_KEY_MOST 64
+
+/* The used length of an image of so many nodes, for static memory: `static uint8_t image[TRIEFF_LENGTH(nodes, n, a, d, f)]`, for which
+   `static uint32_t work[nodes]` is enough as long as the image in it was made with these numbers. */
+#define TRIEFF_LENGTH(nodes, n, a, d, f) ((size_t)28 + (size_t)(f) + (size_t)(nodes) * ((size_t)(n) * (size_t)(a) + (size_t)(d)))
+
+/* What the bench may hear. The place is 0 where none is named. */
+enum trieff_number {
+    TRIEFF_DONE = 0,
+    TRIEFF_IMAGE_LENGTH = 1,     /* image shorter than 28 or longer than 16,777,216 bytes */
+    TRIEFF_HEAD_FIELD = 2,       /* a head field outside its limits: N 1..256, A 1..4, D 1..4, F 0..1024, min 0..max, max 0..64 */
+    TRIEFF_ALPHABET = 3,         /* the F bytes, F above 0, are not N different well-formed UTF-8 characters */
+    TRIEFF_IMAGE_ROOM = 4,       /* U exceeds the image's length */
+    TRIEFF_TOO_FEW_NUMBERS = 5,  /* fewer than G+1 working numbers lent */
+    TRIEFF_LINK = 6,             /* a link is above G, or not above the node that holds it; place: the lowest node that holds one */
+    TRIEFF_LINKED_TWICE = 7,     /* an address stands in two links or more; place: the lowest such address */
+    TRIEFF_NOT_LINKED = 8,       /* an address in 1..G stands in no link; place: the lowest such address */
+    TRIEFF_KEY_LENGTH = 9,       /* key length outside min..max, in letters */
+    TRIEFF_LETTER = 10,          /* a letter number is N or more; or the text is not well-formed or has a character outside the alphabet */
+    TRIEFF_VALUE_TOO_GREAT = 11, /* value above 256^D - 1 */
+    TRIEFF_NO_ADDRESS = 12,      /* new nodes are wanted and G with them would exceed 256^A - 1 */
+    TRIEFF_NO_ROOM = 13,         /* new nodes are wanted and U with them would exceed the image's length */
+    TRIEFF_SHORT_BUFFER = 14,    /* key buffer shorter than max */
+    TRIEFF_NO_KEY = 15           /* no stored key meets the request */
+};
+
+/* One answer for every call. What a call does not speak of is 0, and in a refusal all but number and place are 0. */
+typedef struct trieff_answer {
+    uint32_t number; /* of enum trieff_number: TRIEFF_DONE, else the refusal */
+    uint32_t place;  /* the node or address that the refusal names, else 0 */
+    uint32_t length; /* next_key: how many letters were written to the key buffer */
+    int32_t change;  /* store: the change in the number of stored keys, -1, 0 or 1 */
+    uint64_t value;  /* look_up, next_key: the value, 0 for absent; count: the number of stored keys */
+} trieff_answer;
+
+/* Makes a fresh image: N links in a node, A bytes in a link, D bytes of data, keys of min to max letters. Letter i is the i-th character
+   of the alphabet, whose length in bytes is F; an alphabet of no bytes makes an image whose keys are letter numbers alone.
+   Refusals: 1, 2, 3 (of the alphabet given), 4 (the slice has no room for head, alphabet and root).
+   Done: writes head, alphabet and a zero root, 28 + F + W bytes. The spare bytes after them keep what they held. */
+trieff_answer trieff_make(uint8_t *image, size_t image_len, uint32_t n, uint32_t a, uint32_t d,
+                          const uint8_t *alphabet, size_t alphabet_len, uint32_t min, uint32_t max);
+
+/* Checks an image: its head, its alphabet and every link. An image that passes is accepted.
+   Refusals: 1 to 8. */
+trieff_answer trieff_check(const uint8_t *image, size_t image_len, uint32_t *work, size_t work_len);
+
+/* The number of stored keys, in `value`: keys of min to max letters whose data is not 0.
+   Refusals: 1 to 8. */
+trieff_answer trieff_count(const uint8_t *image, size_t image_len, uint32_t *work, size_t work_len);
+
+/* The value that is stored under a key, in `value`; 0 for absent. The key is letter numbers, one byte each.
+   It does not check the image, and takes time by the length of the key and the alphabet: 6 speaks only of the links on the key's path, and its
+   place is the node that holds the first bad one.
+   Refusals: 1 to 4, 9, 10, 6. */
+trieff_answer trieff_look_up(const uint8_t *image, size_t image_len, const uint8_t *letters, size_t letters_len);
+
+/* The same for a key given as text in UTF-8. Its length is counted in bytes here and in characters for 9.
+   Refusals: 1 to 4, 10, 9, 6. */
+trieff_answer trieff_look_up_text(const uint8_t *image, size_t image_len, const uint8_t *text, size_t text_len);
+
+/* Stores a value under a key, or deletes the key where the value is 0. `change` is the change in the number of stored keys: 1 for a new key,
+   -1 for one that is deleted, 0 for another value and for deleting what is not there.
+   Refusals: 1 to 8, 9, 10, 11, 12, 13. A value of 0 wants no nodes, so it never hears 12 or 13.
+   Done: where the key's path is complete, writes the D bytes of its data. Where it is not, a value of 0 changes nothing; any other writes
+   the new nodes to the spare bytes at U, then G, then the link to the first of them. */
+trieff_answer trieff_store(uint8_t *image, size_t image_len, uint32_t *work, size_t work_len,
+                           const uint8_t *letters, size_t letters_len, uint32_t value);
+
+/* The same for a key given as text in UTF-8.
+   Refusals: 1 to 8, 10, 9, 11, 12, 13. */
+trieff_answer trieff_store_text(uint8_t *image, size_t image_len, uint32_t *work, size_t work_len,
+                                const uint8_t *text, size_t text_len, uint32_t value);
+
+/* The first stored key at or after the key given or, where `after` is true, after it. A key comes before its extensions; otherwise the first
+   different letter number decides. The key given has 0 to max letters and need not be stored; at or after the empty key is the first.
+   Refusals: 1 to 8, 9 (only a key longer than max), 10, 14, 15.
+   Done: writes the key's letters to the front of the key buffer, their number to `length` and its value to `value`. The rest of the buffer
+   keeps what it held. `letters` and `key` are two buffers: to go on from the key found, copy it. */
+trieff_answer trieff_next_key(const uint8_t *image, size_t image_len, uint32_t *work, size_t work_len,
+                              const uint8_t *letters, size_t letters_len, bool after,
+                              uint8_t *key, size_t key_len);
+
+#ifdef __cplusplus
+}
+#endif
+
+#endif

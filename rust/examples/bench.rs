@@ -1,0 +1,85 @@
+//! What a bench's firmware does with the library, in short: labels stored, found, listed and deleted, and what it hears when a worker or
+//! the memory goes wrong. examples/bench.txt holds what it must print.
+//!
+//! ```sh
+//! cargo run --manifest-path rust/Cargo.toml --example bench
+//! ```
+
+use trieff::{check, count, look_up_text, make, next_key, store_text, Refusal, Shape};
+
+const ALPHABET: &[u8] = b"0123456789ABCDE-";
+const SHAPE: Shape = Shape {
+    n: 16,
+    a: 2,
+    d: 4,
+    min: 1,
+    max: 12,
+};
+const NODES: usize = 30;
+
+/// What the bench does after a refusal. The match names them all, so that a new one has to be thought of here.
+fn advice(refusal: Refusal) -> &'static str {
+    match refusal {
+        Refusal::KeyLength | Refusal::Letter | Refusal::ValueTooGreat => "tap again",
+        Refusal::NoAddress | Refusal::NoRoom => "begin a greater image",
+        Refusal::TooFewNumbers | Refusal::ShortBuffer => "lend more memory",
+        Refusal::NoKey => "end of the list",
+        Refusal::ImageLength | Refusal::HeadField | Refusal::Alphabet | Refusal::ImageRoom => "load the copy",
+        Refusal::Link(_) | Refusal::LinkedTwice(_) | Refusal::NotLinked(_) => "load the copy",
+        Refusal::Unknown { .. } => "call the maker",
+    }
+}
+
+fn show<T: std::fmt::Debug>(asked: &str, heard: Result<T, Refusal>) {
+    match heard {
+        Ok(answer) => println!("{asked}: {answer:?}"),
+        Err(refusal) => println!("{asked}: {}; {refusal}", advice(refusal)),
+    }
+}
+
+/// Every label in order: the first at or after the empty key, then each after the one before.
+fn list(image: &[u8], work: &mut [u32]) -> Result<(), Refusal> {
+    println!("labels: {}", count(image, work)?);
+    let mut last = [0; 12];
+    let mut length = 0;
+    let mut after = false;
+    loop {
+        let mut key = [0; 12];
+        let found = match next_key(image, work, &last[..length], after, &mut key) {
+            Err(Refusal::NoKey) => return Ok(()),
+            heard => heard?,
+        };
+        let label: String = key[..found.length]
+            .iter()
+            .map(|&letter| ALPHABET[letter as usize] as char)
+            .collect();
+        println!("{label} {}", found.value);
+        (last, length, after) = (key, found.length, true);
+    }
+}
+
+fn main() {
+    let mut image = [0; SHAPE.length(NODES, ALPHABET.len())];
+    let mut work = [0; NODES];
+    show("make", make(&mut image, SHAPE, ALPHABET));
+    for (label, record) in [("B04-117-2", 2402), ("B04-117-1", 2401), ("A01-101-1", 2400), ("B04-117-2", 2409)] {
+        show(
+            &format!("store {label} = {record}"),
+            store_text(&mut image, &mut work, label.as_bytes(), record),
+        );
+    }
+    show("look up B04-117-2", look_up_text(&image, b"B04-117-2"));
+    show("look up B04-117-3", look_up_text(&image, b"B04-117-3"));
+    show("list", list(&image, &mut work));
+    show("delete B04-117-1", store_text(&mut image, &mut work, b"B04-117-1", 0));
+    show("list", list(&image, &mut work));
+
+    show("look up B04/117", look_up_text(&image, b"B04/117"));
+    show("look up 13 letters", look_up_text(&image, b"0123456789ABC"));
+    show("store C02-140-12", store_text(&mut image, &mut work, b"C02-140-12", 2410));
+    show("store C02-140-123", store_text(&mut image, &mut work, b"C02-140-123", 2411));
+    show("check, 19 working numbers", check(&image, &mut work[..19]));
+    show("check, cut off", check(&image[..100], &mut work));
+    image[SHAPE.length(5, ALPHABET.len()) + 1] = 200;
+    show("check, a link torn in node 5", check(&image, &mut work));
+}

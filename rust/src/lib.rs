@@ -1,0 +1,344 @@
+//! TRIEFF 0.6.0 images over lent memory, for Rust: make, check, count, look up, store, list.
+//!
+//! Every call works on slices that are lent for the call alone. It allocates nothing and keeps nothing, and any bytes, key, text and value may
+//! be handed over: each has its answer, the first [`Refusal`] that applies or what was asked for. A refused call changes nothing but the
+//! working numbers. The code behind it is `libtrieff.a`, which `rt staticlib trieff` proves and builds; the crate needs no `std`.
+//!
+//! Working numbers: [`check`], [`count`], [`store`] and [`next_key`] need one for each node in use, G+1, and the answer does not depend on what
+//! they held. Once [`Refusal::TooFewNumbers`] is passed, the first G+1 of them are 0 when the call returns, whatever the answer; before
+//! that all keep what they held.
+//!
+//! ```
+//! use trieff::{count, look_up_text, make, next_key, store_text, Refusal, Shape};
+//!
+//! let mut image = [0; 100];
+//! let mut work = [0; 16];
+//! make(&mut image, Shape { n: 3, a: 1, d: 1, min: 1, max: 3 }, b"ABC")?;
+//! store_text(&mut image, &mut work, b"BA", 9)?;
+//! store_text(&mut image, &mut work, b"B", 5)?;
+//! assert_eq!(look_up_text(&image, b"BA")?, Some(9));
+//! assert_eq!(count(&image, &mut work)?, 2);
+//!
+//! let mut key = [0; 3];
+//! let found = next_key(&image, &mut work, &[], false, &mut key)?;
+//! assert_eq!((&key[..found.length], found.value), (&[1][..], 5));
+//! # Ok::<(), Refusal>(())
+//! ```
+#![no_std]
+#![warn(missing_docs)]
+
+pub mod raw;
+mod refusal;
+
+use raw::TrieffAnswer;
+pub use refusal::Refusal;
+
+/// The numbers that a fresh image is made with. Its alphabet is given beside them; G begins at 0.
+#[derive(Clone, Copy, Debug, PartialEq, Eq)]
+pub struct Shape {
+    /// Links in a node, which is the number of letters: 1 to 256.
+    pub n: u32,
+    /// Bytes in a link: 1 to 4. An image has at most 256^A nodes.
+    pub a: u32,
+    /// Bytes of data: 1 to 4. A value is at most 256^D - 1.
+    pub d: u32,
+    /// Letters of the shortest key: 0 to `max`.
+    pub min: u32,
+    /// Letters of the longest key: 0 to 64.
+    pub max: u32,
+}
+
+impl Shape {
+    /// The used length U of an image of so many nodes, with an alphabet of `f` bytes. In a slice of this length, as many working numbers as
+    /// nodes are enough as long as the image in it was made with these numbers.
+    ///
+    /// It is a constant function, for static memory. No image that [`make`] would not find too long overflows it.
+    ///
+    /// ```
+    /// use trieff::{make, Refusal, Shape};
+    ///
+    /// const ABC: Shape = Shape { n: 3, a: 1, d: 1, min: 1, max: 3 };
+    /// assert_eq!(make(&mut [0; ABC.length(1, 3)], ABC, b"ABC"), Ok(()));
+    /// assert_eq!(make(&mut [0; ABC.length(1, 3) - 1], ABC, b"ABC"), Err(Refusal::ImageRoom));
+    /// ```
+    pub const fn length(&self, nodes: usize, f: usize) -> usize {
+        28 + f + nodes * (self.n as usize * self.a as usize + self.d as usize)
+    }
+}
+
+/// What [`next_key`] found. Its letters are in the key buffer.
+#[derive(Clone, Copy, Debug, PartialEq, Eq)]
+pub struct Found {
+    /// How many letters were written to the front of the key buffer.
+    pub length: usize,
+    /// The value that is stored under the key, never 0.
+    pub value: u64,
+}
+
+/// Makes a fresh image in the slice. Letter i is the i-th character of the alphabet; an alphabet of no bytes makes an image whose keys are
+/// letter numbers alone.
+///
+/// Done, it writes head, alphabet and a zero root. The spare bytes after them keep what they held.
+///
+/// Refusals: 1, 2, 3, 4.
+///
+/// ```
+/// use trieff::{make, Refusal, Shape};
+///
+/// let shape = Shape { n: 3, a: 1, d: 1, min: 1, max: 3 };
+/// let mut image = [255; 36];
+/// assert_eq!(make(&mut image, shape, b"ABC"), Ok(()));
+/// assert_eq!(image[..8], [0, 0, 0, 0, 0, 0, 0, 3]);
+/// assert_eq!(image[28..], [b'A', b'B', b'C', 0, 0, 0, 0, 255]);
+///
+/// assert_eq!(make(&mut image[..27], shape, b"ABC"), Err(Refusal::ImageLength));
+/// assert_eq!(make(&mut image, Shape { n: 257, ..shape }, b"ABC"), Err(Refusal::HeadField));
+/// assert_eq!(make(&mut image, shape, b"ABA"), Err(Refusal::Alphabet));
+/// assert_eq!(make(&mut image[..34], shape, b"ABC"), Err(Refusal::ImageRoom));
+/// ```
+pub fn make(image: &mut [u8], shape: Shape, alphabet: &[u8]) -> Result<(), Refusal> {
+    let Shape { n, a, d, min, max } = shape;
+    // SAFETY: a slice's pointer and length; image is borrowed for writing, so alphabet does not overlap it.
+    let answer = unsafe {
+        raw::trieff_make(
+            image.as_mut_ptr(),
+            image.len(),
+            n,
+            a,
+            d,
+            alphabet.as_ptr(),
+            alphabet.len(),
+            min,
+            max,
+        )
+    };
+    heard(answer).map(|_| ())
+}
+
+/// Checks an image: its head, its alphabet and every link. An image that passes is accepted.
+///
+/// Refusals: 1 to 8.
+///
+/// ```
+/// use trieff::{check, make, store, Refusal, Shape};
+///
+/// let mut image = [0; 43];
+/// let mut work = [0; 3];
+/// make(&mut image, Shape { n: 3, a: 1, d: 1, min: 1, max: 3 }, b"ABC")?;
+/// store(&mut image, &mut work, &[1, 0], 9)?;
+/// assert_eq!(check(&image, &mut work), Ok(()));
+/// assert_eq!(check(&image, &mut work[..2]), Err(Refusal::TooFewNumbers));
+///
+/// image[35] = 3; // node 1 links to a node that is not there
+/// assert_eq!(check(&image, &mut work), Err(Refusal::Link(1)));
+/// # Ok::<(), Refusal>(())
+/// ```
+pub fn check(image: &[u8], work: &mut [u32]) -> Result<(), Refusal> {
+    // SAFETY: a slice's pointer and length; work is borrowed for writing, so image does not overlap it.
+    let answer = unsafe { raw::trieff_check(image.as_ptr(), image.len(), work.as_mut_ptr(), work.len()) };
+    heard(answer).map(|_| ())
+}
+
+/// The number of stored keys: those of min to max letters whose data is not 0.
+///
+/// Refusals: 1 to 8.
+///
+/// ```
+/// use trieff::{count, make, store, Refusal, Shape};
+///
+/// let mut image = [0; 43];
+/// let mut work = [0; 3];
+/// make(&mut image, Shape { n: 3, a: 1, d: 1, min: 1, max: 3 }, b"ABC")?;
+/// assert_eq!(count(&image, &mut work)?, 0);
+/// store(&mut image, &mut work, &[1, 0], 9)?;
+/// assert_eq!(count(&image, &mut work)?, 1);
+/// assert_eq!(count(&image[..42], &mut work), Err(Refusal::ImageRoom));
+/// # Ok::<(), Refusal>(())
+/// ```
+pub fn count(image: &[u8], work: &mut [u32]) -> Result<u64, Refusal> {
+    // SAFETY: a slice's pointer and length; work is borrowed for writing, so image does not overlap it.
+    let answer = unsafe { raw::trieff_count(image.as_ptr(), image.len(), work.as_mut_ptr(), work.len()) };
+    heard(answer).map(|done| done.value)
+}
+
+/// The value that is stored under a key given by its letter numbers, `None` for absent.
+///
+/// No stored value is 0, so `None` says what the library's value 0 says, and a caller cannot take it for a record number. It does not check the
+/// image: 6 speaks only of the links on the key's path, and its place is the node that holds the first bad one.
+///
+/// Refusals: 1 to 4, 9, 10, 6.
+///
+/// ```
+/// use trieff::{look_up, make, store, Refusal, Shape};
+///
+/// let mut image = [0; 43];
+/// make(&mut image, Shape { n: 3, a: 1, d: 1, min: 1, max: 3 }, b"ABC")?;
+/// store(&mut image, &mut [0; 3], &[1, 0], 9)?;
+/// assert_eq!(look_up(&image, &[1, 0])?, Some(9));
+/// assert_eq!(look_up(&image, &[1])?, None);
+/// assert_eq!(look_up(&image, &[]), Err(Refusal::KeyLength));
+/// assert_eq!(look_up(&image, &[3]), Err(Refusal::Letter));
+///
+/// image[35] = 3; // node 1 links to a node that is not there
+/// assert_eq!(look_up(&image, &[1, 0]), Err(Refusal::Link(1)));
+/// assert_eq!(look_up(&image, &[0])?, None);
+/// # Ok::<(), Refusal>(())
+/// ```
+pub fn look_up(image: &[u8], letters: &[u8]) -> Result<Option<u64>, Refusal> {
+    // SAFETY: a slice's pointer and length; neither is written to.
+    let answer = unsafe { raw::trieff_look_up(image.as_ptr(), image.len(), letters.as_ptr(), letters.len()) };
+    heard(answer).map(present)
+}
+
+/// The value that is stored under a key given by its text in UTF-8, `None` for absent. The text is bytes, since what was tapped in may be
+/// anything; 10 is the answer to bytes that are not well-formed.
+///
+/// Refusals: 1 to 4, 10, 9, 6.
+///
+/// ```
+/// use trieff::{look_up_text, make, store, Refusal, Shape};
+///
+/// let mut image = [0; 48];
+/// make(&mut image, Shape { n: 3, a: 1, d: 1, min: 1, max: 3 }, "AÉ→".as_bytes())?;
+/// store(&mut image, &mut [0; 3], &[1, 0], 9)?;
+/// assert_eq!(look_up_text(&image, "ÉA".as_bytes())?, Some(9));
+/// assert_eq!(look_up_text(&image, "→".as_bytes())?, None);
+/// assert_eq!(look_up_text(&image, b"AAAA"), Err(Refusal::KeyLength));
+/// assert_eq!(look_up_text(&image, b"AAAAx"), Err(Refusal::Letter));
+/// assert_eq!(look_up_text(&image, b"\xC3"), Err(Refusal::Letter));
+/// # Ok::<(), Refusal>(())
+/// ```
+pub fn look_up_text(image: &[u8], text: &[u8]) -> Result<Option<u64>, Refusal> {
+    // SAFETY: a slice's pointer and length; neither is written to.
+    let answer = unsafe { raw::trieff_look_up_text(image.as_ptr(), image.len(), text.as_ptr(), text.len()) };
+    heard(answer).map(present)
+}
+
+/// Stores a value under a key given by its letter numbers, or deletes the key where the value is 0. The answer is the change in the number of
+/// stored keys: 1 for a new key, -1 for one that is deleted, 0 for another value and for deleting what is not there.
+///
+/// Done, it writes the key's data; where nodes are missing on the key's path and the value is not 0, it writes them to the spare bytes at U, then
+/// G, then the link to the first of them.
+///
+/// Refusals: 1 to 8, 9, 10, 11, 12, 13. A value of 0 wants no nodes, so it never hears 12 or 13.
+///
+/// ```
+/// use trieff::{make, store, Refusal, Shape};
+///
+/// let mut image = [0; 43];
+/// let mut work = [0; 3];
+/// make(&mut image, Shape { n: 3, a: 1, d: 1, min: 1, max: 3 }, b"ABC")?;
+/// assert_eq!(store(&mut image, &mut work, &[1, 0], 9)?, 1);
+/// assert_eq!(store(&mut image, &mut work, &[1, 0], 8)?, 0);
+/// assert_eq!(store(&mut image, &mut work, &[1, 0], 0)?, -1);
+/// assert_eq!(store(&mut image, &mut work, &[1, 0], 256), Err(Refusal::ValueTooGreat));
+/// assert_eq!(store(&mut image, &mut work, &[2, 2, 2], 1), Err(Refusal::NoRoom));
+/// assert_eq!(store(&mut image, &mut work, &[2, 2, 2], 0)?, 0);
+/// # Ok::<(), Refusal>(())
+/// ```
+pub fn store(image: &mut [u8], work: &mut [u32], letters: &[u8], value: u32) -> Result<i32, Refusal> {
+    // SAFETY: a slice's pointer and length; image and work are borrowed for writing, so no two overlap.
+    let answer = unsafe {
+        raw::trieff_store(
+            image.as_mut_ptr(),
+            image.len(),
+            work.as_mut_ptr(),
+            work.len(),
+            letters.as_ptr(),
+            letters.len(),
+            value,
+        )
+    };
+    heard(answer).map(|done| done.change)
+}
+
+/// The same as [`store`] for a key given by its text in UTF-8.
+///
+/// Refusals: 1 to 8, 10, 9, 11, 12, 13.
+///
+/// ```
+/// use trieff::{look_up, make, store_text, Refusal, Shape};
+///
+/// let mut image = [0; 48];
+/// let mut work = [0; 3];
+/// make(&mut image, Shape { n: 3, a: 1, d: 1, min: 1, max: 3 }, "AÉ→".as_bytes())?;
+/// assert_eq!(store_text(&mut image, &mut work, "É→".as_bytes(), 9)?, 1);
+/// assert_eq!(look_up(&image, &[1, 2])?, Some(9));
+/// assert_eq!(store_text(&mut image, &mut work, b"E", 9), Err(Refusal::Letter));
+/// # Ok::<(), Refusal>(())
+/// ```
+pub fn store_text(image: &mut [u8], work: &mut [u32], text: &[u8], value: u32) -> Result<i32, Refusal> {
+    // SAFETY: a slice's pointer and length; image and work are borrowed for writing, so no two overlap.
+    let answer = unsafe {
+        raw::trieff_store_text(
+            image.as_mut_ptr(),
+            image.len(),
+            work.as_mut_ptr(),
+            work.len(),
+            text.as_ptr(),
+            text.len(),
+            value,
+        )
+    };
+    heard(answer).map(|done| done.change)
+}
+
+/// The first stored key at or after the key given or, where `after` is true, after it. A key comes before its extensions; otherwise the first
+/// different letter number decides. The key given has 0 to max letters and need not be stored; at or after the empty key is the first.
+///
+/// Done, it writes the key's letters to the front of the key buffer. The rest of the buffer keeps what it held. That there is no such key is a
+/// refusal, [`Refusal::NoKey`].
+///
+/// Refusals: 1 to 8, 9 (only a key longer than max), 10, 14, 15.
+///
+/// ```
+/// use trieff::{make, next_key, store, Found, Refusal, Shape};
+///
+/// let mut image = [0; 43];
+/// let mut work = [0; 3];
+/// make(&mut image, Shape { n: 3, a: 1, d: 1, min: 1, max: 3 }, b"ABC")?;
+/// store(&mut image, &mut work, &[1, 0], 9)?;
+/// store(&mut image, &mut work, &[1], 5)?;
+///
+/// let mut key = [7; 3];
+/// assert_eq!(next_key(&image, &mut work, &[], false, &mut key)?, Found { length: 1, value: 5 });
+/// assert_eq!(next_key(&image, &mut work, &[1], true, &mut key)?, Found { length: 2, value: 9 });
+/// assert_eq!(key, [1, 0, 7]);
+/// assert_eq!(next_key(&image, &mut work, &[1, 0], true, &mut key), Err(Refusal::NoKey));
+/// assert_eq!(next_key(&image, &mut work, &[1], true, &mut key[..2]), Err(Refusal::ShortBuffer));
+/// # Ok::<(), Refusal>(())
+/// ```
+pub fn next_key(image: &[u8], work: &mut [u32], letters: &[u8], after: bool, key: &mut [u8]) -> Result<Found, Refusal> {
+    // SAFETY: a slice's pointer and length; work and key are borrowed for writing, so no two overlap but image and letters, which are read.
+    let answer = unsafe {
+        raw::trieff_next_key(
+            image.as_ptr(),
+            image.len(),
+            work.as_mut_ptr(),
+            work.len(),
+            letters.as_ptr(),
+            letters.len(),
+            after,
+            key.as_mut_ptr(),
+            key.len(),
+        )
+    };
+    heard(answer).map(|done| Found {
+        length: done.length as usize,
+        value: done.value,
+    })
+}
+
+fn heard(answer: TrieffAnswer) -> Result<TrieffAnswer, Refusal> {
+    match Refusal::of(answer.number, answer.place) {
+        None => Ok(answer),
+        Some(refusal) => Err(refusal),
+    }
+}
+
+fn present(done: TrieffAnswer) -> Option<u64> {
+    match done.value {
+        0 => None,
+        value => Some(value),
+    }
+}
