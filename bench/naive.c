@@ -173,7 +173,9 @@ static trieff_answer judge_links(const uint8_t *image, const struct head *h, uin
     return valued(0);
 }
 
-static trieff_answer check(const uint8_t *image, size_t len, uint32_t *work, size_t work_len, struct head *h)
+/* 1 to 8. It stays a function of its own, so that what a call takes beyond it can be told. */
+__attribute__((noinline)) static trieff_answer check(const uint8_t *image, size_t len, uint32_t *work, size_t work_len,
+                                                     struct head *h)
 {
     uint32_t number = open_image(image, len, h);
     if (number != 0)

@@ -29,9 +29,13 @@ static trieff_answer refusal(uint32_t number, uint32_t place)
 
 /* ---- fields */
 
+_Static_assert(__BYTE_ORDER__ == __ORDER_LITTLE_ENDIAN__, "fields are swapped on the way in and out");
+
 static inline uint32_t load4(const uint8_t *at)
 {
-    return (uint32_t)at[0] << 24 | (uint32_t)at[1] << 16 | (uint32_t)at[2] << 8 | at[3];
+    uint32_t v;
+    memcpy(&v, at, 4);
+    return __builtin_bswap32(v);
 }
 
 static inline uint64_t load8(const uint8_t *at)
@@ -50,11 +54,8 @@ static inline uint32_t field(const uint8_t *end, uint32_t mask)
 /* Writes the field that ends at `end`, and the bytes in front of it as they are. */
 static inline void put_field(uint8_t *end, uint32_t mask, uint32_t v)
 {
-    uint32_t four = (load4(end - 4) & ~mask) | v;
-    end[-4] = (uint8_t)(four >> 24);
-    end[-3] = (uint8_t)(four >> 16);
-    end[-2] = (uint8_t)(four >> 8);
-    end[-1] = (uint8_t)four;
+    uint32_t four = __builtin_bswap32((load4(end - 4) & ~mask) | v);
+    memcpy(end - 4, &four, 4);
 }
 
 static inline const uint8_t *node_at(const struct opened *o, uint32_t node)
@@ -72,16 +73,32 @@ static inline uint32_t data_of(const struct opened *o, const uint8_t *node)
     return field(node + o->width, o->data_mask);
 }
 
-/* Are all links of a node empty? Links of less than eight bytes are never said to be. */
+/* 32 bytes, or'ed together. */
+static inline uint64_t any_of_32(const uint8_t *at)
+{
+    return load8(at) | load8(at + 8) | load8(at + 16) | load8(at + 24);
+}
+
+/* Are 8 to 31 bytes all 0? The last eight may be looked at twice. */
+static inline bool few_blank(const uint8_t *at, size_t len)
+{
+    uint64_t any = load8(at + len - 8);
+    for (size_t i = 0; i + 8 < len; i += 8)
+        any |= load8(at + i);
+    return any == 0;
+}
+
+/* Are all links of a node empty? Links of less than eight bytes are never said to be. The last 32 bytes may be looked at twice. */
 static inline bool childless(const struct opened *o, const uint8_t *node)
 {
     size_t len = o->links_len;
-    if (len < 8 || load8(node + len - 8) != 0)
-        return false;
-    for (const uint8_t *end = node + len - 8; node < end; node += 8)
-        if (load8(node) != 0)
+    if (len < 32)
+        return len >= 8 && few_blank(node, len);
+    const uint8_t *last = node + len - 32;
+    for (; node < last; node += 32)
+        if (any_of_32(node) != 0)
             return false;
-    return true;
+    return any_of_32(last) == 0;
 }
 
 /* ---- 1 to 4 */
@@ -261,9 +278,9 @@ static inline trieff_answer judge_links(const struct opened *o, uint32_t *work, 
     return answer;
 }
 
-/* 1 to 8. */
-static trieff_answer check(const uint8_t *image, size_t len, uint32_t *work, size_t work_len, struct opened *o,
-                           struct alphabet *al)
+/* 1 to 8. It stays a function of its own, so that what a call takes beyond it can be told. */
+__attribute__((noinline)) static trieff_answer check(const uint8_t *image, size_t len, uint32_t *work, size_t work_len, struct opened *o,
+                                                     struct alphabet *al)
 {
     uint32_t number = open_image(image, len, o, al);
     return number != 0 ? refusal(number, 0) : judge_links(o, work, work_len, false);
