@@ -13,6 +13,9 @@
 #define ROWS_MOST 64
 #define SPARE_NUMBERS 3
 #define RUBBISH 0xA5
+#define RUNS_LEAST 10
+#define RUNS_MOST 1000
+#define SECONDS_A_ROW 1.0
 
 struct row {
     const struct call *call;
@@ -187,7 +190,7 @@ static void time_row(const struct row *row)
     int calls = calls_in_a_run(row, &lent);
     for (int version = 0; version < VERSIONS; version++)
         least[version] = one_run(row, version, &lent, calls);
-    for (int run = 0; run < 200 && (run < 7 || seconds() - start < 0.4); run++)
+    for (int run = 0; run < RUNS_LEAST || (run < RUNS_MOST && seconds() - start < SECONDS_A_ROW); run++)
         for (int version = 0; version < VERSIONS; version++) {
             double took = one_run(row, version, &lent, calls);
             if (took < least[version])

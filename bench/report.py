@@ -10,6 +10,9 @@ import sys
 
 folder = sys.argv[1]
 VERSIONS = ("project", "naive", "tuned")
+BEYOND = ", beyond its check"
+WALK = "listing walk, per key beyond the check"
+PROGRAM = "listing program with its lines, per key beyond the check"
 
 
 def figures(name):
@@ -32,13 +35,13 @@ def dumped(path):
 def counts():
     """The counts of the plan's rows; of the inner store by the row's name with `inner` in front of it."""
     table = {}
-    for path in sorted(glob.glob(os.path.join(folder, "calls-*.count")) + glob.glob(os.path.join(folder, "inner-*.count"))):
+    for path in glob.glob(os.path.join(folder, "calls-*.count")) + glob.glob(os.path.join(folder, "inner-*.count")):
         inner = os.path.basename(path).startswith("inner-")
         for trigger, count in dumped(path):
             if trigger.count("|") != 3:
                 continue
             image, row, version, _ = trigger.split("|")
-            if inner and not row.startswith("store"):
+            if inner and not row.startswith("store,"):
                 continue
             if int(count) == 0:
                 sys.exit("report.py: nothing was counted of '%s' in %s" % (row, path))
@@ -56,11 +59,6 @@ times = figures("times")
 counted = counts()
 
 
-def size(image):
-    """Images in the order of their sizes."""
-    return os.path.getsize(os.path.join(folder, image + ".trieff"))
-
-
 def each(of):
     return {version: of(version) for version in VERSIONS}
 
@@ -74,71 +72,88 @@ def walk_per_key(image):
     return {version: figure / keys for version, figure in beyond_check("listing walk", image).items()}
 
 
-def listing_per_key():
+def program_per_key():
     """Two images, so that what a program's start takes falls out; the check of each is counted by itself."""
     many, few = "listing-65536", "listing-10"
-    keys = answers["listing walk", many]["answer"] - answers["listing walk", few]["answer"]
-    check = counted["check", many], counted["check", few]
-    return each(lambda version: (whole(version, many) - check[0][version] - whole(version, few) + check[1][version]) / keys)
+    keys = answers["count", many]["answer"] - answers["count", few]["answer"]
+
+    def behind_check(version, image):
+        return whole(version, image) - counted["check", image][version]
+
+    return each(lambda version: (behind_check(version, many) - behind_check(version, few)) / keys)
 
 
-def derived():
-    """What follows from the counts: calls beyond their check, the walk and the program per key."""
+def all_counts():
+    """The counts in the plan's order, each with what follows from it: the inner store, what is beyond the check, the walk per key."""
     table = {}
-    for row, image in counted:
+    for row, image in answers:
+        table[row, image] = counted[row, image]
+        if ("inner " + row, image) in counted:
+            table["inner " + row, image] = counted["inner " + row, image]
         if row.startswith(("store", "next key")):
-            table[row + ", beyond its check", image] = beyond_check(row, image)
+            table[row + BEYOND, image] = beyond_check(row, image)
         if row == "listing walk":
-            table["listing walk, per key beyond the check", image] = walk_per_key(image)
-    table["listing program with its lines, per key", "listing-65536"] = listing_per_key()
+            table[WALK, image] = walk_per_key(image)
+    table[PROGRAM, "listing-65536"] = program_per_key()
     return table
 
 
-def print_table(title, table, form):
+def joined(lines):
+    """Lines (name, image, figures ..): neighbours with the same name and figures are one, with the first and the last image."""
+    groups = []
+    for name, image, *figures in lines:
+        if groups and groups[-1][0] == name and groups[-1][2] == figures:
+            groups[-1][1].append(image)
+        else:
+            groups.append((name, [image], figures))
+    for name, images, figures in groups:
+        yield (name, images[0] if len(images) == 1 else images[0] + " to " + images[-1], *figures)
+
+
+def print_table(title, heads, lines):
+    """Every column as wide as its widest cell, figures to the right."""
+    lines = [heads, *lines]
+    widths = [max(len(line[i]) for line in lines) for i in range(len(heads))]
     print("\n%s\n" % title)
-    line = "| %-46s | %-14s | %13s | %13s | %13s | %7s | %7s |"
-    print(line % ("Call", "Image", *VERSIONS, "p:tuned", "p:naive"))
-    print("|" + "---|" * 2 + "---:|" * 5)
-    for row in dict.fromkeys(row for row, _ in table):
-        for image in sorted((image for other, image in table if other == row), key=size):
-            project, naive, tuned = (table[row, image][version] for version in VERSIONS)
-            print(line % (row, image, form(project), form(naive), form(tuned), "%.2f" % (project / tuned), "%.2f" % (project / naive)))
+    for at, line in enumerate(lines):
+        cells = [cell.ljust(width) if i < 2 else cell.rjust(width) for i, (cell, width) in enumerate(zip(line, widths))]
+        print("| " + " | ".join(cells) + " |")
+        if at == 0:
+            print("|" + "|".join("-" * (width + 2) if i < 2 else "-" * (width + 1) + ":" for i, width in enumerate(widths)) + "|")
 
 
-def goals():
-    """The house plan's: what, the count, the most that it may be."""
+def print_versions(title, table, form):
+    def lines():
+        for row in dict.fromkeys(row for row, _ in table):
+            for image in (image for other, image in table if other == row):
+                project, naive, tuned = (table[row, image][version] for version in VERSIONS)
+                yield row, image, form(project), form(naive), form(tuned), "%.2f" % (project / tuned), "%.2f" % (project / naive)
+
+    print_table(title, ("Call", "Image", *VERSIONS, "project:tuned", "project:naive"), joined(lines()))
+
+
+def goals(table):
+    """The house plan's: what, the image, the project's count, the most that it may be."""
     full, twenty = "full-16MiB", "labels-20000"
 
-    def project(row, image):
-        return counted[row, image]["project"]
+    def goal(row, image, most):
+        return row, image, table[row, image]["project"], most
 
-    yield "check, full image of 16 MiB", project("check", full), 36000000
-    yield "count, full image, 2.5 times its check", project("count", full), 2.5 * project("check", full)
-    for row in ("hit", "miss"):
-        yield "text look up, 16 letters, 9 characters, " + row, project("text look up, " + row, full), 1400
-    yield "text look up, 200 letters ascending", project("text look up, hit", "ascending-200"), 15000
-    yield "text look up, 200 letters in any order", project("text look up, hit", "anyorder-200"), 50000
-    for row, image in sorted(derived(), key=lambda place: size(place[1])):
-        if row.endswith("beyond its check"):
-            yield "%s, %s" % (row, image), derived()[row, image]["project"], 2000
+    yield goal("check", full, 36000000)
+    yield goal("count", full, 2.5 * table["check", full]["project"])
+    for row, image in table:
+        if row.startswith("text look up"):
+            yield goal(row, image, {"full-16MiB": 1400, "ascending-200": 15000, "anyorder-200": 50000}[image])
+    for row in dict.fromkeys(row for row, _ in table):
+        for image in (image for other, image in table if other == row):
+            if row.endswith(BEYOND):
+                yield goal(row, image, 2000)
     for row in ("one new node", "nine new nodes", "another value"):
-        yield "inner store, " + row, project("inner store, " + row, twenty), 800
-    for row, image in sorted(derived(), key=lambda place: size(place[1])):
-        if row.startswith("listing walk"):
-            yield "%s, %s" % (row, image), derived()[row, image]["project"], 320
-    yield "listing program with its lines, per key", listing_per_key()["project"], 600
-
-
-def print_goals():
-    print("\nGoals, by count\n")
-    line = "| %-66s | %13s | %13s | %-6s |"
-    print(line % ("What", "project", "goal", ""))
-    print("|---|---:|---:|---|")
-    missed = 0
-    for what, count, most in goals():
-        missed += count > most
-        print(line % (what, whole_number(count), whole_number(most), "MISSED" if count > most else "met"))
-    return missed
+        yield goal("inner store, " + row, twenty, 800)
+    for row, image in table:
+        if row == WALK:
+            yield goal(row, image, 320)
+    yield goal(PROGRAM, "listing-65536", 600)
 
 
 def whole_number(figure):
@@ -149,8 +164,11 @@ def microseconds(nanoseconds):
     return "{:,.2f}".format(nanoseconds / 1000)
 
 
-print_table("Instructions, by callgrind; `p` is the project", {**counted, **derived()}, whole_number)
-print_table("Microseconds, the least of many runs after one that warms the buffers", times, microseconds)
-missed = print_goals()
+table = all_counts()
+print_versions("Instructions, by callgrind", table, whole_number)
+print_versions("Microseconds, the least of many runs after one that warms the buffers", times, microseconds)
+judged = [(row, image, whole_number(count), whole_number(most), "MISSED" if count > most else "met") for row, image, count, most in goals(table)]
+print_table("Goals, by count", ("What", "Image", "project", "goal", ""), joined(judged))
+missed = sum(line[-1] == "MISSED" for line in judged)
 print("\n%s" % ("%d MISSED" % missed if missed else "all met"))
 sys.exit(1 if missed else 0)

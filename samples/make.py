@@ -112,7 +112,7 @@ def samples(folder):
 
 
 def bench(folder):
-    """Full is without room for one node more; the others have sixteen spare nodes."""
+    """The full image has no room for a node more, those of so many labels have room for sixteen."""
     write(folder, "full-16MiB.trieff", numbered(16777216, 1 << 36).whole())
     for most in (1000, 20000, 100000):
         write(folder, "labels-%d.trieff" % most, numbered(16777216, most).used(16))
