@@ -119,7 +119,8 @@ static void make_whole(struct small *s)
 /* One harm: a head field near its limits, a link, any byte, G, or the length. */
 static void harm(struct small *s)
 {
-    static const uint32_t ODD[] = {0, 1, 2, 4, 5, 64, 65, 256, 257, 1024, 1025, 0x3FFFFFFF, 0xFFFFFFFF};
+    static const uint32_t ODD[] = {0, 1, 2, 4, 5, 64, 65, 256, 257, 1024, 1025, 0xFFFFFFFF};
+    static const uint32_t GREAT[] = {0xFFFFFFFF, 0x7FFFFFFF, 0x3FFFFFFF, 0x00FFFFFF};
     switch (any_below(6)) {
     case 0:
         put_field(s->bytes + 4 * any_below(7), 4, ODD[any_below(sizeof ODD / sizeof *ODD)]);
@@ -132,7 +133,7 @@ static void harm(struct small *s)
         s->bytes[any_below((uint32_t)s->len)] = (uint8_t)any_below(256);
         break;
     case 4:
-        put_field(s->bytes, 4, s->g + any_below(3) - 1);
+        put_field(s->bytes, 4, one_in(3) ? GREAT[any_below(4)] : s->g + any_below(3) - 1);
         break;
     default:
         s->len = one_in(2) ? any_below((uint32_t)s->len + 1) : s->len - 1;
