@@ -1,63 +1,232 @@
-/* Calls one door of the library over an image in a file, so that callgrind can count what it takes. Usage:
-     measure IMAGE check|count|walk
-     measure IMAGE look_up_text|next_key TEXT
-     measure IMAGE store|store_text TEXT VALUE
-   It prints what the call answers. Where a call takes letters, each byte of TEXT is sought in the image's alphabet of one-byte letters. After a
-   store the label must answer the value. */
-#include <stdbool.h>
-#include <stdint.h>
+/* Performs the rows of bench/plan that are for one image: compared in all versions, counted in one of them by callgrind, or timed in all.
+   It writes lines IMAGE|ROW|VERSION|FIGURE; those of `count` stand in callgrind's dumps. Usage:
+     measure compare|time PLAN FOLDER IMAGE
+     measure count PLAN FOLDER IMAGE VERSION */
+#define _POSIX_C_SOURCE 200809L
+#include "calls.h"
 #include <stdio.h>
 #include <stdlib.h>
 #include <string.h>
+#include <time.h>
+#include <valgrind/callgrind.h>
 
-uint64_t measure_check(const uint8_t *image, size_t image_len, uint32_t *work, size_t work_len);
-uint64_t measure_count(const uint8_t *image, size_t image_len, uint32_t *work, size_t work_len);
-uint64_t measure_walk(const uint8_t *image, size_t image_len, uint32_t *work, size_t work_len);
-uint64_t measure_look_up_text(const uint8_t *image, size_t image_len, const uint8_t *text, size_t text_len);
-uint64_t measure_next_key(const uint8_t *image, size_t image_len, uint32_t *work, size_t work_len,
-                          const uint8_t *letters, size_t letters_len, bool after, uint8_t *key, size_t key_len);
-uint64_t measure_store(uint8_t *image, size_t image_len, uint32_t *work, size_t work_len,
-                       const uint8_t *letters, size_t letters_len, uint32_t value);
-uint64_t measure_store_text(uint8_t *image, size_t image_len, uint32_t *work, size_t work_len,
-                            const uint8_t *text, size_t text_len, uint32_t value);
+#define ROWS_MOST 64
+#define SPARE_NUMBERS 3
+#define RUBBISH 0xA5
+#define RUNS_LEAST 10
+#define RUNS_MOST 1000
+#define SECONDS_A_ROW 1.0
 
-static const uint8_t *letters_of(const uint8_t *image, const char *text, uint8_t *letters)
+struct row {
+    const struct call *call;
+    char name[80];
+    uint8_t key[256];
+    size_t key_len;
+    uint32_t value;
+    bool stores;
+    char answer[24]; /* what it must answer, or "*" */
+};
+
+static uint8_t image[IMAGE_MOST + 1], kept_image[IMAGE_MOST + 1];
+static uint8_t buffer[KEY_MOST];
+static uint32_t *work;
+static size_t image_len, work_len;
+static const char *image_name;
+
+static void fail(const char *what, const char *which)
 {
-    for (size_t i = 0; text[i] != 0; i++)
-        letters[i] = (uint8_t)((const uint8_t *)memchr(image + 28, text[i], 256) - (image + 28));
-    return letters;
+    fprintf(stderr, "measure: %s %s\n", what, which);
+    exit(2);
+}
+
+/* ---- the image and the plan */
+
+static void read_image(const char *folder)
+{
+    char path[4096];
+    snprintf(path, sizeof path, "%s/%s.trieff", folder, image_name);
+    FILE *file = fopen(path, "rb");
+    if (file == NULL)
+        fail("cannot read", path);
+    image_len = fread(kept_image, 1, sizeof kept_image, file);
+    fclose(file);
+    if (image_len < 28)
+        fail("no image in", path);
+    uint32_t g = (uint32_t)kept_image[0] << 24 | kept_image[1] << 16 | kept_image[2] << 8 | kept_image[3];
+    work_len = (size_t)g + 1 + SPARE_NUMBERS;
+    work = malloc(work_len * sizeof *work);
+    if (work == NULL)
+        fail("no memory for", path);
+}
+
+/* A row's key: the text as it stands, or the letter numbers of its one-byte characters. */
+static void set_key(struct row *row, const char *text)
+{
+    uint32_t f = (uint32_t)kept_image[18] << 8 | kept_image[19];
+    row->key_len = strcmp(text, "-") == 0 ? 0 : strlen(text);
+    for (size_t i = 0; i < row->key_len; i++) {
+        row->key[i] = (uint8_t)text[i];
+        if (strstr(row->call->name, "_text") != NULL)
+            continue;
+        const uint8_t *found = memchr(kept_image + 28, text[i], f);
+        if (found == NULL)
+            fail("a key has a character outside the alphabet:", text);
+        row->key[i] = (uint8_t)(found - (kept_image + 28));
+    }
+}
+
+/* Is the image named in a line `images A B ..`? */
+static bool named_in(const char *line)
+{
+    char name[200];
+    for (int took = 0; sscanf(line, "%199s%n", name, &took) == 1; line += took)
+        if (strcmp(name, image_name) == 0)
+            return true;
+    return false;
+}
+
+static size_t read_plan(const char *path, struct row *rows)
+{
+    FILE *file = fopen(path, "r");
+    if (file == NULL)
+        fail("cannot read", path);
+    char line[1000], call[80], key[256], value[24];
+    bool wanted = false;
+    size_t count = 0;
+    while (fgets(line, sizeof line, file) != NULL) {
+        struct row *row = &rows[count];
+        if (line[0] == '#' || line[0] == '\n')
+            continue;
+        if (strncmp(line, "images ", 7) == 0) {
+            wanted = named_in(line + 7);
+            continue;
+        }
+        if (sscanf(line, "%79s %255s %23s %23s %79[^\n]", call, key, value, row->answer, row->name) != 5)
+            fail("not a row of the plan:", line);
+        if (!wanted)
+            continue;
+        if (++count > ROWS_MOST)
+            fail("too many rows in", path);
+        row->call = call_named(call);
+        row->stores = strcmp(value, "-") != 0;
+        row->value = (uint32_t)strtoul(value, NULL, 10);
+        set_key(row, key);
+    }
+    fclose(file);
+    return count;
+}
+
+/* What a row lends: the image as it was read, and rubbish in the other buffers. */
+static struct lent lend(const struct row *row)
+{
+    memcpy(image, kept_image, image_len);
+    memset(work, RUBBISH, work_len * sizeof *work);
+    memset(buffer, RUBBISH, sizeof buffer);
+    return (struct lent){image, image_len, work, work_len, row->key, row->key_len, row->value, true, buffer, sizeof buffer};
+}
+
+/* ---- compare, count, time */
+
+static bool compare(const struct row *row)
+{
+    struct lent lent = lend(row);
+    trieff_answer answer;
+    if (!agree(row->call, &lent, &answer)) {
+        fprintf(stderr, "  in the row '%s' on %s\n", row->name, image_name);
+        return false;
+    }
+    char said[24];
+    snprintf(said, sizeof said, "%lld", row->stores ? (long long)answer.change : (long long)answer.value);
+    printf("%s|%s|answer|%s\n", image_name, row->name, said);
+    if (answer.number == 0 && (strcmp(row->answer, "*") == 0 || strcmp(row->answer, said) == 0))
+        return true;
+    fprintf(stderr, "'%s' on %s: number %u, %s instead of %s\n", row->name, image_name, answer.number, said, row->answer);
+    return false;
+}
+
+/* Callgrind collects inside the version's functions alone; here it is told where one row ends. */
+static void count(const struct row *row, int version)
+{
+    struct lent lent = lend(row);
+    char description[400];
+    snprintf(description, sizeof description, "%s|%s|%s|", image_name, row->name, version_names[version]);
+    CALLGRIND_ZERO_STATS;
+    row->call->perform[version](&lent);
+    CALLGRIND_DUMP_STATS_AT(description);
+}
+
+static double seconds(void)
+{
+    struct timespec now;
+    clock_gettime(CLOCK_MONOTONIC, &now);
+    return (double)now.tv_sec + (double)now.tv_nsec / 1e9;
+}
+
+/* The time of so many calls in a row. A store finds the image as it was. */
+static double one_run(const struct row *row, int version, struct lent *lent, int calls)
+{
+    if (row->stores)
+        memcpy(image, kept_image, image_len);
+    double start = seconds();
+    for (int i = 0; i < calls; i++)
+        row->call->perform[version](lent);
+    return (seconds() - start) / calls;
+}
+
+/* So many calls take 100 microseconds or more; a store is called once a run. */
+static int calls_in_a_run(const struct row *row, struct lent *lent)
+{
+    int calls = 1;
+    while (!row->stores && calls < 100000 && one_run(row, TUNED, lent, calls) * calls < 1e-4)
+        calls *= 2;
+    return calls;
+}
+
+/* The least of many runs, the versions in turn, after one run of each that warms the buffers. */
+static void time_row(const struct row *row)
+{
+    struct lent lent = lend(row);
+    double least[VERSIONS], start = seconds();
+    int calls = calls_in_a_run(row, &lent);
+    for (int version = 0; version < VERSIONS; version++)
+        least[version] = one_run(row, version, &lent, calls);
+    for (int run = 0; run < RUNS_LEAST || (run < RUNS_MOST && seconds() - start < SECONDS_A_ROW); run++)
+        for (int version = 0; version < VERSIONS; version++) {
+            double took = one_run(row, version, &lent, calls);
+            if (took < least[version])
+                least[version] = took;
+        }
+    for (int version = 0; version < VERSIONS; version++)
+        printf("%s|%s|%s|%.1f\n", image_name, row->name, version_names[version], least[version] * 1e9);
+}
+
+static int version_named(const char *name)
+{
+    for (int version = 0; version < VERSIONS; version++)
+        if (strcmp(version_names[version], name) == 0)
+            return version;
+    fail("there is no version", name);
+    return 0;
 }
 
 int main(int argc, char **argv)
 {
-    static uint8_t image[16777216];
-    static uint32_t work[8388608];
-    uint8_t letters[64], key[64];
-    FILE *file = argc < 3 ? NULL : fopen(argv[1], "rb");
-    if (file == NULL)
-        return fprintf(stderr, "usage: measure IMAGE CALL [TEXT [VALUE]]\n"), 2;
-    size_t len = fread(image, 1, sizeof image, file);
-    const char *call = argv[2], *text = argc < 4 ? "" : argv[3];
-    uint32_t value = argc < 5 ? 0 : (uint32_t)strtoul(argv[4], NULL, 10);
-    uint64_t answer;
-    if (strcmp(call, "check") == 0)
-        answer = measure_check(image, len, work, 8388608);
-    else if (strcmp(call, "count") == 0)
-        answer = measure_count(image, len, work, 8388608);
-    else if (strcmp(call, "walk") == 0)
-        answer = measure_walk(image, len, work, 8388608);
-    else if (strcmp(call, "look_up_text") == 0)
-        answer = measure_look_up_text(image, len, (const uint8_t *)text, strlen(text));
-    else if (strcmp(call, "next_key") == 0)
-        answer = measure_next_key(image, len, work, 8388608, letters_of(image, text, letters), strlen(text), true, key, 64);
-    else if (strcmp(call, "store") == 0)
-        answer = measure_store(image, len, work, 8388608, letters_of(image, text, letters), strlen(text), value);
-    else if (strcmp(call, "store_text") == 0)
-        answer = measure_store_text(image, len, work, 8388608, (const uint8_t *)text, strlen(text), value);
-    else
-        return fprintf(stderr, "no call %s\n", call), 2;
-    printf("%llu\n", (unsigned long long)answer);
-    if (argc == 5 && measure_look_up_text(image, len, (const uint8_t *)text, strlen(text)) != value)
-        return fprintf(stderr, "%s does not answer %u\n", text, value), 1;
-    return 0;
+    static struct row rows[ROWS_MOST + 1];
+    bool good = true;
+    if (argc < 5 || (strcmp(argv[1], "count") == 0) != (argc == 6))
+        fail("usage:", "measure compare|time|count PLAN FOLDER IMAGE [VERSION]");
+    image_name = argv[4];
+    read_image(argv[3]);
+    size_t many = read_plan(argv[2], rows);
+    if (many == 0)
+        fail("no row of the plan is for", image_name);
+    for (size_t i = 0; i < many; i++) {
+        if (argc == 6)
+            count(&rows[i], version_named(argv[5]));
+        else if (strcmp(argv[1], "time") == 0)
+            time_row(&rows[i]);
+        else
+            good = compare(&rows[i]) && good;
+    }
+    return good ? 0 : 1;
 }

@@ -85,12 +85,12 @@ def season():
 
 
 def numbered(room, most):
-    """At most so many labels of nine digits to the base 16, counted up, with the number of labels. Their values have six digits."""
+    """At most so many labels of nine digits to the base 16, counted up. Their values have six digits."""
     image = Image(room, 16, 3, 4, "0123456789ABCDEF", 1, 12)
     stored = 0
     while stored < most and image.store([(stored >> shift) & 15 for shift in range(32, -1, -4)], stored + 100000):
         stored += 1
-    return image, stored
+    return image
 
 
 def wide(alphabet, text):
@@ -112,18 +112,17 @@ def samples(folder):
 
 
 def bench(folder):
-    write(folder, "full.trieff", numbered(16777216, 1 << 36)[0].whole())
-    write(folder, "twenty.trieff", numbered(16777216, 20000)[0].used(16))
-    for name, most in (("many", 1 << 36), ("few", 10)):
-        image, stored = numbered(65536, most)
-        write(folder, name + ".trieff", image.used())
-        write(folder, name + ".keys", str(stored).encode())
+    """The full image has no room for a node more, those of so many labels have room for sixteen."""
+    write(folder, "full-16MiB.trieff", numbered(16777216, 1 << 36).whole())
+    for most in (1000, 20000, 100000):
+        write(folder, "labels-%d.trieff" % most, numbered(16777216, most).used(16))
+    write(folder, "listing-65536.trieff", numbered(65536, 1 << 36).used())
+    write(folder, "listing-10.trieff", numbered(65536, 10).used())
     letters = [chr(0x400 + i) for i in range(200)]
     text = "".join(letters[i] for i in (9, 31, 77, 120, 150, 163, 181, 190, 199))
-    write(folder, "ascending.trieff", wide("".join(letters), text))
+    write(folder, "ascending-200.trieff", wide("".join(letters), text))
     random.Random(6).shuffle(letters)
-    write(folder, "shuffled.trieff", wide("".join(letters), text))
-    write(folder, "text", text.encode())
+    write(folder, "anyorder-200.trieff", wide("".join(letters), text))
 
 
 if len(sys.argv) == 3 and sys.argv[1] == "bench":

@@ -1,0 +1,72 @@
+/* The calls that are measured, each in three versions: the project's library, naive C and tuned C. All have the C face's signatures.
+   A new call takes a line in VERSION, one in calls.c, its two functions in C, and a row in bench/plan for each way to measure it. */
+#ifndef BENCH_CALLS_H
+#define BENCH_CALLS_H
+
+#include "trieff.h"
+#include <stdbool.h>
+#include <stddef.h>
+#include <stdint.h>
+
+#define IMAGE_MOST 16777216
+#define KEY_MOST 64
+
+/* `walk` is a check and then the walk of a listing without its lines. */
+#define VERSION(of)                                                                                                    \
+    trieff_answer of##_check(const uint8_t *image, size_t image_len, uint32_t *work, size_t work_len);                 \
+    trieff_answer of##_count(const uint8_t *image, size_t image_len, uint32_t *work, size_t work_len);                 \
+    trieff_answer of##_look_up(const uint8_t *image, size_t image_len, const uint8_t *letters, size_t letters_len);    \
+    trieff_answer of##_look_up_text(const uint8_t *image, size_t image_len, const uint8_t *text, size_t text_len);     \
+    trieff_answer of##_store(uint8_t *image, size_t image_len, uint32_t *work, size_t work_len,                        \
+                             const uint8_t *letters, size_t letters_len, uint32_t value);                              \
+    trieff_answer of##_store_text(uint8_t *image, size_t image_len, uint32_t *work, size_t work_len,                   \
+                                  const uint8_t *text, size_t text_len, uint32_t value);                               \
+    trieff_answer of##_next_key(const uint8_t *image, size_t image_len, uint32_t *work, size_t work_len,               \
+                                const uint8_t *letters, size_t letters_len, bool after, uint8_t *key, size_t key_len); \
+    /* how many stored keys the walk meets besides the root's, 0 for an image that is refused */                       \
+    uint64_t of##_walk(const uint8_t *image, size_t image_len, uint32_t *work, size_t work_len);                       \
+    /* document 01's lines of an image on standard output */                                                          \
+    void of##_list(const uint8_t *image, size_t image_len, uint32_t *work, size_t work_len);
+
+VERSION(naive)
+VERSION(tuned)
+
+/* The project's walk has a library of its own, and its listing is a program, target/bin/list. */
+uint64_t measure_walk(const uint8_t *image, size_t image_len, uint32_t *work, size_t work_len);
+
+/* What the walk of a listing hands each stored key to. */
+typedef void key_sink(void *context, const uint8_t *letters, size_t letters_len, uint64_t value);
+
+enum { PROJECT, NAIVE, TUNED, VERSIONS };
+extern const char *const version_names[VERSIONS];
+
+/* What is handed to a call; each takes its part. The key is text where the call takes text, else letters. */
+struct lent {
+    uint8_t *image;
+    size_t image_len;
+    uint32_t *work;
+    size_t work_len;
+    const uint8_t *key;
+    size_t key_len;
+    uint32_t value;
+    bool after;
+    uint8_t *buffer;
+    size_t buffer_len;
+};
+
+struct call {
+    const char *name;
+    trieff_answer (*perform[VERSIONS])(const struct lent *lent);
+};
+
+/* The call of a name; a name that no call has ends the program. */
+const struct call *call_named(const char *name);
+
+/* The call at a place in the table, NULL behind the last. */
+const struct call *call_at(size_t place);
+
+/* Performs a call in every version, on copies of what is lent. True where the five numbers, image, working numbers and key buffer are
+   the same in all; otherwise standard error says in what they differ. The answer is the project's. */
+bool agree(const struct call *call, const struct lent *lent, trieff_answer *answer);
+
+#endif

@@ -1,0 +1,174 @@
+#!/usr/bin/env python3
+"""Prints what bench/run measured: a table of counts, one of times and one of goals. Exit status 1 where a goal is missed.
+
+report.py FOLDER
+"""
+import glob
+import os
+import re
+import sys
+
+folder = sys.argv[1]
+VERSIONS = ("project", "naive", "tuned")
+BEYOND = ", beyond its check"
+WALK = "listing walk, per key beyond the check"
+PROGRAM = "listing program with its lines, per key beyond the check"
+
+
+def figures(name):
+    """Lines IMAGE|ROW|VERSION|FIGURE as a table by (row, image), in their order."""
+    table = {}
+    with open(os.path.join(folder, name)) as file:
+        for line in file:
+            image, row, version, figure = line.rstrip("\n").split("|")
+            table.setdefault((row, image), {})[version] = float(figure)
+    return table
+
+
+def dumped(path):
+    """Callgrind's dumps in a file: what each was triggered by, and its instructions."""
+    with open(path, errors="replace") as file:
+        text = file.read()
+    return re.findall(r"^desc: Trigger: (?:Client Request: )?(.*)$(?:.|\n)*?^summary: (\d+)$", text, re.M)
+
+
+def counts():
+    """The counts of the plan's rows; of the inner store by the row's name with `inner` in front of it."""
+    table = {}
+    for path in glob.glob(os.path.join(folder, "calls-*.count")) + glob.glob(os.path.join(folder, "inner-*.count")):
+        inner = os.path.basename(path).startswith("inner-")
+        for trigger, count in dumped(path):
+            if trigger.count("|") != 3:
+                continue
+            image, row, version, _ = trigger.split("|")
+            if inner and not row.startswith("store,"):
+                continue
+            if int(count) == 0:
+                sys.exit("report.py: nothing was counted of '%s' in %s" % (row, path))
+            table.setdefault(("inner " + row if inner else row, image), {})[version] = int(count)
+    return table
+
+
+def whole(version, image):
+    """The instructions of a whole run of the listing program."""
+    return sum(int(count) for _, count in dumped(os.path.join(folder, "list-%s-%s.count" % (version, image))))
+
+
+answers = figures("answers")
+times = figures("times")
+counted = counts()
+
+
+def each(of):
+    return {version: of(version) for version in VERSIONS}
+
+
+def beyond_check(row, image):
+    return each(lambda version: counted[row, image][version] - counted["check", image][version])
+
+
+def walk_per_key(image):
+    keys = answers["listing walk", image]["answer"]
+    return {version: figure / keys for version, figure in beyond_check("listing walk", image).items()}
+
+
+def program_per_key():
+    """Two images, so that what a program's start takes falls out; the check of each is counted by itself."""
+    many, few = "listing-65536", "listing-10"
+    keys = answers["count", many]["answer"] - answers["count", few]["answer"]
+
+    def behind_check(version, image):
+        return whole(version, image) - counted["check", image][version]
+
+    return each(lambda version: (behind_check(version, many) - behind_check(version, few)) / keys)
+
+
+def all_counts():
+    """The counts in the plan's order, each with what follows from it: the inner store, what is beyond the check, the walk per key."""
+    table = {}
+    for row, image in answers:
+        table[row, image] = counted[row, image]
+        if ("inner " + row, image) in counted:
+            table["inner " + row, image] = counted["inner " + row, image]
+        if row.startswith(("store", "next key")):
+            table[row + BEYOND, image] = beyond_check(row, image)
+        if row == "listing walk":
+            table[WALK, image] = walk_per_key(image)
+    table[PROGRAM, "listing-65536"] = program_per_key()
+    return table
+
+
+def joined(lines):
+    """Lines (name, image, figures ..): neighbours with the same name and figures are one, with the first and the last image."""
+    groups = []
+    for name, image, *figures in lines:
+        if groups and groups[-1][0] == name and groups[-1][2] == figures:
+            groups[-1][1].append(image)
+        else:
+            groups.append((name, [image], figures))
+    for name, images, figures in groups:
+        yield (name, images[0] if len(images) == 1 else images[0] + " to " + images[-1], *figures)
+
+
+def print_table(title, heads, lines):
+    """Every column as wide as its widest cell, figures to the right."""
+    lines = [heads, *lines]
+    widths = [max(len(line[i]) for line in lines) for i in range(len(heads))]
+    print("\n%s\n" % title)
+    for at, line in enumerate(lines):
+        cells = [cell.ljust(width) if i < 2 else cell.rjust(width) for i, (cell, width) in enumerate(zip(line, widths))]
+        print("| " + " | ".join(cells) + " |")
+        if at == 0:
+            print("|" + "|".join("-" * (width + 2) if i < 2 else "-" * (width + 1) + ":" for i, width in enumerate(widths)) + "|")
+
+
+def print_versions(title, table, form):
+    def lines():
+        for row in dict.fromkeys(row for row, _ in table):
+            for image in (image for other, image in table if other == row):
+                project, naive, tuned = (table[row, image][version] for version in VERSIONS)
+                yield row, image, form(project), form(naive), form(tuned), "%.2f" % (project / tuned), "%.2f" % (project / naive)
+
+    print_table(title, ("Call", "Image", *VERSIONS, "project:tuned", "project:naive"), joined(lines()))
+
+
+def goals(table):
+    """The house plan's: what, the image, the project's count, the most that it may be."""
+    full, twenty = "full-16MiB", "labels-20000"
+
+    def goal(row, image, most):
+        return row, image, table[row, image]["project"], most
+
+    yield goal("check", full, 36000000)
+    yield goal("count", full, 2.5 * table["check", full]["project"])
+    for row, image in table:
+        if row.startswith("text look up"):
+            yield goal(row, image, {"full-16MiB": 1400, "ascending-200": 15000, "anyorder-200": 50000}[image])
+    for row in dict.fromkeys(row for row, _ in table):
+        for image in (image for other, image in table if other == row):
+            if row.endswith(BEYOND):
+                yield goal(row, image, 2000)
+    for row in ("one new node", "nine new nodes", "another value"):
+        yield goal("inner store, " + row, twenty, 800)
+    for row, image in table:
+        if row == WALK:
+            yield goal(row, image, 320)
+    yield goal(PROGRAM, "listing-65536", 600)
+
+
+def whole_number(figure):
+    return "{:,.0f}".format(figure)
+
+
+def microseconds(nanoseconds):
+    return "{:,.2f}".format(nanoseconds / 1000)
+
+
+table = all_counts()
+print_versions("Instructions, by callgrind", table, whole_number)
+print_versions("Microseconds, the least of many runs after one that warms the buffers", times, microseconds)
+judged = [(row, image, whole_number(count), whole_number(most), "MISSED" if count > most else "met") for row, image, count, most in goals(table)]
+print_table("Goals, by count", ("What", "Image", "project", "goal", ""), joined(judged))
+missed = sum(line[-1] == "MISSED" for line in judged)
+print("\n%s" % ("%d MISSED" % missed if missed else "all met"))
+sys.exit(1 if missed else 0)

@@ -1,0 +1,665 @@
+/* The calls in C tuned by hand for speed: masked loads of four bytes, eight bytes of empty links at a time, one pass for the check.
+   It leans on what document 01's base gives, such as that a child's address is above its node's; no vector instruction is written out. */
+#include "calls.h"
+#include <string.h>
+#include <unistd.h>
+
+/* An image that 1 to 4 have passed. */
+struct opened {
+    const uint8_t *nodes;
+    size_t links_len, width; /* N*A and W */
+    uint32_t g, n, a, d, f, min, max;
+    uint32_t link_mask, data_mask;
+};
+
+#define SLOTS 512
+
+/* Letters by character. One-byte characters have a table of letter + 1; others a hash table of the same, over their bytes as numbers. */
+struct alphabet {
+    uint16_t one[128];
+    uint16_t slots[SLOTS];
+    uint32_t codes[256];
+    bool wide; /* the hash table is in use */
+};
+
+static trieff_answer refusal(uint32_t number, uint32_t place)
+{
+    return (trieff_answer){.number = number, .place = place};
+}
+
+/* ---- fields */
+
+_Static_assert(__BYTE_ORDER__ == __ORDER_LITTLE_ENDIAN__, "fields are swapped on the way in and out");
+
+static inline uint32_t load4(const uint8_t *at)
+{
+    uint32_t v;
+    memcpy(&v, at, 4);
+    return __builtin_bswap32(v);
+}
+
+static inline uint64_t load8(const uint8_t *at)
+{
+    uint64_t v;
+    memcpy(&v, at, 8);
+    return v;
+}
+
+/* The field that ends at `end`. A node has the head in front of it, so that four bytes can always be read. */
+static inline uint32_t field(const uint8_t *end, uint32_t mask)
+{
+    return load4(end - 4) & mask;
+}
+
+/* Writes the field that ends at `end`, and the bytes in front of it as they are. */
+static inline void put_field(uint8_t *end, uint32_t mask, uint32_t v)
+{
+    uint32_t four = __builtin_bswap32((load4(end - 4) & ~mask) | v);
+    memcpy(end - 4, &four, 4);
+}
+
+static inline const uint8_t *node_at(const struct opened *o, uint32_t node)
+{
+    return o->nodes + node * o->width;
+}
+
+static inline uint32_t link_of(const struct opened *o, const uint8_t *node, uint32_t letter)
+{
+    return field(node + (size_t)letter * o->a + o->a, o->link_mask);
+}
+
+static inline uint32_t data_of(const struct opened *o, const uint8_t *node)
+{
+    return field(node + o->width, o->data_mask);
+}
+
+/* 32 bytes, or'ed together. */
+static inline uint64_t any_of_32(const uint8_t *at)
+{
+    return load8(at) | load8(at + 8) | load8(at + 16) | load8(at + 24);
+}
+
+/* Are 8 to 31 bytes all 0? The last eight may be looked at twice. */
+static inline bool few_blank(const uint8_t *at, size_t len)
+{
+    uint64_t any = load8(at + len - 8);
+    for (size_t i = 0; i + 8 < len; i += 8)
+        any |= load8(at + i);
+    return any == 0;
+}
+
+/* Are all links of a node empty? Links of less than eight bytes are never said to be. The last 32 bytes may be looked at twice. */
+static inline bool childless(const struct opened *o, const uint8_t *node)
+{
+    size_t len = o->links_len;
+    if (len < 32)
+        return len >= 8 && few_blank(node, len);
+    const uint8_t *last = node + len - 32;
+    for (; node < last; node += 32)
+        if (any_of_32(node) != 0)
+            return false;
+    return any_of_32(last) == 0;
+}
+
+/* ---- 1 to 4 */
+
+/* The bytes of the well-formed character of two bytes or more at s, 0 where none stands in the bytes left. */
+static size_t wide_len(const uint8_t *s, size_t left)
+{
+    uint8_t first = s[0];
+    size_t len = first < 0xE0 ? 2 : first < 0xF0 ? 3 : 4;
+    if (first < 0xC2 || 0xF4 < first || left < len)
+        return 0;
+    uint8_t low = first == 0xE0 ? 0xA0 : first == 0xF0 ? 0x90 : 0x80;
+    uint8_t high = first == 0xED ? 0x9F : first == 0xF4 ? 0x8F : 0xBF;
+    if (s[1] < low || high < s[1])
+        return 0;
+    if (len > 2 && (s[2] & 0xC0) != 0x80)
+        return 0;
+    return len > 3 && (s[3] & 0xC0) != 0x80 ? 0 : len;
+}
+
+static uint32_t code_of(const uint8_t *s, size_t len)
+{
+    uint32_t code = (uint32_t)s[0] << 8 | s[1];
+    if (len > 2)
+        code = code << 8 | s[2];
+    return len > 3 ? code << 8 | s[3] : code;
+}
+
+/* The slot of a code: the one that holds its letter, or the empty one where it would stand. */
+static inline uint16_t *slot_of(struct alphabet *al, uint32_t code)
+{
+    uint32_t at = code * 0x9E3779B1u >> 23;
+    while (al->slots[at] != 0 && al->codes[al->slots[at] - 1] != code)
+        at = (at + 1) % SLOTS;
+    return &al->slots[at];
+}
+
+/* Puts a character of two bytes or more into the table as a letter: its bytes, 0 where it is not well-formed or not new. */
+static size_t add_wide(struct alphabet *al, const uint8_t *s, size_t left, uint32_t letter)
+{
+    size_t len = wide_len(s, left);
+    if (len == 0)
+        return 0;
+    if (!al->wide) {
+        memset(al->slots, 0, sizeof al->slots);
+        al->wide = true;
+    }
+    uint32_t code = code_of(s, len);
+    uint16_t *slot = slot_of(al, code);
+    if (*slot != 0)
+        return 0;
+    al->codes[letter] = code;
+    *slot = (uint16_t)(letter + 1);
+    return len;
+}
+
+/* Are these bytes exactly n different well-formed characters? Then the tables have their letters. */
+static bool read_alphabet(struct alphabet *al, const uint8_t *bytes, size_t len, uint32_t n)
+{
+    memset(al->one, 0, sizeof al->one);
+    uint32_t letter = 0;
+    for (size_t at = 0; at < len; letter++) {
+        if (letter == n)
+            return false;
+        if (bytes[at] < 0x80) {
+            uint16_t *one = &al->one[bytes[at++]];
+            if (*one != 0)
+                return false;
+            *one = (uint16_t)(letter + 1);
+            continue;
+        }
+        size_t size = add_wide(al, bytes + at, len - at, letter);
+        if (size == 0)
+            return false;
+        at += size;
+    }
+    return letter == n;
+}
+
+static uint32_t ones(uint32_t width)
+{
+    return 0xFFFFFFFFu >> (32 - 8 * width);
+}
+
+/* 1 to 4: the number of the first that is given, or 0. Without an alphabet no letter is in the tables. */
+static uint32_t open_image(const uint8_t *image, size_t len, struct opened *o, struct alphabet *al)
+{
+    if (len - 28 > IMAGE_MOST - 28)
+        return 1;
+    *o = (struct opened){.g = load4(image),           .n = load4(image + 4),    .a = load4(image + 8),
+                         .d = load4(image + 12),      .f = load4(image + 16),   .min = load4(image + 20),
+                         .max = load4(image + 24)};
+    if (o->n - 1 > 255 || o->a - 1 > 3 || o->d - 1 > 3 || o->f > 1024 || o->min > o->max || o->max > KEY_MOST)
+        return 2;
+    al->wide = false;
+    if (o->f > 0 && 28 + o->f <= len && !read_alphabet(al, image + 28, o->f, o->n))
+        return 3;
+    o->nodes = image + 28 + o->f;
+    o->links_len = o->n * o->a;
+    o->width = o->links_len + o->d;
+    o->link_mask = ones(o->a);
+    o->data_mask = ones(o->d);
+    return len < 28 + o->f + ((size_t)o->g + 1) * o->width ? 4 : 0;
+}
+
+/* ---- 5 to 8 */
+
+/* What one pass over all links tells. Working number x holds, once x has been met in a link, the depth of x. */
+struct pass {
+    uint32_t bad;   /* the lowest node that holds a bad link, above G where there is none */
+    uint32_t links; /* how many links are not empty */
+    uint32_t twice; /* not 0 where an address was met again */
+    uint64_t keys;  /* how many stored keys there are, where they are counted */
+};
+
+/* A node's depth is known when the pass comes to it, since its address is above that of the node that links to it. */
+static inline struct pass pass_links(const struct opened *o, uint32_t *work, bool counting)
+{
+    struct pass p = {.bad = o->g + 1};
+    const uint8_t *node = o->nodes;
+    uint32_t g = o->g, a = o->a, n = o->n, mask = o->link_mask;
+    for (uint32_t q = 0; q <= g; q++, node += o->width) {
+        if (counting && work[q] - o->min <= o->max - o->min)
+            p.keys += data_of(o, node) != 0;
+        if (childless(o, node))
+            continue;
+        const uint8_t *end = node + a;
+        uint32_t depth = work[q] + 1;
+        for (uint32_t i = 0; i < n; i++, end += a) {
+            uint32_t link = field(end, mask);
+            if (link == 0)
+                continue;
+            if (link - q - 1 >= g - q) {
+                p.bad = q;
+                return p;
+            }
+            p.twice |= work[link];
+            work[link] = depth;
+            p.links++;
+        }
+    }
+    return p;
+}
+
+/* 7 or 8 of an image that has one of them and no bad link: how often each address stands in a link, after all. */
+static trieff_answer blame(const struct opened *o, uint32_t *work)
+{
+    memset(work, 0, ((size_t)o->g + 1) * sizeof *work);
+    for (uint32_t q = 0; q <= o->g; q++)
+        for (uint32_t i = 0; i < o->n; i++)
+            work[link_of(o, node_at(o, q), i)]++;
+    uint32_t x = 1;
+    while (x <= o->g && work[x] < 2)
+        x++;
+    if (x <= o->g)
+        return refusal(7, x);
+    x = 1;
+    while (work[x] != 0)
+        x++;
+    return refusal(8, x);
+}
+
+/* 5 to 8; the answer's value is the number of stored keys where they are counted. */
+static inline trieff_answer judge_links(const struct opened *o, uint32_t *work, size_t work_len, bool counting)
+{
+    size_t nodes = (size_t)o->g + 1;
+    if (work_len < nodes)
+        return refusal(5, 0);
+    memset(work, 0, nodes * sizeof *work);
+    struct pass p = pass_links(o, work, counting);
+    trieff_answer answer = {.value = p.keys};
+    if (p.bad <= o->g)
+        answer = refusal(6, p.bad);
+    else if (p.links != o->g || p.twice != 0)
+        answer = blame(o, work);
+    memset(work, 0, nodes * sizeof *work);
+    return answer;
+}
+
+/* 1 to 8. It stays a function of its own, so that what a call takes beyond it can be told. */
+__attribute__((noinline)) static trieff_answer check(const uint8_t *image, size_t len, uint32_t *work, size_t work_len, struct opened *o,
+                                                     struct alphabet *al)
+{
+    uint32_t number = open_image(image, len, o, al);
+    return number != 0 ? refusal(number, 0) : judge_links(o, work, work_len, false);
+}
+
+trieff_answer tuned_check(const uint8_t *image, size_t image_len, uint32_t *work, size_t work_len)
+{
+    struct opened o;
+    struct alphabet al;
+    return check(image, image_len, work, work_len, &o, &al);
+}
+
+trieff_answer tuned_count(const uint8_t *image, size_t image_len, uint32_t *work, size_t work_len)
+{
+    struct opened o;
+    struct alphabet al;
+    uint32_t number = open_image(image, image_len, &o, &al);
+    return number != 0 ? refusal(number, 0) : judge_links(&o, work, work_len, true);
+}
+
+/* ---- keys: 9 and 10 */
+
+static bool letters_good(const struct opened *o, const uint8_t *letters, size_t len)
+{
+    uint8_t top = 0;
+    for (size_t i = 0; i < len; i++)
+        top = letters[i] > top ? letters[i] : top;
+    return top < o->n;
+}
+
+static uint32_t judge_key(const struct opened *o, const uint8_t *letters, size_t len)
+{
+    if (len - o->min > o->max - o->min)
+        return 9;
+    return letters_good(o, letters, len) ? 0 : 10;
+}
+
+/* 10, then 9, of a text; its first 64 letters are written to `letters`, and `*count` is how many it has. */
+static uint32_t judge_text(const struct opened *o, struct alphabet *al, const uint8_t *text, size_t len,
+                           uint8_t *letters, size_t *count)
+{
+    size_t at = 0, most = 0;
+    if (o->f == 0 && len > 0)
+        return 10;
+    for (; at < len; most++) {
+        uint32_t letter = 0;
+        if (text[at] < 0x80) {
+            letter = al->one[text[at++]];
+        } else {
+            size_t size = wide_len(text + at, len - at);
+            if (size != 0 && al->wide)
+                letter = *slot_of(al, code_of(text + at, size));
+            at += size;
+        }
+        if (letter == 0)
+            return 10;
+        if (most < KEY_MOST)
+            letters[most] = (uint8_t)(letter - 1);
+    }
+    *count = most;
+    return most - o->min > o->max - o->min ? 9 : 0;
+}
+
+/* ---- look up */
+
+static inline trieff_answer look(const struct opened *o, const uint8_t *letters, size_t len)
+{
+    uint32_t q = 0;
+    const uint8_t *node = o->nodes;
+    for (size_t i = 0; i < len; i++) {
+        uint32_t link = link_of(o, node, letters[i]);
+        if (link == 0)
+            return (trieff_answer){.value = 0};
+        if (link - q - 1 >= o->g - q)
+            return refusal(6, q);
+        q = link;
+        node = node_at(o, q);
+    }
+    return (trieff_answer){.value = data_of(o, node)};
+}
+
+trieff_answer tuned_look_up(const uint8_t *image, size_t image_len, const uint8_t *letters, size_t letters_len)
+{
+    struct opened o;
+    struct alphabet al;
+    uint32_t number = open_image(image, image_len, &o, &al);
+    if (number == 0)
+        number = judge_key(&o, letters, letters_len);
+    return number != 0 ? refusal(number, 0) : look(&o, letters, letters_len);
+}
+
+trieff_answer tuned_look_up_text(const uint8_t *image, size_t image_len, const uint8_t *text, size_t text_len)
+{
+    struct opened o;
+    struct alphabet al;
+    uint8_t letters[KEY_MOST];
+    size_t len;
+    uint32_t number = open_image(image, image_len, &o, &al);
+    if (number == 0)
+        number = judge_text(&o, &al, text, text_len, letters, &len);
+    return number != 0 ? refusal(number, 0) : look(&o, letters, len);
+}
+
+/* ---- store: 11, 12, 13 */
+
+/* The path stops at a link: nodes for the letters behind it, then G, then that link. The letters are those behind the link's own. */
+static trieff_answer extend(uint8_t *image, size_t image_len, const struct opened *o, uint8_t *link_end,
+                            const uint8_t *letters, size_t len, uint32_t value)
+{
+    size_t k = len + 1;
+    if (value == 0)
+        return (trieff_answer){.change = 0};
+    if (o->g + k > o->link_mask)
+        return refusal(12, 0);
+    uint8_t *node = image + (node_at(o, o->g + 1) - image);
+    if (image_len < (size_t)(node - image) + k * o->width)
+        return refusal(13, 0);
+    memset(node, 0, k * o->width);
+    for (size_t i = 0; i < len; i++, node += o->width)
+        put_field(node + (size_t)letters[i] * o->a + o->a, o->link_mask, (uint32_t)(o->g + 2 + i));
+    put_field(node + o->width, o->data_mask, value);
+    put_field(image + 4, 0xFFFFFFFF, (uint32_t)(o->g + k));
+    put_field(link_end, o->link_mask, o->g + 1);
+    return (trieff_answer){.change = 1};
+}
+
+/* A store behind the check and the judging of the key. It stays a function of its own, so that it can be counted alone. */
+__attribute__((noinline)) static trieff_answer inner_store(uint8_t *image, size_t image_len, const struct opened *o,
+                                                           const uint8_t *letters, size_t len, uint32_t value)
+{
+    if (value > o->data_mask)
+        return refusal(11, 0);
+    uint8_t *nodes = image + 28 + o->f, *node = nodes;
+    for (size_t i = 0; i < len; i++) {
+        uint8_t *end = node + (size_t)letters[i] * o->a + o->a;
+        uint32_t link = field(end, o->link_mask);
+        if (link == 0)
+            return extend(image, image_len, o, end, letters + i + 1, len - i - 1, value);
+        node = nodes + link * o->width;
+    }
+    uint32_t old = data_of(o, node);
+    put_field(node + o->width, o->data_mask, value);
+    return (trieff_answer){.change = (value != 0) - (old != 0)};
+}
+
+trieff_answer tuned_store(uint8_t *image, size_t image_len, uint32_t *work, size_t work_len, const uint8_t *letters,
+                          size_t letters_len, uint32_t value)
+{
+    struct opened o;
+    struct alphabet al;
+    trieff_answer answer = check(image, image_len, work, work_len, &o, &al);
+    if (answer.number != 0)
+        return answer;
+    uint32_t number = judge_key(&o, letters, letters_len);
+    return number != 0 ? refusal(number, 0) : inner_store(image, image_len, &o, letters, letters_len, value);
+}
+
+trieff_answer tuned_store_text(uint8_t *image, size_t image_len, uint32_t *work, size_t work_len, const uint8_t *text,
+                               size_t text_len, uint32_t value)
+{
+    struct opened o;
+    struct alphabet al;
+    uint8_t letters[KEY_MOST];
+    size_t len;
+    trieff_answer answer = check(image, image_len, work, work_len, &o, &al);
+    if (answer.number != 0)
+        return answer;
+    uint32_t number = judge_text(&o, &al, text, text_len, letters, &len);
+    return number != 0 ? refusal(number, 0) : inner_store(image, image_len, &o, letters, len, value);
+}
+
+/* ---- the next key */
+
+/* The path of a search: the letters down to a depth, and the nodes on the way. */
+struct path {
+    uint8_t letters[KEY_MOST];
+    const uint8_t *nodes[KEY_MOST + 1];
+    size_t depth;
+};
+
+/* The first link of a node that is not empty, from a letter on, which is moved to it; 0 where there is none. */
+static inline uint32_t next_link(const struct opened *o, const uint8_t *node, uint32_t *letter)
+{
+    if (*letter == 0 && childless(o, node))
+        return 0;
+    for (; *letter < o->n; ++*letter) {
+        uint32_t link = link_of(o, node, *letter);
+        if (link != 0)
+            return link;
+    }
+    return 0;
+}
+
+/* Moves the path to the first stored key below its end from a letter on or, where there is none, behind it. Its value, 0 for none. */
+static uint32_t move_on(const struct opened *o, struct path *p, uint32_t letter)
+{
+    size_t depth = p->depth;
+    for (;;) {
+        uint32_t link = depth < o->max ? next_link(o, p->nodes[depth], &letter) : 0;
+        if (link == 0) {
+            if (depth == 0)
+                return 0;
+            letter = p->letters[--depth] + 1u;
+            continue;
+        }
+        const uint8_t *node = node_at(o, link);
+        p->letters[depth++] = (uint8_t)letter;
+        p->nodes[depth] = node;
+        letter = 0;
+        if (depth < o->min || data_of(o, node) == 0)
+            continue;
+        p->depth = depth;
+        return data_of(o, node);
+    }
+}
+
+/* Follows a key as far as its links go, and takes the first stored key from there. */
+static uint32_t seek(const struct opened *o, const uint8_t *letters, size_t len, bool after, struct path *p)
+{
+    p->nodes[0] = o->nodes;
+    for (p->depth = 0; p->depth < len; p->depth++) {
+        uint8_t letter = letters[p->depth];
+        uint32_t link = link_of(o, p->nodes[p->depth], letter);
+        if (link == 0)
+            return move_on(o, p, letter + 1u);
+        p->letters[p->depth] = letter;
+        p->nodes[p->depth + 1] = node_at(o, link);
+    }
+    uint32_t own = after || len < o->min ? 0 : data_of(o, p->nodes[len]);
+    return own != 0 ? own : move_on(o, p, 0);
+}
+
+trieff_answer tuned_next_key(const uint8_t *image, size_t image_len, uint32_t *work, size_t work_len,
+                             const uint8_t *letters, size_t letters_len, bool after, uint8_t *key, size_t key_len)
+{
+    struct opened o;
+    struct alphabet al;
+    struct path p;
+    trieff_answer answer = check(image, image_len, work, work_len, &o, &al);
+    if (answer.number != 0)
+        return answer;
+    if (letters_len > o.max)
+        return refusal(9, 0);
+    if (!letters_good(&o, letters, letters_len))
+        return refusal(10, 0);
+    if (key_len < o.max)
+        return refusal(14, 0);
+    uint32_t value = seek(&o, letters, letters_len, after, &p);
+    if (value == 0)
+        return refusal(15, 0);
+    for (size_t i = 0; i < p.depth; i++)
+        key[i] = p.letters[i];
+    return (trieff_answer){.length = (uint32_t)p.depth, .value = value};
+}
+
+/* ---- the walk of a listing, and its lines */
+
+/* The stored keys below a node at a depth, each handed to the sink. A leaf is not entered. */
+static void walk_below(const struct opened *o, const uint8_t *node, size_t depth, uint8_t *letters, key_sink *sink,
+                       void *context)
+{
+    uint32_t n = o->n, a = o->a, mask = o->link_mask;
+    const uint8_t *end = node + a;
+    for (uint32_t i = 0; i < n; i++, end += a) {
+        uint32_t link = field(end, mask);
+        if (link == 0)
+            continue;
+        const uint8_t *child = node_at(o, link);
+        letters[depth] = (uint8_t)i;
+        uint32_t value = data_of(o, child);
+        if (value != 0 && depth + 1 >= o->min)
+            sink(context, letters, depth + 1, value);
+        if (depth + 1 < o->max && !childless(o, child))
+            walk_below(o, child, depth + 1, letters, sink, context);
+    }
+}
+
+/* The context is a sum of keys. */
+static void add_key(void *context, const uint8_t *letters, size_t len, uint64_t value)
+{
+    (void)letters, (void)len, (void)value;
+    ++*(uint64_t *)context;
+}
+
+uint64_t tuned_walk(const uint8_t *image, size_t image_len, uint32_t *work, size_t work_len)
+{
+    struct opened o;
+    struct alphabet al;
+    uint8_t letters[KEY_MOST];
+    uint64_t keys = 0;
+    if (check(image, image_len, work, work_len, &o, &al).number == 0 && o.max > 0)
+        walk_below(&o, o.nodes, 0, letters, add_key, &keys);
+    return keys;
+}
+
+/* Lines that wait to be written. No line is longer than 288 bytes. */
+struct lines {
+    char text[65536];
+    size_t len;
+};
+
+static void flush(struct lines *out)
+{
+    for (size_t done = 0; done < out->len;) {
+        ssize_t wrote = write(STDOUT_FILENO, out->text + done, out->len - done);
+        if (wrote <= 0)
+            return;
+        done += (size_t)wrote;
+    }
+    out->len = 0;
+}
+
+static char *add_text(char *to, const char *text)
+{
+    while (*text != 0)
+        *to++ = *text++;
+    return to;
+}
+
+static char *add_number(char *to, uint64_t v)
+{
+    char digits[20];
+    size_t at = sizeof digits;
+    do {
+        digits[--at] = (char)('0' + v % 10);
+        v /= 10;
+    } while (v != 0);
+    while (at < sizeof digits)
+        *to++ = digits[at++];
+    return to;
+}
+
+static inline char *add_letter(char *to, uint32_t letter)
+{
+    if (letter >= 100)
+        *to++ = (char)('0' + letter / 100);
+    if (letter >= 10)
+        *to++ = (char)('0' + letter / 10 % 10);
+    *to++ = (char)('0' + letter % 10);
+    return to;
+}
+
+static void add_line(void *context, const uint8_t *letters, size_t len, uint64_t value)
+{
+    struct lines *out = context;
+    if (out->len > sizeof out->text - 288)
+        flush(out);
+    char *to = out->text + out->len;
+    for (size_t i = 0; i < len; i++) {
+        to = add_letter(to, letters[i]);
+        *to++ = '.';
+    }
+    if (len == 0)
+        *to++ = '-';
+    else
+        to--;
+    *to++ = ' ';
+    to = add_number(to, value);
+    *to++ = '\n';
+    out->len = (size_t)(to - out->text);
+}
+
+void tuned_list(const uint8_t *image, size_t image_len, uint32_t *work, size_t work_len)
+{
+    static struct lines out;
+    struct opened o;
+    struct alphabet al;
+    uint8_t letters[KEY_MOST];
+    uint32_t number = open_image(image, image_len, &o, &al);
+    trieff_answer answer = number != 0 ? refusal(number, 0) : judge_links(&o, work, work_len, true);
+    char *to = add_text(out.text, answer.number != 0 ? "refused " : "entries ");
+    to = add_number(to, answer.number != 0 ? answer.number : answer.value);
+    if (answer.number != 0)
+        to = add_number(add_text(to, " at "), answer.place);
+    *to++ = '\n';
+    out.len = (size_t)(to - out.text);
+    if (answer.number == 0 && o.min == 0 && data_of(&o, o.nodes) != 0)
+        add_line(&out, letters, 0, data_of(&o, o.nodes));
+    if (answer.number == 0 && o.max > 0)
+        walk_below(&o, o.nodes, 0, letters, add_line, &out);
+    flush(&out);
+}
