@@ -1,0 +1,182 @@
+//! Lays the memory lent to a call between guards, twice with the same content: one for the library, one for the model. After the call the
+//! two must be the same in every byte, so also in the guards, in what was lent to be read only, and in all that a call must not touch.
+
+use crate::calls::{ask_library, ask_model, Call, Lent, Pointers};
+use crate::model::Answer;
+use crate::rng::Rng;
+use crate::saboteurs::{Saboteur, Spoiled};
+use std::ops::Range;
+
+/// A call with what it is lent; key buffer and working numbers are given by their lengths, for they hold rubbish.
+#[derive(Clone, Copy)]
+pub struct Asked<'a> {
+    pub call: Call,
+    pub image: &'a [u8],
+    pub given: &'a [u8],
+    pub key_len: usize,
+    pub work_len: usize,
+}
+
+/// Guard, image, guard, given, guard, key buffer, guard; and guard, working numbers, guard.
+#[derive(Clone, Default)]
+pub struct Arena {
+    pub bytes: Vec<u8>,
+    pub words: Vec<u32>,
+    pub image: Range<usize>,
+    pub given: Range<usize>,
+    pub key: Range<usize>,
+    pub work: Range<usize>,
+}
+
+impl Arena {
+    /// Guards are of 9 to 16 bytes, so that buffers start at odd addresses as well as at even ones.
+    fn guard(&mut self, rng: &mut Rng) {
+        let len = 9 + rng.below(8) as usize;
+        self.bytes.extend_from_slice(&rng.next().to_le_bytes());
+        self.bytes.extend_from_slice(&rng.next().to_le_bytes()[..len - 8]);
+    }
+
+    fn place(&mut self, bytes: &[u8]) -> Range<usize> {
+        let start = self.bytes.len();
+        self.bytes.extend_from_slice(bytes);
+        start..self.bytes.len()
+    }
+
+    fn lay(&mut self, asked: &Asked, rng: &mut Rng) {
+        self.bytes.clear();
+        self.guard(rng);
+        self.image = self.place(asked.image);
+        self.guard(rng);
+        self.given = self.place(asked.given);
+        self.guard(rng);
+        let start = self.bytes.len();
+        self.bytes.resize(start + asked.key_len, 0);
+        self.key = start..self.bytes.len();
+        rng.fill(&mut self.bytes[start..]);
+        self.guard(rng);
+        self.lay_words(asked.work_len, rng);
+    }
+
+    /// Rubbish of three sorts: any, small numbers that look like counts, and one that looks like neither.
+    fn lay_words(&mut self, work_len: usize, rng: &mut Rng) {
+        let start = 2 + rng.below(3) as usize;
+        self.work = start..start + work_len;
+        self.words.clear();
+        let mask = rng.pick(&[u32::MAX, u32::MAX, 1, 3]);
+        self.words.extend((0..start + work_len + 3).map(|_| (rng.next() >> 20) as u32 & mask));
+    }
+
+    /// As `clone`, in the memory that is there.
+    fn copy_from(&mut self, other: &Arena) {
+        self.bytes.clone_from(&other.bytes);
+        self.words.clone_from(&other.words);
+        self.image = other.image.clone();
+        self.given = other.given.clone();
+        self.key = other.key.clone();
+        self.work = other.work.clone();
+    }
+
+    fn lent(&mut self) -> Lent<'_> {
+        let (front, key) = self.bytes.split_at_mut(self.key.start);
+        let (front, given) = front.split_at_mut(self.given.start);
+        Lent {
+            image: &mut front[self.image.clone()],
+            given: &given[..self.given.len()],
+            key: &mut key[..self.key.len()],
+            work: &mut self.words[self.work.clone()],
+        }
+    }
+
+    fn pointers(&mut self) -> Pointers {
+        let bytes = self.bytes.as_mut_ptr();
+        let words = self.words.as_mut_ptr();
+        let piece = |range: &Range<usize>| (unsafe { bytes.add(range.start) }, range.len());
+        Pointers {
+            image: piece(&self.image),
+            given: piece(&self.given),
+            key: piece(&self.key),
+            work: (unsafe { words.add(self.work.start) }, self.work.len()),
+        }
+    }
+
+    pub fn image(&self) -> &[u8] {
+        &self.bytes[self.image.clone()]
+    }
+
+    pub fn given(&self) -> &[u8] {
+        &self.bytes[self.given.clone()]
+    }
+
+    pub fn key(&self) -> &[u8] {
+        &self.bytes[self.key.clone()]
+    }
+
+    fn name_byte(&self, at: usize) -> String {
+        for (name, range) in [("image", &self.image), ("given", &self.given), ("key buffer", &self.key)] {
+            if at < range.start {
+                return format!("guard byte {} before the {name}", range.start - at);
+            }
+            if at < range.end {
+                return format!("byte {} of the {name}", at - range.start);
+            }
+        }
+        format!("guard byte {} after the key buffer", at - self.key.end)
+    }
+
+    fn name_word(&self, at: usize) -> String {
+        if at < self.work.start {
+            format!("guard word {} before the working numbers", self.work.start - at)
+        } else if at < self.work.end {
+            format!("working number {}", at - self.work.start)
+        } else {
+            format!("guard word {} after the working numbers", at - self.work.end)
+        }
+    }
+}
+
+/// What both answered, and the first difference, in words.
+pub struct Outcome {
+    pub model: Answer,
+    pub library: Answer,
+    pub difference: Option<String>,
+}
+
+#[derive(Default)]
+pub struct Twins {
+    pub library: Arena,
+    pub model: Arena,
+}
+
+impl Twins {
+    /// Asks both and compares. With a saboteur, the library's outcome is spoiled first.
+    pub fn ask(&mut self, asked: &Asked, rng: &mut Rng, saboteur: Option<&Saboteur>) -> Outcome {
+        self.library.lay(asked, rng);
+        self.model.copy_from(&self.library);
+        let before = saboteur.map(|_| self.library.clone());
+        let pointers = self.library.pointers();
+        let mut library = unsafe { ask_library(asked.call, &pointers) };
+        let model = ask_model(asked.call, self.model.lent());
+        if let (Some(saboteur), Some(before)) = (saboteur, before) {
+            (saboteur.spoil)(&mut Spoiled { call: asked.call, before: &before, after: &mut self.library, answer: &mut library });
+        }
+        let difference = self.difference(&model, &library);
+        Outcome { model, library, difference }
+    }
+
+    fn difference(&self, model: &Answer, library: &Answer) -> Option<String> {
+        if model != library {
+            return Some("the answers differ".to_string());
+        }
+        if self.model.bytes != self.library.bytes {
+            let at = (0..self.model.bytes.len()).find(|at| self.model.bytes[*at] != self.library.bytes[*at])?;
+            let (its, ours) = (self.library.bytes[at], self.model.bytes[at]);
+            return Some(format!("{}: model {ours:02X}, library {its:02X}", self.model.name_byte(at)));
+        }
+        if self.model.words != self.library.words {
+            let at = (0..self.model.words.len()).find(|at| self.model.words[*at] != self.library.words[*at])?;
+            let (its, ours) = (self.library.words[at], self.model.words[at]);
+            return Some(format!("{}: model {ours}, library {its}", self.model.name_word(at)));
+        }
+        None
+    }
+}
