@@ -3,7 +3,7 @@
 use crate::calls::Call;
 use crate::damage::damage;
 use crate::keys;
-use crate::model::{greatest, Answer, Head, LONGEST_IMAGE};
+use crate::model::{Answer, Head, LONGEST_IMAGE};
 use crate::rng::Rng;
 use crate::shapes::{self, Shape};
 use crate::twins::Asked;
@@ -302,13 +302,18 @@ fn full_of_two_bytes(rng: &mut Rng) -> (Sort, Shape, Vec<u8>) {
     (Sort::Usual, shape, image)
 }
 
-/// As long as an image may be, or a byte longer or shorter; at times all nodes that fit, in one chain.
+/// As long as an image may be, or a byte longer or shorter: with all nodes that fit, in one chain or in a tree, or with few.
 fn huge(rng: &mut Rng) -> (Sort, Shape, Vec<u8>) {
     let length = LONGEST_IMAGE + rng.below(3) as usize - 1;
-    let mut shape = Shape::narrow(rng, 3);
-    if rng.one_in(2) {
+    let mut shape = match rng.below(3) {
+        0 => Shape::narrow(rng, 3),
+        1 => Shape::of(rng, 5),
+        _ => Shape::draw(rng),
+    };
+    if shape.head.n == 1 || shape.head.n == 5 {
+        shape.head.a = 3;
         let body = (LONGEST_IMAGE - 28 - shape.head.f as usize) as u64;
-        shape.head.g = (body / shape.head.w() as u64).min(greatest(3)) as u32 - 1 - rng.below(2) as u32;
+        shape.head.g = (body / shape.head.w() as u64) as u32 - 1 - rng.below(2) as u32;
     } else {
         shape.draw_g(rng);
     }

@@ -289,7 +289,11 @@ pub fn run() -> Exhausted {
                 let mut progress = Progress::of(thread);
                 for (i, family) in FAMILIES.iter().enumerate() {
                     run_family(&mut worker, family, thread, &mut progress);
-                    tried.lock().unwrap()[i].add(&std::mem::take(&mut worker.done));
+                    let done = std::mem::take(&mut worker.done);
+                    tried.lock().unwrap()[i].add(&done);
+                    if done.failed >= ENOUGH {
+                        break;
+                    }
                 }
                 progress.done();
             });

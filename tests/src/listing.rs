@@ -6,9 +6,10 @@ use crate::model::{self, write_number, LISTING_WORK, LONGEST_INPUT};
 use crate::report;
 use crate::rng::Rng;
 use crate::shapes::Shape;
+use std::fs::File;
 use std::io::Write;
 use std::path::Path;
-use std::process::{Command, Stdio};
+use std::process::{Child, Command, Output, Stdio};
 use std::time::Duration;
 
 const PROGRAM: &str = "target/bin/list";
@@ -20,10 +21,20 @@ pub struct Listed {
     pub failed: usize,
 }
 
+fn start(input: Stdio) -> Result<Child, String> {
+    let started = Command::new(PROGRAM).stdin(input).stdout(Stdio::piped()).spawn();
+    started.map_err(|error| format!("{PROGRAM} does not start: {error}"))
+}
+
+/// What the program writes of a file.
+fn written_of_file(path: &Path) -> Result<Vec<u8>, String> {
+    let file = File::open(path).map_err(|error| error.to_string())?;
+    lines_of(start(Stdio::from(file))?.wait_with_output())
+}
+
 /// What the program writes of the input, delivered in pieces with a pause between them.
 fn written(pieces: &[&[u8]]) -> Result<Vec<u8>, String> {
-    let started = Command::new(PROGRAM).stdin(Stdio::piped()).stdout(Stdio::piped()).spawn();
-    let mut child = started.map_err(|error| format!("{PROGRAM} does not start: {error}"))?;
+    let mut child = start(Stdio::piped())?;
     let mut input = child.stdin.take().expect("it is piped");
     let output = std::thread::scope(|scope| {
         scope.spawn(move || {
@@ -39,6 +50,10 @@ fn written(pieces: &[&[u8]]) -> Result<Vec<u8>, String> {
         });
         child.wait_with_output()
     });
+    lines_of(output)
+}
+
+fn lines_of(output: std::io::Result<Output>) -> Result<Vec<u8>, String> {
     let output = output.map_err(|error| error.to_string())?;
     // 01 names no exit status; a program that was killed has none
     match output.status.code() {
@@ -49,8 +64,12 @@ fn written(pieces: &[&[u8]]) -> Result<Vec<u8>, String> {
 
 impl Listed {
     fn hold(&mut self, name: &str, pieces: &[&[u8]], expected: &str) {
+        self.compare(name, written(pieces), expected);
+    }
+
+    fn compare(&mut self, name: &str, written: Result<Vec<u8>, String>, expected: &str) {
         self.tried += 1;
-        let fault = match written(pieces) {
+        let fault = match written {
             Ok(lines) if lines == expected.as_bytes() => return,
             Ok(lines) => {
                 let at = lines.iter().zip(expected.as_bytes()).take_while(|(its, ours)| its == ours).count();
@@ -74,11 +93,11 @@ impl Listed {
 
     /// A sample of the repository with the text that stands beside it.
     fn sample(&mut self, name: &str) {
-        let read = |ending: &str| std::fs::read(Path::new("samples").join(name).with_extension(ending));
-        match (read("trieff"), read("txt")) {
+        let path = |ending: &str| Path::new("samples").join(name).with_extension(ending);
+        match (std::fs::read(path("trieff")), std::fs::read_to_string(path("txt"))) {
             (Ok(image), Ok(text)) => {
-                let text = String::from_utf8_lossy(&text).into_owned();
                 self.case(name, &image, &text);
+                self.compare(&format!("{name} from its file"), written_of_file(&path("trieff")), &text);
                 let parts = (11.min(image.len()), 5_011.min(image.len()));
                 self.hold(&format!("{name} in pieces"), &[&image[..parts.0], &image[parts.0..parts.1], &image[parts.1..]], &text);
             }
@@ -233,16 +252,21 @@ pub fn run(start: u64) -> Listed {
     let mut listed = Listed::default();
     small_cases(&mut listed);
     limits(&mut listed);
+    listed.compare("/dev/null", written_of_file(Path::new("/dev/null")), "refused 1 at 0\n");
     listed.sample("p3");
     listed.sample("season");
-    let mut lines = 0;
+    let mut refused = 0;
     for seed in start..start + RANDOM {
         let image = random_image(&mut Rng::new(seed));
         let expected = model::listing(&image);
-        lines += expected.lines().count();
+        refused += u64::from(expected.starts_with("refused"));
         let short = &image[..image.len().min(2_000)];
         listed.hold(&format!("random image {seed} of {} bytes [{}]", image.len(), report::hex(short)), &[&image], &expected);
     }
-    println!("listing: {} tried, {lines} lines of random images", listed.tried);
+    println!("listing: {} tried, {RANDOM} of them random images, of which {refused} are refused", listed.tried);
+    if refused.min(RANDOM - refused) < RANDOM / 5 {
+        listed.failed += 1;
+        println!("FAILED: listing: too few random images are refused, or too few accepted");
+    }
     listed
 }

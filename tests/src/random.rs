@@ -3,7 +3,7 @@
 use crate::calls::{KINDS, NUMBERS};
 use crate::cases::Case;
 use crate::progress::Progress;
-use crate::report;
+use crate::report::{self, say};
 use crate::rng::Rng;
 use crate::saboteurs::{Saboteur, SABOTEURS};
 use crate::situations::{Seen, SITUATIONS};
@@ -165,18 +165,18 @@ pub fn replay(seed: u64) -> bool {
         let asked = case.asked(&step);
         if number == 1 || asked.image != printed.as_slice() {
             printed = asked.image.to_vec();
-            print!("image of {} bytes:\n{}", printed.len(), report::hex_lines(&printed));
+            say(&format!("image of {} bytes:\n{}", printed.len(), report::hex_lines(&printed)));
         }
-        print!("call {number}: {}", report::asked(&asked));
+        say(&format!("call {number}: {}", report::asked(&asked)));
         let outcome = twins.ask(&asked, &mut guards, None);
-        print!("{}", report::outcome(&outcome));
+        say(&report::outcome(&outcome));
         if outcome.difference.is_some() {
-            println!("the image as the model leaves it:\n{}", report::hex_lines(twins.model.image()));
-            println!("the image as the library leaves it:\n{}", report::hex_lines(twins.library.image()));
+            say(&format!("the image as the model leaves it:\n{}", report::hex_lines(twins.model.image())));
+            say(&format!("the image as the library leaves it:\n{}", report::hex_lines(twins.library.image())));
             return false;
         }
         case.learn(step.call, &outcome.model, twins.model.image(), twins.model.key());
     }
-    println!("seed {seed}: {number} calls, model and library agree");
+    say(&format!("seed {seed}: {number} calls, model and library agree\n"));
     true
 }

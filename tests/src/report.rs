@@ -3,9 +3,17 @@
 use crate::calls::{Call, KINDS};
 use crate::model::Answer;
 use crate::twins::{Asked, Outcome};
+use std::io::Write;
 
 /// Longer images are printed only so far.
 const PRINTED: usize = 65_536;
+
+/// Prints; a reader who has seen enough ends the program.
+pub fn say(text: &str) {
+    if std::io::stdout().write_all(text.as_bytes()).is_err() {
+        std::process::exit(1);
+    }
+}
 
 pub fn hex(bytes: &[u8]) -> String {
     bytes.iter().map(|byte| format!("{byte:02X}")).collect()

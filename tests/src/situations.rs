@@ -110,7 +110,7 @@ pub const SITUATIONS: [Situation; 50] = [
     Situation { name: "4: G is FFFFFFFF", met: |s| s.number() == 4 && !s.is_make() && s.head().g == u32::MAX },
     Situation { name: "5: G working numbers", met: |s| s.number() == 5 && s.asked.work_len as u64 == u64::from(s.head().g) },
     Situation { name: "5: a link is broken too", met: |s| s.number() == 5 && s.check().map_or(false, |answer| answer.number == 6) },
-    Situation { name: "6: a link to the node itself or lower", met: |s| s.number() == 6 && s.answer.place == s.head().g },
+    Situation { name: "6: a link to the node itself or lower", met: link_not_rising },
     Situation {
         name: "8: an address that A bytes cannot hold",
         met: |s| s.number() == 8 && u64::from(s.head().g) > model::greatest(s.head().a),
@@ -186,6 +186,11 @@ pub const SITUATIONS: [Situation; 50] = [
         met: |s| s.call() == Call::Count && s.done() && s.answer.value == 0 && model::data(s.asked.image, &s.head(), 0) > 0,
     },
 ];
+
+fn link_not_rising(s: &Seen) -> bool {
+    let node = u64::from(s.answer.place);
+    s.number() == 6 && (0..u64::from(s.head().n)).any(|letter| (1..=node).contains(&model::link(s.asked.image, &s.head(), node, letter)))
+}
 
 fn bad_text(s: &Seen) -> bool {
     s.number() == 10 && matches!(s.call(), Call::LookUpText | Call::StoreText { .. }) && model::characters(s.asked.given).is_none()

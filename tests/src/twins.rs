@@ -112,15 +112,15 @@ impl Arena {
     }
 
     fn name_byte(&self, at: usize) -> String {
-        for (name, range) in [("image", &self.image), ("given", &self.given), ("key buffer", &self.key)] {
-            if at < range.start {
-                return format!("guard byte {} before the {name}", range.start - at);
-            }
-            if at < range.end {
-                return format!("byte {} of the {name}", at - range.start);
-            }
+        let pieces = [("image", &self.image), ("given", &self.given), ("key buffer", &self.key)];
+        if let Some((name, range)) = pieces.iter().find(|(_, range)| range.contains(&at)) {
+            return format!("byte {} of the {name}", at - range.start);
         }
-        format!("guard byte {} after the key buffer", at - self.key.end)
+        // a guard, told from the nearer of its two ends
+        let before = pieces.iter().filter(|(_, range)| at < range.start).map(|(name, range)| (range.start - at, "before", name));
+        let after = pieces.iter().filter(|(_, range)| at >= range.end).map(|(name, range)| (at - range.end + 1, "after", name));
+        let (far, side, name) = before.chain(after).min_by_key(|(far, _, _)| *far).expect("every byte has a neighbour");
+        format!("guard byte {far} {side} the {name}")
     }
 
     fn name_word(&self, at: usize) -> String {
@@ -129,12 +129,12 @@ impl Arena {
         } else if at < self.work.end {
             format!("working number {}", at - self.work.start)
         } else {
-            format!("guard word {} after the working numbers", at - self.work.end)
+            format!("guard word {} after the working numbers", at - self.work.end + 1)
         }
     }
 }
 
-/// What both answered, and the first difference, in words.
+/// What both answered, and where they differ, in words.
 pub struct Outcome {
     pub model: Answer,
     pub library: Answer,
@@ -163,20 +163,32 @@ impl Twins {
         Outcome { model, library, difference }
     }
 
+    /// The answers, then the first byte, then the first working number.
     fn difference(&self, model: &Answer, library: &Answer) -> Option<String> {
-        if model != library {
-            return Some("the answers differ".to_string());
+        let answers = if model != library { Some("the answers".to_string()) } else { None };
+        let found: Vec<String> = [answers, self.first_byte(), self.first_word()].into_iter().flatten().collect();
+        if found.is_empty() {
+            None
+        } else {
+            Some(found.join("; "))
         }
-        if self.model.bytes != self.library.bytes {
-            let at = (0..self.model.bytes.len()).find(|at| self.model.bytes[*at] != self.library.bytes[*at])?;
-            let (its, ours) = (self.library.bytes[at], self.model.bytes[at]);
-            return Some(format!("{}: model {ours:02X}, library {its:02X}", self.model.name_byte(at)));
+    }
+
+    fn first_byte(&self) -> Option<String> {
+        let (ours, its) = (&self.model.bytes, &self.library.bytes);
+        if ours == its {
+            return None;
         }
-        if self.model.words != self.library.words {
-            let at = (0..self.model.words.len()).find(|at| self.model.words[*at] != self.library.words[*at])?;
-            let (its, ours) = (self.library.words[at], self.model.words[at]);
-            return Some(format!("{}: model {ours}, library {its}", self.model.name_word(at)));
+        let at = (0..ours.len()).find(|at| ours[*at] != its[*at])?;
+        Some(format!("{}: model {:02X}, library {:02X}", self.model.name_byte(at), ours[at], its[at]))
+    }
+
+    fn first_word(&self) -> Option<String> {
+        let (ours, its) = (&self.model.words, &self.library.words);
+        if ours == its {
+            return None;
         }
-        None
+        let at = (0..ours.len()).find(|at| ours[*at] != its[*at])?;
+        Some(format!("{}: model {}, library {}", self.model.name_word(at), ours[at], its[at]))
     }
 }
