@@ -73,8 +73,8 @@ impl Listed {
             Ok(lines) if lines == expected.as_bytes() => return,
             Ok(lines) => {
                 let at = lines.iter().zip(expected.as_bytes()).take_while(|(its, ours)| its == ours).count();
-                let start = |bytes: &[u8]| String::from_utf8_lossy(&bytes[..bytes.len().min(300)]).into_owned();
-                format!("byte {at} differs\n  expected: {:?}\n  written: {:?}", start(expected.as_bytes()), start(&lines))
+                let around = |bytes: &[u8]| String::from_utf8_lossy(&bytes[at.saturating_sub(60)..bytes.len().min(at + 60)]).into_owned();
+                format!("byte {at} differs\n  expected there: {:?}\n  written there: {:?}", around(expected.as_bytes()), around(&lines))
             }
             Err(fault) => fault,
         };
