@@ -1,0 +1,104 @@
+//! The calls, each with its name, the numbers that document 01 lets it answer, and how the model and the library are asked.
+//!
+//! To add a call: a variant of `Call`, its row in `KINDS`, an arm in `ask_model` and in `ask_library`, and a choice in `cases::Case::draw`.
+
+use crate::model::{self, Answer};
+use trieff::raw;
+
+/// A call without the memory lent to it. What it is given to read (alphabet, letters or text) is lent memory too.
+#[derive(Clone, Copy, Debug, PartialEq, Eq)]
+pub enum Call {
+    Make { n: u32, a: u32, d: u32, min: u32, max: u32 },
+    Check,
+    Count,
+    LookUp,
+    LookUpText,
+    Store { value: u32 },
+    StoreText { value: u32 },
+    NextKey { after: bool },
+}
+
+pub struct Kind {
+    pub name: &'static str,
+    /// What `given` is.
+    pub given: &'static str,
+    /// The numbers that 01's order names, and 0.
+    pub numbers: &'static [u32],
+}
+
+pub const KINDS: [Kind; 8] = [
+    Kind { name: "make", given: "alphabet", numbers: &[0, 1, 2, 3, 4] },
+    Kind { name: "check", given: "nothing", numbers: &[0, 1, 2, 3, 4, 5, 6, 7, 8] },
+    Kind { name: "count", given: "nothing", numbers: &[0, 1, 2, 3, 4, 5, 6, 7, 8] },
+    Kind { name: "look_up", given: "letters", numbers: &[0, 1, 2, 3, 4, 6, 9, 10] },
+    Kind { name: "look_up_text", given: "text", numbers: &[0, 1, 2, 3, 4, 6, 9, 10] },
+    Kind { name: "store", given: "letters", numbers: &[0, 1, 2, 3, 4, 5, 6, 7, 8, 9, 10, 11, 12, 13] },
+    Kind { name: "store_text", given: "text", numbers: &[0, 1, 2, 3, 4, 5, 6, 7, 8, 9, 10, 11, 12, 13] },
+    Kind { name: "next_key", given: "letters", numbers: &[0, 1, 2, 3, 4, 5, 6, 7, 8, 9, 10, 14, 15] },
+];
+
+/// One more than the greatest refusal.
+pub const NUMBERS: usize = 16;
+
+impl Call {
+    /// Its row in `KINDS`.
+    pub fn kind(&self) -> usize {
+        match self {
+            Call::Make { .. } => 0,
+            Call::Check => 1,
+            Call::Count => 2,
+            Call::LookUp => 3,
+            Call::LookUpText => 4,
+            Call::Store { .. } => 5,
+            Call::StoreText { .. } => 6,
+            Call::NextKey { .. } => 7,
+        }
+    }
+}
+
+/// The memory lent to the model.
+pub struct Lent<'a> {
+    pub image: &'a mut [u8],
+    pub given: &'a [u8],
+    pub key: &'a mut [u8],
+    pub work: &'a mut [u32],
+}
+
+pub fn ask_model(call: Call, lent: Lent) -> Answer {
+    let Lent { image, given, key, work } = lent;
+    match call {
+        Call::Make { n, a, d, min, max } => model::make(image, n, a, d, given, min, max),
+        Call::Check => model::check(image, work),
+        Call::Count => model::count(image, work),
+        Call::LookUp => model::look_up(image, given),
+        Call::LookUpText => model::look_up_text(image, given),
+        Call::Store { value } => model::store(image, work, given, value),
+        Call::StoreText { value } => model::store_text(image, work, given, value),
+        Call::NextKey { after } => model::next_key(image, work, given, after, key),
+    }
+}
+
+/// The memory lent to the library. All pointers may be written through, so that a write where none is allowed is seen and is no trap for
+/// the compiler.
+pub struct Pointers {
+    pub image: (*mut u8, usize),
+    pub given: (*mut u8, usize),
+    pub key: (*mut u8, usize),
+    pub work: (*mut u32, usize),
+}
+
+/// Safe where the four pieces of memory are there, each its own.
+pub unsafe fn ask_library(call: Call, lent: &Pointers) -> Answer {
+    let ((image, image_len), (given, given_len), (work, work_len)) = (lent.image, lent.given, lent.work);
+    let raw::TrieffAnswer { number, place, length, change, value } = match call {
+        Call::Make { n, a, d, min, max } => raw::trieff_make(image, image_len, n, a, d, given, given_len, min, max),
+        Call::Check => raw::trieff_check(image, image_len, work, work_len),
+        Call::Count => raw::trieff_count(image, image_len, work, work_len),
+        Call::LookUp => raw::trieff_look_up(image, image_len, given, given_len),
+        Call::LookUpText => raw::trieff_look_up_text(image, image_len, given, given_len),
+        Call::Store { value } => raw::trieff_store(image, image_len, work, work_len, given, given_len, value),
+        Call::StoreText { value } => raw::trieff_store_text(image, image_len, work, work_len, given, given_len, value),
+        Call::NextKey { after } => raw::trieff_next_key(image, image_len, work, work_len, given, given_len, after, lent.key.0, lent.key.1),
+    };
+    Answer { number, place, length, change, value }
+}

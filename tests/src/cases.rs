@@ -1,0 +1,324 @@
+//! A random case: from one seed an image and a run of calls on it, of which some are asked while the image is damaged.
+
+use crate::calls::Call;
+use crate::damage::damage;
+use crate::keys;
+use crate::model::{Answer, Head, LONGEST_IMAGE};
+use crate::rng::Rng;
+use crate::shapes::{self, Shape};
+use crate::twins::Asked;
+
+/// How a case goes.
+#[derive(Clone, Copy, PartialEq)]
+enum Sort {
+    /// All calls on one image.
+    Usual,
+    /// A make, then stores more than other calls.
+    Fresh,
+    /// Makes alone, at every limit.
+    Makes,
+    /// 16,777,216 bytes, one less or one more: a few calls, for they are slow.
+    Huge,
+}
+
+/// A call and the lengths of what is lent beside the image and what is given.
+#[derive(Clone, Copy)]
+pub struct Step {
+    pub call: Call,
+    pub key_len: usize,
+    pub work_len: usize,
+}
+
+pub struct Case {
+    rng: Rng,
+    image: Vec<u8>,
+    given: Vec<u8>,
+    sort: Sort,
+    shape: Shape,
+    /// The image from before it was damaged.
+    whole: Option<Vec<u8>>,
+    last_found: Vec<u8>,
+    asked: u64,
+    calls: u64,
+}
+
+impl Case {
+    pub fn new(seed: u64) -> Case {
+        let mut rng = Rng::new(seed);
+        let (sort, shape, image) = match rng.below(3_000) {
+            0 => huge(&mut rng),
+            1..=12 => full_of_two_bytes(&mut rng),
+            13..=130 => makes(&mut rng),
+            131..=180 => rubbish(&mut rng),
+            181..=600 => full_of_one_byte(&mut rng),
+            601..=1_100 => fresh(&mut rng),
+            _ => tree(&mut rng),
+        };
+        let calls = match sort {
+            Sort::Huge => 8,
+            _ if image.len() > 100_000 => 12,
+            _ => rng.between(24, 60),
+        };
+        Case { rng, image, given: Vec::new(), sort, shape, whole: None, last_found: Vec::new(), asked: 0, calls }
+    }
+
+    /// The next call, or nothing at the end of the case.
+    pub fn next(&mut self) -> Option<Step> {
+        if self.asked == self.calls {
+            return None;
+        }
+        self.asked += 1;
+        self.damage_or_mend();
+        let call = self.draw();
+        Some(Step { call, key_len: self.draw_key_len(), work_len: self.draw_work_len() })
+    }
+
+    /// The call that was drawn last, with what it is lent.
+    pub fn asked(&self, step: &Step) -> Asked<'_> {
+        Asked { call: step.call, image: &self.image, given: &self.given, key_len: step.key_len, work_len: step.work_len }
+    }
+
+    /// The case goes on from what the call left.
+    pub fn learn(&mut self, call: Call, answer: &Answer, image: &[u8], key: &[u8]) {
+        match call {
+            Call::Make { .. } | Call::Store { .. } | Call::StoreText { .. } if answer.number == 0 => self.image.copy_from_slice(image),
+            Call::NextKey { .. } if answer.number == 0 => self.last_found = key[..answer.length as usize].to_vec(),
+            _ => {}
+        }
+    }
+
+    /// A damaged image stays for some calls, then the whole one is back.
+    fn damage_or_mend(&mut self) {
+        let often = match self.sort {
+            Sort::Makes => return,
+            Sort::Huge => 8,
+            Sort::Fresh => 5,
+            Sort::Usual => 3,
+        };
+        match self.whole.take() {
+            Some(whole) if self.rng.one_in(3) => self.image = whole,
+            Some(whole) => self.whole = Some(whole),
+            None if self.asked > 1 && self.rng.one_in(often) => {
+                self.whole = Some(self.image.clone());
+                damage(&mut self.rng, &mut self.image);
+                if self.rng.one_in(6) {
+                    damage(&mut self.rng, &mut self.image);
+                }
+            }
+            None => {}
+        }
+    }
+
+    /// The call, and in `given` what it is given.
+    fn draw(&mut self) -> Call {
+        self.given.clear();
+        if self.sort == Sort::Makes {
+            self.draw_make_limits();
+        }
+        let make_first = self.sort == Sort::Fresh && self.asked == 1;
+        let choice = match self.sort {
+            Sort::Makes => 0,
+            _ if make_first => 0,
+            Sort::Fresh if self.rng.one_in(2) => self.rng.between(12, 19),
+            Sort::Huge => self.rng.between(1, 24),
+            _ if self.rng.one_in(60) => 0,
+            _ => self.rng.between(1, 24),
+        };
+        match choice {
+            0 => self.draw_make(),
+            1..=2 => Call::Check,
+            3..=4 => Call::Count,
+            5..=8 => self.with_letters(Call::LookUp),
+            9..=11 => self.with_text(Call::LookUpText),
+            12..=15 => {
+                let value = keys::value(&mut self.rng, &self.image);
+                self.with_letters(Call::Store { value })
+            }
+            16..=19 => {
+                let value = keys::value(&mut self.rng, &self.image);
+                self.with_text(Call::StoreText { value })
+            }
+            _ => self.draw_next_key(),
+        }
+    }
+
+    fn with_letters(&mut self, call: Call) -> Call {
+        self.given = keys::letters(&mut self.rng, &self.image, &self.last_found);
+        call
+    }
+
+    fn with_text(&mut self, call: Call) -> Call {
+        let letters = keys::letters(&mut self.rng, &self.image, &self.last_found);
+        self.given = keys::text(&mut self.rng, &self.shape.alphabet, &letters);
+        call
+    }
+
+    /// At times from the key found last, or from the empty key: the listing.
+    fn draw_next_key(&mut self) -> Call {
+        let after = self.rng.one_in(2);
+        match self.rng.below(4) {
+            0 => {
+                self.given = self.last_found.clone();
+                return Call::NextKey { after: true };
+            }
+            1 => {}
+            _ => self.given = keys::letters(&mut self.rng, &self.image, &self.last_found),
+        }
+        Call::NextKey { after }
+    }
+
+    fn draw_make(&mut self) -> Call {
+        self.given = self.shape.alphabet_bytes();
+        let Head { n, a, d, min, max, .. } = self.shape.head;
+        let mut fields = [n, a, d, min, max];
+        if self.sort == Sort::Makes && self.rng.one_in(2) {
+            self.spoil_make(&mut fields);
+        }
+        let [n, a, d, min, max] = fields;
+        Call::Make { n, a, d, min, max }
+    }
+
+    /// Another shape and slice: around what the make needs, and far from it.
+    fn draw_make_limits(&mut self) {
+        let n = self.rng.pick(&[1, 2, 3, 255, 256]);
+        self.shape = Shape::of(&mut self.rng, n);
+        let needed = self.shape.head.u() as usize;
+        let any = self.rng.below(3_000) as usize;
+        let lengths =
+            [0, 27, 28, 29, 28 + self.shape.head.f as usize, needed - 1, needed - 1, needed, needed, needed + 1, needed + 100, any];
+        let length = self.rng.pick(&lengths);
+        self.image = self.rng.rubbish(length);
+    }
+
+    fn spoil_make(&mut self, fields: &mut [u32; 5]) {
+        let rng = &mut self.rng;
+        match rng.below(4) {
+            0 => {
+                let field = rng.below(5) as usize;
+                let limits: [&[u32]; 5] = [&[0, 257, u32::MAX], &[0, 5, u32::MAX], &[0, 5, u32::MAX], &[65, u32::MAX], &[65, u32::MAX]];
+                let next = fields[4].wrapping_add(1);
+                fields[field] = if field == 3 && rng.one_in(2) { next } else { rng.pick(limits[field]) };
+            }
+            1 => {
+                let length = rng.pick(&[1_024, 1_025, 1_026, 2_000]);
+                self.given = rng.rubbish(length);
+            }
+            2 => {
+                if !self.given.is_empty() {
+                    let at = rng.below(self.given.len() as u64) as usize;
+                    self.given[at] = rng.next() as u8;
+                }
+            }
+            _ => {
+                let more = shapes::character(rng, 5);
+                match rng.below(3) {
+                    0 => self.given.extend(more),
+                    1 => {
+                        self.given.pop();
+                    }
+                    _ => self.given = more.repeat(fields[0].min(256) as usize),
+                }
+            }
+        }
+    }
+
+    fn draw_work_len(&mut self) -> usize {
+        let g = if self.image.len() < 28 { 3 } else { Head::read(&self.image).g as usize };
+        // where G+1 is above this, 4 comes before 5
+        let g = g.min(self.image.len() / 2 + 1);
+        let more = self.rng.below(6) as usize;
+        let fewer = self.rng.below(g as u64 + 1) as usize;
+        match self.rng.below(20) {
+            0 => 0,
+            1..=2 => g,
+            3 => fewer,
+            4..=8 => g + 1 + more,
+            _ => g + 1,
+        }
+    }
+
+    fn draw_key_len(&mut self) -> usize {
+        let max = if self.image.len() < 28 { 3 } else { Head::read(&self.image).max.min(70) as usize };
+        let more = self.rng.below(20) as usize;
+        match self.rng.below(12) {
+            0 => 0,
+            1 => max.saturating_sub(1),
+            2..=5 => max + more,
+            _ => max,
+        }
+    }
+}
+
+// ---- how the cases begin ----
+
+fn tree(rng: &mut Rng) -> (Sort, Shape, Vec<u8>) {
+    let mut shape = Shape::draw(rng);
+    shape.draw_g(rng);
+    let spare = shape.draw_spare(rng);
+    let image = shape.grow(rng, spare);
+    (Sort::Usual, shape, image)
+}
+
+fn fresh(rng: &mut Rng) -> (Sort, Shape, Vec<u8>) {
+    let shape = Shape::draw(rng);
+    let spare = shape.draw_spare(rng) + shape.draw_spare(rng) + shape.draw_spare(rng);
+    let image = rng.rubbish(shape.head.u() as usize + spare);
+    (Sort::Fresh, shape, image)
+}
+
+fn makes(rng: &mut Rng) -> (Sort, Shape, Vec<u8>) {
+    (Sort::Makes, Shape::draw(rng), Vec::new())
+}
+
+/// No image at all, or only a head that could be one.
+fn rubbish(rng: &mut Rng) -> (Sort, Shape, Vec<u8>) {
+    let shape = Shape::draw(rng);
+    let length = rng.below(200) as usize;
+    let mut image = rng.rubbish(length);
+    if length >= 28 && rng.one_in(2) {
+        Head { g: rng.below(9) as u32, ..shape.head }.write(&mut image);
+    }
+    (Sort::Usual, shape, image)
+}
+
+/// A = 1 and all addresses taken, or nearly.
+fn full_of_one_byte(rng: &mut Rng) -> (Sort, Shape, Vec<u8>) {
+    let n = if rng.one_in(40) { 256 } else { rng.between(1, 6) as u32 };
+    let mut shape = Shape::of(rng, n);
+    shape.head.a = 1;
+    shape.head.g = rng.pick(&[255, 255, 254, 253, 250]);
+    let spare = shape.draw_spare(rng);
+    let image = shape.grow(rng, spare);
+    (Sort::Usual, shape, image)
+}
+
+/// A = 2 and all addresses taken, or nearly.
+fn full_of_two_bytes(rng: &mut Rng) -> (Sort, Shape, Vec<u8>) {
+    let mut shape = Shape::of(rng, 2);
+    shape.head.a = 2;
+    shape.head.g = rng.pick(&[65_535, 65_535, 65_534]);
+    let spare = shape.draw_spare(rng);
+    let image = shape.grow(rng, spare);
+    (Sort::Usual, shape, image)
+}
+
+/// As long as an image may be, or a byte longer or shorter: with all nodes that fit, in one chain or in a tree, or with few.
+fn huge(rng: &mut Rng) -> (Sort, Shape, Vec<u8>) {
+    let length = LONGEST_IMAGE + rng.below(3) as usize - 1;
+    let mut shape = match rng.below(3) {
+        0 => Shape::narrow(rng, 3),
+        1 => Shape::of(rng, 5),
+        _ => Shape::draw(rng),
+    };
+    if shape.head.n == 1 || shape.head.n == 5 {
+        shape.head.a = 3;
+        let body = (LONGEST_IMAGE - 28 - shape.head.f as usize) as u64;
+        shape.head.g = (body / shape.head.w() as u64) as u32 - 1 - rng.below(2) as u32;
+    } else {
+        shape.draw_g(rng);
+    }
+    let mut image = shape.grow(rng, 0);
+    let rubbish = rng.rubbish(length.saturating_sub(image.len()));
+    image.extend(rubbish);
+    (Sort::Huge, shape, image)
+}

@@ -1,0 +1,232 @@
+//! Spoils an image in one way: a head field, the alphabet, links, data, the length.
+
+use crate::model::{greatest, link, write_number, Head, LONGEST_IMAGE};
+use crate::rng::Rng;
+use crate::shapes;
+
+pub fn damage(rng: &mut Rng, image: &mut Vec<u8>) {
+    if image.len() < 28 {
+        let more = rng.between(0, 40) as usize;
+        let rubbish = rng.rubbish(more);
+        image.extend(rubbish);
+        return;
+    }
+    match rng.below(20) {
+        0..=2 => head_field(rng, image),
+        3 => {
+            head_field(rng, image);
+            head_field(rng, image);
+        }
+        4 => wrapping_g(rng, image),
+        5..=6 => alphabet(rng, image),
+        7 => cut_alphabet(rng, image),
+        8..=9 => length(rng, image),
+        10 => byte(rng, image),
+        _ => body(rng, image),
+    }
+}
+
+/// The head, where its nodes can be read: all but the alphabet is right.
+pub fn readable(image: &[u8]) -> Option<Head> {
+    if image.len() < 28 {
+        return None;
+    }
+    let head = Head::read(image);
+    let widths = (1..=256).contains(&head.n) && (1..=4).contains(&head.a) && (1..=4).contains(&head.d) && head.f <= 1_024;
+    if widths && head.u() <= image.len() as u128 {
+        Some(head)
+    } else {
+        None
+    }
+}
+
+fn head_field(rng: &mut Rng, image: &mut [u8]) {
+    let Head { g, n, a, d, f, min, max } = Head::read(image);
+    let field = rng.below(7);
+    let values = match field {
+        0 => vec![0, g.wrapping_add(1), g.wrapping_sub(1), 254, 255, 256, 65_535, u32::MAX, u32::MAX - 1, 0x7FFF_FFFF, 0x8000_0000],
+        1 => vec![0, 1, n.wrapping_add(1), n.wrapping_sub(1), 255, 256, 257, 512, 0x0100_0000 | n, u32::MAX],
+        2 => vec![0, 1, 2, 3, 4, 5, a | 256, u32::MAX],
+        3 => vec![0, 1, 2, 3, 4, 5, 8, d | 256, u32::MAX],
+        4 => vec![0, f.wrapping_add(1), f.wrapping_sub(1), 1_024, 1_025, u32::MAX, u32::MAX - 27, u32::MAX - 28],
+        5 => vec![0, max, max.wrapping_add(1), min.wrapping_add(1), 64, 65, u32::MAX],
+        _ => vec![0, min, min.wrapping_sub(1), max.wrapping_add(1), 63, 64, 65, 256, u32::MAX],
+    };
+    let value = rng.pick(&values);
+    write_number(&mut image[4 * field as usize..4 * field as usize + 4], u64::from(value));
+}
+
+/// A great G whose (G+1)*W, or U, falls inside the image if it is worked out in 32 bits.
+fn wrapping_g(rng: &mut Rng, image: &mut [u8]) {
+    let head = Head::read(image);
+    let w = head.w() as u32;
+    if w == 0 {
+        return;
+    }
+    let twos = w.trailing_zeros();
+    let odd = w >> twos;
+    // the inverse of an odd number in 32 bits, by Newton's steps
+    let inverse = (0..5).fold(odd, |x, _| x.wrapping_mul(2u32.wrapping_sub(odd.wrapping_mul(x))));
+    let room = (image.len() as u64).saturating_sub(28 + u64::from(head.f)) >> twos;
+    let any = rng.below(room + 1);
+    let body = rng.pick(&[0, 1, room, any]) as u32;
+    // nodes * odd = body in 32 - twos bits, so nodes * W = body << twos in 32
+    let low = body.wrapping_mul(inverse);
+    let nodes = if twos > 0 { (low & (u32::MAX >> twos)) | ((rng.next() as u32) << (32 - twos)) } else { low };
+    write_number(&mut image[0..4], u64::from(nodes.wrapping_sub(1)));
+}
+
+fn alphabet(rng: &mut Rng, image: &mut [u8]) {
+    let f = (Head::read(image).f as usize).min(1_024).min(image.len() - 28);
+    if f == 0 {
+        return;
+    }
+    let bytes = &mut image[28..28 + f];
+    let at = rng.below(f as u64) as usize;
+    match rng.below(4) {
+        0 => bytes[at] = rng.next() as u8,
+        1 => bytes[at] = rng.pick(&[0x80, 0xBF, 0xC0, 0xC1, 0xC2, 0xE0, 0xED, 0xF0, 0xF4, 0xF5, 0xFF, 0x41]),
+        2 => {
+            let from = rng.below(f as u64) as usize;
+            let len = rng.between(1, 4) as usize;
+            let len = len.min(f - from).min(f - at);
+            bytes.copy_within(from..from + len, at);
+        }
+        _ => {
+            let bad = rng.pick(&ILL_FORMED);
+            for (byte, ill) in bytes[at..].iter_mut().zip(bad) {
+                *byte = *ill;
+            }
+        }
+    }
+}
+
+/// F a little lower: a last character that is cut has its missing bytes in the first node.
+fn cut_alphabet(rng: &mut Rng, image: &mut [u8]) {
+    let f = Head::read(image).f;
+    let lower = f.saturating_sub(rng.between(1, 3) as u32);
+    write_number(&mut image[16..20], u64::from(lower));
+}
+
+fn length(rng: &mut Rng, image: &mut Vec<u8>) {
+    let head = Head::read(image);
+    let (f, u) = (u128::from(head.f), head.u());
+    let half = image.len() as u128 / 2;
+    let wanted = rng.pick(&[0, 1, 27, 28, 29, 28 + f - 1.min(f), 28 + f, 28 + f + 1, u - 1, u, u + 1, half]);
+    let wanted = wanted.min(image.len() as u128 + 2_000).min(LONGEST_IMAGE as u128 + 1) as usize;
+    let rubbish = rng.rubbish(wanted.saturating_sub(image.len()));
+    image.truncate(wanted);
+    image.extend(rubbish);
+}
+
+fn byte(rng: &mut Rng, image: &mut [u8]) {
+    let used = readable(image).map_or(image.len() as u64, |head| head.u() as u64);
+    let at = rng.below(used) as usize;
+    image[at] = rng.next() as u8;
+}
+
+/// Links and data, where they can be read.
+fn body(rng: &mut Rng, image: &mut [u8]) {
+    let head = match readable(image) {
+        Some(head) => head,
+        None => return,
+    };
+    match rng.below(8) {
+        0 => {
+            let node = rng.between(0, u64::from(head.g));
+            let value = if rng.one_in(3) { 0 } else { shapes::value(rng, head.d) };
+            let at = head.data_at(node);
+            write_number(&mut image[at..at + head.d as usize], value);
+        }
+        1 => {
+            for _ in 0..rng.between(2, 4) {
+                tear(rng, image, &head);
+            }
+        }
+        2..=3 => copy_link(rng, image, &head),
+        4 => unlinked_node(image, &head),
+        _ => tear(rng, image, &head),
+    }
+}
+
+/// A node down some way that a key may go, or any node.
+fn some_node(rng: &mut Rng, image: &[u8], head: &Head) -> u64 {
+    if rng.one_in(3) {
+        return rng.between(0, u64::from(head.g));
+    }
+    let mut node = 0;
+    for _ in 0..rng.below(u64::from(head.max).min(8) + 1) {
+        match taken_letter(rng, image, head, node) {
+            Some(letter) if link(image, head, node, letter) <= u64::from(head.g) => node = link(image, head, node, letter),
+            _ => break,
+        }
+    }
+    node
+}
+
+/// One of the letters whose link is not empty.
+pub fn taken_letter(rng: &mut Rng, image: &[u8], head: &Head, node: u64) -> Option<u64> {
+    let n = u64::from(head.n);
+    let start = rng.below(n);
+    (0..n).map(|i| (start + i) % n).find(|letter| link(image, head, node, *letter) != 0)
+}
+
+/// A link becomes 0, itself, a lower one, one above G, or any.
+fn tear(rng: &mut Rng, image: &mut [u8], head: &Head) {
+    let node = some_node(rng, image, head);
+    let any = rng.below(u64::from(head.n));
+    let letter = if rng.one_in(3) { any } else { taken_letter(rng, image, head, node).unwrap_or(any) };
+    let g = u64::from(head.g);
+    let most = greatest(head.a);
+    let (near, far) = (rng.below(g + 2), rng.below(most));
+    let address = rng.pick(&[0, 0, node, node.saturating_sub(1), 1, g, g + 1, g + 2, most, near, far]);
+    let at = head.link_at(node, letter);
+    write_number(&mut image[at..at + head.a as usize], address.min(most));
+}
+
+/// One link's bytes over another's: an address that stands twice, or in no link, or both.
+fn copy_link(rng: &mut Rng, image: &mut [u8], head: &Head) {
+    let from = some_node(rng, image, head);
+    let letter = match taken_letter(rng, image, head, from) {
+        Some(letter) => letter,
+        None => return,
+    };
+    let to = rng.between(0, (link(image, head, from, letter) - 1).min(u64::from(head.g)));
+    let start = head.link_at(from, letter);
+    let at = head.link_at(to, rng.below(u64::from(head.n)));
+    image.copy_within(start..start + head.a as usize, at);
+}
+
+/// G one higher, with an empty node there, where there is room: it stands in no link, and perhaps no link could hold it.
+fn unlinked_node(image: &mut [u8], head: &Head) {
+    let node = head.u() as usize;
+    let end = node + head.w() as usize;
+    if end <= image.len() {
+        image[node..end].fill(0);
+        write_number(&mut image[..4], u64::from(head.g) + 1);
+    }
+}
+
+/// Bytes that are no well-formed character, in each way: overlong, surrogate, past the end, stray, cut.
+pub const ILL_FORMED: [&[u8]; 20] = [
+    &[0xC0, 0x80],
+    &[0xC1, 0xBF],
+    &[0xE0, 0x80, 0x80],
+    &[0xE0, 0x9F, 0xBF],
+    &[0xED, 0xA0, 0x80],
+    &[0xED, 0xBF, 0xBF],
+    &[0xF0, 0x80, 0x80, 0x80],
+    &[0xF0, 0x8F, 0xBF, 0xBF],
+    &[0xF4, 0x90, 0x80, 0x80],
+    &[0xF5, 0x80, 0x80, 0x80],
+    &[0xFE],
+    &[0xFF],
+    &[0x80],
+    &[0xBF],
+    &[0xC2],
+    &[0xC2, 0x41],
+    &[0xE2, 0x82],
+    &[0xE2, 0x82, 0x41],
+    &[0xF0, 0x9F, 0x98],
+    &[0xF0, 0x9F, 0x98, 0xC0],
+];

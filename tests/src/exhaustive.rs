@@ -1,0 +1,308 @@
+//! The exhaustive part: all small images with A = D = 1. Every link holds every value that matters (0 to G+1, and 255), every node every data
+//! value of its family; on each image the calls are asked with every key over the letters 0 to N (N is bad) up to length 3.
+
+use crate::calls::Call;
+use crate::model::Head;
+use crate::progress::Progress;
+use crate::report;
+use crate::rng::Rng;
+use crate::twins::{Asked, Twins};
+use std::sync::Mutex;
+
+/// After so many failures the run stops.
+const ENOUGH: usize = 5;
+
+/// How much is asked of the images that the check refuses. Those that it accepts are asked everything.
+#[derive(Clone, Copy, PartialEq)]
+enum Asks {
+    /// Every call with every key.
+    All,
+    /// The check, the number of keys, every look up, and a store and a next key of one key.
+    Walks,
+    /// The check, of one image for all data.
+    Check,
+    /// Nothing: only the accepted ones are made.
+    Nothing,
+}
+
+/// All images of so many links and so great a G.
+struct Family {
+    n: u32,
+    g: u32,
+    /// The data values of every node.
+    data: &'static [u8],
+    refused: Asks,
+    /// Accepted images are tried in one of so many settings.
+    settings: usize,
+}
+
+const FAMILIES: [Family; 14] = [
+    Family { n: 1, g: 0, data: &[0, 1, 255], refused: Asks::All, settings: 1 },
+    Family { n: 1, g: 1, data: &[0, 1, 255], refused: Asks::All, settings: 1 },
+    Family { n: 1, g: 2, data: &[0, 1, 255], refused: Asks::All, settings: 1 },
+    Family { n: 1, g: 3, data: &[0, 1], refused: Asks::All, settings: 1 },
+    Family { n: 2, g: 0, data: &[0, 1, 255], refused: Asks::All, settings: 1 },
+    Family { n: 2, g: 1, data: &[0, 1, 255], refused: Asks::All, settings: 1 },
+    Family { n: 2, g: 2, data: &[0, 1, 255], refused: Asks::Walks, settings: 1 },
+    Family { n: 3, g: 0, data: &[0, 1, 255], refused: Asks::All, settings: 1 },
+    Family { n: 3, g: 1, data: &[0, 1, 255], refused: Asks::Walks, settings: 1 },
+    Family { n: 1, g: 4, data: &[0, 1], refused: Asks::Check, settings: 3 },
+    Family { n: 2, g: 3, data: &[0, 1], refused: Asks::Check, settings: 3 },
+    Family { n: 3, g: 2, data: &[0, 1], refused: Asks::Check, settings: 3 },
+    Family { n: 3, g: 3, data: &[0, 1], refused: Asks::Nothing, settings: 8 },
+    Family { n: 2, g: 4, data: &[0, 1], refused: Asks::Nothing, settings: 8 },
+];
+
+/// What stands around the body.
+#[derive(Clone, Copy)]
+struct Setting {
+    lengths: (u32, u32),
+    alphabet: bool,
+    /// Spare bytes: so many nodes and so many bytes.
+    spare: (usize, usize),
+}
+
+const LENGTHS: [(u32, u32); 7] = [(0, 3), (1, 3), (0, 0), (1, 2), (2, 2), (0, 1), (3, 3)];
+const SPARE: [(usize, usize); 4] = [(0, 0), (1, 0), (2, 2), (3, 1)];
+
+fn settings() -> Vec<Setting> {
+    let mut all = Vec::new();
+    for lengths in LENGTHS {
+        for alphabet in [false, true] {
+            all.extend(SPARE.iter().map(|spare| Setting { lengths, alphabet, spare: *spare }));
+        }
+    }
+    all
+}
+
+/// Letters of one, two and three bytes; the last is outside every alphabet and shares a byte with a letter.
+const CHARACTERS: [&str; 3] = ["A", "é", "€"];
+const OUTSIDE: &str = "ê";
+
+/// A key by its letters and as text.
+struct Key {
+    letters: Vec<u8>,
+    text: Vec<u8>,
+}
+
+/// Every key over the letters 0 to n up to length 3.
+fn keys(n: u32) -> Vec<Key> {
+    let mut all: Vec<Vec<u8>> = vec![Vec::new()];
+    let mut longest = all.clone();
+    for _ in 0..3 {
+        longest = longest.iter().flat_map(|key| (0..=n as u8).map(move |letter| [key.as_slice(), &[letter]].concat())).collect();
+        all.extend(longest.clone());
+    }
+    let character = |letter: &u8| if u32::from(*letter) < n { CHARACTERS[usize::from(*letter)] } else { OUTSIDE };
+    all.into_iter().map(|letters| Key { text: letters.iter().map(character).collect::<String>().into_bytes(), letters }).collect()
+}
+
+/// What was tried.
+#[derive(Clone, Copy, Default)]
+pub struct Exhausted {
+    pub images: u64,
+    pub calls: u64,
+    pub failed: usize,
+}
+
+impl Exhausted {
+    fn add(&mut self, other: &Exhausted) {
+        self.images += other.images;
+        self.calls += other.calls;
+        self.failed += other.failed;
+    }
+}
+
+/// One thread's work.
+struct Worker {
+    twins: Twins,
+    rng: Rng,
+    done: Exhausted,
+}
+
+impl Worker {
+    fn ask(&mut self, call: Call, image: &[u8], given: &[u8], key_len: usize, work_len: usize) -> u32 {
+        let asked = Asked { call, image, given, key_len, work_len };
+        let outcome = self.twins.ask(&asked, &mut self.rng, None);
+        self.done.calls += 1;
+        if outcome.difference.is_some() && self.done.failed < ENOUGH {
+            self.done.failed += 1;
+            let told = report::asked(&asked) + &report::outcome(&outcome);
+            println!("FAILED: exhaustive: {told}    image [{}]", report::hex(image));
+        }
+        outcome.model.number
+    }
+
+    fn image(&mut self, family: &Family, links: &[u8], data: &[u8], setting: &Setting) -> Vec<u8> {
+        let alphabet: String = if setting.alphabet { CHARACTERS[..family.n as usize].concat() } else { String::new() };
+        let (min, max) = setting.lengths;
+        let head = Head { g: family.g, n: family.n, a: 1, d: 1, f: alphabet.len() as u32, min, max };
+        let mut image = vec![0; 28];
+        head.write(&mut image);
+        image.extend(alphabet.into_bytes());
+        for (node, value) in links.chunks(family.n as usize).zip(data) {
+            image.extend(node);
+            image.push(*value);
+        }
+        let spare = setting.spare.0 * head.w() as usize + setting.spare.1;
+        let rubbish = self.rng.rubbish(spare);
+        image.extend(rubbish);
+        self.done.images += 1;
+        image
+    }
+
+    /// Check and number of keys, with enough working numbers and with too few.
+    fn ask_without_key(&mut self, image: &[u8], g: usize) {
+        self.ask(Call::Check, image, &[], 0, g + 1);
+        self.ask(Call::Check, image, &[], 0, g);
+        self.ask(Call::Count, image, &[], 0, g + 2);
+        self.ask(Call::Count, image, &[], 0, g);
+    }
+
+    fn ask_look_ups(&mut self, image: &[u8], key: &Key, text: bool) {
+        self.ask(Call::LookUp, image, &key.letters, 0, 0);
+        if text || key.letters.len() < 2 {
+            self.ask(Call::LookUpText, image, &key.text, 0, 0);
+        }
+    }
+
+    /// Stores and next keys of one key, each on the image as it is.
+    fn ask_others(&mut self, image: &[u8], key: &Key, setting: &Setting, g: usize) {
+        let max = setting.lengths.1 as usize;
+        for value in [0, 1, 256] {
+            self.ask(Call::Store { value }, image, &key.letters, 0, g + 1);
+            if setting.alphabet || key.letters.is_empty() {
+                self.ask(Call::StoreText { value }, image, &key.text, 0, g + 1);
+            }
+        }
+        for after in [false, true] {
+            self.ask(Call::NextKey { after }, image, &key.letters, max, g + 1);
+        }
+        self.ask(Call::NextKey { after: true }, image, &key.letters, max.saturating_sub(1), g + 2);
+    }
+
+    fn ask_all(&mut self, image: &[u8], keys: &[Key], setting: &Setting, g: usize) {
+        self.ask_without_key(image, g);
+        for key in keys {
+            self.ask_look_ups(image, key, setting.alphabet);
+            self.ask_others(image, key, setting, g);
+        }
+    }
+
+    fn ask_walks(&mut self, image: &[u8], keys: &[Key], setting: &Setting, g: usize) {
+        self.ask_without_key(image, g);
+        for key in keys {
+            self.ask_look_ups(image, key, setting.alphabet);
+        }
+        let one = self.rng.below(keys.len() as u64) as usize;
+        self.ask_others(image, &keys[one], setting, g);
+    }
+
+    /// One pattern of links with all data and, where it is accepted, in all settings of the family.
+    fn try_links(&mut self, family: &Family, links: &[u8], index: usize, keys: &[Key], settings: &[Setting]) {
+        let g = family.g as usize;
+        let turn = |i: usize| &settings[(index + i) % settings.len()];
+        let first = self.image(family, links, &[1; 5], turn(0));
+        let accepted = self.ask(Call::Check, &first, &[], 0, g + 1) == 0;
+        if !accepted && matches!(family.refused, Asks::Check | Asks::Nothing) {
+            return;
+        }
+        for (i, data) in tuples(family.data, g + 1).enumerate() {
+            if accepted {
+                for setting in settings.iter().skip(i % family.settings).step_by(family.settings) {
+                    let image = self.image(family, links, &data, setting);
+                    self.ask_all(&image, keys, setting, g);
+                }
+            } else {
+                let image = self.image(family, links, &data, turn(i));
+                match family.refused {
+                    Asks::All => self.ask_all(&image, keys, turn(i), g),
+                    _ => self.ask_walks(&image, keys, turn(i), g),
+                }
+            }
+        }
+    }
+}
+
+/// Every tuple of so many of the values.
+fn tuples(values: &[u8], length: usize) -> impl Iterator<Item = Vec<u8>> {
+    let values = values.to_vec();
+    let many = values.len().pow(length as u32);
+    (0..many).map(move |index| {
+        let mut rest = index;
+        let mut next = |_| {
+            let value = values[rest % values.len()];
+            rest /= values.len();
+            value
+        };
+        (0..length).map(&mut next).collect()
+    })
+}
+
+/// The links of every accepted tree: each address from 1 to G in an empty link of a lower node.
+fn trees(n: usize, g: usize) -> Vec<Vec<u8>> {
+    let mut all = vec![vec![0; n * (g + 1)]];
+    for address in 1..=g {
+        let hang = |tree: &Vec<u8>| {
+            let free: Vec<usize> = (0..n * address).filter(|link| tree[*link] == 0).collect();
+            let tree = tree.clone();
+            free.into_iter().map(move |link| {
+                let mut taller = tree.clone();
+                taller[link] = address as u8;
+                taller
+            })
+        };
+        all = all.iter().flat_map(hang).collect();
+    }
+    all
+}
+
+/// The patterns of links of a family: all of them, or those of the accepted trees.
+fn patterns(family: &Family) -> Box<dyn Iterator<Item = Vec<u8>>> {
+    let (n, g) = (family.n as usize, family.g as usize);
+    if family.refused == Asks::Nothing {
+        return Box::new(trees(n, g).into_iter());
+    }
+    let values: Vec<u8> = (0..=g as u8 + 1).chain([255]).collect();
+    Box::new(tuples(&values, n * (g + 1)))
+}
+
+fn run_family(worker: &mut Worker, family: &Family, thread: usize, progress: &mut Progress) {
+    let (keys, settings) = (keys(family.n), settings());
+    for (index, links) in patterns(family).enumerate().skip(thread).step_by(2) {
+        progress.at(&format!("exhaustive: N {} G {} links {}", family.n, family.g, report::hex(&links)));
+        worker.try_links(family, &links, index, &keys, &settings);
+        if worker.done.failed >= ENOUGH {
+            break;
+        }
+    }
+}
+
+/// All families, in two threads.
+pub fn run() -> Exhausted {
+    let tried = Mutex::new([Exhausted::default(); FAMILIES.len()]);
+    std::thread::scope(|scope| {
+        for thread in 0..2 {
+            let tried = &tried;
+            scope.spawn(move || {
+                let mut worker = Worker { twins: Twins::default(), rng: Rng::new(thread as u64), done: Exhausted::default() };
+                let mut progress = Progress::of(thread);
+                for (i, family) in FAMILIES.iter().enumerate() {
+                    run_family(&mut worker, family, thread, &mut progress);
+                    let done = std::mem::take(&mut worker.done);
+                    tried.lock().unwrap()[i].add(&done);
+                    if done.failed >= ENOUGH {
+                        break;
+                    }
+                }
+                progress.done();
+            });
+        }
+    });
+    let mut all = Exhausted::default();
+    for (family, tried) in FAMILIES.iter().zip(tried.into_inner().unwrap()) {
+        println!("exhaustive: N {} G {}: {} images, {} calls", family.n, family.g, tried.images, tried.calls);
+        all.add(&tried);
+    }
+    all
+}

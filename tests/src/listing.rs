@@ -1,0 +1,272 @@
+//! The listing program, as a child process, against the lines that document 01 asks for: cases with the text written out by hand, then
+//! random images against the model's listing.
+
+use crate::damage::damage;
+use crate::model::{self, write_number, LISTING_WORK, LONGEST_INPUT};
+use crate::report;
+use crate::rng::Rng;
+use crate::shapes::Shape;
+use std::fs::File;
+use std::io::Write;
+use std::path::Path;
+use std::process::{Child, Command, Output, Stdio};
+use std::time::Duration;
+
+const PROGRAM: &str = "target/bin/list";
+const RANDOM: u64 = 400;
+
+#[derive(Default)]
+pub struct Listed {
+    pub tried: u64,
+    pub failed: usize,
+}
+
+fn start(input: Stdio) -> Result<Child, String> {
+    let started = Command::new(PROGRAM).stdin(input).stdout(Stdio::piped()).spawn();
+    started.map_err(|error| format!("{PROGRAM} does not start: {error}"))
+}
+
+/// What the program writes of a file.
+fn written_of_file(path: &Path) -> Result<Vec<u8>, String> {
+    let file = File::open(path).map_err(|error| error.to_string())?;
+    lines_of(start(Stdio::from(file))?.wait_with_output())
+}
+
+/// What the program writes of the input, delivered in pieces with a pause between them.
+fn written(pieces: &[&[u8]]) -> Result<Vec<u8>, String> {
+    let mut child = start(Stdio::piped())?;
+    let mut input = child.stdin.take().expect("it is piped");
+    let output = std::thread::scope(|scope| {
+        scope.spawn(move || {
+            for (i, piece) in pieces.iter().enumerate() {
+                if i > 0 {
+                    std::thread::sleep(Duration::from_millis(100));
+                }
+                // the program may stop reading after 65,537 bytes
+                if input.write_all(piece).is_err() {
+                    return;
+                }
+            }
+        });
+        child.wait_with_output()
+    });
+    lines_of(output)
+}
+
+fn lines_of(output: std::io::Result<Output>) -> Result<Vec<u8>, String> {
+    let output = output.map_err(|error| error.to_string())?;
+    // 01 names no exit status; a program that was killed has none
+    match output.status.code() {
+        Some(_) => Ok(output.stdout),
+        None => Err(format!("{PROGRAM} was killed: {}", output.status)),
+    }
+}
+
+impl Listed {
+    fn hold(&mut self, name: &str, pieces: &[&[u8]], expected: &str) {
+        self.compare(name, written(pieces), expected);
+    }
+
+    fn compare(&mut self, name: &str, written: Result<Vec<u8>, String>, expected: &str) {
+        self.tried += 1;
+        let fault = match written {
+            Ok(lines) if lines == expected.as_bytes() => return,
+            Ok(lines) => {
+                let at = lines.iter().zip(expected.as_bytes()).take_while(|(its, ours)| its == ours).count();
+                let around = |bytes: &[u8]| String::from_utf8_lossy(&bytes[at.saturating_sub(60)..bytes.len().min(at + 60)]).into_owned();
+                format!("byte {at} differs\n  expected there: {:?}\n  written there: {:?}", around(expected.as_bytes()), around(&lines))
+            }
+            Err(fault) => fault,
+        };
+        self.failed += 1;
+        println!("FAILED: listing: {name}: {fault}");
+    }
+
+    /// A case whose text is written out by hand; the model's listing is held to it too.
+    fn case(&mut self, name: &str, image: &[u8], expected: &str) {
+        self.hold(name, &[image], expected);
+        if model::listing(image) != expected {
+            self.failed += 1;
+            println!("FAILED: listing: {name}: the model does not list what is expected");
+        }
+    }
+
+    /// A sample of the repository with the text that stands beside it.
+    fn sample(&mut self, name: &str) {
+        let path = |ending: &str| Path::new("samples").join(name).with_extension(ending);
+        match (std::fs::read(path("trieff")), std::fs::read_to_string(path("txt"))) {
+            (Ok(image), Ok(text)) => {
+                self.case(name, &image, &text);
+                self.compare(&format!("{name} from its file"), written_of_file(&path("trieff")), &text);
+                let parts = (11.min(image.len()), 5_011.min(image.len()));
+                self.hold(&format!("{name} in pieces"), &[&image[..parts.0], &image[parts.0..parts.1], &image[parts.1..]], &text);
+            }
+            _ => {
+                self.failed += 1;
+                println!("FAILED: listing: samples/{name}.trieff and .txt cannot be read");
+            }
+        }
+    }
+}
+
+// ---- images of the cases by hand ----
+
+fn with_head(fields: [u32; 7], rest: &[u8]) -> Vec<u8> {
+    let mut image: Vec<u8> = fields.iter().flat_map(|field| field.to_be_bytes()).collect();
+    image.extend(rest);
+    image
+}
+
+/// The small file of 01's cases.
+fn abc(g: u32, body: &[u8]) -> Vec<u8> {
+    with_head([g, 3, 1, 1, 3, 1, 3], &[b"ABC", body].concat())
+}
+
+const P3_BODY: [u8; 12] = [0, 1, 0, 0, 2, 0, 0, 5, 0, 0, 0, 9];
+const P3_LINES: &str = "entries 2\n1 5\n1.0 9\n";
+
+/// P3 with rubbish after it, up to so many bytes.
+fn p3_of(length: usize) -> Vec<u8> {
+    let mut image = abc(2, &P3_BODY);
+    image.resize(length, 0xFF);
+    image
+}
+
+/// A chain of one link of `a` bytes and one byte of data, 1 in every node.
+fn chain(g: u32, a: usize) -> Vec<u8> {
+    let node = |address: u32| {
+        let next = if address < g { address + 1 } else { 0 };
+        [&next.to_be_bytes()[4 - a..], &[1]].concat()
+    };
+    with_head([g, 1, a as u32, 1, 0, 0, 3], &(0..=g).flat_map(node).collect::<Vec<u8>>())
+}
+
+/// 65 nodes in a chain by letter 230: keys of up to 64 letters of three digits.
+fn deep() -> (Vec<u8>, String) {
+    let mut body = Vec::new();
+    for node in 0..=64u8 {
+        let mut links = [0; 256];
+        links[230] = if node < 64 { node + 1 } else { 0 };
+        body.extend(links);
+        body.push(200);
+    }
+    let mut lines = "entries 65\n- 200\n".to_string();
+    for length in 1..=64 {
+        lines += &format!("{} 200\n", vec!["230"; length].join("."));
+    }
+    (with_head([64, 256, 1, 1, 0, 0, 64], &body), lines)
+}
+
+/// The full tree of two letters with 8,191 nodes, node q with the value q + 1; the root's is hidden.
+fn full_tree() -> (Vec<u8>, String) {
+    let mut body = Vec::new();
+    for node in 0..=8_190u16 {
+        let (left, right) = if node < 4_095 { (2 * node + 1, 2 * node + 2) } else { (0, 0) };
+        [left, right, node + 1].iter().for_each(|number| body.extend(number.to_be_bytes()));
+    }
+    fn below(node: u32, key: &str, lines: &mut String) {
+        if !key.is_empty() {
+            *lines += &format!("{key} {}\n", node + 1);
+        }
+        if node < 4_095 {
+            for letter in 0..2 {
+                let longer = if key.is_empty() { letter.to_string() } else { format!("{key}.{letter}") };
+                below(2 * node + 1 + letter, &longer, lines);
+            }
+        }
+    }
+    let mut lines = "entries 8190\n".to_string();
+    below(0, "", &mut lines);
+    (with_head([8_190, 2, 2, 2, 0, 1, 12], &body), lines)
+}
+
+fn small_cases(listed: &mut Listed) {
+    listed.case("P1", &abc(0, &[0; 4]), "entries 0\n");
+    listed.case("P3", &abc(2, &P3_BODY), P3_LINES);
+    listed.case("P8", &abc(1, &[0, 1, 1, 0, 0, 0, 0, 0]), "refused 7 at 1\n");
+    listed.case("P9", &abc(1, &[0, 2, 0, 0, 0, 0, 0, 0]), "refused 6 at 0\n");
+    listed.case("P10", &abc(1, &[0; 8]), "refused 8 at 1\n");
+    listed.case("P11", &abc(1, &[0, 1, 0, 0, 0, 1, 0, 0]), "refused 6 at 1\n");
+    listed.case("G = FFFFFFFF", &abc(u32::MAX, &[0; 4]), "refused 4 at 0\n");
+    listed.case("one node cut off", &abc(1, &[0; 4]), "refused 4 at 0\n");
+    listed.case("spare bytes", &p3_of(47), P3_LINES);
+    listed.case("nothing at all", &[], "refused 1 at 0\n");
+    listed.case("27 bytes", &p3_of(43)[..27], "refused 1 at 0\n");
+    listed.case("28 bytes", &p3_of(43)[..28], "refused 4 at 0\n");
+    listed.case("N = 257", &with_head([0, 257, 1, 1, 0, 0, 0], &[0; 300]), "refused 2 at 0\n");
+    listed.case("alphabet C0 80", &with_head([0, 1, 1, 1, 2, 0, 0], &[0xC0, 0x80, 0, 0]), "refused 3 at 0\n");
+    listed.case("the empty key", &with_head([0, 1, 1, 4, 0, 0, 0], &[0, 255, 255, 255, 255]), "entries 1\n- 4294967295\n");
+    listed.case("hidden data", &with_head([1, 2, 1, 1, 0, 1, 1], &[1, 0, 7, 0, 0, 0]), "entries 0\n");
+    let mut last_letter = vec![0; 2 * 257];
+    last_letter[255..257].copy_from_slice(&[1, 7]);
+    last_letter[513] = 9;
+    listed.case("the last letter", &with_head([1, 256, 1, 1, 0, 0, 1], &last_letter), "entries 2\n- 7\n255 9\n");
+}
+
+/// The limits of the program: 65,536 bytes and one more, 16,384 nodes and one more.
+fn limits(listed: &mut Listed) {
+    listed.case("65,536 bytes", &p3_of(LONGEST_INPUT), P3_LINES);
+    listed.case("65,537 bytes", &p3_of(LONGEST_INPUT + 1), "refused 1 at 0\n");
+    listed.case("a million bytes", &p3_of(1_000_000), "refused 1 at 0\n");
+    let broken = abc(1, &[0; 4]);
+    listed.case("65,537 bytes, and broken", &[broken, vec![0; LONGEST_INPUT]].concat(), "refused 1 at 0\n");
+    let most = LISTING_WORK as u32;
+    let all_data = "entries 4\n- 1\n0 1\n0.0 1\n0.0.0 1\n";
+    listed.case("16,384 nodes", &chain(most - 1, 2), all_data);
+    listed.case("16,385 nodes", &chain(most, 2), "refused 5 at 0\n");
+    // W = 2: more nodes than a link of one byte can name, so the last link is broken
+    let mut narrow = chain(most - 1, 1);
+    listed.case("16,384 nodes of two bytes", &narrow, "refused 6 at 256\n");
+    write_number(&mut narrow[..4], u64::from(most));
+    narrow.extend([0, 0]);
+    listed.case("16,385 nodes of two bytes", &narrow, "refused 5 at 0\n");
+    let (image, lines) = deep();
+    listed.case("long lines", &image, &lines);
+    let (image, lines) = full_tree();
+    listed.case("many lines", &image, &lines);
+    listed.hold("many lines in pieces", &[&image[..1], &image[1..28], &image[28..40_000], &image[40_000..]], &lines);
+}
+
+/// An image for the program: mostly small; some near its limits of length and nodes.
+fn random_image(rng: &mut Rng) -> Vec<u8> {
+    let mut shape = Shape::draw(rng);
+    shape.draw_g(rng);
+    if rng.one_in(8) {
+        shape = Shape::narrow(rng, 2);
+        shape.head.g = (LISTING_WORK as u64 - 2 + rng.below(4)) as u32;
+    }
+    let spare = shape.draw_spare(rng);
+    let mut image = shape.grow(rng, spare);
+    if rng.one_in(8) && image.len() < LONGEST_INPUT {
+        let length = LONGEST_INPUT - 1 + rng.below(3) as usize;
+        let rubbish = rng.rubbish(length - image.len());
+        image.extend(rubbish);
+    }
+    if rng.one_in(3) {
+        damage(rng, &mut image);
+    }
+    image
+}
+
+pub fn run(start: u64) -> Listed {
+    let mut listed = Listed::default();
+    small_cases(&mut listed);
+    limits(&mut listed);
+    listed.compare("/dev/null", written_of_file(Path::new("/dev/null")), "refused 1 at 0\n");
+    listed.sample("p3");
+    listed.sample("season");
+    let mut refused = 0;
+    for seed in start..start + RANDOM {
+        let image = random_image(&mut Rng::new(seed));
+        let expected = model::listing(&image);
+        refused += u64::from(expected.starts_with("refused"));
+        let short = &image[..image.len().min(2_000)];
+        listed.hold(&format!("random image {seed} of {} bytes [{}]", image.len(), report::hex(short)), &[&image], &expected);
+    }
+    println!("listing: {} tried, {RANDOM} of them random images, of which {refused} are refused", listed.tried);
+    if refused.min(RANDOM - refused) < RANDOM / 5 {
+        listed.failed += 1;
+        println!("FAILED: listing: too few random images are refused, or too few accepted");
+    }
+    listed
+}

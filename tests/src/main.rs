@@ -1,0 +1,120 @@
+//! The judge: compares libtrieff.a and the listing program with a model written from document 01 alone. README.md tells how.
+
+mod calls;
+mod cases;
+mod damage;
+mod exhaustive;
+mod keys;
+mod listing;
+mod model;
+mod progress;
+mod random;
+mod report;
+mod rng;
+mod saboteurs;
+mod shapes;
+mod situations;
+mod twins;
+
+use std::process::exit;
+use std::time::Instant;
+
+/// What the gate runs: these cases make more than a million calls.
+const GATE_SEED: u64 = 20_240_601;
+const GATE_CASES: u64 = 26_000;
+const GATE_CALLS: u64 = 1_000_000;
+const LONG_CASES: u64 = 10 * GATE_CASES;
+
+fn main() {
+    let words: Vec<String> = std::env::args().skip(1).collect();
+    let words: Vec<&str> = words.iter().map(String::as_str).collect();
+    let good = match words.as_slice() {
+        ["gate"] => gate(),
+        ["long"] => long(fresh_seed()),
+        ["long", seed] => long(number(seed)),
+        ["replay", seed] => random::replay(number(seed)),
+        _ => {
+            eprintln!("usage: judge gate | judge long [SEED] | judge replay SEED");
+            exit(2);
+        }
+    };
+    exit(if good { 0 } else { 1 });
+}
+
+fn number(word: &str) -> u64 {
+    word.parse().unwrap_or_else(|_| {
+        eprintln!("judge: {word} is no seed: a number from 0 to 18446744073709551615");
+        exit(2)
+    })
+}
+
+/// From the clock and the process: for a run that was not run before.
+fn fresh_seed() -> u64 {
+    let since = std::time::SystemTime::now().duration_since(std::time::UNIX_EPOCH).map_or(0, |since| since.as_nanos() as u64);
+    rng::Rng::new(since ^ (u64::from(std::process::id()) << 40)).next() >> 16
+}
+
+/// 1234567 as 1,234,567.
+fn grouped(number: u64) -> String {
+    let digits = number.to_string();
+    let mut grouped = String::new();
+    for (i, digit) in digits.chars().enumerate() {
+        if i > 0 && (digits.len() - i) % 3 == 0 {
+            grouped.push(',');
+        }
+        grouped.push(digit);
+    }
+    grouped
+}
+
+/// The random part; what was met and how many failures.
+fn random_part(seed: u64, cases: u64) -> (random::Tally, usize) {
+    println!("random: {} cases from seed {seed}", grouped(cases));
+    let begun = Instant::now();
+    let (tally, failures) = random::run(seed, cases);
+    failures.iter().for_each(|failure| print!("FAILED: {failure}"));
+    println!("random: {} calls in {:.1} s", grouped(tally.calls), begun.elapsed().as_secs_f64());
+    (tally, failures.len())
+}
+
+fn gate() -> bool {
+    let (tally, mut failed) = random_part(GATE_SEED, GATE_CASES);
+    if failed == 0 && (!tally.print() || tally.calls < GATE_CALLS) {
+        println!("FAILED: the random cases do not meet what they must");
+        failed += 1;
+    }
+    let begun = Instant::now();
+    let exhausted = exhaustive::run();
+    println!("exhaustive: {:.1} s", begun.elapsed().as_secs_f64());
+    failed += exhausted.failed;
+    let begun = Instant::now();
+    let listed = listing::run(GATE_SEED);
+    println!("listing: {:.1} s", begun.elapsed().as_secs_f64());
+    failed += listed.failed;
+    if failed == 0 {
+        let begun = Instant::now();
+        println!("self-test: {} saboteurs", saboteurs::SABOTEURS.len());
+        failed += random::self_test(GATE_SEED, GATE_CASES);
+        println!("self-test: {:.1} s", begun.elapsed().as_secs_f64());
+    } else {
+        println!("self-test: left out, since a case that fails by itself shows nothing of a saboteur");
+    }
+    println!(
+        "tests: {} random calls, {} exhaustive calls on {} images, {} listings, {} saboteurs: {failed} failed",
+        grouped(tally.calls),
+        grouped(exhausted.calls),
+        grouped(exhausted.images),
+        grouped(listed.tried),
+        saboteurs::SABOTEURS.len()
+    );
+    failed == 0
+}
+
+fn long(seed: u64) -> bool {
+    let (tally, mut failed) = random_part(seed, LONG_CASES);
+    if failed == 0 && !tally.print() {
+        failed += 1;
+    }
+    println!("tests: {} random calls from seed {seed}: {failed} failed", grouped(tally.calls));
+    failed == 0
+}

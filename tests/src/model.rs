@@ -1,0 +1,559 @@
+//! The model: every call as document 01 words it, in its order, plain rather than quick. It knows nothing of the library.
+//!
+//! A refusal is one function, named by its number. A call is the list of its refusals in 01's order, then what it does when it is done.
+
+use std::collections::BTreeSet;
+
+/// Number 1: an image has 28 to 16,777,216 bytes.
+pub const SHORTEST_IMAGE: usize = 28;
+pub const LONGEST_IMAGE: usize = 16_777_216;
+/// The head's ceilings.
+pub const MOST_LINKS: u32 = 256;
+pub const WIDEST_LINK: u32 = 4;
+pub const WIDEST_DATA: u32 = 4;
+pub const LONGEST_ALPHABET: u32 = 1_024;
+pub const LONGEST_KEY: u32 = 64;
+/// What the listing program reads and has.
+pub const LONGEST_INPUT: usize = 65_536;
+pub const LISTING_WORK: usize = 16_384;
+
+/// All that a call answers. What it does not speak of is 0.
+#[derive(Clone, Copy, Debug, PartialEq, Eq, Default)]
+pub struct Answer {
+    pub number: u32,
+    pub place: u32,
+    pub length: u32,
+    pub change: i32,
+    pub value: u64,
+}
+
+/// A refusal: its number and its place.
+#[derive(Clone, Copy, Debug, PartialEq, Eq)]
+pub struct Refusal {
+    pub number: u32,
+    pub place: u32,
+}
+
+/// "Numbers in a refused answer other than number and place are 0."
+fn answer(outcome: Result<Answer, Refusal>) -> Answer {
+    match outcome {
+        Ok(done) => done,
+        Err(Refusal { number, place }) => Answer { number, place, ..Answer::default() },
+    }
+}
+
+fn refuse_if(applies: bool, number: u32) -> Result<(), Refusal> {
+    refuse_at(if applies { Some(0) } else { None }, number)
+}
+
+fn refuse_at(place: Option<u64>, number: u32) -> Result<(), Refusal> {
+    match place {
+        Some(place) => Err(Refusal { number, place: place as u32 }),
+        None => Ok(()),
+    }
+}
+
+// ---- the image ----
+
+/// "All numbers are big-endian."
+pub fn read_number(bytes: &[u8]) -> u64 {
+    bytes.iter().fold(0, |so_far, byte| so_far * 256 + u64::from(*byte))
+}
+
+pub fn write_number(bytes: &mut [u8], number: u64) {
+    let mut rest = number;
+    for byte in bytes.iter_mut().rev() {
+        *byte = (rest % 256) as u8;
+        rest /= 256;
+    }
+    assert_eq!(rest, 0, "{} does not fit {} bytes", number, bytes.len());
+}
+
+/// The greatest number that so many bytes hold: 256^width - 1.
+pub fn greatest(width: u32) -> u64 {
+    256u64.pow(width) - 1
+}
+
+/// The seven fields of the head, in their order.
+#[derive(Clone, Copy, Debug, PartialEq, Eq)]
+pub struct Head {
+    pub g: u32,
+    pub n: u32,
+    pub a: u32,
+    pub d: u32,
+    pub f: u32,
+    pub min: u32,
+    pub max: u32,
+}
+
+impl Head {
+    /// Of an image that has 28 bytes or more.
+    pub fn read(image: &[u8]) -> Head {
+        let field = |i: usize| read_number(&image[4 * i..4 * i + 4]) as u32;
+        Head { g: field(0), n: field(1), a: field(2), d: field(3), f: field(4), min: field(5), max: field(6) }
+    }
+
+    pub fn write(&self, image: &mut [u8]) {
+        for (i, field) in [self.g, self.n, self.a, self.d, self.f, self.min, self.max].iter().enumerate() {
+            write_number(&mut image[4 * i..4 * i + 4], u64::from(*field));
+        }
+    }
+
+    /// W = N*A + D.
+    pub fn w(&self) -> u128 {
+        u128::from(self.n) * u128::from(self.a) + u128::from(self.d)
+    }
+
+    /// Where node n begins: 28 + F + n*W.
+    pub fn node(&self, n: u64) -> u128 {
+        28 + u128::from(self.f) + u128::from(n) * self.w()
+    }
+
+    /// The used length: U = 28 + F + (G+1)*W.
+    pub fn u(&self) -> u128 {
+        self.node(u64::from(self.g) + 1)
+    }
+
+    /// Where a link stands. Only for a head that 2 permits and a node inside the image.
+    pub fn link_at(&self, node: u64, letter: u64) -> usize {
+        self.node(node) as usize + letter as usize * self.a as usize
+    }
+
+    pub fn data_at(&self, node: u64) -> usize {
+        self.link_at(node, u64::from(self.n))
+    }
+}
+
+pub fn link(image: &[u8], head: &Head, node: u64, letter: u64) -> u64 {
+    let at = head.link_at(node, letter);
+    read_number(&image[at..at + head.a as usize])
+}
+
+fn write_link(image: &mut [u8], head: &Head, node: u64, letter: u64, address: u64) {
+    let at = head.link_at(node, letter);
+    write_number(&mut image[at..at + head.a as usize], address);
+}
+
+pub fn data(image: &[u8], head: &Head, node: u64) -> u64 {
+    let at = head.data_at(node);
+    read_number(&image[at..at + head.d as usize])
+}
+
+fn write_data(image: &mut [u8], head: &Head, node: u64, value: u64) {
+    let at = head.data_at(node);
+    write_number(&mut image[at..at + head.d as usize], value);
+}
+
+// ---- characters ----
+
+/// Table 3-7 of the Unicode Standard: first byte from, to; second byte from, to; bytes.
+const WELL_FORMED: [[u8; 5]; 9] = [
+    [0x00, 0x7F, 0x00, 0x00, 1],
+    [0xC2, 0xDF, 0x80, 0xBF, 2],
+    [0xE0, 0xE0, 0xA0, 0xBF, 3],
+    [0xE1, 0xEC, 0x80, 0xBF, 3],
+    [0xED, 0xED, 0x80, 0x9F, 3],
+    [0xEE, 0xEF, 0x80, 0xBF, 3],
+    [0xF0, 0xF0, 0x90, 0xBF, 4],
+    [0xF1, 0xF3, 0x80, 0xBF, 4],
+    [0xF4, 0xF4, 0x80, 0x8F, 4],
+];
+
+/// How many bytes the well-formed character takes that stands at the front, if one does.
+fn character_length(bytes: &[u8]) -> Option<usize> {
+    let first = *bytes.first()?;
+    let row = WELL_FORMED.iter().find(|row| row[0] <= first && first <= row[1])?;
+    let length = usize::from(row[4]);
+    if bytes.len() < length {
+        return None;
+    }
+    let second_good = length < 2 || (row[2] <= bytes[1] && bytes[1] <= row[3]);
+    let rest_good = bytes[..length].iter().skip(2).all(|byte| (0x80..=0xBF).contains(byte));
+    if second_good && rest_good {
+        Some(length)
+    } else {
+        None
+    }
+}
+
+/// The characters that the bytes are, or nothing if they are not well-formed.
+pub fn characters(bytes: &[u8]) -> Option<Vec<&[u8]>> {
+    let mut found = Vec::new();
+    let mut rest = bytes;
+    while !rest.is_empty() {
+        let (character, after) = rest.split_at(character_length(rest)?);
+        found.push(character);
+        rest = after;
+    }
+    Some(found)
+}
+
+/// The letters' characters, from 0. Only for an image that passed 4.
+fn alphabet<'a>(image: &'a [u8], head: &Head) -> Vec<&'a [u8]> {
+    characters(&image[28..28 + head.f as usize]).expect("3 was passed")
+}
+
+// ---- refusals ----
+
+fn refusal_1(image_len: usize) -> Result<(), Refusal> {
+    refuse_if(!(SHORTEST_IMAGE..=LONGEST_IMAGE).contains(&image_len), 1)
+}
+
+fn refusal_2(head: &Head) -> Result<(), Refusal> {
+    let permitted = (1..=MOST_LINKS).contains(&head.n)
+        && (1..=WIDEST_LINK).contains(&head.a)
+        && (1..=WIDEST_DATA).contains(&head.d)
+        && head.f <= LONGEST_ALPHABET
+        && head.min <= head.max
+        && head.max <= LONGEST_KEY;
+    refuse_if(!permitted, 2)
+}
+
+/// `alphabet`: the F bytes, or nothing where they are not all inside the image.
+fn refusal_3(head: &Head, alphabet: Option<&[u8]>) -> Result<(), Refusal> {
+    let bytes = match alphabet {
+        Some(bytes) if head.f > 0 => bytes,
+        _ => return Ok(()),
+    };
+    let good = match characters(bytes) {
+        Some(found) => {
+            let different: BTreeSet<&[u8]> = found.iter().copied().collect();
+            found.len() == head.n as usize && different.len() == found.len()
+        }
+        None => false,
+    };
+    refuse_if(!good, 3)
+}
+
+fn refusal_4(head: &Head, image_len: usize) -> Result<(), Refusal> {
+    refuse_if(head.u() > image_len as u128, 4)
+}
+
+fn refusal_5(head: &Head, work_len: usize) -> Result<(), Refusal> {
+    refuse_if((work_len as u64) < u64::from(head.g) + 1, 5)
+}
+
+/// "every link that isn't empty is at most G and greater than the address of the node it stands in"
+fn breaks_first_rule(head: &Head, node: u64, link: u64) -> bool {
+    link != 0 && (link > u64::from(head.g) || link <= node)
+}
+
+fn refusal_6(image: &[u8], head: &Head) -> Result<(), Refusal> {
+    let holds_one = |node: &u64| (0..u64::from(head.n)).any(|letter| breaks_first_rule(head, *node, link(image, head, *node, letter)));
+    refuse_at((0..=u64::from(head.g)).find(holds_one), 6)
+}
+
+/// In how many links each address from 0 to G stands. Only where no link breaks the first rule.
+fn standing(image: &[u8], head: &Head) -> Vec<u32> {
+    let mut times = vec![0; head.g as usize + 1];
+    for node in 0..=u64::from(head.g) {
+        for letter in 0..u64::from(head.n) {
+            times[link(image, head, node, letter) as usize] += 1;
+        }
+    }
+    times
+}
+
+fn refusal_7(head: &Head, standing: &[u32]) -> Result<(), Refusal> {
+    refuse_at((1..=u64::from(head.g)).find(|address| standing[*address as usize] >= 2), 7)
+}
+
+fn refusal_8(head: &Head, standing: &[u32]) -> Result<(), Refusal> {
+    refuse_at((1..=u64::from(head.g)).find(|address| standing[*address as usize] == 0), 8)
+}
+
+fn refusal_9(head: &Head, length: usize) -> Result<(), Refusal> {
+    refuse_if(length < head.min as usize || length > head.max as usize, 9)
+}
+
+/// "For next key, 9 means only a key longer than max."
+fn refusal_9_of_next_key(head: &Head, length: usize) -> Result<(), Refusal> {
+    refuse_if(length > head.max as usize, 9)
+}
+
+fn refusal_10_of_letters(head: &Head, letters: &[u8]) -> Result<(), Refusal> {
+    refuse_if(letters.iter().any(|letter| u32::from(*letter) >= head.n), 10)
+}
+
+/// The letters that the text names.
+fn refusal_10_of_text(image: &[u8], head: &Head, text: &[u8]) -> Result<Vec<u8>, Refusal> {
+    let refused = Err(Refusal { number: 10, place: 0 });
+    let found = match characters(text) {
+        Some(found) => found,
+        None => return refused,
+    };
+    let alphabet = alphabet(image, head);
+    let mut letters = Vec::new();
+    for character in found {
+        match alphabet.iter().position(|letter| *letter == character) {
+            Some(letter) => letters.push(letter as u8),
+            None => return refused,
+        }
+    }
+    Ok(letters)
+}
+
+fn refusal_11(head: &Head, value: u32) -> Result<(), Refusal> {
+    refuse_if(u64::from(value) > greatest(head.d), 11)
+}
+
+fn refusal_12(head: &Head, k: u64) -> Result<(), Refusal> {
+    refuse_if(k > 0 && u64::from(head.g) + k > greatest(head.a), 12)
+}
+
+fn refusal_13(head: &Head, k: u64, image_len: usize) -> Result<(), Refusal> {
+    refuse_if(k > 0 && head.u() + u128::from(k) * head.w() > image_len as u128, 13)
+}
+
+fn refusal_14(head: &Head, key_len: usize) -> Result<(), Refusal> {
+    refuse_if(key_len < head.max as usize, 14)
+}
+
+// ---- orders that several calls share ----
+
+pub fn one_to_four(image: &[u8]) -> Result<Head, Refusal> {
+    refusal_1(image.len())?;
+    let head = Head::read(image);
+    refusal_2(&head)?;
+    refusal_3(&head, image.get(28..28 + head.f as usize))?;
+    refusal_4(&head, image.len())?;
+    Ok(head)
+}
+
+/// "Once 5 is passed, the first G+1 of them are 0 when the call returns." The model uses no working numbers, so it clears them here.
+pub fn one_to_eight(image: &[u8], work: &mut [u32]) -> Result<Head, Refusal> {
+    let head = one_to_four(image)?;
+    refusal_5(&head, work.len())?;
+    work[..=head.g as usize].fill(0);
+    refusal_6(image, &head)?;
+    let standing = standing(image, &head);
+    refusal_7(&head, &standing)?;
+    refusal_8(&head, &standing)?;
+    Ok(head)
+}
+
+// ---- stored keys ----
+
+/// Every stored key of an accepted image with its value, to `met`, in no promised order.
+fn each_stored_key(image: &[u8], head: &Head, met: &mut dyn FnMut(&[u8], u64)) {
+    each_below(image, head, 0, &mut Vec::new(), met);
+}
+
+fn each_below(image: &[u8], head: &Head, node: u64, key: &mut Vec<u8>, met: &mut dyn FnMut(&[u8], u64)) {
+    let value = data(image, head, node);
+    if key.len() >= head.min as usize && key.len() <= head.max as usize && value != 0 {
+        met(key, value);
+    }
+    if key.len() < head.max as usize {
+        for letter in 0..head.n {
+            let child = link(image, head, node, u64::from(letter));
+            if child != 0 {
+                key.push(letter as u8);
+                each_below(image, head, child, key, met);
+                key.pop();
+            }
+        }
+    }
+}
+
+/// "a key comes before its extensions; otherwise the first different letter number decides"
+pub fn comes_before(one: &[u8], other: &[u8]) -> bool {
+    match one.iter().zip(other).find(|(mine, its)| mine != its) {
+        Some((mine, its)) => mine < its,
+        None => one.len() < other.len(),
+    }
+}
+
+/// The stored keys of an accepted image, in order.
+pub fn stored_keys(image: &[u8], head: &Head) -> Vec<(Vec<u8>, u64)> {
+    let mut keys = Vec::new();
+    each_stored_key(image, head, &mut |key, value| keys.push((key.to_vec(), value)));
+    keys.sort_by(|(one, _), (other, _)| if comes_before(one, other) { std::cmp::Ordering::Less } else { std::cmp::Ordering::Greater });
+    keys
+}
+
+// ---- calls ----
+
+/// Make: 1, 2, 3, 4, for G = 0, with F the length of the alphabet given.
+pub fn make(image: &mut [u8], n: u32, a: u32, d: u32, alphabet: &[u8], min: u32, max: u32) -> Answer {
+    answer(try_make(image, n, a, d, alphabet, min, max))
+}
+
+fn try_make(image: &mut [u8], n: u32, a: u32, d: u32, alphabet: &[u8], min: u32, max: u32) -> Result<Answer, Refusal> {
+    refusal_1(image.len())?;
+    // an F that no field holds is above 1,024 like any other
+    let f = alphabet.len().min(u32::MAX as usize) as u32;
+    let head = Head { g: 0, n, a, d, f, min, max };
+    refusal_2(&head)?;
+    refusal_3(&head, Some(alphabet))?;
+    refusal_4(&head, image.len())?;
+    head.write(image);
+    image[28..28 + alphabet.len()].copy_from_slice(alphabet);
+    image[head.node(0) as usize..head.u() as usize].fill(0);
+    Ok(Answer::default())
+}
+
+/// Check: 1 to 8.
+pub fn check(image: &[u8], work: &mut [u32]) -> Answer {
+    answer(one_to_eight(image, work).map(|_| Answer::default()))
+}
+
+/// Number of stored keys: 1 to 8.
+pub fn count(image: &[u8], work: &mut [u32]) -> Answer {
+    answer(one_to_eight(image, work).map(|head| {
+        let mut keys = 0;
+        each_stored_key(image, &head, &mut |_, _| keys += 1);
+        Answer { value: keys, ..Answer::default() }
+    }))
+}
+
+/// Look up by letters: 1 to 4, 9, 10, then 6 on the path.
+pub fn look_up(image: &[u8], letters: &[u8]) -> Answer {
+    answer(try_look_up(image, letters))
+}
+
+fn try_look_up(image: &[u8], letters: &[u8]) -> Result<Answer, Refusal> {
+    let head = one_to_four(image)?;
+    refusal_9(&head, letters.len())?;
+    refusal_10_of_letters(&head, letters)?;
+    walk(image, &head, letters)
+}
+
+/// Look up by text: 1 to 4, 10, 9, then 6 on the path.
+pub fn look_up_text(image: &[u8], text: &[u8]) -> Answer {
+    answer(try_look_up_text(image, text))
+}
+
+fn try_look_up_text(image: &[u8], text: &[u8]) -> Result<Answer, Refusal> {
+    let head = one_to_four(image)?;
+    let letters = refusal_10_of_text(image, &head, text)?;
+    refusal_9(&head, letters.len())?;
+    walk(image, &head, &letters)
+}
+
+/// The descent of a look up, in an image that nobody has checked.
+fn walk(image: &[u8], head: &Head, letters: &[u8]) -> Result<Answer, Refusal> {
+    let mut node = 0;
+    for letter in letters {
+        let next = link(image, head, node, u64::from(*letter));
+        if next == 0 {
+            return Ok(Answer::default());
+        }
+        if breaks_first_rule(head, node, next) {
+            return Err(Refusal { number: 6, place: node as u32 });
+        }
+        node = next;
+    }
+    Ok(Answer { value: data(image, head, node), ..Answer::default() })
+}
+
+/// Store by letters: 1 to 8, 9, 10, 11, 12, 13.
+pub fn store(image: &mut [u8], work: &mut [u32], letters: &[u8], value: u32) -> Answer {
+    answer(try_store(image, work, letters, value))
+}
+
+fn try_store(image: &mut [u8], work: &mut [u32], letters: &[u8], value: u32) -> Result<Answer, Refusal> {
+    let head = one_to_eight(image, work)?;
+    refusal_9(&head, letters.len())?;
+    refusal_10_of_letters(&head, letters)?;
+    store_at(image, &head, letters, value)
+}
+
+/// Store by text: 1 to 8, 10, 9, 11, 12, 13.
+pub fn store_text(image: &mut [u8], work: &mut [u32], text: &[u8], value: u32) -> Answer {
+    answer(try_store_text(image, work, text, value))
+}
+
+fn try_store_text(image: &mut [u8], work: &mut [u32], text: &[u8], value: u32) -> Result<Answer, Refusal> {
+    let head = one_to_eight(image, work)?;
+    let letters = refusal_10_of_text(image, &head, text)?;
+    refusal_9(&head, letters.len())?;
+    store_at(image, &head, &letters, value)
+}
+
+/// How far the key's path goes in an accepted image: the last node and how many letters led there.
+pub fn path(image: &[u8], head: &Head, letters: &[u8]) -> (u64, usize) {
+    let mut node = 0;
+    for (depth, letter) in letters.iter().enumerate() {
+        match link(image, head, node, u64::from(*letter)) {
+            0 => return (node, depth),
+            next => node = next,
+        }
+    }
+    (node, letters.len())
+}
+
+/// What is left of a store once the check, 9 and 10 are passed: 11, 12, 13, then the writes.
+fn store_at(image: &mut [u8], head: &Head, letters: &[u8], value: u32) -> Result<Answer, Refusal> {
+    refusal_11(head, value)?;
+    let (last, depth) = path(image, head, letters);
+    let missing = (letters.len() - depth) as u64;
+    let k = if value == 0 { 0 } else { missing };
+    refusal_12(head, k)?;
+    refusal_13(head, k, image.len())?;
+
+    let before = if missing == 0 { data(image, head, last) } else { 0 };
+    if missing == 0 {
+        write_data(image, head, last, u64::from(value));
+    } else if k > 0 {
+        let new = u64::from(head.g) + 1;
+        write_link(image, head, last, u64::from(letters[depth]), new);
+        let new_nodes = head.node(new) as usize..head.node(new + k) as usize;
+        image[new_nodes].fill(0);
+        for (i, letter) in letters[depth + 1..].iter().enumerate() {
+            write_link(image, head, new + i as u64, u64::from(*letter), new + i as u64 + 1);
+        }
+        write_data(image, head, new + k - 1, u64::from(value));
+        Head { g: (u64::from(head.g) + k) as u32, ..*head }.write(image);
+    }
+    let change = i32::from(value != 0) - i32::from(before != 0);
+    Ok(Answer { change, ..Answer::default() })
+}
+
+/// Next key: 1 to 8, 9 (longer than max), 10, 14, 15. `after`: else "at or after".
+pub fn next_key(image: &[u8], work: &mut [u32], letters: &[u8], after: bool, key: &mut [u8]) -> Answer {
+    answer(try_next_key(image, work, letters, after, key))
+}
+
+fn try_next_key(image: &[u8], work: &mut [u32], letters: &[u8], after: bool, key: &mut [u8]) -> Result<Answer, Refusal> {
+    let head = one_to_eight(image, work)?;
+    refusal_9_of_next_key(&head, letters.len())?;
+    refusal_10_of_letters(&head, letters)?;
+    refusal_14(&head, key.len())?;
+    let mut first: Option<(Vec<u8>, u64)> = None;
+    each_stored_key(image, &head, &mut |stored, value| {
+        let meets = comes_before(letters, stored) || (!after && letters == stored);
+        let is_first = first.as_ref().map_or(true, |(found, _)| comes_before(stored, found));
+        if meets && is_first {
+            first = Some((stored.to_vec(), value));
+        }
+    });
+    let (found, value) = first.ok_or(Refusal { number: 15, place: 0 })?;
+    key[..found.len()].copy_from_slice(&found);
+    Ok(Answer { length: found.len() as u32, value, ..Answer::default() })
+}
+
+// ---- the listing program ----
+
+/// What the listing program writes of its input.
+pub fn listing(input: &[u8]) -> String {
+    if input.len() > LONGEST_INPUT {
+        return "refused 1 at 0\n".to_string();
+    }
+    let head = match one_to_eight(input, &mut [0; LISTING_WORK]) {
+        Ok(head) => head,
+        Err(Refusal { number, place }) => return format!("refused {number} at {place}\n"),
+    };
+    let keys = stored_keys(input, &head);
+    let mut lines = format!("entries {}\n", keys.len());
+    for (key, value) in keys {
+        let letters: Vec<String> = key.iter().map(|letter| letter.to_string()).collect();
+        let name = if key.is_empty() { "-".to_string() } else { letters.join(".") };
+        lines += &format!("{name} {value}\n");
+    }
+    lines
+}
+
+#[cfg(test)]
+#[path = "model_cases.rs"]
+mod cases;

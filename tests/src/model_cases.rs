@@ -1,0 +1,302 @@
+//! Holds the model to document 01's cases, with the bytes written out by hand, and to the UTF-8 table.
+
+use super::*;
+
+/// Bytes from hexadecimal; spaces are for the reader.
+fn hex(text: &str) -> Vec<u8> {
+    let digits: Vec<u8> = text.chars().filter_map(|c| c.to_digit(16)).map(|digit| digit as u8).collect();
+    digits.chunks(2).map(|pair| pair[0] * 16 + pair[1]).collect()
+}
+
+/// The small file of 01's cases with a G and a body.
+fn abc(g: &str, body: &str) -> Vec<u8> {
+    hex(&format!("{g} 00000003 00000001 00000001 00000003 00000001 00000003 414243 {body}"))
+}
+
+fn p2() -> Vec<u8> {
+    abc("00000002", "00010000 02000000 00000009")
+}
+
+fn p3() -> Vec<u8> {
+    abc("00000002", "00010000 02000005 00000009")
+}
+
+fn with_room(mut image: Vec<u8>, len: usize) -> Vec<u8> {
+    image.resize(len, 0xEE);
+    image
+}
+
+fn refused(number: u32, place: u32) -> Answer {
+    Answer { number, place, ..Answer::default() }
+}
+
+fn changed(change: i32) -> Answer {
+    Answer { change, ..Answer::default() }
+}
+
+fn value(value: u64) -> Answer {
+    Answer { value, ..Answer::default() }
+}
+
+const A: u8 = 0;
+const B: u8 = 1;
+const C: u8 = 2;
+
+#[test]
+fn p1_fresh() {
+    let mut image = vec![0xEE; 35];
+    assert_eq!(make(&mut image, 3, 1, 1, b"ABC", 1, 3), Answer::default());
+    let fresh = "00000000 00000003 00000001 00000001 00000003 00000001 00000003 414243 00000000";
+    assert_eq!(image, hex(fresh));
+    let mut longer = vec![0xEE; 40];
+    assert_eq!(make(&mut longer, 3, 1, 1, b"ABC", 1, 3), Answer::default());
+    assert_eq!(longer, hex(&format!("{fresh} EEEEEEEEEE")));
+    let mut short = vec![0xEE; 34];
+    assert_eq!(make(&mut short, 3, 1, 1, b"ABC", 1, 3), refused(4, 0));
+    assert_eq!(short, vec![0xEE; 34]);
+}
+
+#[test]
+fn p2_and_p3_store() {
+    let mut image = with_room(abc("00000000", "00000000"), 50);
+    let mut work = vec![7; 5];
+    assert_eq!(store(&mut image, &mut work, &[B, A], 9), changed(1));
+    assert_eq!(image, with_room(p2(), 50));
+    assert_eq!(Head::read(&image).u(), 43);
+    assert_eq!(work, [0, 7, 7, 7, 7], "the first G+1 with the G of entry");
+    assert_eq!(store_text(&mut image, &mut work, b"B", 5), changed(1));
+    assert_eq!(image, with_room(p3(), 50));
+    assert_eq!(work, [0, 0, 0, 7, 7]);
+    assert_eq!(count(&image, &mut work), value(2));
+}
+
+#[test]
+fn p4_look_up() {
+    let keys: [(&[u8], &[u8], u64); 5] =
+        [(&[B, A], b"BA", 9), (&[B], b"B", 5), (&[A], b"A", 0), (&[B, B], b"BB", 0), (&[B, A, C], b"BAC", 0)];
+    for (letters, text, found) in keys {
+        assert_eq!(look_up(&p3(), letters), value(found));
+        assert_eq!(look_up_text(&p3(), text), value(found));
+    }
+}
+
+#[test]
+fn p5_keys_refused() {
+    assert_eq!(look_up(&p3(), &[]), refused(9, 0));
+    assert_eq!(look_up_text(&p3(), b""), refused(9, 0));
+    assert_eq!(look_up(&p3(), &[B, A, B, A]), refused(9, 0));
+    assert_eq!(look_up_text(&p3(), b"BABA"), refused(9, 0));
+    assert_eq!(look_up(&p3(), &[3]), refused(10, 0));
+    assert_eq!(look_up(&p3(), &[3, 3, 3, 3]), refused(9, 0), "letters: 9 before 10");
+    assert_eq!(look_up_text(&p3(), b"DDDD"), refused(10, 0), "text: 10 before 9");
+}
+
+#[test]
+fn p6_store_refused_or_nothing() {
+    let mut image = p3();
+    assert_eq!(store(&mut image, &mut [7; 3], &[B, A], 256), refused(11, 0));
+    assert_eq!(image, p3());
+    assert_eq!(store(&mut image, &mut [7; 3], &[A, B, C], 0), changed(0));
+    assert_eq!(image, p3());
+    assert_eq!(store(&mut image, &mut [7; 3], &[B, A], 0), changed(-1));
+    assert_eq!(image, abc("00000002", "00010000 02000005 00000000"));
+    assert_eq!(store(&mut image, &mut [7; 3], &[B], 6), changed(0));
+    assert_eq!(image, abc("00000002", "00010000 02000006 00000000"));
+}
+
+#[test]
+fn p7_room_for_three() {
+    let mut short = with_room(p3(), 54);
+    assert_eq!(store(&mut short, &mut [7; 3], &[C, C, C], 1), refused(13, 0));
+    assert_eq!(short, with_room(p3(), 54));
+    let mut image = with_room(p3(), 55);
+    assert_eq!(store(&mut image, &mut [7; 3], &[C, C, C], 1), changed(1));
+    assert_eq!(image, abc("00000005", "00010300 02000005 00000009 00000400 00000500 00000001"));
+}
+
+#[test]
+fn p8_to_p11_links() {
+    let cases = [
+        ("00010100 00000000", refused(7, 1)),
+        ("00020000 00000000", refused(6, 0)),
+        ("00000000 00000000", refused(8, 1)),
+        ("00010000 00010000", refused(6, 1)),
+    ];
+    for (body, answered) in cases {
+        let mut work = [7, 7, 7];
+        assert_eq!(check(&abc("00000001", body), &mut work), answered);
+        assert_eq!(work, [0, 0, 7]);
+        let mut too_few = [7];
+        assert_eq!(check(&abc("00000001", body), &mut too_few), refused(5, 0));
+        assert_eq!(too_few, [7]);
+    }
+}
+
+#[test]
+fn p12_next_key() {
+    let mut key = [7; 4];
+    let mut work = [7; 4];
+    let found = |length, value| Answer { length, value, ..Answer::default() };
+    assert_eq!(next_key(&p3(), &mut work, &[], false, &mut key), found(1, 5));
+    assert_eq!((key, work), ([B, 7, 7, 7], [0, 0, 0, 7]));
+    assert_eq!(next_key(&p3(), &mut work, &[B], true, &mut key), found(2, 9));
+    assert_eq!(key, [B, A, 7, 7]);
+    assert_eq!(next_key(&p3(), &mut work, &[B, A], true, &mut key), refused(15, 0));
+    assert_eq!(key, [B, A, 7, 7]);
+    assert_eq!(next_key(&p3(), &mut work, &[B, A], true, &mut [7; 2]), refused(14, 0), "14 before 15");
+}
+
+#[test]
+fn run_alphabets() {
+    let made = |n: u32, alphabet: &[u8]| make(&mut [0; 100], n, 1, 1, alphabet, 0, 0);
+    assert_eq!(made(1, &[0xC0, 0x80]), refused(3, 0));
+    assert_eq!(made(1, &[0xED, 0xA0, 0x80]), refused(3, 0));
+    assert_eq!(made(1, &[0xF4, 0x8F, 0xBF, 0xBF]), Answer::default());
+    assert_eq!(made(2, b"AA"), refused(3, 0));
+    assert_eq!(made(1, b"AB"), refused(3, 0), "more than N characters");
+    assert_eq!(made(3, b"AB"), refused(3, 0), "fewer than N characters");
+    assert_eq!(make(&mut [0; 28], 2, 1, 1, b"AA", 0, 0), refused(3, 0), "3 before 4, on the alphabet given");
+}
+
+#[test]
+fn run_great_g() {
+    for len in [35, 1_000, LONGEST_IMAGE] {
+        let image = with_room(abc("FFFFFFFF", "00000000"), len);
+        assert_eq!(check(&image, &mut [7; 3]), refused(4, 0));
+        let wraps = with_room(abc("3FFFFFFF", "00000000"), len);
+        assert_eq!(check(&wraps, &mut [7; 3]), refused(4, 0), "(G+1)*W is 0 in 32 bits");
+    }
+}
+
+/// 256 nodes of two links and one byte of data in a chain by letter 0: G = 255.
+fn full_chain() -> Vec<u8> {
+    let mut image = hex("000000FF 00000002 00000001 00000001 00000000 00000000 00000040");
+    for node in 0..=255u8 {
+        image.extend([node.wrapping_add(1), 0, 0]);
+    }
+    image
+}
+
+#[test]
+fn run_all_addresses_taken() {
+    let mut image = with_room(full_chain(), full_chain().len() + 6);
+    assert_eq!(check(&image, &mut [7; 256]), Answer::default());
+    assert_eq!(store(&mut image, &mut [7; 256], &[B], 1), refused(12, 0));
+    assert_eq!(store(&mut image, &mut [7; 256], &[A, A], 1), changed(1), "no new node is wanted");
+    assert_eq!(store(&mut image, &mut [7; 256], &[B], 0), changed(0));
+}
+
+#[test]
+fn lengths_of_1() {
+    let image = with_room(p3(), LONGEST_IMAGE + 1);
+    assert_eq!(look_up(&image, &[B]), refused(1, 0));
+    assert_eq!(look_up(&image[..LONGEST_IMAGE], &[B]), value(5));
+    assert_eq!(look_up(&image[..27], &[B]), refused(1, 0));
+    assert_eq!(look_up(&image[..28], &[B]), refused(4, 0), "the F bytes are not all inside");
+    assert_eq!(look_up(&image[..42], &[B]), refused(4, 0));
+    assert_eq!(look_up(&image[..43], &[B]), value(5));
+}
+
+#[test]
+fn order_of_6_7_8() {
+    // 8 at 1, 7 at 3 and 6 at 2: all of 6 first, then all of 7
+    let mut image = abc("00000003", "03030000 00000000 02000000 00000000");
+    assert_eq!(check(&image, &mut [7; 4]), refused(6, 2));
+    image[31 + 8] = 0;
+    assert_eq!(check(&image, &mut [7; 4]), refused(7, 3));
+    image[31 + 1] = 0;
+    assert_eq!(check(&image, &mut [7; 4]), refused(8, 1));
+}
+
+#[test]
+fn listing_of_the_small_file() {
+    assert_eq!(listing(&p3()), "entries 2\n1 5\n1.0 9\n");
+    assert_eq!(listing(&abc("00000001", "00010100 00000000")), "refused 7 at 1\n");
+    assert_eq!(listing(&hex("00000000 00000001 00000001 00000001 00000000 00000000 00000000 0007")), "entries 1\n- 7\n");
+    assert_eq!(listing(&[]), "refused 1 at 0\n");
+    assert_eq!(listing(&with_room(p3(), LONGEST_INPUT)), "entries 2\n1 5\n1.0 9\n");
+    assert_eq!(listing(&with_room(p3(), LONGEST_INPUT + 1)), "refused 1 at 0\n");
+}
+
+#[test]
+fn changes_add_up_to_the_number_of_keys() {
+    let mut image = vec![0xEE; 5_000];
+    make(&mut image, 3, 2, 2, b"ABC", 1, 4);
+    let mut sum = 0;
+    let mut seed = 1u32;
+    for _ in 0..500 {
+        seed = seed.wrapping_mul(1_664_525).wrapping_add(1_013_904_223);
+        let length = 1 + (seed >> 10) as usize % 4;
+        let letters: Vec<u8> = (0..length).map(|i| ((seed >> (12 + 2 * i)) % 3) as u8).collect();
+        sum += store(&mut image, &mut [7; 400], &letters, (seed >> 28) % 3).change;
+        assert_eq!(count(&image, &mut [7; 400]).value, sum as u64);
+    }
+    assert!(sum > 20);
+}
+
+/// Well-formedness is held to Rust's own, which is not written from 01's table.
+fn held_to_rust(bytes: &[u8]) {
+    let ours = characters(bytes).map(|found| found.len());
+    let theirs = std::str::from_utf8(bytes).ok().map(|text| text.chars().count());
+    assert_eq!(ours, theirs, "{bytes:02X?}");
+}
+
+#[test]
+fn utf8_of_one_two_and_three_bytes() {
+    for first in 0..=255 {
+        held_to_rust(&[first]);
+        for second in 0..=255 {
+            held_to_rust(&[first, second]);
+            for third in 0..=255 {
+                held_to_rust(&[first, second, third]);
+            }
+        }
+    }
+}
+
+#[test]
+fn utf8_of_four_bytes() {
+    let bounds = [0x00, 0x7F, 0x80, 0x81, 0x8F, 0x90, 0x91, 0x9F, 0xA0, 0xBE, 0xBF, 0xC0, 0xC2, 0xE0, 0xF0, 0xFF];
+    for first in 0..=255 {
+        for second in 0..=255 {
+            for third in bounds {
+                for fourth in bounds {
+                    held_to_rust(&[first, second, third, fourth]);
+                }
+            }
+        }
+    }
+}
+
+#[test]
+fn utf8_table_by_hand() {
+    let good: [&[u8]; 9] = [
+        &[0x00],
+        &[0x7F],
+        &[0xC2, 0x80],
+        &[0xDF, 0xBF],
+        &[0xE0, 0xA0, 0x80],
+        &[0xED, 0x9F, 0xBF],
+        &[0xEE, 0x80, 0x80],
+        &[0xF0, 0x90, 0x80, 0x80],
+        &[0xF4, 0x8F, 0xBF, 0xBF],
+    ];
+    for bytes in good {
+        assert_eq!(character_length(bytes), Some(bytes.len()), "{bytes:02X?}");
+    }
+    let bad: [&[u8]; 10] = [
+        &[0x80],
+        &[0xC0, 0x80],
+        &[0xC1, 0xBF],
+        &[0xC2],
+        &[0xE0, 0x9F, 0xBF],
+        &[0xED, 0xA0, 0x80],
+        &[0xEF, 0xBF],
+        &[0xF0, 0x8F, 0xBF, 0xBF],
+        &[0xF4, 0x90, 0x80, 0x80],
+        &[0xF5, 0x80, 0x80, 0x80],
+    ];
+    for bytes in bad {
+        assert_eq!(character_length(bytes), None, "{bytes:02X?}");
+    }
+}

@@ -1,0 +1,182 @@
+//! The random part: cases by their seeds, in two threads, each call compared; and the self-test with the saboteurs.
+
+use crate::calls::{KINDS, NUMBERS};
+use crate::cases::Case;
+use crate::progress::Progress;
+use crate::report::{self, say};
+use crate::rng::Rng;
+use crate::saboteurs::{Saboteur, SABOTEURS};
+use crate::situations::{Seen, SITUATIONS};
+use crate::twins::Twins;
+use std::sync::atomic::{AtomicU64, Ordering};
+use std::sync::Mutex;
+
+/// Every pair of call and number, and every situation, is to be met so often in a run.
+const OFTEN: u64 = 50;
+const SITUATION_OFTEN: u64 = 5;
+/// After so many failures a run stops.
+const ENOUGH: usize = 5;
+
+/// What a run met.
+pub struct Tally {
+    pub cases: u64,
+    pub calls: u64,
+    numbers: [[u64; NUMBERS]; KINDS.len()],
+    situations: [u64; SITUATIONS.len()],
+}
+
+impl Tally {
+    pub fn new() -> Tally {
+        Tally { cases: 0, calls: 0, numbers: [[0; NUMBERS]; KINDS.len()], situations: [0; SITUATIONS.len()] }
+    }
+
+    fn see(&mut self, seen: &Seen) {
+        self.calls += 1;
+        self.numbers[seen.asked.call.kind()][seen.answer.number as usize] += 1;
+        for (met, situation) in self.situations.iter_mut().zip(&SITUATIONS) {
+            *met += u64::from((situation.met)(seen));
+        }
+    }
+
+    fn add(&mut self, other: &Tally) {
+        self.cases += other.cases;
+        self.calls += other.calls;
+        let theirs = other.numbers.iter().flatten().chain(&other.situations);
+        for (mine, its) in self.numbers.iter_mut().flatten().chain(&mut self.situations).zip(theirs) {
+            *mine += its;
+        }
+    }
+
+    /// Prints the tables; true if all that 01 allows was met often, and nothing else.
+    pub fn print(&self) -> bool {
+        let mut good = true;
+        println!("answers by call and number:");
+        print!("{:14}", "");
+        (0..NUMBERS).for_each(|number| print!("{number:>8}"));
+        println!();
+        for (kind, met) in KINDS.iter().zip(&self.numbers) {
+            print!("{:14}", kind.name);
+            for (number, times) in met.iter().enumerate() {
+                let allowed = kind.numbers.contains(&(number as u32));
+                let fault = allowed != (*times >= OFTEN) && (allowed || *times > 0);
+                good &= !fault;
+                print!(
+                    "{:>8}",
+                    if fault {
+                        format!("!{times}")
+                    } else if allowed {
+                        times.to_string()
+                    } else {
+                        "-".to_string()
+                    }
+                );
+            }
+            println!();
+        }
+        println!("situations:");
+        for (situation, times) in SITUATIONS.iter().zip(&self.situations) {
+            good &= *times >= SITUATION_OFTEN;
+            println!("{:>10}  {}", if *times >= SITUATION_OFTEN { times.to_string() } else { format!("!{times}") }, situation.name);
+        }
+        if !good {
+            println!("an entry marked ! was met too seldom, or is not allowed");
+        }
+        good
+    }
+}
+
+/// Runs the case; the first difference ends it and is told.
+fn run_case(seed: u64, twins: &mut Twins, tally: &mut Tally, saboteur: Option<&Saboteur>) -> Result<(), String> {
+    let mut case = Case::new(seed);
+    let mut guards = Rng::new(!seed);
+    let mut number = 0;
+    while let Some(step) = case.next() {
+        number += 1;
+        let asked = case.asked(&step);
+        let outcome = twins.ask(&asked, &mut guards, saboteur);
+        if outcome.difference.is_some() {
+            let told = report::asked(&asked) + &report::outcome(&outcome);
+            return Err(format!("seed {seed}, call {number} of the case: {told}    replay with: tests/replay {seed}\n"));
+        }
+        tally.see(&Seen { asked, answer: outcome.model });
+        case.learn(step.call, &outcome.model, twins.model.image(), twins.model.key());
+    }
+    tally.cases += 1;
+    Ok(())
+}
+
+/// So many cases from the starting seed on, in two threads. Returns what was met and the failures.
+pub fn run(start: u64, cases: u64) -> (Tally, Vec<String>) {
+    let next = AtomicU64::new(0);
+    let all = Mutex::new((Tally::new(), Vec::new()));
+    std::thread::scope(|scope| {
+        for thread in 0..2 {
+            let (next, all) = (&next, &all);
+            scope.spawn(move || {
+                let mut twins = Twins::default();
+                let mut tally = Tally::new();
+                let mut progress = Progress::of(thread);
+                loop {
+                    let index = next.fetch_add(1, Ordering::Relaxed);
+                    if index >= cases || all.lock().unwrap().1.len() >= ENOUGH {
+                        break;
+                    }
+                    let seed = start.wrapping_add(index);
+                    progress.at(&format!("tests/replay {seed}"));
+                    if let Err(failure) = run_case(seed, &mut twins, &mut tally, None) {
+                        all.lock().unwrap().1.push(failure);
+                    }
+                }
+                progress.done();
+                all.lock().unwrap().0.add(&tally);
+            });
+        }
+    });
+    all.into_inner().unwrap()
+}
+
+/// Every saboteur must be reported within the same cases. Returns how many were not.
+pub fn self_test(start: u64, cases: u64) -> usize {
+    let mut missed = 0;
+    for saboteur in &SABOTEURS {
+        let mut twins = Twins::default();
+        let mut tally = Tally::new();
+        let caught = (0..cases).find(|index| run_case(start.wrapping_add(*index), &mut twins, &mut tally, Some(saboteur)).is_err());
+        match caught {
+            Some(index) => println!("    caught in case {:>6}: {}", index + 1, saboteur.name),
+            None => {
+                missed += 1;
+                println!("    NOT CAUGHT: {}", saboteur.name);
+            }
+        }
+    }
+    missed
+}
+
+/// Repeats one case and prints all of it. Returns whether model and library agreed.
+pub fn replay(seed: u64) -> bool {
+    let mut case = Case::new(seed);
+    let mut guards = Rng::new(!seed);
+    let mut twins = Twins::default();
+    let mut printed: Vec<u8> = Vec::new();
+    let mut number = 0;
+    while let Some(step) = case.next() {
+        number += 1;
+        let asked = case.asked(&step);
+        if number == 1 || asked.image != printed.as_slice() {
+            printed = asked.image.to_vec();
+            say(&format!("image of {} bytes:\n{}", printed.len(), report::hex_lines(&printed)));
+        }
+        say(&format!("call {number}: {}", report::asked(&asked)));
+        let outcome = twins.ask(&asked, &mut guards, None);
+        say(&report::outcome(&outcome));
+        if outcome.difference.is_some() {
+            say(&format!("the image as the model leaves it:\n{}", report::hex_lines(twins.model.image())));
+            say(&format!("the image as the library leaves it:\n{}", report::hex_lines(twins.library.image())));
+            return false;
+        }
+        case.learn(step.call, &outcome.model, twins.model.image(), twins.model.key());
+    }
+    say(&format!("seed {seed}: {number} calls, model and library agree\n"));
+    true
+}

@@ -1,0 +1,67 @@
+//! Tells a call and its outcome to a person.
+
+use crate::calls::{Call, KINDS};
+use crate::model::Answer;
+use crate::twins::{Asked, Outcome};
+use std::io::Write;
+
+/// Longer images are printed only so far.
+const PRINTED: usize = 65_536;
+
+/// Prints; a reader who has seen enough ends the program.
+pub fn say(text: &str) {
+    if std::io::stdout().write_all(text.as_bytes()).is_err() {
+        std::process::exit(1);
+    }
+}
+
+pub fn hex(bytes: &[u8]) -> String {
+    bytes.iter().map(|byte| format!("{byte:02X}")).collect()
+}
+
+/// 32 bytes to a line, with the position in front.
+pub fn hex_lines(bytes: &[u8]) -> String {
+    let shown = &bytes[..bytes.len().min(PRINTED)];
+    let mut lines: String = shown
+        .chunks(32)
+        .enumerate()
+        .map(|(i, line)| format!("    {:>6}  {}\n", 32 * i, line.chunks(4).map(hex).collect::<Vec<_>>().join(" ")))
+        .collect();
+    if shown.len() < bytes.len() {
+        lines += &format!("    and {} bytes more\n", bytes.len() - shown.len());
+    }
+    lines
+}
+
+/// The call with its arguments, in one line.
+pub fn asked(asked: &Asked) -> String {
+    let kind = &KINDS[asked.call.kind()];
+    let own = match asked.call {
+        Call::Make { n, a, d, min, max } => format!(", n {n}, a {a}, d {d}, min {min}, max {max}"),
+        Call::Store { value } | Call::StoreText { value } => format!(", value {value}"),
+        Call::NextKey { after } => format!(", {}, key buffer of {}", if after { "after" } else { "at or after" }, asked.key_len),
+        _ => String::new(),
+    };
+    let given = match asked.call {
+        Call::Check | Call::Count => String::new(),
+        _ => format!(", {} of {} bytes [{}]", kind.given, asked.given.len(), hex(asked.given)),
+    };
+    let work = match asked.call {
+        Call::Make { .. } | Call::LookUp | Call::LookUpText => String::new(),
+        _ => format!(", {} working numbers", asked.work_len),
+    };
+    format!("trieff_{}: image of {} bytes{work}{given}{own}\n", kind.name, asked.image.len())
+}
+
+fn answer(answer: &Answer) -> String {
+    let Answer { number, place, length, change, value } = answer;
+    format!("number {number} place {place} length {length} change {change} value {value}")
+}
+
+pub fn outcome(outcome: &Outcome) -> String {
+    let both = format!("    model:   {}\n    library: {}\n", answer(&outcome.model), answer(&outcome.library));
+    match &outcome.difference {
+        Some(difference) => both + &format!("    DIFFERENT: {difference}\n"),
+        None => both,
+    }
+}

@@ -1,0 +1,406 @@
+//! Saboteurs: each spoils what the library did in one small way. The judge must report every one of them, else it is no judge.
+
+use crate::calls::Call;
+use crate::model::{self, Answer, Head};
+use crate::twins::Arena;
+
+/// What a saboteur sees, and may spoil.
+pub struct Spoiled<'a> {
+    pub call: Call,
+    pub before: &'a Arena,
+    pub after: &'a mut Arena,
+    pub answer: &'a mut Answer,
+}
+
+pub struct Saboteur {
+    pub name: &'static str,
+    pub spoil: fn(&mut Spoiled),
+}
+
+impl Spoiled<'_> {
+    fn is_store(&self) -> bool {
+        matches!(self.call, Call::Store { .. } | Call::StoreText { .. })
+    }
+
+    fn number(&self) -> u32 {
+        self.answer.number
+    }
+
+    fn done(&self) -> bool {
+        self.number() == 0
+    }
+
+    fn value(&self) -> u32 {
+        match self.call {
+            Call::Store { value } | Call::StoreText { value } => value,
+            _ => 0,
+        }
+    }
+
+    /// The head at entry, where there is one.
+    fn head(&self) -> Option<Head> {
+        if self.before.image.len() >= 28 {
+            Some(Head::read(self.before.image()))
+        } else {
+            None
+        }
+    }
+
+    /// U at return, where it is inside the image.
+    fn used(&self) -> Option<usize> {
+        if self.after.image.len() < 28 {
+            return None;
+        }
+        let u = Head::read(self.after.image()).u();
+        if u <= self.after.image.len() as u128 {
+            Some(u as usize)
+        } else {
+            None
+        }
+    }
+
+    fn past_five(&self) -> bool {
+        let uses_work = !matches!(self.call, Call::Make { .. } | Call::LookUp | Call::LookUpText);
+        uses_work && !(1..=5).contains(&self.number())
+    }
+
+    fn refuse(&mut self, number: u32) {
+        *self.answer = Answer { number, ..Answer::default() };
+    }
+
+    fn restore_image(&mut self) {
+        let image = self.before.image.clone();
+        self.after.bytes[image.clone()].copy_from_slice(&self.before.bytes[image]);
+    }
+
+    fn restore_work(&mut self) {
+        self.after.words.clone_from(&self.before.words);
+    }
+}
+
+pub const SABOTEURS: [Saboteur; 33] = [
+    Saboteur {
+        name: "the place of 7 is one too high",
+        spoil: |s| {
+            if s.number() == 7 {
+                s.answer.place += 1;
+            }
+        },
+    },
+    Saboteur {
+        name: "the place of 6 in a look up is the root",
+        spoil: |s| {
+            if s.number() == 6 && matches!(s.call, Call::LookUp | Call::LookUpText) {
+                s.answer.place = 0;
+            }
+        },
+    },
+    Saboteur {
+        name: "8 is given before 7",
+        spoil: |s| {
+            if s.number() == 7 {
+                let head = s.head().unwrap();
+                let stands = |address: u64| {
+                    let links =
+                        |node: u64| (0..u64::from(head.n)).any(|letter| model::link(s.before.image(), &head, node, letter) == address);
+                    (0..=u64::from(head.g)).any(links)
+                };
+                if let Some(place) = (1..=u64::from(head.g)).find(|address| !stands(*address)) {
+                    *s.answer = Answer { number: 8, place: place as u32, ..Answer::default() };
+                }
+            }
+        },
+    },
+    Saboteur {
+        name: "a changed value counts as a new key",
+        spoil: |s| {
+            if s.is_store() && s.done() && s.answer.change == 0 && s.value() > 0 {
+                s.answer.change = 1;
+            }
+        },
+    },
+    Saboteur {
+        name: "a store of 0 over nothing is -1",
+        spoil: |s| {
+            if s.is_store() && s.done() && s.answer.change == 0 && s.value() == 0 {
+                s.answer.change = -1;
+            }
+        },
+    },
+    Saboteur {
+        name: "the last working number is not cleared",
+        spoil: |s| {
+            if s.past_five() {
+                let at = s.after.work.start + s.head().unwrap().g as usize;
+                s.after.words[at] = s.before.words[at];
+            }
+        },
+    },
+    Saboteur {
+        name: "the working numbers are not cleared when next key gives 15",
+        spoil: |s| {
+            if s.number() == 15 {
+                s.restore_work();
+            }
+        },
+    },
+    Saboteur {
+        name: "one working number too many is cleared",
+        spoil: |s| {
+            let at = s.head().map_or(0, |head| head.g as usize).saturating_add(1);
+            if s.past_five() && at < s.after.work.len() {
+                let at = s.after.work.start + at;
+                s.after.words[at] = 0;
+            }
+        },
+    },
+    Saboteur {
+        name: "the working numbers lent are cleared at 5",
+        spoil: |s| {
+            if s.number() == 5 {
+                let work = s.after.work.clone();
+                s.after.words[work].fill(0);
+            }
+        },
+    },
+    Saboteur {
+        name: "the word after the working numbers is cleared",
+        spoil: |s| {
+            if s.past_five() {
+                let at = s.after.work.end;
+                s.after.words[at] = 0;
+            }
+        },
+    },
+    Saboteur {
+        name: "the byte before the image is changed by a store",
+        spoil: |s| {
+            if s.is_store() && s.done() {
+                let at = s.after.image.start - 1;
+                s.after.bytes[at] ^= 1;
+            }
+        },
+    },
+    Saboteur {
+        name: "the byte after the image is changed by a make",
+        spoil: |s| {
+            if matches!(s.call, Call::Make { .. }) && s.done() {
+                let at = s.after.image.end;
+                s.after.bytes[at] ^= 1;
+            }
+        },
+    },
+    Saboteur {
+        name: "a spare byte is cleared by a make",
+        spoil: |s| {
+            if matches!(s.call, Call::Make { .. }) && s.done() {
+                if let Some(used) = s.used().filter(|used| *used < s.after.image.len()) {
+                    let at = s.after.image.start + used;
+                    s.after.bytes[at] = 0;
+                }
+            }
+        },
+    },
+    Saboteur {
+        name: "the last spare byte is changed by a store",
+        spoil: |s| {
+            if s.is_store() && s.done() && s.used().map_or(false, |used| used < s.after.image.len()) {
+                let at = s.after.image.end - 1;
+                s.after.bytes[at] ^= 0x80;
+            }
+        },
+    },
+    Saboteur {
+        name: "a new node keeps what the spare byte held",
+        spoil: |s| {
+            if s.is_store() && s.done() {
+                let (old, new) = (s.head().unwrap(), Head::read(s.after.image()));
+                if new.g > old.g {
+                    let at = s.after.image.start + new.link_at(u64::from(old.g) + 1, 0);
+                    if s.after.bytes[at] == 0 {
+                        s.after.bytes[at] = s.before.bytes[at];
+                    }
+                }
+            }
+        },
+    },
+    Saboteur {
+        name: "a refused store raises G",
+        spoil: |s| {
+            if s.is_store() && s.number() == 13 {
+                let at = s.after.image.start + 3;
+                s.after.bytes[at] = s.after.bytes[at].wrapping_add(1);
+            }
+        },
+    },
+    Saboteur {
+        name: "12 and 13 are exchanged",
+        spoil: |s| match s.number() {
+            12 => s.answer.number = 13,
+            13 => s.answer.number = 12,
+            _ => {}
+        },
+    },
+    Saboteur {
+        name: "13 is given before 12",
+        spoil: |s| {
+            if s.number() == 12 {
+                let head = s.head().unwrap();
+                if head.u() + head.w() > s.before.image.len() as u128 {
+                    s.answer.number = 13;
+                }
+            }
+        },
+    },
+    Saboteur {
+        name: "a store of 0 in a full image is refused",
+        spoil: |s| {
+            let full = s.used() == Some(s.after.image.len());
+            if s.is_store() && s.done() && s.value() == 0 && s.answer.change == 0 && full {
+                s.refuse(13);
+            }
+        },
+    },
+    Saboteur {
+        name: "a store does nothing and says that it is done",
+        spoil: |s| {
+            if s.is_store() && s.done() {
+                s.restore_image();
+            }
+        },
+    },
+    Saboteur {
+        name: "next key does not move on",
+        spoil: |s| {
+            if s.call == (Call::NextKey { after: true }) && s.done() {
+                let value = model::look_up(s.before.image(), s.before.given()).value;
+                if value > 0 {
+                    let (start, given) = (s.after.key.start, s.before.given());
+                    s.after.bytes[start..start + given.len()].copy_from_slice(given);
+                    *s.answer = Answer { length: given.len() as u32, value, ..Answer::default() };
+                }
+            }
+        },
+    },
+    Saboteur {
+        name: "next key clears the rest of the key buffer",
+        spoil: |s| {
+            if matches!(s.call, Call::NextKey { .. }) && s.done() {
+                let rest = s.after.key.start + s.answer.length as usize..s.after.key.end;
+                s.after.bytes[rest].fill(0);
+            }
+        },
+    },
+    Saboteur {
+        name: "next key writes its key before it gives 15",
+        spoil: |s| {
+            if s.number() == 15 && !s.after.key.is_empty() {
+                let at = s.after.key.start;
+                s.after.bytes[at] ^= 1;
+            }
+        },
+    },
+    Saboteur {
+        name: "14 looks at the key found",
+        spoil: |s| {
+            if s.number() == 14 && !s.after.key.is_empty() {
+                s.refuse(15);
+            }
+        },
+    },
+    Saboteur {
+        name: "a look up finds a key that min and max hide",
+        spoil: |s| {
+            let head = s.head();
+            if s.call == Call::LookUp && s.number() == 9 && s.before.given().is_empty() {
+                let value = model::data(s.before.image(), &head.unwrap(), 0);
+                if value > 0 {
+                    *s.answer = Answer { value, ..Answer::default() };
+                }
+            }
+        },
+    },
+    Saboteur {
+        name: "the number of keys counts hidden data of the root",
+        spoil: |s| {
+            if s.call == Call::Count && s.done() {
+                let head = s.head().unwrap();
+                if head.min > 0 && model::data(s.before.image(), &head, 0) > 0 {
+                    s.answer.value += 1;
+                }
+            }
+        },
+    },
+    Saboteur {
+        name: "the letters lent are changed",
+        spoil: |s| {
+            if s.call == Call::LookUp && s.done() && !s.after.given.is_empty() {
+                let at = s.after.given.end - 1;
+                s.after.bytes[at] ^= 1;
+            }
+        },
+    },
+    Saboteur {
+        name: "the image lent to a check is changed",
+        spoil: |s| {
+            if s.call == Call::Check && s.number() == 8 {
+                let at = s.after.image.end - 1;
+                s.after.bytes[at] ^= 1;
+            }
+        },
+    },
+    Saboteur {
+        name: "a refused look up answers a value",
+        spoil: |s| {
+            if s.call == Call::LookUpText && s.number() == 10 {
+                s.answer.value = 1;
+            }
+        },
+    },
+    Saboteur {
+        name: "for text 9 stands before 10",
+        spoil: |s| {
+            if s.call == Call::LookUpText && s.number() == 10 {
+                let characters = model::characters(s.before.given()).map(|found| found.len() as u32);
+                if characters.map_or(false, |length| length > s.head().unwrap().max) {
+                    s.refuse(9);
+                }
+            }
+        },
+    },
+    Saboteur {
+        name: "U is worked out in 32 bits",
+        spoil: |s| {
+            if s.call == Call::Check && s.number() == 4 {
+                let head = s.head().unwrap();
+                if u128::from(head.u() as u32) <= s.before.image.len() as u128 {
+                    s.refuse(5);
+                }
+            }
+        },
+    },
+    Saboteur {
+        name: "the alphabet is read past F",
+        spoil: |s| {
+            if s.number() == 3 && !matches!(s.call, Call::Make { .. }) {
+                let head = s.head().unwrap();
+                let longer = |more: u32| {
+                    let bytes = s.before.image().get(28..28 + (head.f + more) as usize);
+                    bytes.and_then(model::characters).map_or(false, |found| found.len() == head.n as usize)
+                };
+                if (1..=3).any(longer) {
+                    s.refuse(4);
+                }
+            }
+        },
+    },
+    Saboteur {
+        name: "an image of 16,777,216 bytes is too long, or one of 28 too short",
+        spoil: |s| {
+            let length = s.after.image.len();
+            if (length == model::LONGEST_IMAGE || length == 28) && s.number() != 1 {
+                s.refuse(1);
+            }
+        },
+    },
+];

@@ -1,0 +1,216 @@
+//! Situations that the random cases must meet beyond each number of each call. A run that never met one of them fails.
+
+use crate::calls::Call;
+use crate::damage::readable;
+use crate::model::{self, Answer, Head};
+use crate::twins::Asked;
+
+/// A call as it was asked, and what the model answered.
+pub struct Seen<'a> {
+    pub asked: Asked<'a>,
+    pub answer: Answer,
+}
+
+pub struct Situation {
+    pub name: &'static str,
+    pub met: fn(&Seen) -> bool,
+}
+
+impl Seen<'_> {
+    fn number(&self) -> u32 {
+        self.answer.number
+    }
+
+    fn done(&self) -> bool {
+        self.number() == 0
+    }
+
+    fn call(&self) -> Call {
+        self.asked.call
+    }
+
+    /// The head at entry of an image that has one.
+    fn head(&self) -> Head {
+        Head::read(self.asked.image)
+    }
+
+    fn image_len(&self) -> u128 {
+        self.asked.image.len() as u128
+    }
+
+    fn is_make(&self) -> bool {
+        matches!(self.call(), Call::Make { .. })
+    }
+
+    fn is_store(&self) -> bool {
+        matches!(self.call(), Call::Store { .. } | Call::StoreText { .. })
+    }
+
+    fn is_look_up(&self) -> bool {
+        matches!(self.call(), Call::LookUp | Call::LookUpText)
+    }
+
+    fn by_letters(&self) -> bool {
+        matches!(self.call(), Call::Store { .. })
+    }
+
+    fn is_next_key(&self) -> bool {
+        matches!(self.call(), Call::NextKey { .. })
+    }
+
+    fn value(&self) -> u32 {
+        match self.call() {
+            Call::Store { value } | Call::StoreText { value } => value,
+            _ => 0,
+        }
+    }
+
+    /// How many nodes the path of a store by letters lacks.
+    fn missing(&self) -> usize {
+        match self.call() {
+            Call::Store { .. } if matches!(self.number(), 0 | 11 | 12 | 13) => {
+                self.asked.given.len() - model::path(self.asked.image, &self.head(), self.asked.given).1
+            }
+            _ => 0,
+        }
+    }
+
+    fn characters(&self) -> usize {
+        model::characters(self.asked.given).map_or(0, |found| found.len())
+    }
+
+    /// What the check of the image answers. It takes time, so only small images are looked at.
+    fn check(&self) -> Option<Answer> {
+        if self.asked.image.len() < 300 {
+            Some(model::check(self.asked.image, &mut [0; 300]))
+        } else {
+            None
+        }
+    }
+}
+
+pub const SITUATIONS: [Situation; 50] = [
+    Situation { name: "1: the image is shorter than 28", met: |s| s.number() == 1 && s.image_len() < 28 },
+    Situation { name: "1: the image is longer than 16,777,216", met: |s| s.number() == 1 && s.image_len() > 28 },
+    Situation { name: "an image of 16,777,216 bytes, done", met: |s| s.done() && s.image_len() == 16_777_216 },
+    Situation { name: "a chain of four million nodes, done", met: |s| s.done() && s.head().g > 4_000_000 && !s.is_make() },
+    Situation { name: "2: F above 1,024 in a short image", met: |s| s.number() == 2 && !s.is_make() && s.head().f > 1_024 },
+    Situation { name: "2: min above max", met: |s| s.number() == 2 && !s.is_make() && s.head().min > s.head().max },
+    Situation { name: "3: the last character is cut at F, its missing bytes follow", met: cut_at_f },
+    Situation { name: "3: U exceeds the length too", met: |s| s.number() == 3 && !s.is_make() && s.head().u() > s.image_len() },
+    Situation {
+        name: "4: the F bytes are not all inside",
+        met: |s| s.number() == 4 && !s.is_make() && s.image_len() < 28 + u128::from(s.head().f),
+    },
+    Situation { name: "4: one byte is missing", met: |s| s.number() == 4 && !s.is_make() && s.head().u() == s.image_len() + 1 },
+    Situation {
+        name: "4: U in 32 bits lies inside the image",
+        met: |s| s.number() == 4 && !s.is_make() && u128::from(s.head().u() as u32) <= s.image_len(),
+    },
+    Situation { name: "4: G is FFFFFFFF", met: |s| s.number() == 4 && !s.is_make() && s.head().g == u32::MAX },
+    Situation { name: "5: G working numbers", met: |s| s.number() == 5 && s.asked.work_len as u64 == u64::from(s.head().g) },
+    Situation { name: "5: a link is broken too", met: |s| s.number() == 5 && s.check().map_or(false, |answer| answer.number == 6) },
+    Situation { name: "6: a link to the node itself or lower", met: link_not_rising },
+    Situation {
+        name: "8: an address that A bytes cannot hold",
+        met: |s| s.number() == 8 && u64::from(s.head().g) > model::greatest(s.head().a),
+    },
+    Situation { name: "look up: found", met: |s| s.is_look_up() && s.done() && s.answer.value > 0 },
+    Situation { name: "look up: absent", met: |s| s.is_look_up() && s.done() && s.answer.value == 0 },
+    Situation { name: "look up: the empty key found", met: |s| s.is_look_up() && s.answer.value > 0 && s.asked.given.is_empty() },
+    Situation {
+        name: "look up: a key of 64 letters found",
+        met: |s| s.call() == Call::LookUp && s.answer.value > 0 && s.asked.given.len() == 64,
+    },
+    Situation {
+        name: "look up: done where the check refuses",
+        met: |s| s.is_look_up() && s.done() && s.check().map_or(false, |a| a.number > 0),
+    },
+    Situation {
+        name: "look up: another place of 6 than the check",
+        met: |s| s.is_look_up() && s.number() == 6 && s.check().map_or(false, |a| a.number == 6 && a.place != s.answer.place),
+    },
+    Situation { name: "9: shorter than min", met: |s| s.number() == 9 && (s.asked.given.len() as u32) < s.head().min },
+    Situation {
+        name: "9: a letter is bad too",
+        met: |s| s.number() == 9 && s.asked.given.iter().any(|letter| u32::from(*letter) >= s.head().n),
+    },
+    Situation {
+        name: "9: a text of more than 64 characters",
+        met: |s| s.number() == 9 && s.call() == Call::LookUpText && s.characters() > 64,
+    },
+    Situation {
+        name: "10: a text longer than max too",
+        met: |s| s.number() == 10 && s.call() == Call::LookUpText && s.characters() as u32 > s.head().max,
+    },
+    Situation { name: "10: text, well-formed, a character outside the alphabet", met: text_outside },
+    Situation { name: "10: text, ill-formed", met: bad_text },
+    Situation { name: "10: text, F is 0", met: |s| s.number() == 10 && s.call() == Call::LookUpText && s.head().f == 0 },
+    Situation { name: "text: the empty text where F is 0, done", met: |s| s.call() == Call::LookUpText && s.done() && s.head().f == 0 },
+    Situation { name: "N is 256: letter 255 done", met: |s| s.call() == Call::LookUp && s.done() && s.asked.given.contains(&255) },
+    Situation { name: "F is 1,024: done", met: |s| s.done() && !s.is_make() && s.head().f == 1_024 },
+    Situation { name: "11: the path is complete", met: |s| s.number() == 11 && s.by_letters() && s.missing() == 0 },
+    Situation { name: "12: there is room", met: |s| s.number() == 12 && s.head().u() + 64 * s.head().w() <= s.image_len() },
+    Situation { name: "12: there is no room either", met: |s| s.number() == 12 && s.head().u() + s.head().w() > s.image_len() },
+    Situation { name: "12: one of two addresses is left", met: |s| s.number() == 12 && s.missing() == 2 && s.head().g == 254 },
+    Situation { name: "12: A is 2", met: |s| s.number() == 12 && s.head().a == 2 },
+    Situation { name: "13: there is room for one node", met: |s| s.number() == 13 && s.head().u() + s.head().w() <= s.image_len() },
+    Situation {
+        name: "store: exact room for two nodes or more",
+        met: |s| s.missing() > 1 && s.answer.change == 1 && s.head().u() + s.missing() as u128 * s.head().w() == s.image_len(),
+    },
+    Situation {
+        name: "store: the last address of one byte is given",
+        met: |s| s.done() && s.missing() > 0 && s.value() > 0 && s.head().a == 1 && s.missing() as u32 + s.head().g == 255,
+    },
+    Situation { name: "store: 64 new nodes", met: |s| s.done() && s.missing() == 64 && s.value() > 0 },
+    Situation {
+        name: "store: 0 on an incomplete path, full image",
+        met: |s| s.done() && s.missing() > 0 && s.value() == 0 && s.head().u() == s.image_len(),
+    },
+    Situation { name: "store: -1", met: |s| s.answer.change == -1 },
+    Situation { name: "store: a changed value", met: |s| s.is_store() && s.done() && s.answer.change == 0 && s.value() > 0 },
+    Situation { name: "store: 1 on a complete path", met: |s| s.by_letters() && s.answer.change == 1 && s.missing() == 0 },
+    Situation { name: "store: FFFFFFFF", met: |s| s.is_store() && s.done() && s.value() == u32::MAX },
+    Situation {
+        name: "next key: the key given is shorter than min",
+        met: |s| s.is_next_key() && s.done() && (s.asked.given.len() as u32) < s.head().min,
+    },
+    Situation { name: "next key: the empty key found", met: |s| s.is_next_key() && s.done() && s.answer.length == 0 },
+    Situation {
+        name: "next key: shorter than the key given",
+        met: |s| s.is_next_key() && s.done() && (s.answer.length as usize) < s.asked.given.len(),
+    },
+    Situation {
+        name: "count: none though the root has data",
+        met: |s| s.call() == Call::Count && s.done() && s.answer.value == 0 && model::data(s.asked.image, &s.head(), 0) > 0,
+    },
+];
+
+fn link_not_rising(s: &Seen) -> bool {
+    let node = u64::from(s.answer.place);
+    s.number() == 6 && (0..u64::from(s.head().n)).any(|letter| (1..=node).contains(&model::link(s.asked.image, &s.head(), node, letter)))
+}
+
+fn bad_text(s: &Seen) -> bool {
+    s.number() == 10 && matches!(s.call(), Call::LookUpText | Call::StoreText { .. }) && model::characters(s.asked.given).is_none()
+}
+
+fn text_outside(s: &Seen) -> bool {
+    s.number() == 10
+        && matches!(s.call(), Call::LookUpText | Call::StoreText { .. })
+        && model::characters(s.asked.given).is_some()
+        && s.head().f > 0
+}
+
+fn cut_at_f(s: &Seen) -> bool {
+    if s.number() != 3 || s.is_make() || readable(s.asked.image).is_none() {
+        return false;
+    }
+    let head = s.head();
+    let longer = |more: u32| {
+        let bytes = s.asked.image.get(28..28 + (head.f + more) as usize);
+        bytes.and_then(model::characters).map_or(false, |found| found.len() == head.n as usize)
+    };
+    (1..=3).any(longer)
+}
