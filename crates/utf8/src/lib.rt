@@ -1,10 +1,7 @@
 // Characters of UTF-8: Table 3-7 of the Unicode Standard, consulted by row. Any place of any bytes may be asked
 // for; what stands past the end is no character.
 ghost use mathlib.Core.Path.{_≡_};
-ghost use mathlib.Core.Bool.{false};
-ghost use mathlib.Core.List.{[]};
-ghost use lib.ListN.{getD};
-ghost use Rattle.utf8.specs.Table37.{rows, inRange, fitsRow, charLen};
+ghost use Rattle.utf8.specs.Table37.{inRange, fitsRow, charLen};
 ghost use Rattle.utf8.specs.Text.{charAt};
 
 // A row: the lowest and the highest first byte, the lowest and the highest second byte, and the character's bytes.
@@ -20,27 +17,13 @@ const ROWS: [[u8; 5]; 9] = [
     [0xF4, 0xF4, 0x80, 0x8F, 4],
 ];
 
-// The bytes of the well-formed character at `at`, 0 where none stands there. The first row is asked by itself, so that a caller's loop has the
-// test for a character of one byte in it.
+// The bytes of the well-formed character at `at`, 0 where none stands there. The table is bound before the loop, so that
+// the compiler makes the loop nine tests against constants.
 pub fn char_len(s: &[u8], at: usize) -> usize
     ensures { λ r. ⌜ r ≡ charLen (now (s .entry)) at ⌝ }
 {
     let rows = ROWS;
-    let first = rows[0];
-    if fits(first, s, at) {
-        return first[4] as usize;
-    }
-    further(s, at)
-}
-
-// The same where the first row does not fit. The table is bound before the loop, so that the compiler makes the loop tests against
-// constants.
-fn further(s: &[u8], at: usize) -> usize
-    requires { ⌜ fitsRow (getD rows 0 []) (now s) at ≡ false ⌝ }
-    ensures { λ r. ⌜ r ≡ charLen (now (s .entry)) at ⌝ }
-{
-    let rows = ROWS;
-    let mut i: usize = 1;
+    let mut i: usize = 0;
     while i < 9 {
         let row = rows[i];
         if fits(row, s, at) {
@@ -49,6 +32,18 @@ fn further(s: &[u8], at: usize) -> usize
         i += 1;
     }
     0
+}
+
+// The same, with the first row asked before the table: a loop over characters that mostly have one byte has that test in it.
+pub fn quick_len(s: &[u8], at: usize) -> usize
+    ensures { λ r. ⌜ r ≡ charLen (now (s .entry)) at ⌝ }
+{
+    let rows = ROWS;
+    let first = rows[0];
+    if fits(first, s, at) {
+        return first[4] as usize;
+    }
+    char_len(s, at)
 }
 
 // The character of n bytes at `at` as the number that its bytes make, 0 where none stands there.
