@@ -46,12 +46,6 @@ lowest-same p r a zero h = refl
 lowest-same p r a (suc k) h =
     rw (h a (omega arith) (omega arith), lowest-same p r (suc a) k (λ x low high. h x (omega arith) (omega arith)))
 
--- where no number passes, what is found is the number behind them
-pub lowest-none : (p : ℕ → Bool) (a k : ℕ) → ((x : ℕ) → a ≤ x → x < a + k → p x ≡ false) → a + k ≡ lowest p a k
-unfolding lowest
-lowest-none p a zero h = omega arith
-lowest-none p a (suc k) h = rw (h a (omega arith) (omega arith), ← lowest-none p (suc a) k (λ x low high. h x (omega arith) (omega arith))) (omega arith)
-
 -- `all_once`: if the answer is yes, the working numbers from 1 on, below x, are 1
 pub record Sole (work : List ℕ) (once : Bool) (x : ℕ) : Type 0 where
   pub told : once ≡ true → AllOnce work x

@@ -12,6 +12,7 @@ use lib.ListN.{length, getD, drop, replicate}
 use borrow.Author.Tests.{lt-ltb, le-ltb, le-leb, lt-leb, eq-eqb, ne-eqb}
 use Rattle.trie.specs.Table.{Table}
 use Rattle.trie.specs.Lowest.{lowest}
+use Rattle.trie.proofs.Lowest.{lowest-none}
 use Rattle.head.specs.declared.Head.{Head}
 use Rattle.head.specs.Fields.{headOf}
 use Rattle.node.specs.Image.{Open, tableOf}
@@ -30,7 +31,7 @@ use Rattle.opening.specs.declared.Opened.{Opened}
 use Rattle.opening.specs.Opened.{Opens}
 use Rattle.audit.specs.Audit.{Checked, Audited, LinksJudged, BadFrom, Tally, AllOnce, FoundFrom}
 use Rattle.audit.proofs.Clearing.{cleared-rest}
-use Rattle.audit.proofs.Seeking.{lowest-same, lowest-none}
+use Rattle.audit.proofs.Seeking.{lowest-same}
 
 -- ---- 6 to 8
 
@@ -117,7 +118,7 @@ module _ {h : Head} {l work work′ : List ℕ} {bad : ℕ} (b : BadFrom h l wor
       nowhere : (v : ℕ) → (1 ≡ v → ⊥) → FoundFrom work′ (h .g + 1) v (h .g + 1)
       nowhere v other =
           let k : 1 + (h .g + 1 - 1) ≡ h .g + 1 = omega arith in
-          sym k ∙ lowest-none (λ x. eqb (getD work′ x 0) v) 1 (h .g + 1 - 1) (λ x low high. rw (once x low (omega arith)) (ne-eqb 1 v other))
+          sym (lowest-none (λ x. eqb (getD work′ x 0) v) 1 (h .g + 1 - 1) (λ x low below. rw (once x low (omega arith)) (ne-eqb 1 v other)) ∙ k)
 
 -- ---- 5
 
