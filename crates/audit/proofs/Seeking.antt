@@ -1,11 +1,18 @@
 -- A search upwards for the lowest number that passes a test. What is sought from the number it has come to is what was sought at the start,
--- since no number passed over passes.
+-- since no number passed over passes. At the end: a pass over the working numbers that makes two searches needless.
 use mathlib.Core.Path.{_≡_, refl, ap, _∙_}
-use mathlib.Core.Bool.{Bool, true, false}
+use mathlib.Core.Bool.{Bool, true, false, _&&_}
 use Prim.Native.Nat.{ℕ, zero, suc, _+_, _-_, _≤_, _<_}
 use native.Mathlib.Numerals.{add-one}
+use native.Mathlib.Decide.{ℕ-discrete}
 use native.Mathlib.Omega.{arith}
+use mathlib.Core.List.{List}
+use lib.Dec.{eqb}
+use lib.ListN.{getD}
+use borrow.Author.Tests.{eqb-true}
 use Rattle.trie.specs.Lowest.{lowest}
+use Rattle.field.proofs.Range.{both}
+use Rattle.audit.specs.Audit.{AllOnce}
 
 -- of the k numbers from a on those below x are passed over
 pub record Seeking (p : ℕ → Bool) (a k x : ℕ) : Type 0 where
@@ -38,3 +45,21 @@ unfolding lowest
 lowest-same p r a zero h = refl
 lowest-same p r a (suc k) h =
     rw (h a (omega arith) (omega arith), lowest-same p r (suc a) k (λ x low high. h x (omega arith) (omega arith)))
+
+-- `all_once`: if the answer is yes, the working numbers from 1 on, below x, are 1
+pub record Sole (work : List ℕ) (once : Bool) (x : ℕ) : Type 0 where
+  pub told : once ≡ true → AllOnce work x
+
+pub sole-none : (work : List ℕ) → Sole work true 1
+sole-none work = record { told = λ e x low high. absurd (omega arith) }
+
+module _ {work : List ℕ} {once : Bool} {x : ℕ} (p : Sole work once x) where
+  pub sole-more : Sole work (once && eqb (getD work x 0) 1) (x + 1)
+  sole-more = record { told = λ e y low high. go e y low high (ℕ-discrete y x) }
+    where
+      go : (once && eqb (getD work x 0) 1) ≡ true → (y : ℕ) → 1 ≤ y → y < x + 1 → Dec (y ≡ x) → getD work y 0 ≡ 1
+      go e y low high (yes same) = rw same (eqb-true (getD work x 0) 1 (both once (eqb (getD work x 0) 1) e .1))
+      go e y low high (no other) = p .told (both once (eqb (getD work x 0) 1) e .0) y low (omega arith)
+
+  pub sole-all : {nodes : ℕ} → nodes ≤ x → once ≡ true → AllOnce work nodes
+  sole-all high e y low below = p .told e y low (omega arith)

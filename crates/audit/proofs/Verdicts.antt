@@ -12,6 +12,7 @@ use lib.ListN.{length, getD, drop, replicate}
 use borrow.Author.Tests.{lt-ltb, le-ltb, le-leb, lt-leb, eq-eqb, ne-eqb}
 use Rattle.trie.specs.Table.{Table}
 use Rattle.trie.specs.Lowest.{lowest}
+use Rattle.trie.proofs.Lowest.{lowest-none}
 use Rattle.head.specs.declared.Head.{Head}
 use Rattle.head.specs.Fields.{headOf}
 use Rattle.node.specs.Image.{Open, tableOf}
@@ -28,7 +29,7 @@ use Rattle.paper.proofs.Opening.{passed}
 use Rattle.paper.proofs.Checking.{check-accepts}
 use Rattle.opening.specs.declared.Opened.{Opened}
 use Rattle.opening.specs.Opened.{Opens}
-use Rattle.audit.specs.Audit.{Checked, Audited, LinksJudged, BadFrom, Tally, FoundFrom}
+use Rattle.audit.specs.Audit.{Checked, Audited, LinksJudged, BadFrom, Tally, AllOnce, FoundFrom}
 use Rattle.audit.proofs.Clearing.{cleared-rest}
 use Rattle.audit.proofs.Seeking.{lowest-same}
 
@@ -109,6 +110,15 @@ module _ {h : Head} {l work work′ : List ℕ} {bad : ℕ} (b : BadFrom h l wor
             verdict = sym (past-7 ∙ first-none _ _ (given-nowhere 8 _ 1 (h .g) eighth (omega arith)) ∙ first-nil);
             kept = b .kept;
           }
+
+  -- where each address has the tally 1, the searches would find none: they need not be run
+  pub linked-once : h .g + 1 ≤ bad → AllOnce work′ (h .g + 1) → LinksJudged h l work Verdict.Passed work′
+  linked-once high once = linked-all high (nowhere 2 (λ e. omega arith)) (omega arith) (nowhere 0 (λ e. omega arith)) (omega arith)
+    where
+      nowhere : (v : ℕ) → (1 ≡ v → ⊥) → FoundFrom work′ (h .g + 1) v (h .g + 1)
+      nowhere v other =
+          let k : 1 + (h .g + 1 - 1) ≡ h .g + 1 = omega arith in
+          sym (lowest-none (λ x. eqb (getD work′ x 0) v) 1 (h .g + 1 - 1) (λ x low below. rw (once x low (omega arith)) (ne-eqb 1 v other)) ∙ k)
 
 -- ---- 5
 

@@ -63,6 +63,10 @@ pub record Tallied (h : Head) (l : List ℕ) (q : ℕ) (work : List ℕ) (r : Bo
   pub bad : r ≡ false → holdsBad (h .g) (tableOf h l) q (h .n) ≡ true
   pub kept : Kept (h .g) work work′
 
+-- the working numbers of the addresses from 1 on, below `nodes`, are 1
+abbrev pub AllOnce : List ℕ → ℕ → Type 0
+AllOnce work nodes = (x : ℕ) → 1 ≤ x → x < nodes → getD work x 0 ≡ 1
+
 -- the lowest address from 1 on, below `nodes`, whose working number is v
 abbrev pub FoundFrom : List ℕ → ℕ → ℕ → ℕ → Type 0
 FoundFrom work nodes v r = r ≡ lowest (λ x. eqb (getD work x 0) v) 1 (nodes - 1)

@@ -1,11 +1,12 @@
 // The check of an image over lent working numbers: 1 to 8, in time linear in the image and with no recursion, since a chain of links may
 // be as long as the image. Working number x holds how often address x has been met in a link so far, and stops at 2.
 ghost use mathlib.Core.Path.{_≡_};
+ghost use mathlib.Core.Bool.{true};
 ghost use Prim.Native.Nat.{_≤_, _+_};
 ghost use mathlib.Core.List.{_++_};
 ghost use lib.ListN.{length, drop, replicate};
 ghost use Rattle.node.specs.Image.{Open, Masks};
-ghost use Rattle.audit.specs.Audit.{Checked, Audited, LinksJudged, BadFrom, Tallied, FoundFrom};
+ghost use Rattle.audit.specs.Audit.{Checked, Audited, LinksJudged, BadFrom, Tallied, AllOnce, FoundFrom};
 use head::Head;
 use opening::Opened;
 use paper::Refusal;
@@ -56,6 +57,9 @@ fn links(image: &[u8], h: Head, work: &mut [u32]) -> Verdict
     let bad = first_bad_node(image, h, work);
     if bad < nodes {
         return Verdict::Refused(Refusal::Link(bad as u32));
+    }
+    if all_once(work, nodes) {
+        return Verdict::Passed;
     }
     let twice = first_holding(work, nodes, 2);
     if twice < nodes {
@@ -115,6 +119,21 @@ fn tally(image: &[u8], h: Head, mask: u32, q: u32, work: &mut [u32]) -> bool
         }
     }
     true
+}
+
+// Are the working numbers of the addresses from 1 on, below `nodes`, all 1? Then neither 7 nor 8 is to be sought. The loop has no early
+// exit, so that it runs over several numbers at once; "no" promises nothing.
+fn all_once(work: &[u32], nodes: usize) -> bool
+    requires { ⌜ nodes ≤ length (now work) ⌝ }
+    ensures { λ r. ⌜ (r ≡ true → AllOnce (now (work .entry)) nodes) ⌝ }
+{
+    let mut once = true;
+    let mut x: usize = 1;
+    while x < nodes {
+        once = once & (work[x] == 1);
+        x += 1;
+    }
+    once
 }
 
 // The lowest address from 1 on, below `nodes`, whose working number is v; `nodes` where there is none.

@@ -83,36 +83,55 @@ eight-zeros l at e k low high =
     let f : at + (k - at) ≡ k = omega arith in
     subst (λ (j : ℕ). getD l j 0 ≡ 0) f (field-zero l at 8 e (k - at) (omega arith))
 
--- `blank`: there are eight bytes at least and, if the number of the first eight is 0, those up to `at` are 0
+-- zeros that begin where others end, or before
+zeros-join : (l : List ℕ) (from mid low to : ℕ) → Zeros l from mid → low ≤ mid → Zeros l low to → Zeros l from to
+zeros-join l from mid low to a h b k above below = go (decLt k mid)
+  where
+    go : Dec (k < mid) → getD l k 0 ≡ 0
+    go (yes i) = a k above i
+    go (no i) = b k (omega arith) below
+
+-- `short_blank`: the first eight bytes and the last
+pub short-zeros : (l : List ℕ) (from to : ℕ) → from + 8 ≤ to → to < from + 16 → fieldAt l from 8 ≡ 0 → fieldAt l (to - 8) 8 ≡ 0
+    → Zeros l from to
+short-zeros l from to low high a b k above below =
+    zeros-join l from (from + 8) (to - 8) (to - 8 + 8) (eight-zeros l from a) (omega arith) (eight-zeros l (to - 8) b) k above (omega arith)
+
+-- sixteen bytes, of which eight are 0 and eight more
+sixteen-zeros : (l : List ℕ) (at : ℕ) → fieldAt l at 8 ≡ 0 → fieldAt l (at + 8) 8 ≡ 0 → Zeros l at (at + 16)
+sixteen-zeros l at a b k low high =
+    zeros-join l at (at + 8) (at + 8) (at + 8 + 8) (eight-zeros l at a) (omega arith) (eight-zeros l (at + 8) b) k low (omega arith)
+
+-- `blank`: if the number of the first eight bytes is 0, those up to `at` are 0
 pub record Blanking (l : List ℕ) (from to first at : ℕ) : Type 0 where
-  pub long-enough : from + 8 ≤ to
   pub within : at ≤ to
   pub zeros : first ≡ 0 → Zeros l from at
 
-pub blanking-none : {l : List ℕ} {from to first : ℕ} → from + 8 ≤ to → (first ≡ 0 → fieldAt l from 8 ≡ 0) → Blanking l from to first (from + 8)
-blanking-none {l} {from} h e = record { long-enough = h; within = h; zeros = λ z. eight-zeros l from (e z) }
+pub blanking-none : {l : List ℕ} {from to first : ℕ} → from + 16 ≤ to → (first ≡ 0 → fieldAt l from 8 ≡ 0)
+    → (first ≡ 0 → fieldAt l (from + 8) 8 ≡ 0) → Blanking l from to first (from + 16)
+blanking-none {l} {from} h a b = record { within = h; zeros = λ z. sixteen-zeros l from (a z) (b z) }
 
-pub blanking-more : {l : List ℕ} {from to first at : ℕ} → Blanking l from to first at → at + 8 ≤ to → (first ≡ 0 → fieldAt l at 8 ≡ 0)
-    → Blanking l from to first (at + 8)
-blanking-more {l} {from} {to} {first} {at} p h e =
-    record { long-enough = p .long-enough; within = h; zeros = λ z k low high. go z k low high (decLt k at) }
-  where
-    go : first ≡ 0 → (k : ℕ) → from ≤ k → k < at + 8 → Dec (k < at) → getD l k 0 ≡ 0
-    go z k low high (yes b) = p .zeros z k low b
-    go z k low high (no b) = eight-zeros l at (e z) k (omega arith) high
+pub blanking-more : {l : List ℕ} {from to first at : ℕ} → Blanking l from to first at → at + 16 < to → (first ≡ 0 → fieldAt l at 8 ≡ 0)
+    → (first ≡ 0 → fieldAt l (at + 8) 8 ≡ 0) → Blanking l from to first (at + 16)
+blanking-more {l} {from} {to} {first} {at} p h a b =
+    record {
+      within = omega arith;
+      zeros = λ z. zeros-join l from at at (at + 16) (p .zeros z) (omega arith) (sixteen-zeros l at (a z) (b z));
+    }
 
-pub blanking-all : {l : List ℕ} {from to first at : ℕ} → Blanking l from to first at → to < at + 8 → first ≡ 0 → fieldAt l (to - 8) 8 ≡ 0
-    → Zeros l from to
-blanking-all {l} {from} {to} {first} {at} p h z e k low high = go (decLt k (to - 8))
-  where
-    go : Dec (k < to - 8) → getD l k 0 ≡ 0
-    go (yes b) = p .zeros z k low (omega (arith, p .within))
-    go (no b) = eight-zeros l (to - 8) e k (omega arith) (omega (arith, p .long-enough))
+-- the last sixteen bytes are what is left, and more
+pub blanking-all : {l : List ℕ} {from to first at : ℕ} → Blanking l from to first at → to ≤ at + 16 → from + 16 ≤ to → first ≡ 0
+    → fieldAt l (to - 16) 8 ≡ 0 → fieldAt l (to - 8) 8 ≡ 0 → Zeros l from to
+blanking-all {l} {from} {to} {first} {at} p h long z a b =
+    let e : to - 16 + 8 ≡ to - 8 = omega arith in
+    let f : to - 16 + 16 ≡ to = omega arith in
+    let last : Zeros l (to - 16) (to - 16 + 16) = sixteen-zeros l (to - 16) a (rw e b) in
+    zeros-join l from at (to - 16) to (p .zeros z) (omega arith) (λ k low high. last k low (omega arith))
 
 -- `eight`: bytes whose number from the last on is 0 are zeros
 pub turned : (l : List ℕ) (at : ℕ) {a b c d e f g h : ℕ} → a ≡ getD l at 0 → b ≡ getD l (at + 1) 0 → c ≡ getD l (at + 2) 0
     → d ≡ getD l (at + 3) 0 → e ≡ getD l (at + 4) 0 → f ≡ getD l (at + 5) 0 → g ≡ getD l (at + 6) 0 → h ≡ getD l (at + 7) 0
-    → ((((((h * 256 + g) * 256 + f) * 256 + e) * 256 + d) * 256 + c) * 256 + b) * 256 + a ≡ 0
+    → a + b * 256 + c * 65536 + d * 16777216 + (e + f * 256 + g * 65536 + h * 16777216) * 4294967296 ≡ 0
     → fieldAt l at 8 ≡ 0
 unfolding fieldAt
 turned l at ea eb ec ed ee ef eg eh z =

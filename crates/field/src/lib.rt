@@ -2,7 +2,7 @@
 // A caller shows that the field lies inside the slice; nothing is assumed beyond that.
 ghost use mathlib.Core.Path.{_≡_};
 ghost use mathlib.Core.Bool.{true};
-ghost use Prim.Native.Nat.{ℕ, _+_, _-_, _^_, _≤_};
+ghost use Prim.Native.Nat.{ℕ, _+_, _-_, _^_, _≤_, _<_};
 ghost use lib.ListN.{length};
 ghost use lib.Seq.{sets};
 ghost use Rattle.field.specs.Field.{fieldAt, putField, cleared, Zeros};
@@ -62,28 +62,56 @@ pub fn tail(s: &[u8], end: usize, mask: u32) -> u32
     read4(s, end - 4) & mask
 }
 
-// Are the bytes from `from` up to `to` all 0? Eight are looked at together. What is shorter than eight bytes is never said to be blank:
-// a caller then reads it. Each eight are held against the first eight and only these against 0, since a test for 0 alone is compiled to
-// eight loads of a byte.
+// Are the bytes from `from` up to `to` all 0? The first sixteen and the last are looked at, then what is between, sixteen a turn. What is
+// shorter than eight bytes is never said to be blank: a caller then reads it. All are held against the first eight and only these against
+// 0, since the compiler makes one comparison of that.
 pub fn blank(s: &[u8], from: usize, to: usize) -> bool
     requires { ⌜ (from ≤ to) × (to ≤ length (now s)) ⌝ }
+    ensures { λ r. ⌜ (r ≡ true → Zeros (now (s .entry)) from to) ⌝ }
+{
+    if to < from + 16 {
+        return short_blank(s, from, to);
+    }
+    let first = eight(s, from);
+    if eight(s, from + 8) != first {
+        return false;
+    }
+    if eight(s, to - 16) != first {
+        return false;
+    }
+    if eight(s, to - 8) != first {
+        return false;
+    }
+    let mut at = from + 16;
+    while at + 16 < to {
+        if eight(s, at) != first {
+            return false;
+        }
+        if eight(s, at + 8) != first {
+            return false;
+        }
+        at += 16;
+    }
+    first == 0
+}
+
+// The same of less than sixteen bytes: the first eight and the last are all of them.
+fn short_blank(s: &[u8], from: usize, to: usize) -> bool
+    requires { ⌜ (from ≤ to) × (to < from + 16) × (to ≤ length (now s)) ⌝ }
     ensures { λ r. ⌜ (r ≡ true → Zeros (now (s .entry)) from to) ⌝ }
 {
     if to < from + 8 {
         return false;
     }
     let first = eight(s, from);
-    let mut at = from + 8;
-    while at + 8 <= to {
-        if eight(s, at) != first {
-            return false;
-        }
-        at += 8;
+    if eight(s, to - 8) != first {
+        return false;
     }
-    (first == 0) & (eight(s, to - 8) == 0)
+    first == 0
 }
 
-// Eight bytes as one number, the last of them highest: the compiler makes one load of it. Only what 0 means is told.
+// Eight bytes as one number, the last of them highest. It is the sum of two numbers of four bytes, since the compiler then makes one load
+// of each. Only what 0 means is told.
 fn eight(s: &[u8], at: usize) -> u64
     requires { ⌜ at + 8 ≤ length (now s) ⌝ }
     ensures { λ r. ⌜ (r ≡ 0 → fieldAt (now (s .entry)) at 8 ≡ 0) ⌝ }
@@ -96,7 +124,9 @@ fn eight(s: &[u8], at: usize) -> u64
     let f = wide(s[at + 5]);
     let g = wide(s[at + 6]);
     let h = wide(s[at + 7]);
-    ((((((h * 256 + g) * 256 + f) * 256 + e) * 256 + d) * 256 + c) * 256 + b) * 256 + a
+    let low = a + b * 256 + c * 65536 + d * 16777216;
+    let high = e + f * 256 + g * 65536 + h * 16777216;
+    low + high * 4294967296
 }
 
 // Writes v into the w bytes from `at` on, the last byte first; what does not fit the width is lost.

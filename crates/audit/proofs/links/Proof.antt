@@ -1,7 +1,7 @@
--- `audit::links` meets its contract: each way out has its law, from what the search for a bad link and the two searches in the working
--- numbers returned. Assumes nothing.
+-- `audit::links` meets its contract: each way out has its law, from what the search for a bad link, the pass over the working numbers and
+-- the two searches in them returned. Assumes nothing.
 use borrow.Author.Needs.{needs}
-use Rattle.audit.proofs.Verdicts.{linked-bad, linked-twice, linked-missing, linked-all}
+use Rattle.audit.proofs.Verdicts.{linked-bad, linked-once, linked-twice, linked-missing, linked-all}
 use Rattle.audit.proofs.links.Statement.{statement}
 use Rattle.audit.proofs.links.Tie as tie
 
@@ -23,11 +23,8 @@ same-length c = search needs
 returns : tie.Need-returns
 returns c = linked-bad (c .before .before .before .first-bad-node .ensures) (c .if1 .taken)
 
-first-holding-requires : tie.Need-first-holding-requires
-first-holding-requires c κs = search needs
-
-cast-t16 : tie.Need-cast-t16
-cast-t16 c = search needs
+all-once-requires : tie.Need-all-once-requires
+all-once-requires c κs = search needs
 
 same-length-2 : tie.Need-same-length-2
 same-length-2 c = search needs
@@ -35,23 +32,27 @@ same-length-2 c = search needs
 returns-2 : tie.Need-returns-2
 returns-2 c =
     let b = c .before .before .before in
-    linked-twice (b .before .before .before .first-bad-node .ensures) (b .if1 .left) (c .before .first-holding .ensures) (c .if2 .taken)
+    linked-once (b .before .before .before .first-bad-node .ensures) (b .if1 .left) (c .before .all-once .ensures (c .if2 .taken))
 
-first-holding-requires-2 : tie.Need-first-holding-requires-2
-first-holding-requires-2 c κs = search needs
+first-holding-requires : tie.Need-first-holding-requires
+first-holding-requires c κs = search needs
 
-cast-t20 : tie.Need-cast-t20
-cast-t20 c = search needs
+cast-t19 : tie.Need-cast-t19
+cast-t19 c = search needs
 
 same-length-3 : tie.Need-same-length-3
 same-length-3 c = search needs
 
 returns-3 : tie.Need-returns-3
 returns-3 c =
-    let d = c .before .before .before in
-    let b = d .before .before .before in
-    linked-missing (b .before .before .before .first-bad-node .ensures) (b .if1 .left) (d .before .first-holding .ensures) (d .if2 .left)
-    (c .before .first-holding2 .ensures) (c .if3 .taken)
+    let b = c .before .before .before .before .before .before in
+    linked-twice (b .before .before .before .first-bad-node .ensures) (b .if1 .left) (c .before .first-holding .ensures) (c .if3 .taken)
+
+first-holding-requires-2 : tie.Need-first-holding-requires-2
+first-holding-requires-2 c κs = search needs
+
+cast-t23 : tie.Need-cast-t23
+cast-t23 c = search needs
 
 same-length-4 : tie.Need-same-length-4
 same-length-4 c = search needs
@@ -59,9 +60,19 @@ same-length-4 c = search needs
 returns-4 : tie.Need-returns-4
 returns-4 c =
     let d = c .before .before .before in
-    let b = d .before .before .before in
-    linked-all (b .before .before .before .first-bad-node .ensures) (b .if1 .left) (d .before .first-holding .ensures) (d .if2 .left)
-    (c .before .first-holding2 .ensures) (c .if3 .left)
+    let b = d .before .before .before .before .before .before in
+    linked-missing (b .before .before .before .first-bad-node .ensures) (b .if1 .left) (d .before .first-holding .ensures) (d .if3 .left)
+    (c .before .first-holding2 .ensures) (c .if4 .taken)
+
+same-length-5 : tie.Need-same-length-5
+same-length-5 c = search needs
+
+returns-5 : tie.Need-returns-5
+returns-5 c =
+    let d = c .before .before .before in
+    let b = d .before .before .before .before .before .before in
+    linked-all (b .before .before .before .first-bad-node .ensures) (b .if1 .left) (d .before .first-holding .ensures) (d .if3 .left)
+    (c .before .first-holding2 .ensures) (c .if4 .left)
 
 pub links-spec : {M : Type 1} → statement M
 links-spec =
@@ -73,13 +84,16 @@ links-spec =
     cast-t12
     same-length
     returns
-    first-holding-requires
-    cast-t16
+    all-once-requires
     same-length-2
     returns-2
-    first-holding-requires-2
-    cast-t20
+    first-holding-requires
+    cast-t19
     same-length-3
     returns-3
+    first-holding-requires-2
+    cast-t23
     same-length-4
-    returns-4)
+    returns-4
+    same-length-5
+    returns-5)

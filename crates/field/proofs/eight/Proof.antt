@@ -84,47 +84,47 @@ small c =
     let at = c .before .before .before .before .before .before .before .before .before .before .before .before .before .before .before .before .before .args .at in
     omega (arith, byte at, byte (at + 1), byte (at + 2), byte (at + 3), byte (at + 4), byte (at + 5), byte (at + 6), byte (at + 7))
 
+mul-low : tie.Need-mul-low
+mul-low c = omega (arith, small c)
+
+add-low : tie.Need-add-low
+add-low c = omega (arith, small c)
+
+mul-low-2 : tie.Need-mul-low-2
+mul-low-2 c = omega (arith, small c)
+
+add-low-2 : tie.Need-add-low-2
+add-low-2 c = omega (arith, small c)
+
+mul-low-3 : tie.Need-mul-low-3
+mul-low-3 c = omega (arith, small c)
+
+add-low-3 : tie.Need-add-low-3
+add-low-3 c = omega (arith, small c)
+
+mul-high : tie.Need-mul-high
+mul-high c = omega (arith, small c)
+
+add-high : tie.Need-add-high
+add-high c = omega (arith, small c)
+
+mul-high-2 : tie.Need-mul-high-2
+mul-high-2 c = omega (arith, small c)
+
+add-high-2 : tie.Need-add-high-2
+add-high-2 c = omega (arith, small c)
+
+mul-high-3 : tie.Need-mul-high-3
+mul-high-3 c = omega (arith, small c)
+
+add-high-3 : tie.Need-add-high-3
+add-high-3 c = omega (arith, small c)
+
 mul-result : tie.Need-mul-result
 mul-result c = omega (arith, small c)
 
 add-result : tie.Need-add-result
 add-result c = omega (arith, small c)
-
-mul-result-2 : tie.Need-mul-result-2
-mul-result-2 c = omega (arith, small c)
-
-add-result-2 : tie.Need-add-result-2
-add-result-2 c = omega (arith, small c)
-
-mul-result-3 : tie.Need-mul-result-3
-mul-result-3 c = omega (arith, small c)
-
-add-result-3 : tie.Need-add-result-3
-add-result-3 c = omega (arith, small c)
-
-mul-result-4 : tie.Need-mul-result-4
-mul-result-4 c = omega (arith, small c)
-
-add-result-4 : tie.Need-add-result-4
-add-result-4 c = omega (arith, small c)
-
-mul-result-5 : tie.Need-mul-result-5
-mul-result-5 c = omega (arith, small c)
-
-add-result-5 : tie.Need-add-result-5
-add-result-5 c = omega (arith, small c)
-
-mul-result-6 : tie.Need-mul-result-6
-mul-result-6 c = omega (arith, small c)
-
-add-result-6 : tie.Need-add-result-6
-add-result-6 c = omega (arith, small c)
-
-mul-result-7 : tie.Need-mul-result-7
-mul-result-7 c = omega (arith, small c)
-
-add-result-7 : tie.Need-add-result-7
-add-result-7 c = omega (arith, small c)
 
 returns : tie.Need-returns
 returns c e =
@@ -157,18 +157,18 @@ eight-spec =
     add-wide-7
     shared-slice-read-wide-8
     wide-requires-8
+    mul-low
+    add-low
+    mul-low-2
+    add-low-2
+    mul-low-3
+    add-low-3
+    mul-high
+    add-high
+    mul-high-2
+    add-high-2
+    mul-high-3
+    add-high-3
     mul-result
     add-result
-    mul-result-2
-    add-result-2
-    mul-result-3
-    add-result-3
-    mul-result-4
-    add-result-4
-    mul-result-5
-    add-result-5
-    mul-result-6
-    add-result-6
-    mul-result-7
-    add-result-7
     returns)
