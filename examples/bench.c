@@ -1,7 +1,7 @@
 /* What a bench's firmware does with the library: it keeps the labels of buckets in an image, each with its record number, and hears every
    refusal once. All memory is static. From the repository's root, after `rt staticlib trieff`:
 
-     gcc -std=c11 -O2 -Iinclude -o target/bench examples/bench.c target/staticlib/libtrieff.a && target/bench
+     gcc -std=c11 -O2 -Iinclude -o target/bench-c examples/bench.c target/staticlib/libtrieff.a && target/bench-c
 
    examples/bench.txt holds what it must print. */
 #include "trieff.h"
