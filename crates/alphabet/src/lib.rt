@@ -18,7 +18,7 @@ pub fn judge(bytes: &[u8], n: usize, codes: &mut [u32; 256]) -> bool
     let mut top: u32 = 0;
     let mut at: usize = 0;
     while at < bytes.len() {
-        let len = utf8::quick_len(bytes, at);
+        let len = utf8::char_len(bytes, at);
         if len == 0 {
             return false;
         }

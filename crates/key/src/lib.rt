@@ -99,7 +99,7 @@ impl Typed {
         let mut len: usize = 0;
         let mut at: usize = 0;
         while at < text.len() {
-            let size = utf8::char_len(text, at);
+            let size = utf8::quick_len(text, at);
             if size == 0 {
                 return nameless();
             }

@@ -22,24 +22,24 @@ abbrev μ-loop : tie.MeasureT-loop
 loop-holds : tie.Need-loop-holds Inv-loop μ-loop
 loop-holds c = judging-none _ _ _ (omega arith)
 
-quick-len-requires : tie.Need-quick-len-requires Inv-loop μ-loop
-quick-len-requires c κs = tt
+char-len-requires : tie.Need-char-len-requires Inv-loop μ-loop
+char-len-requires c κs = tt
 
 returns : tie.Need-returns Inv-loop μ-loop
-returns c = judging-ill (c .before .before .before .loop .inv) (omega arith) (sym (c .before .quick-len .ensures) ∙ c .if1 .taken)
+returns c = judging-ill (c .before .before .before .loop .inv) (omega arith) (sym (c .before .char-len .ensures) ∙ c .if1 .taken)
 
 -- past the first test a character stands there
 stands : (c : tie.Else1 Inv-loop μ-loop) → charLen (c .before .before .before .before .before .before .args .bytes .now) (c .before .before .before .loop .at) ≢ 0
-stands c z = c .if1 .left (c .before .quick-len .ensures ∙ z)
+stands c z = c .if1 .left (c .before .char-len .ensures ∙ z)
 
-whole : (c : tie.Else1 Inv-loop μ-loop) → c .before .before .before .loop .at + c .before .quick-len .result ≤ length (c .before .before .before .before .before .before .args .bytes .now)
-whole c = rw (c .before .quick-len .ensures) (character _ _ (stands c) .whole)
+whole : (c : tie.Else1 Inv-loop μ-loop) → c .before .before .before .loop .at + c .before .char-len .result ≤ length (c .before .before .before .before .before .before .args .bytes .now)
+whole c = rw (c .before .char-len .ensures) (character _ _ (stands c) .whole)
 
 returns-2 : tie.Need-returns-2 Inv-loop μ-loop
 returns-2 c = judging-many (c .before .before .before .before .loop .inv) (stands (c .before)) (omega arith)
 
 char-at-requires : tie.Need-char-at-requires Inv-loop μ-loop
-char-at-requires c κs = c .before .before .quick-len .ensures
+char-at-requires c κs = c .before .before .char-len .ensures
 
 seen-requires : tie.Need-seen-requires Inv-loop μ-loop
 seen-requires c κs = omega arith
@@ -75,7 +75,7 @@ new c =
 
 loop-again : tie.Need-loop-again Inv-loop μ-loop
 loop-again c =
-    judging-more (c .before .before .before .before .before .before .loop .inv) (omega arith) (c .before .before .before .before .quick-len .ensures) (c .before .before .before .if1 .left) (c .before .char-at .ensures) (new c .0) (new c .1) (new c .2)
+    judging-more (c .before .before .before .before .before .before .loop .inv) (omega arith) (c .before .before .before .before .char-len .ensures) (c .before .before .before .if1 .left) (c .before .char-at .ensures) (new c .0) (new c .1) (new c .2)
 
 returns-4 : tie.Need-returns-4 Inv-loop μ-loop
 returns-4 c = judging-all (c .before .loop .inv) (omega arith)
@@ -87,7 +87,7 @@ judge-spec =
     Inv-loop
     μ-loop
     loop-holds
-    quick-len-requires
+    char-len-requires
     returns
     returns-2
     char-at-requires

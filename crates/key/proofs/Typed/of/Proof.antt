@@ -27,9 +27,9 @@ letters c = length-take-le (c .before .before .args .n) (c .before .before .args
 
 -- past the first test a character stands here, whole
 character-here : (c : tie.Else1 Inv-loop μ-loop)
-    → Character (c .before .before .before .before .before .before .args .text .now) (c .before .before .before .loop .at) (c .before .char-len .result)
+    → Character (c .before .before .before .before .before .before .args .text .now) (c .before .before .before .loop .at) (c .before .quick-len .result)
 character-here c =
-    let e = c .before .char-len .ensures in
+    let e = c .before .quick-len .ensures in
     rw e (character (c .before .before .before .before .before .before .args .text .now) (c .before .before .before .loop .at) (λ z. c .if1 .left (e ∙ z)))
 
 -- the letter found is that of this character
@@ -42,8 +42,8 @@ letter-here c = c .letter .ensures ∙ ap (letterOf _) (c .before .char-at .ensu
 loop-holds : tie.Need-loop-holds Inv-loop μ-loop
 loop-holds c = (omega arith, typing-none _ _)
 
-char-len-requires : tie.Need-char-len-requires Inv-loop μ-loop
-char-len-requires c κs = search needs
+quick-len-requires : tie.Need-quick-len-requires Inv-loop μ-loop
+quick-len-requires c κs = search needs
 
 nameless-requires : tie.Need-nameless-requires Inv-loop μ-loop
 nameless-requires c κs = search needs
@@ -52,10 +52,10 @@ returns : tie.Need-returns Inv-loop μ-loop
 returns c =
     let test = c .before in
     let at = test .before .before .before in
-    c .nameless .ensures ∙ typing-ill (at .loop .inv .1) (omega arith) (sym (test .before .char-len .ensures) ∙ test .if1 .taken)
+    c .nameless .ensures ∙ typing-ill (at .loop .inv .1) (omega arith) (sym (test .before .quick-len .ensures) ∙ test .if1 .taken)
 
 char-at-requires : tie.Need-char-at-requires Inv-loop μ-loop
-char-at-requires c κs = c .before .char-len .ensures
+char-at-requires c κs = c .before .quick-len .ensures
 
 letter-requires : tie.Need-letter-requires Inv-loop μ-loop
 letter-requires c κs = search needs
@@ -70,7 +70,7 @@ returns-2 c =
     let one = found .before .before in
     let at = one .before .before .before in
     c .nameless2 .ensures
-    ∙ typing-outside (at .loop .inv .1) (λ z. one .if1 .left (one .before .char-len .ensures ∙ z)) (omega (arith, letters (at .before), letter-here found, test .if2 .taken))
+    ∙ typing-outside (at .loop .inv .1) (λ z. one .if1 .left (one .before .quick-len .ensures ∙ z)) (omega (arith, letters (at .before), letter-here found, test .if2 .taken))
 
 cast-kept : tie.Need-cast-kept Inv-loop μ-loop
 cast-kept c = omega arith
@@ -93,7 +93,7 @@ loop-again c =
     let found = known .before in
     let one = found .before .before in
     let at = one .before .before .before in
-    let e = one .before .char-len .ensures in
+    let e = one .before .quick-len .ensures in
     let b : found .letter .result < length (take (at .before .before .before .args .n) (at .before .before .before .args .codes .now)) =
     omega (arith, letters (at .before), known .if2 .left) in (
       omega (arith, character-here one .some, at .loop .inv .0),
@@ -112,7 +112,7 @@ of-spec =
     Inv-loop
     μ-loop
     loop-holds
-    char-len-requires
+    quick-len-requires
     nameless-requires
     returns
     char-at-requires
