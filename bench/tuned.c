@@ -1,4 +1,4 @@
-/* The calls in C tuned by hand for speed: masked loads of four bytes, eight bytes of empty links at a time, one pass for the check.
+/* The calls in C tuned by hand for speed: masked loads of four bytes, 32 bytes of empty links at a time, one pass for the check.
    It leans on what document 01's base gives, such as that a child's address is above its node's; no vector instruction is written out. */
 #include "calls.h"
 #include <string.h>

@@ -1,5 +1,6 @@
-//! The exhaustive part: all small images with A = D = 1. Every link holds every value that matters (0 to G+1, and 255), every node every data
-//! value of its family; on each image the calls are asked with every key over the letters 0 to N (N is bad) up to length 3.
+//! The exhaustive part: all small images with A = D = 1. Every link holds every value of its family, those that matter (0 to G+1, and 255) or
+//! all 256, and every node every data value of its family. The calls are asked with every key over the letters 0 to N (N is bad) up to length 3:
+//! on every image with N and G up to 2, refused or not; of greater families the images that are refused are asked less, as `Asks` says.
 
 use crate::calls::Call;
 use crate::model::Head;
@@ -17,8 +18,6 @@ const ENOUGH: usize = 5;
 enum Asks {
     /// Every call with every key.
     All,
-    /// The check, the number of keys, every look up, and a store and a next key of one key.
-    Walks,
     /// The check, of one image for all data.
     Check,
     /// Nothing: only the accepted ones are made.
@@ -29,6 +28,8 @@ enum Asks {
 struct Family {
     n: u32,
     g: u32,
+    /// The values of every link; empty: those that matter.
+    links: &'static [u8],
     /// The data values of every node.
     data: &'static [u8],
     refused: Asks,
@@ -36,21 +37,34 @@ struct Family {
     settings: usize,
 }
 
-const FAMILIES: [Family; 14] = [
-    Family { n: 1, g: 0, data: &[0, 1, 255], refused: Asks::All, settings: 1 },
-    Family { n: 1, g: 1, data: &[0, 1, 255], refused: Asks::All, settings: 1 },
-    Family { n: 1, g: 2, data: &[0, 1, 255], refused: Asks::All, settings: 1 },
-    Family { n: 1, g: 3, data: &[0, 1], refused: Asks::All, settings: 1 },
-    Family { n: 2, g: 0, data: &[0, 1, 255], refused: Asks::All, settings: 1 },
-    Family { n: 2, g: 1, data: &[0, 1, 255], refused: Asks::All, settings: 1 },
-    Family { n: 2, g: 2, data: &[0, 1, 255], refused: Asks::Walks, settings: 1 },
-    Family { n: 3, g: 0, data: &[0, 1, 255], refused: Asks::All, settings: 1 },
-    Family { n: 3, g: 1, data: &[0, 1, 255], refused: Asks::Walks, settings: 1 },
-    Family { n: 1, g: 4, data: &[0, 1], refused: Asks::Check, settings: 3 },
-    Family { n: 2, g: 3, data: &[0, 1], refused: Asks::Check, settings: 3 },
-    Family { n: 3, g: 2, data: &[0, 1], refused: Asks::Check, settings: 3 },
-    Family { n: 3, g: 3, data: &[0, 1], refused: Asks::Nothing, settings: 8 },
-    Family { n: 2, g: 4, data: &[0, 1], refused: Asks::Nothing, settings: 8 },
+/// Every value of a byte.
+const BYTES: [u8; 256] = {
+    let mut all = [0; 256];
+    let mut i = 0;
+    while i < 256 {
+        all[i] = i as u8;
+        i += 1;
+    }
+    all
+};
+
+const FAMILIES: [Family; 16] = [
+    Family { n: 1, g: 0, links: &BYTES, data: &BYTES, refused: Asks::All, settings: 1 },
+    Family { n: 1, g: 1, links: &BYTES, data: &[0, 1, 255], refused: Asks::Check, settings: 1 },
+    Family { n: 2, g: 0, links: &BYTES, data: &[0, 1, 255], refused: Asks::Check, settings: 1 },
+    Family { n: 1, g: 1, links: &[], data: &[0, 1, 255], refused: Asks::All, settings: 1 },
+    Family { n: 1, g: 2, links: &[], data: &[0, 1, 255], refused: Asks::All, settings: 1 },
+    Family { n: 1, g: 3, links: &[], data: &[0, 1], refused: Asks::All, settings: 1 },
+    Family { n: 2, g: 0, links: &[], data: &[0, 1, 255], refused: Asks::All, settings: 1 },
+    Family { n: 2, g: 1, links: &[], data: &[0, 1, 255], refused: Asks::All, settings: 1 },
+    Family { n: 2, g: 2, links: &[], data: &[0, 1, 255], refused: Asks::All, settings: 1 },
+    Family { n: 3, g: 0, links: &[], data: &[0, 1, 255], refused: Asks::All, settings: 1 },
+    Family { n: 3, g: 1, links: &[], data: &[0, 1, 255], refused: Asks::All, settings: 1 },
+    Family { n: 1, g: 4, links: &[], data: &[0, 1], refused: Asks::Check, settings: 3 },
+    Family { n: 2, g: 3, links: &[], data: &[0, 1], refused: Asks::Check, settings: 3 },
+    Family { n: 3, g: 2, links: &[], data: &[0, 1], refused: Asks::Check, settings: 3 },
+    Family { n: 3, g: 3, links: &[], data: &[0, 1], refused: Asks::Nothing, settings: 8 },
+    Family { n: 2, g: 4, links: &[], data: &[0, 1], refused: Asks::Nothing, settings: 8 },
 ];
 
 /// What stands around the body.
@@ -189,15 +203,6 @@ impl Worker {
         }
     }
 
-    fn ask_walks(&mut self, image: &[u8], keys: &[Key], setting: &Setting, g: usize) {
-        self.ask_without_key(image, g);
-        for key in keys {
-            self.ask_look_ups(image, key, setting.alphabet);
-        }
-        let one = self.rng.below(keys.len() as u64) as usize;
-        self.ask_others(image, &keys[one], setting, g);
-    }
-
     /// One pattern of links with all data and, where it is accepted, in all settings of the family.
     fn try_links(&mut self, family: &Family, links: &[u8], index: usize, keys: &[Key], settings: &[Setting]) {
         let g = family.g as usize;
@@ -215,10 +220,7 @@ impl Worker {
                 }
             } else {
                 let image = self.image(family, links, &data, turn(i));
-                match family.refused {
-                    Asks::All => self.ask_all(&image, keys, turn(i), g),
-                    _ => self.ask_walks(&image, keys, turn(i), g),
-                }
+                self.ask_all(&image, keys, turn(i), g);
             }
         }
     }
@@ -263,8 +265,9 @@ fn patterns(family: &Family) -> Box<dyn Iterator<Item = Vec<u8>>> {
     if family.refused == Asks::Nothing {
         return Box::new(trees(n, g).into_iter());
     }
-    let values: Vec<u8> = (0..=g as u8 + 1).chain([255]).collect();
-    Box::new(tuples(&values, n * (g + 1)))
+    let mattering: Vec<u8> = (0..=g as u8 + 1).chain([255]).collect();
+    let values = if family.links.is_empty() { &mattering } else { family.links };
+    Box::new(tuples(values, n * (g + 1)))
 }
 
 fn run_family(worker: &mut Worker, family: &Family, thread: usize, progress: &mut Progress) {
@@ -301,7 +304,8 @@ pub fn run() -> Exhausted {
     });
     let mut all = Exhausted::default();
     for (family, tried) in FAMILIES.iter().zip(tried.into_inner().unwrap()) {
-        println!("exhaustive: N {} G {}: {} images, {} calls", family.n, family.g, tried.images, tried.calls);
+        let every = if family.links.is_empty() { "" } else { ", every byte" };
+        println!("exhaustive: N {} G {}{every}: {} images, {} calls", family.n, family.g, tried.images, tried.calls);
         all.add(&tried);
     }
     all
