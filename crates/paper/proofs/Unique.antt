@@ -13,10 +13,11 @@ use Rattle.paper.specs.declared.Done.{Done}
 use Rattle.paper.specs.declared.Counted.{Counted}
 use Rattle.paper.specs.declared.Looked.{Looked}
 use Rattle.paper.specs.declared.Stored.{Stored}
+use Rattle.paper.specs.declared.Listed.{Listed}
 use Rattle.paper.specs.declared.Found.{Found}
 use Rattle.paper.specs.Hearing.{Numbers, Outcome, outcome, refusedNumbers, doneNumbers}
-use Rattle.paper.specs.Answers.{refusalNumbers, doneOf, countedOf, lookedOf, storedOf, foundOf}
-use Rattle.paper.specs.Promises.{Makes, Checks, Counts, LooksUp, LooksUpText, Stores, StoresText, Nexts}
+use Rattle.paper.specs.Answers.{refusalNumbers, doneOf, countedOf, lookedOf, storedOf, listedOf, foundOf}
+use Rattle.paper.specs.Promises.{Makes, Checks, Counts, LooksUp, LooksUpText, Stores, StoresText, StoresWrites, StoresTextWrites, Mends, Nexts}
 
 -- ---- an answer, from its numbers
 
@@ -113,6 +114,14 @@ told-stored = record { back = tellBy (λ m. Stored.Change (m .change)) Stored.Re
     inverse (Stored.Change c) = refl
     inverse (Stored.Refused r) = tell-refused (λ m. Stored.Change (m .change)) Stored.Refused r
 
+pub told-listed : Told Listed listedOf
+unfolding tellBy byNumber listedOf doneNumbers
+told-listed = record { back = tellBy (λ m. Listed.Change (m .change) (m .length)) Listed.Refused; inverse = inverse }
+  where
+    inverse : (r : Listed) → tellBy (λ m. Listed.Change (m .change) (m .length)) Listed.Refused (listedOf r) ≡ r
+    inverse (Listed.Change change writes) = refl
+    inverse (Listed.Refused r) = tell-refused (λ m. Listed.Change (m .change) (m .length)) Listed.Refused r
+
 pub told-found : Told Found foundOf
 unfolding tellBy byNumber foundOf doneNumbers
 told-found = record { back = tellBy (λ m. Found.Key (m .length) (m .value)) Found.Refused; inverse = inverse }
@@ -136,7 +145,10 @@ one e = cc
 two : {a b c d : List ℕ} → (a ∷ c ∷ []) ≡ (b ∷ d ∷ []) → (a ≡ b) × (c ≡ d)
 two e = (cc, cc)
 
--- ---- the eight calls, for whatever form of answer tells its numbers
+three : {a b c d i j : List ℕ} → (a ∷ c ∷ i ∷ []) ≡ (b ∷ d ∷ j ∷ []) → (a ≡ b) × ((c ≡ d) × (i ≡ j))
+three e = (cc, (cc, cc))
+
+-- ---- the calls, for whatever form of answer tells its numbers
 
 module _ {R : Type 0} {numbersOf : R → Numbers} (told : Told R numbersOf) {r s : R} where
   pub makes-once : (image : List ℕ) (n a d : ℕ) (alphabet : List ℕ) (least most : ℕ) {i j : List ℕ} → Makes image n a d alphabet least most (numbersOf r) i
@@ -162,6 +174,19 @@ module _ {R : Type 0} {numbersOf : R → Numbers} (told : Told R numbersOf) {r s
   pub stores-text-once : (l work text : List ℕ) (value : ℕ) {i j v w : List ℕ} → StoresText l work text value (numbersOf r) i v
       → StoresText l work text value (numbersOf s) j w → (r ≡ s) × ((i ≡ j) × (v ≡ w))
   stores-text-once l work text value p q = let u = one-outcome told r s _ _ _ p q in (u .0, two (u .1))
+
+  pub stores-writes-once : (l work key : List ℕ) (value : ℕ) (list : List ℕ) {i j v w m n : List ℕ} → StoresWrites l work key value list (numbersOf r) i v m
+      → StoresWrites l work key value list (numbersOf s) j w n → (r ≡ s) × ((i ≡ j) × ((v ≡ w) × (m ≡ n)))
+  stores-writes-once l work key value list p q = let u = one-outcome told r s _ _ _ p q in (u .0, three (u .1))
+
+  pub stores-text-writes-once : (l work text : List ℕ) (value : ℕ) (list : List ℕ) {i j v w m n : List ℕ}
+      → StoresTextWrites l work text value list (numbersOf r) i v m
+      → StoresTextWrites l work text value list (numbersOf s) j w n → (r ≡ s) × ((i ≡ j) × ((v ≡ w) × (m ≡ n)))
+  stores-text-writes-once l work text value list p q = let u = one-outcome told r s _ _ _ p q in (u .0, three (u .1))
+
+  pub mends-once : (l work : List ℕ) {i j v w : List ℕ} → Mends l work (numbersOf r) i v → Mends l work (numbersOf s) j w
+      → (r ≡ s) × ((i ≡ j) × (v ≡ w))
+  mends-once l work p q = let u = one-outcome told r s _ _ _ p q in (u .0, two (u .1))
 
   pub nexts-once : (l work key : List ℕ) (after : Bool) (buffer : List ℕ) {v w i j : List ℕ} → Nexts l work key after buffer (numbersOf r) v i
       → Nexts l work key after buffer (numbersOf s) w j → (r ≡ s) × ((v ≡ w) × (i ≡ j))

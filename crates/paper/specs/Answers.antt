@@ -10,6 +10,7 @@ use Rattle.paper.specs.declared.Done.{Done}
 use Rattle.paper.specs.declared.Counted.{Counted}
 use Rattle.paper.specs.declared.Looked.{Looked}
 use Rattle.paper.specs.declared.Stored.{Stored}
+use Rattle.paper.specs.declared.Listed.{Listed}
 use Rattle.paper.specs.declared.Found.{Found}
 use Rattle.paper.specs.Hearing.{Said, Row, Numbers, refusedNumbers, doneNumbers}
 
@@ -61,6 +62,11 @@ unfoldable pub storedOf : Stored → Numbers
 unfolding refusalNumbers doneNumbers
 storedOf (Stored.Change c) = doneNumbers 0 c 0
 storedOf (Stored.Refused r) = refusalNumbers r
+
+unfoldable pub listedOf : Listed → Numbers
+unfolding refusalNumbers doneNumbers
+listedOf (Listed.Change c n) = doneNumbers n c 0
+listedOf (Listed.Refused r) = refusalNumbers r
 
 unfoldable pub foundOf : Found → Numbers
 unfolding refusalNumbers doneNumbers

@@ -1,12 +1,14 @@
--- The outcome of each of the eight calls, for any arguments: the answer's numbers and the last content of every buffer lent to be
--- written. Each is the first row of its order that is given, or else what 01 says the call does.
-use Prim.Native.Nat.{ℕ, _+_}
-use mathlib.Core.Bool.{Bool}
+-- The outcome of each call, for any arguments: the answer's numbers and the last content of every buffer lent to be written. Each is the
+-- first row of its order that is given, or else what 01 says the call does; the listed stores and mending are 02's, Ask 1.
+use Prim.Native.Nat.{ℕ, _+_, _-_}
+use mathlib.Core.Bool.{Bool, true, false, _&&_, cond}
 use mathlib.Core.Option.{Option, none, some}
 use mathlib.Core.List.{List, [], _∷_, _++_}
 use lib.ListN.{length, drop, replicate}
 use lib.Seq.{sets}
+use lib.Dec.{eqb}
 use lib.IntN.{pos}
+use Rattle.field.specs.Field.{digits, putField}
 use Rattle.trie.specs.Table.{Table, descend, answer}
 use Rattle.trie.specs.Keys.{listing, meets, firstMeeting}
 use Rattle.trie.specs.Storing.{changeOf}
@@ -14,8 +16,8 @@ use Rattle.head.specs.declared.Head.{Head}
 use Rattle.head.specs.Fields.{headOf, headBytes, nodeWidth}
 use Rattle.alphabet.specs.Letters.{letters, lettersIn, keyOfText}
 use Rattle.node.specs.Image.{tableOf}
-use Rattle.node.specs.Writes.{carriedOut, storeWrites}
-use Rattle.paper.specs.Hearing.{Row, Outcome, outcome, doneNumbers, first, heard}
+use Rattle.node.specs.Writes.{Write, carriedOut, listed, storeWrites}
+use Rattle.paper.specs.Hearing.{Row, Numbers, Outcome, outcome, doneNumbers, first, heard}
 use Rattle.paper.specs.Rows.{row5}
 use Rattle.paper.specs.Orders.{alphabetIn, opening, openingOf, checking, byLetters, byText, lookingUp, storing, nexting}
 
@@ -92,10 +94,14 @@ lookUpTextOf l text = lookUpBy l (byText (headOf l) (namedIn l text)) (lettersIn
 
 -- store
 
+-- what a store writes, in its order
+abbrev pub writesIn : List ℕ → List ℕ → ℕ → List Write
+writesIn l key value = storeWrites (headOf l) (descend (tableIn l) 0 key) value
+
 -- the image after a store that is not refused: the store's writes carried out
 unfoldable pub storedImage : List ℕ → List ℕ → ℕ → List ℕ
 unfolding carriedOut storeWrites descend tableIn headOf
-storedImage l key value = carriedOut l (storeWrites (headOf l) (descend (tableIn l) 0 key) value)
+storedImage l key value = carriedOut l (writesIn l key value)
 
 unfoldable pub storeBy : List ℕ → List ℕ → List Row → List ℕ → ℕ → Outcome
 unfolding heard first storing workAfter doneNumbers storedImage changeOf answer
@@ -110,6 +116,52 @@ storeOf l work key value = storeBy l work (byLetters (headOf l) key) key value
 unfoldable pub storeTextOf : List ℕ → List ℕ → List ℕ → ℕ → Outcome
 unfolding storeBy byText namedIn lettersIn
 storeTextOf l work text value = storeBy l work (byText (headOf l) (namedIn l text)) (lettersIn (namedIn l text)) value
+
+-- store, with its writes listed
+
+-- As a store, and besides its writes are listed from the front of a lent array on: `length` says how many they are, and "entries after the
+-- last keep what they held, and a refusal changes none".
+unfoldable pub withList : List Write → List ℕ → Outcome → Outcome
+unfolding doneNumbers listed
+withList ws list o =
+    cond (eqb (o .numbers .number) 0)
+    (outcome (doneNumbers (length ws) (o .numbers .change) 0) (o .lent ++ (sets list 0 (listed ws) ∷ [])))
+    (outcome (o .numbers) (o .lent ++ (list ∷ [])))
+
+unfoldable pub storeWritesOf : List ℕ → List ℕ → List ℕ → ℕ → List ℕ → Outcome
+unfolding withList storeOf storeWrites descend tableIn headOf
+storeWritesOf l work key value list = withList (writesIn l key value) list (storeOf l work key value)
+
+unfoldable pub storeTextWritesOf : List ℕ → List ℕ → List ℕ → ℕ → List ℕ → Outcome
+unfolding withList storeTextOf storeWrites descend tableIn headOf namedIn lettersIn
+storeTextWritesOf l work text value list = withList (writesIn l (lettersIn (namedIn l text)) value) list (storeTextOf l work text value)
+
+-- mend
+
+-- "the image with G set to" g
+unfoldable pub withG : List ℕ → ℕ → List ℕ
+unfolding digits
+withG l g = putField l 0 4 g
+
+-- "An image is called accepted if the check, lent G+1 working numbers or more, answers 0."
+unfoldable pub isAccepted : List ℕ → Bool
+unfolding checkOf headOf
+isAccepted l = eqb (checkOf l (replicate (headOf l .g + 1) 0) .numbers .number) 0
+
+-- "if the check answers 8 at p, and the image with G set to p-1 is accepted"
+unfoldable pub mends : List ℕ → Numbers → Bool
+unfolding isAccepted withG
+mends l m = eqb (m .number) 8 && isAccepted (withG l (m .place - 1))
+
+-- "G becomes p-1 and the answer is 0; otherwise nothing changes and the check's answer is returned"
+unfoldable pub mendBy : Bool → List ℕ → Outcome → Outcome
+unfolding withG doneNumbers
+mendBy true l o = outcome (doneNumbers 0 (pos 0) 0) (withG l (o .numbers .place - 1) ∷ o .lent)
+mendBy false l o = outcome (o .numbers) (l ∷ o .lent)
+
+unfoldable pub mendOf : List ℕ → List ℕ → Outcome
+unfolding mendBy mends checkOf
+mendOf l work = mendBy (mends l (checkOf l work .numbers)) l (checkOf l work)
 
 -- next key
 

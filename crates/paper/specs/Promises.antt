@@ -5,7 +5,7 @@ use mathlib.Core.Path.{_≡_}
 use mathlib.Core.Bool.{Bool}
 use mathlib.Core.List.{List, [], _∷_}
 use Rattle.paper.specs.Hearing.{Numbers, outcome}
-use Rattle.paper.specs.Calls.{makeOf, checkOf, countOf, lookUpOf, lookUpTextOf, storeOf, storeTextOf, nextKeyOf}
+use Rattle.paper.specs.Calls.{makeOf, checkOf, countOf, lookUpOf, lookUpTextOf, storeOf, storeTextOf, storeWritesOf, storeTextWritesOf, mendOf, nextKeyOf}
 
 abbrev pub Makes : List ℕ → ℕ → ℕ → ℕ → List ℕ → ℕ → ℕ → Numbers → List ℕ → Type 0
 Makes image n a d alphabet least most m image′ = outcome m (image′ ∷ []) ≡ makeOf image n a d alphabet least most
@@ -27,6 +27,15 @@ Stores l work key value m l′ work′ = outcome m (l′ ∷ work′ ∷ []) ≡
 
 abbrev pub StoresText : List ℕ → List ℕ → List ℕ → ℕ → Numbers → List ℕ → List ℕ → Type 0
 StoresText l work text value m l′ work′ = outcome m (l′ ∷ work′ ∷ []) ≡ storeTextOf l work text value
+
+abbrev pub StoresWrites : List ℕ → List ℕ → List ℕ → ℕ → List ℕ → Numbers → List ℕ → List ℕ → List ℕ → Type 0
+StoresWrites l work key value list m l′ work′ list′ = outcome m (l′ ∷ work′ ∷ list′ ∷ []) ≡ storeWritesOf l work key value list
+
+abbrev pub StoresTextWrites : List ℕ → List ℕ → List ℕ → ℕ → List ℕ → Numbers → List ℕ → List ℕ → List ℕ → Type 0
+StoresTextWrites l work text value list m l′ work′ list′ = outcome m (l′ ∷ work′ ∷ list′ ∷ []) ≡ storeTextWritesOf l work text value list
+
+abbrev pub Mends : List ℕ → List ℕ → Numbers → List ℕ → List ℕ → Type 0
+Mends l work m l′ work′ = outcome m (l′ ∷ work′ ∷ []) ≡ mendOf l work
 
 abbrev pub Nexts : List ℕ → List ℕ → List ℕ → Bool → List ℕ → Numbers → List ℕ → List ℕ → Type 0
 Nexts l work key after buffer m work′ buffer′ = outcome m (work′ ∷ buffer′ ∷ []) ≡ nextKeyOf l work key after buffer

@@ -83,7 +83,7 @@ pub enum Verdict {
     Refused(Refusal),
 }
 
-// The answer of make and of check.
+// The answer of make, of check and of mend.
 pub enum Done {
     Done,
     Refused(Refusal),
@@ -104,6 +104,12 @@ pub enum Looked {
 // The answer of store: the change in the number of stored keys.
 pub enum Stored {
     Change(i32),
+    Refused(Refusal),
+}
+
+// The answer of a store that lists its writes: the change, and how many they are.
+pub enum Listed {
+    Change { change: i32, writes: u32 },
     Refused(Refusal),
 }
 
