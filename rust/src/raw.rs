@@ -10,7 +10,7 @@ pub struct TrieffAnswer {
     pub number: u32,
     /// The node or address that the refusal names, else 0.
     pub place: u32,
-    /// Next key: how many letters were written to the key buffer.
+    /// Next key: how many letters were written to the key buffer. Store with its writes listed: how many writes.
     pub length: u32,
     /// Store: the change in the number of stored keys, -1, 0 or 1.
     pub change: i32,
@@ -65,6 +65,33 @@ extern "C" {
         text_len: usize,
         value: u32,
     ) -> TrieffAnswer;
+
+    /// As `trieff_store`, and besides lists the writes in the 132 numbers lent. Refusals: as `trieff_store`.
+    pub fn trieff_store_writes(
+        image: *mut u8,
+        image_len: usize,
+        work: *mut u32,
+        work_len: usize,
+        letters: *const u8,
+        letters_len: usize,
+        value: u32,
+        writes: *mut u32,
+    ) -> TrieffAnswer;
+
+    /// As `trieff_store_text`, and besides lists the writes in the 132 numbers lent. Refusals: as `trieff_store_text`.
+    pub fn trieff_store_text_writes(
+        image: *mut u8,
+        image_len: usize,
+        work: *mut u32,
+        work_len: usize,
+        text: *const u8,
+        text_len: usize,
+        value: u32,
+        writes: *mut u32,
+    ) -> TrieffAnswer;
+
+    /// Mends an image after a cut: lowers G where that is all it takes. Refusals: 1 to 8, as the check's.
+    pub fn trieff_mend(image: *mut u8, image_len: usize, work: *mut u32, work_len: usize) -> TrieffAnswer;
 
     /// The first stored key at or after a key or, with `after`, after it. Refusals: 1 to 8, 9 (longer than max), 10, 14, 15.
     pub fn trieff_next_key(
