@@ -88,6 +88,22 @@ pub fn write_last(image: &mut [u8], h: Head, q: u32, v: u64)
     field::write(image, data_place(h, q), h.d as usize, v);
 }
 
+// Where the link for letter i of node q stands.
+pub fn link_place(h: Head, q: u32, i: u32) -> usize
+    requires { ⌜ permitted h ≡ true ⌝ ∗ ⌜ i < h .n ⌝ }
+    ensures { λ r. ⌜ r ≡ linkPlace h q i ⌝ }
+{
+    (h.node_place(q as u64) as usize) + (i as usize) * (h.a as usize)
+}
+
+// Where the data of node q stands.
+pub fn data_place(h: Head, q: u32) -> usize
+    requires { ⌜ permitted h ≡ true ⌝ }
+    ensures { λ r. ⌜ r ≡ dataPlace h q ⌝ }
+{
+    (h.node_place(q as u64) as usize) + (h.n as usize) * (h.a as usize)
+}
+
 // Clears the whole of node q: spare bytes may hold anything.
 fn wipe(image: &mut [u8], h: Head, q: u32)
     requires { ⌜ permitted h ≡ true ⌝ ∗ ⌜ nodePlace h (q + 1) ≤ length (now image) ⌝ }
@@ -98,22 +114,6 @@ fn wipe(image: &mut [u8], h: Head, q: u32)
         h.node_place(q as u64) as usize,
         h.node_width() as usize,
     );
-}
-
-// Where the link for letter i of node q stands.
-fn link_place(h: Head, q: u32, i: u32) -> usize
-    requires { ⌜ permitted h ≡ true ⌝ ∗ ⌜ i < h .n ⌝ }
-    ensures { λ r. ⌜ r ≡ linkPlace h q i ⌝ }
-{
-    (h.node_place(q as u64) as usize) + (i as usize) * (h.a as usize)
-}
-
-// Where the data of node q stands.
-fn data_place(h: Head, q: u32) -> usize
-    requires { ⌜ permitted h ≡ true ⌝ }
-    ensures { λ r. ⌜ r ≡ dataPlace h q ⌝ }
-{
-    (h.node_place(q as u64) as usize) + (h.n as usize) * (h.a as usize)
 }
 
 // 1 to 4 bytes of ones.
