@@ -3,6 +3,7 @@ pub mod Fresh
 pub mod Hearing
 pub mod Keying
 pub mod Looking
+pub mod Mending
 pub mod Named
 pub mod Nexting
 pub mod Numbers

@@ -20,6 +20,16 @@ module _ (p : ℕ → Bool) where
   unfolding lowest
   lowest-on a k e = rw e
 
+  -- the search goes up
+  pub lowest-least : (a k : ℕ) → a ≤ lowest p a k
+  unfolding lowest
+  lowest-least a zero = omega arith
+  lowest-least a (suc k) = go (p a) refl (lowest-least (suc a) k)
+    where
+      go : (b : Bool) → p a ≡ b → suc a ≤ lowest p (suc a) k → a ≤ lowest p a (suc k)
+      go true e on = omega (arith, lowest-here a k e)
+      go false e on = omega (arith, lowest-on a k e)
+
   pub lowest-none : (a k : ℕ) → NonePasses a k → lowest p a k ≡ a + k
   unfolding lowest
   lowest-none a zero none = omega arith
