@@ -13,7 +13,7 @@ use lib.Arith.{digits-lt, digits-div, digits-mod, mod-mul}
 use lib.ListN.{length, getD, set, take, drop, replicate, length-append, length-drop, List·getD-append}
 use lib.Seq.{sets, getD-drop, getD-at, take-suc}
 use Rattle.field.specs.Field.{Bytes, Zeros, fieldAt, digits, putField}
-use Rattle.field.proofs.Laid.{getD-outside, getD-inside, sets-append, set-sets, sets-same}
+use Rattle.field.proofs.Laid.{sets-over, getD-outside, getD-inside, sets-append, set-sets, sets-same}
 
 -- ---- a field is what its bytes are
 
@@ -178,6 +178,11 @@ read-written-fits l at w v h b = read-written l at w v h ∙ mod-eq-of-lt b
 
 pub write-back : (l : List ℕ) (at w : ℕ) → Bytes l → at + w ≤ length l → putField l at w (fieldAt l at w) ≡ l
 write-back l at w p h = ap (λ (r : List ℕ). sets l at r) (digits-field l at w p h) ∙ sets-same l at w h
+
+-- and so does writing it back where another number was written meanwhile
+pub written-back : (l : List ℕ) (at w v : ℕ) → Bytes l → at + w ≤ length l → putField (putField l at w v) at w (fieldAt l at w) ≡ l
+written-back l at w v p h =
+    sets-over l (digits w v) (digits w (fieldAt l at w)) at (length-digits w v ∙ sym (length-digits w (fieldAt l at w))) ∙ write-back l at w p h
 
 -- the last byte first, then the rest of the number in the width that is left: how a loop from the end writes
 pub put-last : (l : List ℕ) (at w v : ℕ) → putField l at (suc w) v ≡ putField (set l (at + w) (v % 256)) at w (v / 256)

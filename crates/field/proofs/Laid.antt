@@ -7,7 +7,7 @@ use native.Mathlib.Nat.{add-zero, add-suc, suc-add, not-suc-le-zero}
 use native.Mathlib.Omega.{arith}
 use mathlib.Core.List.{List, [], _∷_, _++_}
 use lib.ListN.{length, getD, set, take, drop, length-set, length-take, length-drop, take-append-drop}
-use lib.Seq.{sets, sets-eq, set-comm, getD-set-same, getD-set-other, take-add}
+use lib.Seq.{sets, sets-eq, set-set, set-comm, getD-set-same, getD-set-other, take-add}
 
 module _ {ℓ} {A : Type ℓ} where
   -- ---- read
@@ -45,6 +45,17 @@ module _ {ℓ} {A : Type ℓ} where
   sets-comm l vs (u ∷ us) at bt h =
       ap (λ (r : List A). sets r (suc bt) us) (sym (set-sets l vs at bt u (⊎-elim (λ b. inl (omega arith)) (λ c. inr (omega arith)) h)))
       ∙ sets-comm (set l bt u) vs us at (suc bt) (⊎-elim (λ b. inl (omega arith)) (λ c. inr (omega arith)) h)
+
+  -- ---- laid over: what was laid there before is gone
+
+  pub sets-over : (l us vs : List A) (at : ℕ) → length us ≡ length vs → sets (sets l at us) at vs ≡ sets l at vs
+  sets-over l [] [] at e = refl
+  sets-over l [] (v ∷ vs) at e = absurd (omega arith)
+  sets-over l (u ∷ us) [] at e = absurd (omega arith)
+  sets-over l (u ∷ us) (v ∷ vs) at e =
+      ap (λ (r : List A). sets r (suc at) vs) (sym (set-sets (set l at u) us (suc at) at v (inl (omega arith))))
+      ∙ sets-over (set (set l at u) at v) us vs (suc at) (omega arith)
+      ∙ ap (λ (r : List A). sets r (suc at) vs) (set-set l at u v)
 
   -- ---- laying what is there changes nothing
 

@@ -1,0 +1,17 @@
+-- 02, Ask 1: "the image with G set to p-1 is accepted". The trial checks that image; what it leaves is that image or, where it is refused,
+-- the one that was there.
+use Prim.Native.Nat.{ℕ, _-_}
+use mathlib.Core.Path.{_≡_}
+use mathlib.Core.List.{List}
+use Rattle.paper.specs.declared.Refusal.{Refusal}
+use Rattle.paper.specs.declared.Verdict.{Verdict}
+use Rattle.paper.specs.Hearing.{first}
+use Rattle.paper.specs.Answers.{rowOf}
+use Rattle.paper.specs.Orders.{checking}
+use Rattle.paper.specs.Calls.{workAfter, withG}
+
+pub record Lowers (l work : List ℕ) (p : ℕ) (r : Verdict) (l′ work′ : List ℕ) : Type 0 where
+  pub verdict : rowOf r ≡ first (checking (withG l (p - 1)) work)
+  pub numbers : work′ ≡ workAfter (withG l (p - 1)) work
+  pub lowered : r ≡ Verdict.Passed → l′ ≡ withG l (p - 1)
+  pub kept : (why : Refusal) → r ≡ Verdict.Refused why → l′ ≡ l
