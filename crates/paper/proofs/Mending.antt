@@ -1,33 +1,34 @@
 -- Mending (02, Ask 1) in the words of the check: what it answers and leaves either way, what an 8 of the check tells, and that the working
 -- numbers of the trial are enough.
-use Prim.Native.Nat.{ℕ, _+_, _-_, _≤_, _<_}
+use Prim.Native.Nat.{ℕ, zero, suc, _+_, _-_, _^_, _≤_, _<_}
 use mathlib.Core.Path.{_≡_, refl, sym, _∙_, ap}
-use mathlib.Core.Bool.{Bool, true, false, true≢false}
+use mathlib.Core.Bool.{Bool, true, false, true≢false, _&&_, and-false}
 use mathlib.Core.Logic.{_↔_}
-use mathlib.Core.Option.{none, some}
+use mathlib.Core.Option.{none, some, Option·some-ne-none}
 use mathlib.Core.List.{List, [], _∷_, _++_}
 use native.Mathlib.Omega.{arith}
 use lib.Dec.{leb, ltb, eqb}
 use lib.IntN.{pos}
-use lib.ListN.{length, replicate, length-replicate}
-use borrow.Author.Tests.{eqb-true, eq-eqb, ltb-true, ltb-false}
-use Rattle.field.proofs.Range.{both}
+use lib.ListN.{length, drop, replicate, length-append, length-drop, length-replicate}
+use borrow.Author.Tests.{eqb-true, eq-eqb, le-ltb, ltb-true, ltb-false}
+use Rattle.field.proofs.Range.{between-true}
 use Rattle.trie.specs.Table.{Table}
 use Rattle.trie.specs.Lowest.{lowest}
 use Rattle.trie.proofs.Lowest.{lowest-least}
 use Rattle.head.specs.declared.Head.{Head}
-use Rattle.head.specs.Fields.{headOf}
+use Rattle.head.specs.Fields.{shortestImage, longestImage, headOf}
+use Rattle.head.proofs.Fields.{head-total}
 use Rattle.alphabet.specs.Letters.{among}
 use Rattle.node.specs.Image.{tableOf}
 use Rattle.paper.specs.Hearing.{Said, Row, Outcome, outcome, given, first, heard, refusedNumbers, doneNumbers}
 use Rattle.paper.specs.Rows.{row5, givenLowest, row6, row7, row8, times}
 use Rattle.paper.specs.Orders.{alphabetIn, openingOf, linking, checking}
-use Rattle.paper.specs.Calls.{workAfter, checkOf, withG, isAccepted, mends, mendBy, mendOf}
+use Rattle.paper.specs.Calls.{clearedBy, workAfter, checkOf, withG, isAccepted, mends, mendBy, mendOf}
 use Rattle.paper.specs.Accepted.{Accepted}
-use Rattle.paper.proofs.Hearing.{was-false, passed-row}
+use Rattle.paper.proofs.Hearing.{was-false, first-nil, no-row, second-part}
 use Rattle.paper.proofs.Numbers.{Says, silent, saying, AllSay, end, _then_, given-says, lowest-says}
-use Rattle.paper.proofs.Opening.{opening-says}
-use Rattle.paper.proofs.Checking.{check-exactly, holds, count}
+use Rattle.paper.proofs.Opening.{passed, opening-says}
+use Rattle.paper.proofs.Checking.{check-accepts, accepted-checks, check-exactly, holds, count}
 
 -- "accepted" in the two ways that 01 says it
 pub accepted-exactly : (l : List ℕ) → (isAccepted l ≡ true) ↔ Accepted l
@@ -139,3 +140,73 @@ module _ (l work : List ℕ) where
       only : (r : Row) {s : Said} → first (r ∷ []) ≡ some s → r ≡ some s
       only none f = let z : _≡_ {A = ℕ} 0 1 = cc in absurd (omega arith)
       only (some s) f = f
+
+-- ---- the trial
+
+-- numbers of which the first m are 0 stay so where no more of them are cleared
+zeros-kept : (n m : ℕ) (rest : List ℕ) → n ≤ m → replicate n 0 ++ drop n (replicate m 0 ++ rest) ≡ replicate m 0 ++ rest
+zeros-kept zero m rest b = refl
+zeros-kept (suc n) zero rest b = absurd (omega arith)
+zeros-kept (suc n) (suc m) rest b = ap (λ (r : List ℕ). 0 ∷ r) (zeros-kept n m rest (omega arith))
+
+cleared-kept : (row : Row) (n m : ℕ) (rest : List ℕ) → n ≤ m → clearedBy row n (replicate m 0 ++ rest) ≡ replicate m 0 ++ rest
+unfolding clearedBy
+cleared-kept none n m rest b = zeros-kept n m rest b
+cleared-kept (some s) n m rest b = refl
+
+module _ (l work : List ℕ) (e : checkOf l work .numbers .number ≡ 8) where
+  abbrev lower : ℕ
+  lower = place l work - 1
+
+  -- the check came past 1
+  pub eight-long : 4 ≤ length l
+  unfolding openingOf
+  eight-long =
+      let p = passed (headOf l) (alphabetIn (headOf l) l) (length l) (eight l work e .opened) in
+      omega (arith, between-true (length l) shortestImage longestImage (p .allowed) .0)
+
+  eight-work : workAfter l work ≡ replicate (headOf l .g + 1) 0 ++ drop (headOf l .g + 1) work
+  unfolding workAfter clearedBy row5
+  eight-work =
+      let g = eight l work e in
+      ap (λ (r : Row). clearedBy r (headOf l .g + 1) work)
+      (second-part (openingOf l) (row5 (headOf l) (length work) ∷ []) (g .opened) ∙ no-row 5 0 [] (le-ltb (length work) (headOf l .g + 1) (g .lent)) ∙ first-nil)
+
+  -- a trial that passed is one of an accepted image
+  pub trial-mends : (w : List ℕ) → first (checking (withG l lower) w) ≡ none → mends l (checkOf l work .numbers) ≡ true
+  unfolding mends
+  trial-mends w f = rw (eq-eqb _ 8 e, accepted-exactly (withG l lower) .1 (check-accepts (withG l lower) w f))
+
+  module _ (narrow : lower < 2 ^ 32) where
+    trial-total : headOf (withG l lower) .g ≡ lower
+    unfolding withG
+    trial-total = ap (λ (h : Head). h .g) (head-total l lower eight-long narrow)
+
+    -- the trial leaves the working numbers as the check left them
+    pub trial-work : workAfter (withG l lower) (workAfter l work) ≡ workAfter l work
+    unfolding workAfter
+    trial-work =
+        let g = eight l work e in
+        rw eight-work
+        (cleared-kept (first (openingOf (withG l lower) ++ (row5 (headOf (withG l lower)) _ ∷ []))) (headOf (withG l lower) .g + 1) (headOf l .g + 1)
+        (drop (headOf l .g + 1) work)
+        (omega (arith, trial-total, g .least, g .most)))
+
+    -- they are enough for it
+    trial-lent : headOf (withG l lower) .g + 1 ≤ length (workAfter l work)
+    trial-lent =
+        let g = eight l work e in
+        let n : length (replicate {A = ℕ} (headOf l .g + 1) 0 ++ drop (headOf l .g + 1) work) ≡ length work =
+        simp (length-append, length-replicate, length-drop) (omega (arith, g .lent)) in
+        omega (arith, trial-total, g .least, g .most, g .lent, ap length eight-work ∙ n)
+
+    -- so a trial that was refused is not one of an accepted image
+    pub trial-keeps : {s : Said} → first (checking (withG l lower) (workAfter l work)) ≡ some s → mends l (checkOf l work .numbers) ≡ false
+    unfolding mends
+    trial-keeps {s} f = go (isAccepted (withG l lower)) refl
+      where
+        go : (b : Bool) → isAccepted (withG l lower) ≡ b → (eqb (checkOf l work .numbers .number) 8 && isAccepted (withG l lower)) ≡ false
+        go false g = rw g (and-false (eqb (checkOf l work .numbers .number) 8))
+        go true g =
+            let a = accepted-exactly (withG l lower) .0 g in
+            absurd (Option·some-ne-none s (sym f ∙ accepted-checks (withG l lower) (workAfter l work) a trial-lent))
