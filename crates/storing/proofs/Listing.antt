@@ -2,6 +2,7 @@
 -- list of a new path is told by how many nodes there are; what is still to be listed leaves what all of it would have left.
 use Prim.Native.Nat.{ℕ, zero, suc, _+_, _-_, _*_, _≤_, _<_}
 use mathlib.Core.Path.{_≡_, refl, sym, _∙_, ap}
+use mathlib.Core.Logic.{_≢_}
 use mathlib.Core.List.{List, [], _∷_, _++_}
 use native.Mathlib.Nat.{add-mul, suc-mul}
 use native.Mathlib.Numerals.{add-one}
@@ -10,13 +11,16 @@ use lib.ListN.{length, drop, replicate, length-append, length-replicate}
 use lib.Seq.{sets}
 use Rattle.field.specs.Field.{digits}
 use Rattle.field.proofs.Fields.{length-digits}
-use Rattle.trie.specs.Table.{Letters, complete, stopped}
+use Rattle.trie.specs.Table.{Letters, missing}
+use Rattle.trie.specs.Storing.{added}
 use Rattle.head.specs.declared.Head.{Head}
 use Rattle.head.specs.Fields.{nodeWidth, nodePlace, usedLen}
 use Rattle.head.proofs.Places.{row, place-add}
 use Rattle.node.specs.Image.{linkPlace, dataPlace}
 use Rattle.node.specs.Writes.{Write, listed, lastNode, pathNode, newNodes, totalWrite, linkWrite, dataWrite, storeWrites}
-use Rattle.storing.specs.Storing.{stoppedAt, Lists}
+use Rattle.walk.specs.declared.Position.{Position}
+use Rattle.walk.specs.declared.Walked.{Walked}
+use Rattle.storing.specs.Storing.{endOf, stoppedAt, Lists}
 
 -- ---- the length of a new node
 
@@ -80,16 +84,38 @@ lists-path h q x xs list {nodes = nodes} e s n used wide place r w v =
           );
     })
 
--- nothing is written for 0
-pub lists-none : (h : Head) (q x : ℕ) (xs list : List ℕ) {left : List ℕ} → left ≡ x ∷ xs → Lists h (stoppedAt q left) 0 list 0 list
-unfolding stoppedAt storeWrites listed
-lists-none h q x xs list e = rw e (record { count = refl; entries = refl })
+-- ---- by how the walk ended
 
--- the data alone
-pub lists-data : (h : Head) (q v : ℕ) (list : List ℕ) {list′ : List ℕ} → list′ ≡ sets list 0 (dataPlace h q ∷ h .d ∷ [])
-    → Lists h (complete q) v list 1 list′
-unfolding storeWrites dataWrite listed
-lists-data h q v list e = record { count = refl; entries = rw (length-digits (h .d) v) e }
+missing-all : (q : ℕ) (left : List ℕ) → missing (stoppedAt q left) ≡ length left
+unfolding stoppedAt missing
+missing-all q [] = refl
+missing-all q (x ∷ xs) = refl
+
+-- a node is missing for each letter left
+pub missing-left : (k : List ℕ) (value : ℕ) {o : Walked} {p : Position} → o ≡ Walked.Stopped p → value ≢ 0
+    → added (missing (endOf k o)) value ≡ length (drop (p .depth) k)
+unfolding endOf added
+missing-left k zero e z = absurd (z refl)
+missing-left k (suc v) {p = p} e z = rw e (missing-all (p .node) (drop (p .depth) k))
+
+module _ (h : Head) (k list : List ℕ) {o : Walked} where
+  -- the data alone
+  pub lists-data : (value : ℕ) {q place : ℕ} {list′ : List ℕ} → o ≡ Walked.Complete q → place ≡ dataPlace h q
+      → list′ ≡ sets list 0 (place ∷ h .d ∷ []) → Lists h (endOf k o) value list 1 list′
+  unfolding endOf storeWrites dataWrite listed
+  lists-data value {q} e p w = rw e (record { count = refl; entries = rw (length-digits (h .d) value, ← p) w })
+
+  module _ {p : Position} (e : o ≡ Walked.Stopped p) where
+    -- nothing for 0
+    pub lists-none : (value x : ℕ) (xs : List ℕ) → value ≡ 0 → drop (p .depth) k ≡ x ∷ xs → Lists h (endOf k o) value list 0 list
+    unfolding endOf stoppedAt storeWrites listed
+    lists-none value x xs z left = rw (e, z, left) (record { count = refl; entries = refl })
+
+    pub lists-value : (value : ℕ) {r : ℕ} {list′ : List ℕ} → value ≢ 0
+        → ((v : ℕ) → Lists h (stoppedAt (p .node) (drop (p .depth) k)) (suc v) list r list′) → Lists h (endOf k o) value list r list′
+    unfolding endOf
+    lists-value zero z all = absurd (z refl)
+    lists-value (suc v) z all = rw e (all v)
 
 -- ---- one after the other
 

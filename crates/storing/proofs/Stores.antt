@@ -50,8 +50,6 @@ module _ (h : Head) (l k : List ℕ) (value : ℕ) {o : Walked} where
   unfolding endOf stoppedAt
   stores-extended e x xs left r extends = rw (e, left) (extends x xs left)
 
--- ---- the walk's end is the key's descent
-
 -- a walk stops before the key's end
 stops-before : (key : Key) → length (key .letters) ≡ 64 → key .len ≤ 64 → {g : ℕ} {t : Table} {p : Position} → Halted g t (lettersOf key) p
     → p .depth < key .len
@@ -88,6 +86,26 @@ module _ (ws : List Write) (list : List ℕ) {o : Outcome} {l′ : List ℕ} whe
       → outcome (storedOf (Stored.Change c)) (l′ ∷ []) ≡ o → outcome (listedOf (Listed.Change c n)) (l′ ∷ list′ ∷ []) ≡ withList ws list o
   unfolding withList storedOf listedOf doneNumbers
   done-list c n w e = rw (← e, n, w)
+
+-- 11, 12 and 13 are no answers with number 0
+none-given : (x y z : Bool) (kept : List (List ℕ)) (done : Outcome)
+    → 0 ≡ heard (first (given 11 0 x ∷ given 12 0 y ∷ given 13 0 z ∷ [])) kept done .numbers .number → z ≡ false
+unfolding first given heard refusedNumbers
+none-given true y z kept done e = absurd (omega arith)
+none-given false true z kept done e = absurd (omega arith)
+none-given false false true kept done e = absurd (omega arith)
+none-given false false false kept done e = refl
+
+-- a store that was done had the room for its new nodes
+room : (h : Head) (l : List ℕ) (d : Descent) (value : ℕ) (c : ℤ) {l′ : List ℕ} → Leaves h l d value (Stored.Change c) l′
+    → 0 < added (missing d) value → usedLen h + added (missing d) value * nodeWidth h ≤ length l
+unfolding storeAt adding row11 row12 row13 storedOf doneNumbers
+room h l d value c e =
+    let k : ℕ = added (missing d) value in
+    none-13 h k (length l) .0
+    (not-given 13 0
+    (none-given (ltb (256 ^ h .d - 1) value) (ltb 0 k && ltb (256 ^ h .a - 1) (h .g + k)) (ltb 0 k && ltb (length l) (usedLen h + k * nodeWidth h)) _ _
+    (ap (λ (o : Outcome). o .numbers .number) e)))
 
 -- ---- the walk's end is the key's descent
 
@@ -131,11 +149,11 @@ module _ {l : List ℕ} {h : Head} (a : Accepted l) (same : h ≡ headOf l) wher
       module _ (c : ℤ) (e : Leaves h l (endOf k o) value (Stored.Change c) l′) where
         -- no row was given, so that the new nodes lie in the image
         pub lists-room : usedLen h + added (missing (endOf k o)) value * nodeWidth h ≤ longestImage
-        unfolding storeAt adding row11 row12 row13 storedOf doneNumbers
-        lists-room =
-            let n : ℕ = added (missing (endOf k o)) value in
-            let far : usedLen h + n * nodeWidth h ≤ length l = ? in
-            omega (arith, a .short-enough)
+        lists-room = go (added (missing (endOf k o)) value) (room h l (endOf k o) value c e)
+          where
+            go : (n : ℕ) → (0 < n → usedLen h + n * nodeWidth h ≤ length l) → usedLen h + n * nodeWidth h ≤ longestImage
+            go zero far = let used : usedLen h ≤ length l = rw same (a .room) in omega (arith, a .short-enough)
+            go (suc n) far = omega (arith, a .short-enough, far (omega arith))
 
         pub lists-done : (n : ℕ) {list′ : List ℕ} → Lists h (endOf k o) value list n list′ → ListsIn l k value list (Listed.Change c n) l′ list′
         lists-done n w =
