@@ -142,20 +142,22 @@ module _ {l : List ℕ} {h : Head} (a : Accepted l) (same : h ≡ headOf l) wher
     pub stores : (value : ℕ) (r : Stored) {l′ : List ℕ} → Leaves h l (endOf k o) value r l′ → StoresIn l k value r l′
     stores value r e = rw (in-hand, same) at e
 
-    module _ (list : List ℕ) (value : ℕ) {l′ : List ℕ} where
-      pub lists-refused : (why : Refusal) → Leaves h l (endOf k o) value (Stored.Refused why) l′ → ListsIn l k value list (Listed.Refused why) l′ list
-      lists-refused why e = refused-list (storeWrites (headOf l) d value) list why (stores value (Stored.Refused why) e)
+    -- s is what the store answered
+    module _ (value : ℕ) {s : Stored} {l′ : List ℕ} (e : Leaves h l (endOf k o) value s l′) where
+      pub lists-refused : (list : List ℕ) {why : Refusal} → s ≡ Stored.Refused why → ListsIn l k value list (Listed.Refused why) l′ list
+      lists-refused list {why} f = refused-list (storeWrites (headOf l) d value) list why (stores value (Stored.Refused why) (rw f at e))
 
-      module _ (c : ℤ) (e : Leaves h l (endOf k o) value (Stored.Change c) l′) where
-        -- no row was given, so that the new nodes lie in the image
+      module _ {c : ℤ} (f : s ≡ Stored.Change c) where
+        -- the new nodes lie in the image, which is not too long
         pub lists-room : usedLen h + added (missing (endOf k o)) value * nodeWidth h ≤ longestImage
-        lists-room = go (added (missing (endOf k o)) value) (room h l (endOf k o) value c e)
+        lists-room = go (added (missing (endOf k o)) value) (room h l (endOf k o) value c (rw f at e))
           where
             go : (n : ℕ) → (0 < n → usedLen h + n * nodeWidth h ≤ length l) → usedLen h + n * nodeWidth h ≤ longestImage
             go zero far = let used : usedLen h ≤ length l = rw same (a .room) in omega (arith, a .short-enough)
             go (suc n) far = omega (arith, a .short-enough, far (omega arith))
 
-        pub lists-done : (n : ℕ) {list′ : List ℕ} → Lists h (endOf k o) value list n list′ → ListsIn l k value list (Listed.Change c n) l′ list′
-        lists-done n w =
-            let own : Lists (headOf l) d value list n _ = rw (in-hand, same) at w in
-            done-list (storeWrites (headOf l) d value) list c (own .count) (own .entries) (stores value (Stored.Change c) e)
+        pub lists-done : (list : List ℕ) {b : ℤ} {n : ℕ} {list′ : List ℕ} → b ≡ c → Lists h (endOf k o) value list n list′
+            → ListsIn l k value list (Listed.Change b n) l′ list′
+        lists-done list {n = n} {list′} same-change w =
+            let own : Lists (headOf l) d value list n list′ = rw (in-hand, same) at w in
+            rw same-change (done-list (storeWrites (headOf l) d value) list c (own .count) (own .entries) (stores value (Stored.Change c) (rw f at e)))
