@@ -7,9 +7,8 @@ use mathlib.Core.List.{List, [], _∷_, _++_}
 use native.Mathlib.Nat.{add-mul, suc-mul}
 use native.Mathlib.Numerals.{add-one}
 use native.Mathlib.Omega.{arith}
-use lib.ListN.{length, drop, replicate, length-append, length-replicate}
+use lib.ListN.{length, drop, length-append, length-replicate}
 use lib.Seq.{sets}
-use Rattle.field.specs.Field.{digits}
 use Rattle.field.proofs.Fields.{length-digits}
 use Rattle.trie.specs.Table.{Letters, missing}
 use Rattle.trie.specs.Storing.{added}

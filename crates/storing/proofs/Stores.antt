@@ -29,12 +29,12 @@ use Rattle.paper.proofs.Hearing.{not-given}
 use Rattle.paper.proofs.Storing.{unfaulted, none-13}
 use Rattle.key.specs.declared.Key.{Key}
 use Rattle.key.specs.Hand.{lettersOf}
-use Rattle.key.proofs.Hand.{letters-count, letters-from}
+use Rattle.key.proofs.Hand.{letters-count}
 use Rattle.walk.specs.declared.Position.{Position}
 use Rattle.walk.specs.declared.Walked.{Walked}
 use Rattle.walk.specs.Descent.{atRoot, walkedFrom}
 use Rattle.walk.proofs.Descents.{Halted, walked-complete, walked-stopped, walked-bad}
-use Rattle.storing.specs.Storing.{storeAt, StoresIn, ListsIn, Stop, endOf, stoppedAt, Ends, Extends, Lists}
+use Rattle.storing.specs.Storing.{storeAt, StoresIn, ListsIn, endOf, stoppedAt, Ends, Extends, Lists}
 use Rattle.storing.proofs.Adding.{Leaves, replaced}
 
 -- ---- by how the walk ended
@@ -50,16 +50,10 @@ module _ (h : Head) (l k : List ℕ) (value : ℕ) {o : Walked} where
   unfolding endOf stoppedAt
   stores-extended e x xs left r extends = rw (e, left) (extends x xs left)
 
--- a walk stops before the key's end
-stops-before : (key : Key) → length (key .letters) ≡ 64 → key .len ≤ 64 → {g : ℕ} {t : Table} {p : Position} → Halted g t (lettersOf key) p
-    → p .depth < key .len
-stops-before key whole short {p = p} s =
-    omega (arith, length-drop (p .depth) (lettersOf key), ap length (s .left), letters-count key whole short)
-
 -- ---- with the writes listed
 
 -- a refusal's number is not 0
-refusal-said : (why : Refusal) → eqb (saidOf why .number) 0 ≡ false
+pub refusal-said : (why : Refusal) → eqb (saidOf why .number) 0 ≡ false
 refusal-said Refusal.ImageLength = refl
 refusal-said Refusal.HeadField = refl
 refusal-said Refusal.Alphabet = refl
@@ -108,6 +102,12 @@ room h l d value c e =
     (ap (λ (o : Outcome). o .numbers .number) e)))
 
 -- ---- the walk's end is the key's descent
+
+-- a walk stops before the key's end
+stops-before : (key : Key) → length (key .letters) ≡ 64 → key .len ≤ 64 → {g : ℕ} {t : Table} {p : Position} → Halted g t (lettersOf key) p
+    → p .depth < key .len
+stops-before key whole short {p = p} s =
+    omega (arith, length-drop (p .depth) (lettersOf key), ap length (s .left), letters-count key whole short)
 
 module _ {l : List ℕ} {h : Head} (a : Accepted l) (same : h ≡ headOf l) where
   never-bad : (k : List ℕ) {o : Walked} → o ≡ walkedFrom (h .g) (tableOf h l) atRoot k → {q : ℕ} → o ≡ Walked.Bad q → ⊥

@@ -1,11 +1,9 @@
 -- `storing::list` meets its contract: each end of the walk has its own list. Assumes nothing.
-use Prim.Native.Nat.{_+_, _-_, _*_, _≤_}
+use Prim.Native.Nat.{_-_}
 use mathlib.Core.Path.{_≡_, subst, _∙_, ap}
 use native.Mathlib.Omega.{arith}
 use borrow.Author.Needs.{needs}
 use lib.ListN.{length, drop, length-drop}
-use Rattle.head.specs.Fields.{longestImage, nodeWidth, usedLen}
-use Rattle.head.proofs.Permitted.{bounds}
 use Rattle.node.proofs.Places.{data-inside, inside-used}
 use Rattle.key.specs.Hand.{lettersOf}
 use Rattle.key.proofs.Hand.{letters-count, letters-from}
@@ -13,11 +11,6 @@ use Rattle.storing.specs.Storing.{Ends}
 use Rattle.storing.proofs.Listing.{missing-left, lists-data, lists-none, lists-value}
 use Rattle.storing.proofs.list.Statement.{statement}
 use Rattle.storing.proofs.list.Tie as tie
-use Rattle.storing.proofs.list.Reads as reads
-use Rattle.storing.proofs.list.Lts as lts
-use Rattle.node.proofs.data_place.Reads as data-place-reads
-use Rattle.storing.proofs.list_path.Reads as list-path-reads
-use Rattle.storing.proofs.note.Reads as note-reads
 
 -- the array has 64 letters
 whole : (c : tie.Start) → length (c .args .key .letters) ≡ 64
@@ -30,22 +23,15 @@ data-place-requires : tie.Need-data-place-requires
 data-place-requires c κs = search needs
 
 cast-note : tie.Need-cast-note
-cast-note c = search needs
-
-note-requires : tie.Need-note-requires
-note-requires c κs =
-    let placed = c .before in
-    let told = placed .before .before .before in
+cast-note c =
+    let told = c .before .before .before in
     let start = told .before .before in
     let a = start .args in
     let within = subst (Ends (a .h) (a .key)) (told .walked .given .1) (start .pre .1 .1 .0) in
-    (
-      omega arith,
-      (
-        omega (arith, placed .data-place .ensures, inside-used (data-inside (a .h) (told .walked .given .0 .0)) within, start .pre .1 .1 .1),
-        omega (arith, bounds (a .h) (start .pre .0)),
-      ),
-    )
+    omega (arith, c .data-place .ensures, inside-used (data-inside (a .h) (told .walked .given .0 .0)) within, start .pre .1 .1 .1)
+
+note-requires : tie.Need-note-requires
+note-requires c κs = search needs
 
 enum-known-walked-2 : tie.Need-enum-known-walked-2
 enum-known-walked-2 c = search needs
@@ -67,8 +53,8 @@ list-path-requires c κs =
     let p = start .pre in
     let stop = subst (Ends (a .h) (a .key)) (told .walked2 .given .1) (p .1 .1 .0) in
     let count : length (drop (told .walked2 .given .0 .0 .depth) (lettersOf (a .key))) ≡ a .key .len - told .walked2 .given .0 .0 .depth
-        = length-drop (told .walked2 .given .0 .0 .depth) (lettersOf (a .key))
-        ∙ ap (λ n. n - told .walked2 .given .0 .0 .depth) (letters-count (a .key) (whole start) (p .1 .0 .short)) in
+    = length-drop (told .walked2 .given .0 .0 .depth) (lettersOf (a .key))
+    ∙ ap (λ n. n - told .walked2 .given .0 .0 .depth) (letters-count (a .key) (whole start) (p .1 .0 .short)) in
     (p .0, (p .1 .0, (stop, rw (missing-left (lettersOf (a .key)) (a .value) (told .walked2 .given .1) (c .before .if1 .left), count) at (p .1 .1 .1))))
 
 enum-told : tie.Need-enum-told
@@ -76,7 +62,7 @@ enum-told c = search needs
 
 returns-2 : tie.Need-returns-2
 returns-2 c =
-    let placed = c .before .before in
+    let placed = c .before in
     let told = placed .before .before .before in
     let a = told .before .before .args in
     lists-data (a .h) (lettersOf (a .key)) _ _ (told .walked .given .1) (placed .data-place .ensures) (c .note .ensures)

@@ -5,9 +5,6 @@ use borrow.Author.Needs.{needs}
 use Rattle.storing.proofs.note.Statement.{statement}
 use Rattle.storing.proofs.note.Tie as tie
 
-cast-writes : tie.Need-cast-writes
-cast-writes c = search needs
-
 mul-writes : tie.Need-mul-writes
 mul-writes c = search needs
 
@@ -16,9 +13,6 @@ mul-writes-2 c = search needs
 
 element-write-writes : tie.Need-element-write-writes
 element-write-writes c = search needs
-
-cast-writes-2 : tie.Need-cast-writes-2
-cast-writes-2 c = search needs
 
 mul-writes-3 : tie.Need-mul-writes-3
 mul-writes-3 c = search needs
@@ -39,11 +33,9 @@ pub note-spec : {M : Type 1} → statement M
 note-spec =
     tie.close
     (tie.spec
-    cast-writes
     mul-writes
     mul-writes-2
     element-write-writes
-    cast-writes-2
     mul-writes-3
     add-writes
     mul-writes-4

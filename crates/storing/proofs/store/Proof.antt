@@ -7,10 +7,6 @@ use Rattle.key.specs.Hand.{lettersOf}
 use Rattle.storing.proofs.Stores.{ends, stores}
 use Rattle.storing.proofs.store.Statement.{statement}
 use Rattle.storing.proofs.store.Tie as tie
-use Rattle.storing.proofs.store.Reads as reads
-use Rattle.storing.proofs.store.Lts as lts
-use Rattle.storing.proofs.store_at.Reads as store-at-reads
-use Rattle.walk.proofs.walk.Reads as walk-reads
 
 -- the array has 64 letters
 whole : (c : tie.Start) → length (c .args .key .letters) ≡ 64
@@ -23,8 +19,7 @@ store-at-requires : tie.Need-store-at-requires
 store-at-requires c κs =
     let walked = c .before in
     let start = walked .before .before .before in
-    let p = start .pre in
-    (
+    let p = start .pre in (
       head-open (p .0) (p .1 .0),
       (p .1 .1, ends (p .0) (p .1 .0) (start .args .key) (whole start) (p .1 .1 .short) _ (walked .walk .ensures)),
     )

@@ -13,11 +13,6 @@ use Rattle.storing.proofs.Adding.{too-great}
 use Rattle.storing.proofs.Stores.{stores-over, stores-extended}
 use Rattle.storing.proofs.store_at.Statement.{statement}
 use Rattle.storing.proofs.store_at.Tie as tie
-use Rattle.storing.proofs.store_at.Reads as reads
-use Rattle.storing.proofs.store_at.Lts as lts
-use Rattle.node.proofs.greatest.Reads as greatest-reads
-use Rattle.storing.proofs.extend.Reads as extend-reads
-use Rattle.storing.proofs.replace.Reads as replace-reads
 
 -- the array has 64 letters
 whole : (c : tie.Start) → length (c .args .key .letters) ≡ 64

@@ -1,6 +1,6 @@
 -- `storing::store_listed` meets its contract: as `store`, and a store that was done had the room that its list is told from. Assumes
 -- nothing.
-use mathlib.Core.Path.{_≡_, subst}
+use mathlib.Core.Path.{_≡_}
 use mir.Syntax.{w32}
 use mir.Facts.{toZ-ofZ}
 use borrow.Author.Needs.{needs, sfits-of}
@@ -10,11 +10,6 @@ use Rattle.key.specs.Hand.{lettersOf}
 use Rattle.storing.proofs.Stores.{ends, lists-refused, lists-room, lists-done}
 use Rattle.storing.proofs.store_listed.Statement.{statement}
 use Rattle.storing.proofs.store_listed.Tie as tie
-use Rattle.storing.proofs.store_listed.Reads as reads
-use Rattle.storing.proofs.store_listed.Lts as lts
-use Rattle.storing.proofs.list.Reads as list-reads
-use Rattle.storing.proofs.store_at.Reads as store-at-reads
-use Rattle.walk.proofs.walk.Reads as walk-reads
 
 -- the array has 64 letters
 whole : (c : tie.Start) → length (c .args .key .letters) ≡ 64
@@ -27,8 +22,7 @@ store-at-requires : tie.Need-store-at-requires
 store-at-requires c κs =
     let walked = c .before in
     let start = walked .before .before .before in
-    let p = start .pre in
-    (
+    let p = start .pre in (
       head-open (p .0) (p .1 .0),
       (p .1 .1, ends (p .0) (p .1 .0) (start .args .key) (whole start) (p .1 .1 .short) _ (walked .walk .ensures)),
     )
@@ -45,8 +39,7 @@ list-requires c κs =
     let stored = told .before .before .before .before in
     let walked = stored .before .before in
     let start = walked .before .before .before in
-    let p = start .pre in
-    (
+    let p = start .pre in (
       head-open (p .0) (p .1 .0) .head-permitted,
       (
         p .1 .1,
