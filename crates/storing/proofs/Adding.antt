@@ -58,7 +58,7 @@ some-new k b = rw (lt-ltb 0 (suc k) (omega arith)) refl
 
 module _ (h : Head) (l : List ℕ) where
   -- what is heard and left where the walk ended so
-  abbrev Leaves : Descent → ℕ → Stored → List ℕ → Type 0
+  abbrev pub Leaves : Descent → ℕ → Stored → List ℕ → Type 0
   Leaves d value r l′ = outcome (storedOf r) (l′ ∷ []) ≡ storeAt h l d value
 
   abbrev rows : Descent → ℕ → List Row

@@ -164,7 +164,7 @@ fn list(writes: &mut [u32; 132], h: Head, key: Key, walked: Walked, value: u64) 
 {
     match walked {
         Walked::Complete(node) => {
-            note(writes, 0, node::data_place(h, node), h.d as usize);
+            note(writes, 0, node::data_place(h, node) as u32, h.d);
             1
         }
         Walked::Stopped(at) => {
@@ -185,29 +185,25 @@ fn list_path(writes: &mut [u32; 132], h: Head, key: Key, at: Position) -> u32
     let depth = at.depth;
     let letters = key.letters;
     let nodes = key.len - depth;
-    let width = h.node_width() as usize;
+    let width = h.node_width() as u32;
+    let link = node::link_place(h, at.node, letters[depth] as u32) as u32;
     let mut i: usize = 0;
-    let mut place = h.used() as usize;
+    let mut place = h.used() as u32;
     while i < nodes {
         note(writes, i, place, width);
         place += width;
         i += 1;
     }
     note(writes, nodes, 0, 4);
-    note(
-        writes,
-        nodes + 1,
-        node::link_place(h, at.node, letters[depth] as u32),
-        h.a as usize,
-    );
+    note(writes, nodes + 1, link, h.a);
     (nodes + 2) as u32
 }
 
 // Write number i of a list.
-fn note(writes: &mut [u32; 132], i: usize, place: usize, len: usize)
-    requires { ⌜ i < 66 ⌝ ∗ ⌜ place ≤ longestImage ⌝ ∗ ⌜ len ≤ longestImage ⌝ }
+fn note(writes: &mut [u32; 132], i: usize, place: u32, len: u32)
+    requires { ⌜ i < 66 ⌝ }
     ensures { λ _. ⌜ now (writes .exit) ≡ sets (now (writes .entry)) (2 * i) (place ∷ len ∷ []) ⌝ }
 {
-    writes[2 * i] = place as u32;
-    writes[2 * i + 1] = len as u32;
+    writes[2 * i] = place;
+    writes[2 * i + 1] = len;
 }

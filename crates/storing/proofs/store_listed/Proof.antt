@@ -1,0 +1,91 @@
+-- `storing::store_listed` meets its contract: as `store`, and a store that was done had the room that its list is told from. Assumes
+-- nothing.
+use mathlib.Core.Path.{_≡_}
+use mir.Syntax.{w32}
+use mir.Facts.{toZ-ofZ}
+use borrow.Author.Needs.{needs, sfits-of}
+use lib.ListN.{length}
+use Rattle.paper.proofs.Checking.{head-open}
+use Rattle.key.specs.Hand.{lettersOf}
+use Rattle.storing.proofs.Stores.{ends, lists-refused, lists-room, lists-done}
+use Rattle.storing.proofs.store_listed.Statement.{statement}
+use Rattle.storing.proofs.store_listed.Tie as tie
+
+-- the array has 64 letters
+whole : (c : tie.Start) → length (c .args .key .letters) ≡ 64
+whole c = search needs
+
+walk-requires : tie.Need-walk-requires
+walk-requires c κs = let p = c .before .before .pre in (head-open (p .0) (p .1 .0), p .1 .1)
+
+store-at-requires : tie.Need-store-at-requires
+store-at-requires c κs =
+    let walked = c .before in
+    let start = walked .before .before .before in
+    let p = start .pre in (
+      head-open (p .0) (p .1 .0),
+      (p .1 .1, ends (p .0) (p .1 .0) (start .args .key) (whole start) (p .1 .1 .short) _ (walked .walk .ensures)),
+    )
+
+enum-known-stored : tie.Need-enum-known-stored
+enum-known-stored c = search needs
+
+enum-known-stored-2 : tie.Need-enum-known-stored-2
+enum-known-stored-2 c = search needs
+
+list-requires : tie.Need-list-requires
+list-requires c κs =
+    let told = c .before .before in
+    let stored = told .before .before .before .before in
+    let walked = stored .before .before in
+    let start = walked .before .before .before in
+    let p = start .pre in (
+      head-open (p .0) (p .1 .0) .head-permitted,
+      (
+        p .1 .1,
+        (
+          ends (p .0) (p .1 .0) (start .args .key) (whole start) (p .1 .1 .short) _ (walked .walk .ensures),
+          lists-room (p .0) (p .1 .0) (lettersOf (start .args .key)) (walked .walk .ensures) _ (stored .store-at .ensures) (told .stored2 .given .1),
+        ),
+      ),
+    )
+
+same-length : tie.Need-same-length
+same-length c = search needs
+
+returns : tie.Need-returns
+returns c =
+    let told = c .before in
+    let stored = told .before .before .before .before in
+    let walked = stored .before .before in
+    let start = walked .before .before .before in
+    let p = start .pre in
+    lists-refused (p .0) (p .1 .0) (lettersOf (start .args .key)) (walked .walk .ensures) _ (stored .store-at .ensures) _ (told .stored .given .1)
+
+same-length-2 : tie.Need-same-length-2
+same-length-2 c = search needs
+
+returns-2 : tie.Need-returns-2
+returns-2 c =
+    let known = c .before .before in
+    let told = known .before in
+    let stored = told .before .before .before .before in
+    let walked = stored .before .before in
+    let start = walked .before .before .before in
+    let p = start .pre in
+    lists-done (p .0) (p .1 .0) (lettersOf (start .args .key)) (walked .walk .ensures) _ (stored .store-at .ensures) (told .stored2 .given .1) _
+    (toZ-ofZ {w = w32} (sfits-of (known .known-told2 .given .0 .1))) (c .list .ensures)
+
+pub store-listed-spec : {M : Type 1} → statement M
+store-listed-spec =
+    tie.close
+    (tie.spec
+    walk-requires
+    store-at-requires
+    enum-known-stored
+    enum-known-stored-2
+    list-requires
+    same-length
+    returns
+    same-length-2
+    returns-2)
