@@ -1,2 +1,4 @@
+pub mod Cuts
 pub mod Lists
 pub mod Seen
+pub mod Unlinked

@@ -1,7 +1,7 @@
 -- What the calls that do not write see of an image: its head, its table, its alphabet and its length, and nothing else. So images that
 -- look the same answer alike. Bytes from U on are not seen, and of the first four only the number in them.
 use Prim.Native.Nat.{ℕ, _+_, _≤_, _<_}
-use mathlib.Core.Path.{_≡_, refl, sym, ap, subst, _∙_}
+use mathlib.Core.Path.{_≡_, sym, ap, ap₂, subst, _∙_}
 use mathlib.Core.Bool.{true}
 use mathlib.Core.Option.{Option}
 use mathlib.Core.List.{List, [], _∷_, _++_}
@@ -44,24 +44,33 @@ seen-eq s t h u a n i = record { head = h i; table = u i; alphabet = a i; len = 
 before-used : (h : Head) → fieldsLen + h .f ≤ usedLen h
 before-used h = omega (arith, place-least h 0, used-le h 0 (omega arith))
 
-same-alphabet : (h : Head) (a b : List ℕ) → length a ≡ length b → ((p : ℕ) → 4 ≤ p → p < usedLen h → getD a p 0 ≡ getD b p 0)
-    → alphabetIn h a ≡ alphabetIn h b
+-- two images have the same bytes from G's end up to a place
+abbrev pub SameUpTo : ℕ → List ℕ → List ℕ → Type 0
+SameUpTo to a b = (p : ℕ) → 4 ≤ p → p < to → getD a p 0 ≡ getD b p 0
+
+same-alphabet : (h : Head) (a b : List ℕ) → length a ≡ length b → SameUpTo (fieldsLen + h .f) a b → alphabetIn h a ≡ alphabetIn h b
 unfolding alphabetIn
 same-alphabet h a b n e =
     ext-getD 0 (take (h .f) (drop fieldsLen a)) (take (h .f) (drop fieldsLen b)) (simp (length-take, length-drop, n))
     (λ i c.
     let d : i < h .f = omega (arith, simp length-take at c) in
-    simp (getD-take, getD-drop) (e (fieldsLen + i) (omega arith) (omega (arith, before-used h))))
+    simp (getD-take, getD-drop) (e (fieldsLen + i) (omega arith) (omega arith)))
+
+-- of 1 to 4 the nodes' bytes are no part
+pub opens-same : (a b : List ℕ) → headOf a ≡ headOf b → length a ≡ length b → SameUpTo (fieldsLen + headOf b .f) a b → openingOf a ≡ openingOf b
+unfolding openingOf
+opens-same a b heads n e =
+    ap (λ (k : Head). opening k (alphabetIn k a) (length a)) heads ∙ ap₂ (opening (headOf b)) (same-alphabet (headOf b) a b n e) n
 
 -- where the heads are equal and the bytes after G, as far as is used
 pub seen-same : (a b : List ℕ) → headOf a ≡ headOf b → length a ≡ length b
-    → ((p : ℕ) → 4 ≤ p → p < usedLen (headOf b) → getD a p 0 ≡ getD b p 0) → seenIn a ≡ seenIn b
+    → SameUpTo (usedLen (headOf b)) a b → seenIn a ≡ seenIn b
 unfolding tableIn
 seen-same a b heads n e =
     let h : Head = headOf b in
     seen-eq (seenIn a) (seenIn b) heads
     (ap (λ (k : Head). tableOf k a) heads ∙ table-bytes h a b (λ p c d. e p (omega arith) d))
-    (ap (λ (k : Head). alphabetIn k a) heads ∙ same-alphabet h a b n e)
+    (ap (λ (k : Head). alphabetIn k a) heads ∙ same-alphabet h a b n (λ p c d. e p c (omega (arith, before-used h))))
     n
 
 -- where all bytes are equal, as far as is used

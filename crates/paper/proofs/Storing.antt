@@ -60,7 +60,7 @@ record Written (l : List ℕ) (d : Descent) (v g : ℕ) : Type 0 where
 
 module _ {l key : List ℕ} {value : ℕ} (s : Granted l key value) where
   -- where the key's walk ends
-  pub ends : EndsIn (headOf l) (descend (tableIn l) 0 key)
+  ends : EndsIn (headOf l) (descend (tableIn l) 0 key)
   ends = go (descend (tableIn l) 0 key) refl
     where
       go : (d : Descent) → descend (tableIn l) 0 key ≡ d → EndsIn (headOf l) d

@@ -1,0 +1,223 @@
+-- 02, Ask 1: "After a cut anywhere, a mending call with enough working numbers must leave the answers from before the store or after it."
+-- A cut among the new nodes has changed spare bytes alone. Once G has landed and the link has not, the first new node is the only one
+-- that stands in no link; the check answers 8 there, and G lowered to the address before it is the G that was. Else all has landed.
+use Prim.Native.Nat.{ℕ, zero, suc, _+_, _-_, _*_, _^_, _≤_, _<_}
+use mathlib.Core.Path.{_≡_, refl, sym, ap, ap₂, subst, _∙_}
+use mathlib.Core.Bool.{Bool, true, false, _&&_}
+use mathlib.Core.Logic.{inl, inr}
+use mathlib.Core.Option.{none}
+use mathlib.Core.List.{List, [], _∷_, _++_}
+use native.Mathlib.Numerals.{add-one}
+use native.Mathlib.Decide.{decLt}
+use native.Mathlib.Omega.{arith}
+use lib.ListN.{length, getD, length-append}
+use lib.Seq.{sets, length-sets}
+use lib.IntN.{pos}
+use borrow.Author.Tests.{eq-eqb}
+use Rattle.field.specs.Field.{digits, putField}
+use Rattle.field.proofs.Laid.{getD-outside}
+use Rattle.field.proofs.Fields.{length-digits}
+use Rattle.trie.specs.Table.{Table, Descent, complete, stopped, descend, missing}
+use Rattle.trie.specs.Storing.{grow, added}
+use Rattle.trie.proofs.Walk.{complete-within, where-stopped}
+use Rattle.trie.proofs.Grow.{room}
+use Rattle.head.specs.declared.Head.{Head}
+use Rattle.head.specs.Fields.{fieldsLen, headOf, nodeWidth, nodePlace, usedLen}
+use Rattle.head.proofs.Fields.{head-outside, head-total}
+use Rattle.head.proofs.Permitted.{bounds, addresses-fit}
+use Rattle.head.proofs.Places.{place-le, place-least, used-le}
+use Rattle.node.specs.Image.{linkPlace, dataPlace, tableOf}
+use Rattle.node.specs.Writes.{Write, carriedOut, newNodes, totalWrite, linkWrite, dataWrite, storeWrites}
+use Rattle.node.proofs.Places.{link-from, link-inside, data-inside, inside-used}
+use Rattle.node.proofs.Tables.{table-bytes}
+use Rattle.node.proofs.Writes.{table-link}
+use Rattle.node.proofs.Heads.{withTotal, child-kept, used-total, used-more}
+use Rattle.node.proofs.Storing.{Storable, length-carried, carried-append, new-head}
+use Rattle.paper.specs.Hearing.{Numbers, Outcome, outcome, first, refusedNumbers, doneNumbers}
+use Rattle.paper.specs.Answers.{said}
+use Rattle.paper.specs.Orders.{openingOf, checking, newOf}
+use Rattle.paper.specs.Calls.{tableIn, workAfter, checkOf, writesIn, storedImage, withG, isAccepted, mends}
+use Rattle.paper.specs.Accepted.{Accepted}
+use Rattle.paper.specs.Granted.{Granted}
+use Rattle.paper.proofs.Hearing.{heard-done}
+use Rattle.paper.proofs.Checking.{accepted-opens, accepted-checks, accepted-linked}
+use Rattle.paper.proofs.Storing.{accepted-again}
+use Rattle.paper.proofs.Mending.{accepted-exactly, mend-kept, mend-lowered}
+use Rattle.cuts.specs.Cut.{cutAfter}
+use Rattle.cuts.specs.Answers.{MendsTo}
+use Rattle.cuts.proofs.Lists.{From, from-before, length-cut, carried-before, cut-before-all, cut-append, cut-whole, hit-none}
+use Rattle.cuts.proofs.Seen.{seenIn, opens-same, seen-same, seen-below, same-answers, same-accepted}
+use Rattle.cuts.proofs.Unlinked.{Unlinked, check-unlinked}
+
+-- ---- an image that looks as an accepted one does
+
+module _ (a work m : List ℕ) (same : seenIn a ≡ seenIn m) (accepted : Accepted m) (lent : headOf a .g + 1 ≤ length work) where
+  check-done : checkOf a work .numbers ≡ doneNumbers 0 (pos 0) 0
+  unfolding checkOf
+  check-done =
+      ap (λ (o : Outcome). o .numbers) (heard-done (first (checking a work)) _ _ (accepted-checks a work (same-accepted same accepted) lent))
+
+  -- it is left as it is
+  pub mends-kept : MendsTo a work m
+  unfolding mends doneNumbers
+  mends-kept =
+      let still : mends a (checkOf a work .numbers) ≡ false = rw check-done in
+      record {
+        image = a;
+        heard = mend-kept a work still ∙ ap (λ (n : Numbers). outcome n (a ∷ workAfter a work ∷ [])) check-done;
+        accepted = same-accepted same accepted;
+        answers = same-answers same;
+      }
+
+-- ---- where G is lowered
+
+lowers : (l : List ℕ) (m : Numbers) {g : ℕ} → m .number ≡ 8 → m .place - 1 ≡ g → isAccepted (withG l g) ≡ true → mends l m ≡ true
+unfolding mends
+lowers l m n p e = ap₂ _&&_ (eq-eqb (m .number) 8 n) (ap (λ (g : ℕ). isAccepted (withG l g)) p ∙ e)
+
+-- ---- new nodes, of which no link tells yet
+
+-- they are written to spare bytes
+pub nodes-from : (h : Head) (q : ℕ) (ys : List ℕ) (v : ℕ) → From (nodePlace h q) (newNodes h q ys v)
+unfolding newNodes
+nodes-from h q [] v = (omega arith, tt)
+nodes-from h q (y ∷ ys) v =
+    (omega arith, from-before (nodePlace h q) (nodePlace h (suc q)) (newNodes h (suc q) ys v) (place-le h q (suc q) (omega arith)) (nodes-from h (suc q) ys v))
+
+module _ {l key : List ℕ} {v : ℕ} (s : Granted l key (suc v)) {q x : ℕ} {xs : List ℕ} (e : descend (tableIn l) 0 key ≡ stopped q x xs) where
+  abbrev h : Head
+  h = headOf l
+
+  abbrev g : ℕ
+  g = headOf l .g
+
+  abbrev total : ℕ
+  total = headOf l .g + suc (length xs)
+
+  abbrev nodes : List Write
+  nodes = newNodes (headOf l) (suc (headOf l .g)) xs (suc v)
+
+  -- the image with the nodes alone, and with G as well
+  abbrev begun : List ℕ
+  begun = carriedOut l (newNodes (headOf l) (suc (headOf l .g)) xs (suc v))
+
+  abbrev counted : List ℕ
+  counted = sets (carriedOut l (newNodes (headOf l) (suc (headOf l .g)) xs (suc v))) 0 (digits 4 (headOf l .g + suc (length xs)))
+
+  pub able : Storable (headOf l) l q x xs (suc v)
+  unfolding tableIn newOf missing added
+  able =
+      let r = room key (accepted-linked (s .accepted)) (s .fit .below) e in
+      let k : newOf h l key (suc v) ≡ suc (length xs) = rw e in
+      let lies : usedLen h + suc (length xs) * nodeWidth h ≤ length l = rw k at (s .room (omega arith)) in
+      record {
+        node = r .node;
+        letters = r .letters;
+        addresses = omega (arith, s .addresses (omega arith));
+        value = s .value-fits;
+        room = rw (used-more h (suc (length xs))) lies;
+      }
+
+  fits : total < 2 ^ 32
+  fits = omega (arith, able .addresses, addresses-fit (bounds h (s .accepted .head-permitted)))
+
+  pub spare : (p : ℕ) → p < usedLen (headOf l) → From (suc p) nodes
+  unfolding usedLen
+  spare p b = from-before (suc p) (nodePlace h (suc g)) nodes (omega (arith, ap (nodePlace h) (add-one g))) (nodes-from h (suc g) xs (suc v))
+
+  long : length counted ≡ length l
+  long = length-sets begun 0 (digits 4 total) ∙ length-carried l nodes
+
+  heads : headOf counted ≡ withTotal h total
+  heads =
+      head-total begun total (omega (arith, length-carried l nodes, s .accepted .long-enough)) fits
+      ∙ ap (λ (k : Head). withTotal k total) (new-head h l (suc g) xs (suc v))
+
+  after-g : (p : ℕ) → 4 ≤ p → p < usedLen h → getD counted p 0 ≡ getD l p 0
+  after-g p a b = getD-outside begun (digits 4 total) 0 p 0 (inr (omega (arith, length-digits 4 total))) ∙ carried-before p l nodes (spare p b)
+
+  -- with G lowered again it looks as the image did
+  lowered : seenIn (withG counted g) ≡ seenIn l
+  unfolding withG
+  lowered =
+      seen-same (withG counted g) l
+      (head-total counted g (omega (arith, long, s .accepted .long-enough)) (omega (arith, fits)) ∙ ap (λ (k : Head). withTotal k g) heads)
+      (length-sets counted 0 (digits 4 g) ∙ long)
+      (λ p a b. getD-outside counted (digits 4 g) 0 p 0 (inr (omega (arith, length-digits 4 g))) ∙ after-g p a b)
+
+  -- ---- the last write: the link
+
+  last : storedImage l key (suc v) ≡ putField counted (linkPlace h q x) (h .a) (suc g)
+  unfolding storedImage storeWrites carriedOut totalWrite linkWrite
+  last =
+      ap (λ (d : Descent). carriedOut l (storeWrites h d (suc v))) e
+      ∙ carried-append l nodes (totalWrite total ∷ linkWrite h q x (suc g) ∷ [])
+
+  far : fieldsLen + h .f ≤ linkPlace h q x
+  far = omega (arith, place-least h q, link-from h q x)
+
+  same-head : headOf (storedImage l key (suc v)) ≡ headOf counted
+  same-head = ap headOf last ∙ head-outside counted (digits (h .a) (suc g)) (linkPlace h q x) (omega (arith, far))
+
+  linked : tableIn (storedImage l key (suc v)) ≡ grow (tableIn counted) q x (suc g)
+  unfolding tableIn linkPlace
+  linked =
+      let k : Head = withTotal h total in
+      let r : usedLen k ≤ length counted = omega (arith, long, able .room) in
+      ap (λ (m : Head). tableOf m (storedImage l key (suc v))) (same-head ∙ heads)
+      ∙ ap (tableOf k) last
+      ∙ table-link k counted r q x (suc g) (omega (arith, able .node)) (able .letters .0) (omega (arith, able .addresses))
+      ∙ ap (λ (m : Head). grow (tableOf m counted) q x (suc g)) (sym heads)
+
+  empty : tableIn counted .child q x ≡ 0
+  unfolding tableIn
+  empty =
+      ap (λ (k : Head). tableOf k counted .child q x) heads
+      ∙ child-kept h counted total q (able .node) (omega (arith, able .node)) x
+      ∙ ap (λ (t : Table). t .child q x) (table-bytes h counted l (λ p a b. after-g p (omega arith) b))
+      ∙ where-stopped (tableIn l) 0 key e .empty
+
+  unlinked : Unlinked (headOf counted .g) (tableIn counted) q x (suc g)
+  unlinked =
+      let a = accepted-again s in
+      record {
+        empty = empty;
+        least = omega arith;
+        most = rw heads (omega arith);
+        within = rw (linked, same-head) at (a .within);
+        rising = rw linked at (a .rising);
+        named = rw (linked, same-head) at (a .named);
+        once = rw linked at (a .once);
+      }
+
+  opened : first (openingOf counted) ≡ none
+  opened =
+      let a = accepted-again s in
+      let f : headOf (storedImage l key (suc v)) .f ≡ h .f = ap (λ (k : Head). k .f) (same-head ∙ heads) in
+      let at : ℕ = linkPlace h q x in
+      let bs : List ℕ = digits (h .a) (suc g) in
+      ap first
+      (opens-same counted (storedImage l key (suc v)) (sym same-head) (rw last (sym (length-sets counted at bs)))
+      (λ p low high. rw last (sym (getD-outside counted bs at p 0 (inl (omega (arith, far)))))))
+      ∙ accepted-opens a
+
+  -- ---- the image between the two writes that tell of the nodes
+
+  eight : (work : List ℕ) → headOf counted .g + 1 ≤ length work → checkOf counted work .numbers ≡ refusedNumbers (said 8 (suc g))
+  eight work lent = check-unlinked counted work unlinked opened lent
+
+  pub mends-lowered : (work : List ℕ) → headOf counted .g + 1 ≤ length work → MendsTo counted work l
+  unfolding refusedNumbers
+  mends-lowered work lent =
+      let numbers : Numbers = checkOf counted work .numbers in
+      let again : Accepted (withG counted g) = same-accepted lowered (s .accepted) in
+      let number : numbers .number ≡ 8 = ap (λ (n : Numbers). n .number) (eight work lent) in
+      let place : numbers .place - 1 ≡ g = ap (λ (n : Numbers). n .place - 1) (eight work lent) ∙ omega arith in
+      record {
+        image = withG counted g;
+        heard =
+            mend-lowered counted work (lowers counted numbers number place (accepted-exactly (withG counted g) .1 again))
+            ∙ ap (λ (p : ℕ). outcome (doneNumbers 0 (pos 0) 0) (withG counted p ∷ workAfter counted work ∷ [])) place;
+        accepted = again;
+        answers = same-answers lowered;
+      }
