@@ -43,7 +43,7 @@ use Rattle.paper.proofs.Hearing.{heard-done}
 use Rattle.paper.proofs.Checking.{accepted-opens, accepted-checks, accepted-linked}
 use Rattle.paper.proofs.Storing.{accepted-again}
 use Rattle.paper.proofs.Mending.{accepted-exactly, mend-kept, mend-lowered}
-use Rattle.cuts.specs.Cut.{cutAfter}
+use Rattle.cuts.specs.Cut.{hit, cutAfter}
 use Rattle.cuts.specs.Answers.{MendsTo}
 use Rattle.cuts.proofs.Lists.{From, from-before, length-cut, carried-before, cut-before-all, cut-append, cut-whole, hit-none}
 use Rattle.cuts.proofs.Seen.{seenIn, opens-same, seen-same, seen-below, same-answers, same-accepted}
@@ -74,6 +74,19 @@ module _ (a work m : List ℕ) (same : seenIn a ≡ seenIn m) (accepted : Accept
 lowers : (l : List ℕ) (m : Numbers) {g : ℕ} → m .number ≡ 8 → m .place - 1 ≡ g → isAccepted (withG l g) ≡ true → mends l m ≡ true
 unfolding mends
 lowers l m n p e = ap₂ _&&_ (eq-eqb (m .number) 8 n) (ap (λ (g : ℕ). isAccepted (withG l g)) p ∙ e)
+
+-- ---- a write that was hit, and was none to spare bytes
+
+-- mending what was left answers 0 and leaves the answers from before
+abbrev pub Before : List ℕ → List ℕ → List ℕ → Type 0
+Before l work r = headOf r .g + 1 ≤ length work → MendsTo r work l
+
+not-landed : {l : List ℕ} (lands : ℕ → Bool) (work r : List ℕ) (w : Write) → Accepted l → seenIn r ≡ seenIn l → w .place < usedLen (headOf r)
+    → Before l work (hit lands r w)
+not-landed {l} lands work r w a same b lent = mends-kept (hit lands r w) work l (ap seenIn (hit-none lands r w b) ∙ same) a lent
+
+used-least : (h : Head) → fieldsLen ≤ usedLen h
+used-least h = omega (arith, place-least h 0, used-le h 0 (omega arith))
 
 -- ---- new nodes, of which no link tells yet
 
@@ -221,3 +234,81 @@ module _ {l key : List ℕ} {v : ℕ} (s : Granted l key (suc v)) {q x : ℕ} {x
         accepted = again;
         answers = same-answers lowered;
       }
+
+  -- ---- a cut behind the nodes
+
+  looks-begun : seenIn begun ≡ seenIn l
+  looks-begun = seen-below begun l (length-carried l nodes) (λ p b. carried-before p l nodes (spare p b))
+
+  link-used : linkPlace h q x < usedLen (headOf counted)
+  link-used =
+      let a = link-inside h q (able .letters .0) in
+      rw (heads, used-total h total)
+      (omega (arith, bounds h (s .accepted .head-permitted) .a-least, place-le h (q + 1) (suc total) (omega (arith, able .node))))
+
+  cut-behind : (lands : ℕ → Bool) (work : List ℕ) (j : ℕ) → j < 2
+      → Before l work (cutAfter j lands begun (totalWrite total ∷ linkWrite h q x (suc g) ∷ []))
+  unfolding cutAfter totalWrite linkWrite
+  cut-behind lands work zero b =
+      not-landed lands work begun (totalWrite total) (s .accepted) looks-begun (omega (arith, used-least (headOf begun)))
+  cut-behind lands work (suc zero) b =
+      subst (Before l work) (sym (hit-none lands counted (linkWrite h q x (suc g)) link-used)) (mends-lowered work)
+  cut-behind lands work (suc (suc j)) b = absurd (omega arith)
+
+  -- ---- a cut among them or behind them
+
+  pub cut-new : (lands : ℕ → Bool) (work : List ℕ) (k : ℕ) → k < length (storeWrites (headOf l) (stopped q x xs) (suc v))
+      → Before l work (cutAfter k lands l (storeWrites (headOf l) (stopped q x xs) (suc v)))
+  unfolding storeWrites
+  cut-new lands work k b = go (decLt k (length nodes))
+    where
+      two : List Write
+      two = totalWrite (headOf l .g + suc (length xs)) ∷ linkWrite (headOf l) q x (suc (headOf l .g)) ∷ []
+
+      go : Dec (k < length nodes) → Before l work (cutAfter k lands l (nodes ++ two))
+      go (yes c) =
+          mends-kept (cutAfter k lands l (nodes ++ two)) work l
+          (seen-below (cutAfter k lands l (nodes ++ two)) l (length-cut k lands l (nodes ++ two)) (λ p d. cut-before-all p k lands l nodes two (spare p d) c))
+          (s .accepted)
+      go (no c) =
+          let j : ℕ = k - length nodes in
+          let at : k ≡ length nodes + j = omega arith in
+          let few : j < 2 = omega (arith, length-append nodes two) in
+          subst (Before l work) (sym (ap (λ (i : ℕ). cutAfter i lands l (nodes ++ two)) at ∙ cut-append j lands l nodes two)) (cut-behind lands work j few)
+
+-- ---- the theorem
+
+-- a complete path
+cut-data : {l key : List ℕ} {value q : ℕ} → Granted l key value → descend (tableIn l) 0 key ≡ complete q
+    → (lands : ℕ → Bool) (work : List ℕ) (k : ℕ) → k < length (storeWrites (headOf l) (complete q) value)
+    → Before l work (cutAfter k lands l (storeWrites (headOf l) (complete q) value))
+unfolding storeWrites cutAfter dataWrite
+cut-data {l} {key} {value} {q} s e lands work zero b =
+    let h : Head = headOf l in
+    let within = complete-within (tableIn l) (h .g) key (s .accepted .within) e in
+    let used : dataPlace h q < usedLen h = omega (arith, inside-used (data-inside h q) within, bounds h (s .accepted .head-permitted) .d-least) in
+    not-landed lands work l (dataWrite h q value) (s .accepted) refl used
+cut-data s e lands work (suc k) b = absurd (omega arith)
+
+-- "Path incomplete and value 0: nothing changes"
+none-written : (h : Head) (q x : ℕ) (xs : List ℕ) (k : ℕ) → ¬ (k < length (storeWrites h (stopped q x xs) 0))
+unfolding storeWrites
+none-written h q x xs k b = omega arith
+
+module _ {l key : List ℕ} {value : ℕ} (s : Granted l key value) (k : ℕ) (lands : ℕ → Bool) (work : List ℕ) where
+  -- before the last write landed: the answers from before the store
+  pub cut-before : k < length (writesIn l key value) → headOf (cutAfter k lands l (writesIn l key value)) .g + 1 ≤ length work
+      → MendsTo (cutAfter k lands l (writesIn l key value)) work l
+  cut-before = go (descend (tableIn l) 0 key) value refl s
+    where
+      go : (d : Descent) (v : ℕ) → descend (tableIn l) 0 key ≡ d → Granted l key v → k < length (storeWrites (headOf l) d v)
+          → Before l work (cutAfter k lands l (storeWrites (headOf l) d v))
+      go (complete q) v e t b = cut-data t e lands work k b
+      go (stopped q x xs) zero e t b = absurd (none-written (headOf l) q x xs k b)
+      go (stopped q x xs) (suc v) e t b = cut-new t e lands work k b
+
+  -- after it: those from after the store
+  pub cut-after : length (writesIn l key value) ≤ k → headOf (cutAfter k lands l (writesIn l key value)) .g + 1 ≤ length work
+      → MendsTo (cutAfter k lands l (writesIn l key value)) work (storedImage l key value)
+  unfolding storedImage
+  cut-after b = mends-kept _ work _ (ap seenIn (cut-whole k lands l (writesIn l key value) b)) (accepted-again s)
