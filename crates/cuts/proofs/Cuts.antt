@@ -26,6 +26,7 @@ use Rattle.head.specs.Fields.{fieldsLen, headOf, nodeWidth, nodePlace, usedLen}
 use Rattle.head.proofs.Fields.{head-outside, head-total}
 use Rattle.head.proofs.Permitted.{bounds, addresses-fit}
 use Rattle.head.proofs.Places.{place-le, place-least, used-le}
+use Rattle.alphabet.specs.Letters.{lettersIn}
 use Rattle.node.specs.Image.{linkPlace, dataPlace, tableOf}
 use Rattle.node.specs.Writes.{Write, carriedOut, newNodes, totalWrite, linkWrite, dataWrite, storeWrites}
 use Rattle.node.proofs.Places.{link-from, link-inside, data-inside, inside-used}
@@ -36,12 +37,12 @@ use Rattle.node.proofs.Storing.{Storable, length-carried, carried-append, new-h
 use Rattle.paper.specs.Hearing.{Numbers, Outcome, outcome, first, refusedNumbers, doneNumbers}
 use Rattle.paper.specs.Answers.{said}
 use Rattle.paper.specs.Orders.{openingOf, checking, newOf}
-use Rattle.paper.specs.Calls.{tableIn, workAfter, checkOf, writesIn, storedImage, withG, isAccepted, mends}
+use Rattle.paper.specs.Calls.{tableIn, workAfter, checkOf, namedIn, writesIn, storedImage, storeOf, storeTextOf, withG, isAccepted, mends}
 use Rattle.paper.specs.Accepted.{Accepted}
 use Rattle.paper.specs.Granted.{Granted}
 use Rattle.paper.proofs.Hearing.{heard-done}
 use Rattle.paper.proofs.Checking.{accepted-opens, accepted-checks, accepted-linked}
-use Rattle.paper.proofs.Storing.{accepted-again}
+use Rattle.paper.proofs.Storing.{accepted-again, store-granted, store-text-granted}
 use Rattle.paper.proofs.Mending.{accepted-exactly, mend-kept, mend-lowered}
 use Rattle.cuts.specs.Cut.{hit, cutAfter}
 use Rattle.cuts.specs.Answers.{MendsTo}
@@ -312,3 +313,22 @@ module _ {l key : List ℕ} {value : ℕ} (s : Granted l key value) (k : ℕ) (l
       → MendsTo (cutAfter k lands l (writesIn l key value)) work (storedImage l key value)
   unfolding storedImage
   cut-after b = mends-kept _ work _ (ap seenIn (cut-whole k lands l (writesIn l key value) b)) (accepted-again s)
+
+-- ---- by the calls, whose numbers tell that the store is done
+
+-- either way
+abbrev pub Mended : List ℕ → List ℕ → ℕ → Type 0
+Mended l key value =
+    (k : ℕ) (lands : ℕ → Bool) (work : List ℕ) → headOf (cutAfter k lands l (writesIn l key value)) .g + 1 ≤ length work
+    → (k < length (writesIn l key value) → MendsTo (cutAfter k lands l (writesIn l key value)) work l)
+    × (length (writesIn l key value) ≤ k → MendsTo (cutAfter k lands l (writesIn l key value)) work (storedImage l key value))
+
+cut-anywhere : {l key : List ℕ} {value : ℕ} → Granted l key value → Mended l key value
+cut-anywhere s k lands work lent = (λ b. cut-before s k lands work b lent, λ b. cut-after s k lands work b lent)
+
+pub cut-store : (l work key : List ℕ) (value : ℕ) → storeOf l work key value .numbers .number ≡ 0 → Mended l key value
+cut-store l work key value z = cut-anywhere (store-granted l work key value z)
+
+pub cut-store-text : (l work text : List ℕ) (value : ℕ) → storeTextOf l work text value .numbers .number ≡ 0
+    → Mended l (lettersIn (namedIn l text)) value
+cut-store-text l work text value z = cut-anywhere (store-text-granted l work text value z)

@@ -1,4 +1,5 @@
 pub mod Cuts
+pub mod Listed
 pub mod Lists
 pub mod Seen
 pub mod Unlinked
