@@ -1,5 +1,6 @@
 pub mod Cuts
 pub mod Listed
 pub mod Lists
+pub mod Mending
 pub mod Seen
 pub mod Unlinked

@@ -48,7 +48,7 @@ before-used h = omega (arith, place-least h 0, used-le h 0 (omega arith))
 abbrev pub SameUpTo : ℕ → List ℕ → List ℕ → Type 0
 SameUpTo to a b = (p : ℕ) → 4 ≤ p → p < to → getD a p 0 ≡ getD b p 0
 
-same-alphabet : (h : Head) (a b : List ℕ) → length a ≡ length b → SameUpTo (fieldsLen + h .f) a b → alphabetIn h a ≡ alphabetIn h b
+pub same-alphabet : (h : Head) (a b : List ℕ) → length a ≡ length b → SameUpTo (fieldsLen + h .f) a b → alphabetIn h a ≡ alphabetIn h b
 unfolding alphabetIn
 same-alphabet h a b n e =
     ext-getD 0 (take (h .f) (drop fieldsLen a)) (take (h .f) (drop fieldsLen b)) (simp (length-take, length-drop, n))
