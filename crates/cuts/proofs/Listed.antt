@@ -60,8 +60,7 @@ nodes-laid h len q (y ∷ ys) v ws s r t a =
     let bs : List ℕ = pathNode h y (suc q) in
     let n : nodePlace h q + length bs ≡ nodePlace h (suc q) = omega (arith, length-path h y (suc q) (s .0), next-place h q) in
     let e : q + suc (suc (length ys)) ≡ suc q + suc (length ys) = omega arith in
-    let later : From (nodePlace h q + length bs) (newNodes h (suc q) ys v) = rw n (nodes-from h (suc q) ys v) in
-    (
+    let later : From (nodePlace h q + length bs) (newNodes h (suc q) ys v) = rw n (nodes-from h (suc q) ys v) in (
       omega (arith, place-le h (suc q) (q + suc (suc (length ys))) (omega arith)),
       misses (nodePlace h q) (length bs) (newNodes h (suc q) ys v) ws later t,
       nodes-laid h len (suc q) ys v ws (s .1) (rw (← e) r) (until-after (nodePlace h q) (nodePlace h (suc q)) ws (omega arith) t) a,
