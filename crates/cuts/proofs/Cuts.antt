@@ -25,7 +25,7 @@ use Rattle.head.specs.declared.Head.{Head}
 use Rattle.head.specs.Fields.{fieldsLen, headOf, nodeWidth, nodePlace, usedLen}
 use Rattle.head.proofs.Fields.{head-outside, head-total}
 use Rattle.head.proofs.Permitted.{bounds, addresses-fit}
-use Rattle.head.proofs.Places.{place-le, place-least, used-le}
+use Rattle.head.proofs.Places.{place-le, place-least}
 use Rattle.alphabet.specs.Letters.{lettersIn}
 use Rattle.node.specs.Image.{linkPlace, dataPlace, tableOf}
 use Rattle.node.specs.Writes.{Write, carriedOut, newNodes, totalWrite, linkWrite, dataWrite, storeWrites}
@@ -47,7 +47,7 @@ use Rattle.paper.proofs.Mending.{accepted-exactly, mend-kept, mend-lowered}
 use Rattle.cuts.specs.Cut.{hit, cutAfter}
 use Rattle.cuts.specs.Answers.{MendsTo}
 use Rattle.cuts.proofs.Lists.{From, from-before, length-cut, carried-before, cut-before-all, cut-append, cut-whole, hit-none}
-use Rattle.cuts.proofs.Seen.{seenIn, opens-same, seen-same, seen-below, same-answers, same-accepted}
+use Rattle.cuts.proofs.Seen.{seenIn, before-used, opens-same, seen-same, seen-below, same-answers, same-accepted}
 use Rattle.cuts.proofs.Unlinked.{Unlinked, check-unlinked}
 
 -- ---- an image that looks as an accepted one does
@@ -79,15 +79,12 @@ lowers l m n p e = ap₂ _&&_ (eq-eqb (m .number) 8 n) (ap (λ (g : ℕ). isAcce
 -- ---- a write that was hit, and was none to spare bytes
 
 -- mending what was left answers 0 and leaves the answers from before
-abbrev pub Before : List ℕ → List ℕ → List ℕ → Type 0
+abbrev Before : List ℕ → List ℕ → List ℕ → Type 0
 Before l work r = headOf r .g + 1 ≤ length work → MendsTo r work l
 
 not-landed : {l : List ℕ} (lands : ℕ → Bool) (work r : List ℕ) (w : Write) → Accepted l → seenIn r ≡ seenIn l → w .place < usedLen (headOf r)
     → Before l work (hit lands r w)
 not-landed {l} lands work r w a same b lent = mends-kept (hit lands r w) work l (ap seenIn (hit-none lands r w b) ∙ same) a lent
-
-used-least : (h : Head) → fieldsLen ≤ usedLen h
-used-least h = omega (arith, place-least h 0, used-le h 0 (omega arith))
 
 -- ---- new nodes, of which no link tells yet
 
@@ -103,20 +100,20 @@ module _ {l key : List ℕ} {v : ℕ} (s : Granted l key (suc v)) {q x : ℕ} {x
   h = headOf l
 
   abbrev g : ℕ
-  g = headOf l .g
+  g = h .g
 
   abbrev total : ℕ
-  total = headOf l .g + suc (length xs)
+  total = g + suc (length xs)
 
   abbrev nodes : List Write
-  nodes = newNodes (headOf l) (suc (headOf l .g)) xs (suc v)
+  nodes = newNodes h (suc g) xs (suc v)
 
   -- the image with the nodes alone, and with G as well
   abbrev begun : List ℕ
-  begun = carriedOut l (newNodes (headOf l) (suc (headOf l .g)) xs (suc v))
+  begun = carriedOut l nodes
 
   abbrev counted : List ℕ
-  counted = sets (carriedOut l (newNodes (headOf l) (suc (headOf l .g)) xs (suc v))) 0 (digits 4 (headOf l .g + suc (length xs)))
+  counted = sets begun 0 (digits 4 total)
 
   pub able : Storable (headOf l) l q x xs (suc v)
   unfolding tableIn newOf missing added
@@ -135,7 +132,7 @@ module _ {l key : List ℕ} {v : ℕ} (s : Granted l key (suc v)) {q x : ℕ} {x
   fits : total < 2 ^ 32
   fits = omega (arith, able .addresses, addresses-fit (bounds h (s .accepted .head-permitted)))
 
-  pub spare : (p : ℕ) → p < usedLen (headOf l) → From (suc p) nodes
+  spare : (p : ℕ) → p < usedLen (headOf l) → From (suc p) nodes
   unfolding usedLen
   spare p b = from-before (suc p) (nodePlace h (suc g)) nodes (omega (arith, ap (nodePlace h) (add-one g))) (nodes-from h (suc g) xs (suc v))
 
@@ -220,7 +217,7 @@ module _ {l key : List ℕ} {v : ℕ} (s : Granted l key (suc v)) {q x : ℕ} {x
   eight : (work : List ℕ) → headOf counted .g + 1 ≤ length work → checkOf counted work .numbers ≡ refusedNumbers (said 8 (suc g))
   eight work lent = check-unlinked counted work unlinked opened lent
 
-  pub mends-lowered : (work : List ℕ) → headOf counted .g + 1 ≤ length work → MendsTo counted work l
+  mends-lowered : (work : List ℕ) → headOf counted .g + 1 ≤ length work → MendsTo counted work l
   unfolding refusedNumbers
   mends-lowered work lent =
       let numbers : Numbers = checkOf counted work .numbers in
@@ -251,20 +248,20 @@ module _ {l key : List ℕ} {v : ℕ} (s : Granted l key (suc v)) {q x : ℕ} {x
       → Before l work (cutAfter j lands begun (totalWrite total ∷ linkWrite h q x (suc g) ∷ []))
   unfolding cutAfter totalWrite linkWrite
   cut-behind lands work zero b =
-      not-landed lands work begun (totalWrite total) (s .accepted) looks-begun (omega (arith, used-least (headOf begun)))
+      not-landed lands work begun (totalWrite total) (s .accepted) looks-begun (omega (arith, before-used (headOf begun)))
   cut-behind lands work (suc zero) b =
       subst (Before l work) (sym (hit-none lands counted (linkWrite h q x (suc g)) link-used)) (mends-lowered work)
   cut-behind lands work (suc (suc j)) b = absurd (omega arith)
 
   -- ---- a cut among them or behind them
 
-  pub cut-new : (lands : ℕ → Bool) (work : List ℕ) (k : ℕ) → k < length (storeWrites (headOf l) (stopped q x xs) (suc v))
+  cut-new : (lands : ℕ → Bool) (work : List ℕ) (k : ℕ) → k < length (storeWrites (headOf l) (stopped q x xs) (suc v))
       → Before l work (cutAfter k lands l (storeWrites (headOf l) (stopped q x xs) (suc v)))
   unfolding storeWrites
   cut-new lands work k b = go (decLt k (length nodes))
     where
       two : List Write
-      two = totalWrite (headOf l .g + suc (length xs)) ∷ linkWrite (headOf l) q x (suc (headOf l .g)) ∷ []
+      two = totalWrite total ∷ linkWrite h q x (suc g) ∷ []
 
       go : Dec (k < length nodes) → Before l work (cutAfter k lands l (nodes ++ two))
       go (yes c) =

@@ -1,7 +1,7 @@
 -- 02, Ask 1: "The list carried out whole gives the bytes of 01's store." And from those bytes and the list of places and lengths a caller
 -- has the writes again: no two of them meet, since a new node meets no other node, nor the four bytes of G, nor a link of an older node.
 use Prim.Native.Nat.{ℕ, zero, suc, _+_, _≤_}
-use mathlib.Core.Path.{_≡_, refl, sym, ap, _∙_}
+use mathlib.Core.Path.{_≡_, refl, ap}
 use mathlib.Core.Logic.{inl, inr}
 use mathlib.Core.List.{List, [], _∷_, _++_}
 use native.Mathlib.Nat.{suc-add}
@@ -14,7 +14,7 @@ use Rattle.trie.proofs.Walk.{complete-within}
 use Rattle.head.specs.declared.Head.{Head}
 use Rattle.head.specs.Fields.{headOf, nodeWidth, nodePlace}
 use Rattle.head.proofs.Places.{place-add, place-le, place-least}
-use Rattle.node.specs.Image.{linkPlace, dataPlace}
+use Rattle.node.specs.Image.{linkPlace}
 use Rattle.node.specs.Writes.{Write, carriedOut, listed, pathNode, lastNode, newNodes, totalWrite, linkWrite, dataWrite, storeWrites}
 use Rattle.node.proofs.Places.{link-from, link-inside, data-inside, inside-used}
 use Rattle.node.proofs.Heads.{used-total}

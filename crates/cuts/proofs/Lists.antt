@@ -1,7 +1,7 @@
 -- Lists of writes, carried out in part and in whole. A write changes the bytes it goes to and no other, torn or not, so what lies before
 -- all writes stays; and where no two writes meet, each has left its bytes in the image that is left.
 use Prim.Native.Nat.{ℕ, zero, suc, _+_, _≤_, _<_}
-use mathlib.Core.Path.{_≡_, refl, sym, ap, ap₂, _∙_}
+use mathlib.Core.Path.{_≡_, refl, ap, ap₂, _∙_}
 use mathlib.Core.Logic.{_⊎_, inl, inr, ⊎-elim}
 use mathlib.Core.Bool.{Bool, true, false, cond}
 use mathlib.Core.List.{List, [], _∷_, _++_}

@@ -2,10 +2,10 @@
 -- so that a walk in it stays among the nodes that it still has; and these are as they were, so the walk goes alike before and after.
 use Prim.Native.Nat.{ℕ, _+_, _-_, _*_, _^_, _≤_, _<_}
 use mathlib.Core.Path.{_≡_, refl, sym, ap, subst, _∙_}
-use mathlib.Core.Bool.{Bool, true, false, _&&_, cond}
+use mathlib.Core.Bool.{Bool, true, false, cond}
 use mathlib.Core.Logic.{inl, inr, ⊎-elim}
 use mathlib.Core.Option.{Option, none}
-use mathlib.Core.List.{List, [], _∷_, _++_}
+use mathlib.Core.List.{List, [], _∷_}
 use native.Mathlib.Nat.{mul-le-mul, le-refl}
 use native.Mathlib.Omega.{arith}
 use lib.Dec.{eqb}
@@ -21,7 +21,7 @@ use Rattle.trie.specs.Table.{Table, answer, fault}
 use Rattle.trie.specs.Rules.{Within}
 use Rattle.trie.proofs.Lowered.{Agree, answer-alike, fault-alike}
 use Rattle.head.specs.declared.Head.{Head}
-use Rattle.head.specs.Fields.{shortestImage, longestImage, fieldsLen, headOf, nodeWidth, usedLen}
+use Rattle.head.specs.Fields.{shortestImage, longestImage, headOf, nodeWidth}
 use Rattle.head.proofs.Fields.{head-total}
 use Rattle.head.proofs.Permitted.{bounds}
 use Rattle.head.proofs.Places.{width-least, used}
@@ -34,7 +34,7 @@ use Rattle.paper.specs.Rows.{badLink, row6path, row9, row10}
 use Rattle.paper.specs.Orders.{alphabetIn, openingOf, byLetters, byText, lookingUp}
 use Rattle.paper.specs.Calls.{tableIn, workAfter, checkOf, lookUpBy, lookUpOf, namedIn, lookUpTextOf, withG, isAccepted, mends, mendOf}
 use Rattle.paper.specs.Accepted.{Accepted}
-use Rattle.paper.proofs.Hearing.{first-nil, first-none, second-part, silent-end, heard-alike}
+use Rattle.paper.proofs.Hearing.{first-nil, first-none, second-part, silent-end}
 use Rattle.paper.proofs.Opening.{Passed, passed}
 use Rattle.paper.proofs.Checking.{not-bad, check-exactly}
 use Rattle.paper.proofs.Storing.{quiet, unfaulted, looks-up-accepted}
@@ -118,7 +118,7 @@ module _ (l work : List ℕ) (e : mends l (checkOf l work .numbers) ≡ true) wh
   low = checkOf l work .numbers .place - 1
 
   abbrev m : List ℕ
-  m = withG l (checkOf l work .numbers .place - 1)
+  m = withG l low
 
   told : Eight l work
   told = eight l work (lowers-tell l (checkOf l work .numbers) e .0)

@@ -41,7 +41,7 @@ seen-eq s t h u a n i = record { head = h i; table = u i; alphabet = a i; len = 
 -- ---- what looks the same
 
 -- the F bytes after the fields are inside what is used
-before-used : (h : Head) → fieldsLen + h .f ≤ usedLen h
+pub before-used : (h : Head) → fieldsLen + h .f ≤ usedLen h
 before-used h = omega (arith, place-least h 0, used-le h 0 (omega arith))
 
 -- two images have the same bytes from G's end up to a place

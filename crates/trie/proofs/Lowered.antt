@@ -2,7 +2,6 @@
 -- it goes alike in both.
 use Prim.Native.Nat.{ℕ, _≤_}
 use mathlib.Core.Path.{_≡_, refl, sym, _∙_}
-use mathlib.Core.Logic.{_≢_}
 use mathlib.Core.Bool.{Bool, false}
 use mathlib.Core.Option.{none}
 use mathlib.Core.List.{List, [], _∷_}
