@@ -1,0 +1,7 @@
+pub mod Computed
+pub mod Cuts
+pub mod Listed
+pub mod Lists
+pub mod Mending
+pub mod Seen
+pub mod Unlinked

@@ -7,7 +7,7 @@ use native.Mathlib.Nat.{add-zero, add-mul, suc-mul, suc-ne-zero}
 use native.Mathlib.Decide.{ℕ-discrete, decLe, decLt}
 use native.Mathlib.Omega.{arith}
 use mathlib.Core.List.{List, [], _∷_, _++_, append-nil}
-use lib.ListN.{length, getD, set, replicate, length-replicate, getD-replicate, replicate-append-replicate}
+use lib.ListN.{length, getD, set, replicate, length-append, length-replicate, getD-replicate, replicate-append-replicate}
 use lib.Seq.{sets, set-set}
 use Rattle.field.specs.Field.{Zeros, digits, putField, cleared}
 use Rattle.field.proofs.Laid.{getD-inside, set-sets, sets-append, sets-comm}
@@ -134,3 +134,16 @@ last-node h l q v =
     ap (λ (r : List ℕ). sets l (nodePlace h q) (replicate (h .n * h .a) 0 ++ r)) (sym (append-nil (digits (h .d) v)))
     ∙ zeros-with l (nodePlace h q) (h .n * h .a) (h .d) 0 v
     ∙ rw (add-zero (h .d))
+
+-- each of them is as long as a node
+pub length-path : (h : Head) (y c : ℕ) → y < h .n → length (pathNode h y c) ≡ nodeWidth h
+unfolding pathNode nodeWidth
+length-path h y c b =
+    let r : ℕ = h .n - suc y in
+    let n : suc y + r ≡ h .n = omega arith in
+    simp (length-append, length-replicate, length-digits)
+    (omega (arith, ap (λ (k : ℕ). k * h .a) n, add-mul (suc y) r (h .a), suc-mul y (h .a)))
+
+pub length-last : (h : Head) (v : ℕ) → length (lastNode h v) ≡ nodeWidth h
+unfolding lastNode nodeWidth
+length-last h v = simp (length-append, length-replicate, length-digits)

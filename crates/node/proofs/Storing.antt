@@ -160,7 +160,7 @@ unfolding storeWrites storedBy carriedOut dataWrite
 store-over h l q v r b f = table-data h l r q v b f
 
 -- the head is written by one of the writes alone, and only its G
-new-head : (h : Head) (l : List ℕ) (q : ℕ) (ys : List ℕ) (v : ℕ) → headOf (carriedOut l (newNodes h q ys v)) ≡ headOf l
+pub new-head : (h : Head) (l : List ℕ) (q : ℕ) (ys : List ℕ) (v : ℕ) → headOf (carriedOut l (newNodes h q ys v)) ≡ headOf l
 unfolding carriedOut newNodes
 new-head h l q [] v = head-outside l (lastNode h v) (nodePlace h q) (omega (arith, place-least h q))
 new-head h l q (y ∷ ys) v =

@@ -2,17 +2,21 @@
 -- So tables are equal where those fields are.
 use mathlib.Core.Path.{_≡_, refl}
 use mathlib.Core.Bool.{Bool, true, false, _&&_, cond, and-false}
-use Prim.Native.Nat.{ℕ, _≤_, _<_}
+use Prim.Native.Nat.{ℕ, _+_, _≤_, _<_}
+use native.Mathlib.Omega.{arith}
 use borrow.Author.Tests.{le-leb, lt-leb, lt-ltb, le-ltb, leb-true, ltb-true}
 use mathlib.Core.List.{List}
 use lib.Dec.{leb, ltb}
+use lib.ListN.{getD}
 use Rattle.field.specs.Field.{fieldAt}
+use Rattle.field.proofs.Fields.{field-same}
 use Rattle.field.proofs.Range.{both}
 use Rattle.trie.specs.Table.{Table}
 use Rattle.trie.specs.Rules.{Framed}
 use Rattle.head.specs.declared.Head.{Head}
+use Rattle.head.specs.Fields.{fieldsLen, usedLen}
 use Rattle.node.specs.Image.{linkPlace, dataPlace, tableOf}
-use Rattle.node.proofs.Places.{Inside, link-inside, data-inside}
+use Rattle.node.proofs.Places.{Inside, link-inside, data-inside, inside-least, inside-used}
 
 -- tables with equal entries are equal
 pub table-eq : (s t : Table) → ((q i : ℕ) → s .child q i ≡ t .child q i) → ((q : ℕ) → s .value q ≡ t .value q) → s ≡ t
@@ -65,3 +69,9 @@ module _ (h : Head) (l : List ℕ) where
       table-eq (tableOf h l) (tableOf h m)
       (λ q i. child-same m q i (λ b c. e q (linkPlace h q i) (h .a) b (link-inside h q c)))
       (λ q. value-same m q (λ b. e q (dataPlace h q) (h .d) b (data-inside h q)))
+
+  -- so is one whose bytes are the same from the first node on, as far as is used
+  pub table-bytes : (m : List ℕ) → ((p : ℕ) → fieldsLen + h .f ≤ p → p < usedLen h → getD l p 0 ≡ getD m p 0) → tableOf h l ≡ tableOf h m
+  table-bytes m e =
+      table-same m
+      (λ q at w b s. field-same l m at at w (λ k c. e (at + k) (omega (arith, inside-least s)) (omega (arith, inside-used s b))))

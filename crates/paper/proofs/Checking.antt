@@ -108,7 +108,7 @@ module _ (t : Table) (x : ℕ) where
   in-nodes n = record { start = refl; more = λ k. refl }
 
   -- a link that holds x counts; so do two, if they are not one
-  counted : (n : ℕ) {q i k : ℕ} → q < k → i < n → t .child q i ≡ x → 1 ≤ times t n x k
+  pub counted : (n : ℕ) {q i k : ℕ} → q < k → i < n → t .child q i ≡ x → 1 ≤ times t n x k
   counted n {q} a b e = omega (arith, one-part (in-node q) b, hit-one e, one-part (in-nodes n) a)
 
   counted-once : (n : ℕ) {q i p j k : ℕ} → q < k → i < n → p < k → j < n → t .child q i ≡ x → t .child p j ≡ x → times t n x k < 2
@@ -124,7 +124,7 @@ module _ (t : Table) (x : ℕ) where
       go (yes s) (yes r) = (s, r)
 
   -- what counts stands in a link, and in no other if no two links are one
-  stands : (n k : ℕ) → 1 ≤ times t n x k → (q : ℕ) × (i : ℕ) × (t .child q i ≡ x)
+  pub stands : (n k : ℕ) → 1 ≤ times t n x k → (q : ℕ) × (i : ℕ) × (t .child q i ≡ x)
   stands n k h =
       let (q, a, u) = some-part (in-nodes n) k h in
       let (i, b, v) = some-part (in-node q) n u in
@@ -171,7 +171,7 @@ module _ (h : Head) (t : Table) where
   abbrev twice : ℕ → Bool
   twice x = leb 2 (count x)
 
-  abbrev nowhere : ℕ → Bool
+  abbrev pub nowhere : ℕ → Bool
   nowhere x = eqb (count x) 0
 
   pub row6-none : ((q : ℕ) → q ≤ h .g → holds q ≡ false) → row6 h t ≡ none
@@ -202,7 +202,7 @@ module _ (h : Head) (t : Table) where
 
 module _ (h : Head) (t : Table) (f : Framed t (h .g) (h .n)) where
   -- a link that is not empty stands in a node, at a letter
-  inside : (q i : ℕ) → t .child q i ≢ 0 → (q ≤ h .g) × (i < h .n)
+  pub inside : (q i : ℕ) → t .child q i ≢ 0 → (q ≤ h .g) × (i < h .n)
   inside q i d = (node (decLe q (h .g)), letter (decLe (h .n) i))
     where
       node : Dec (q ≤ h .g) → q ≤ h .g
@@ -237,7 +237,7 @@ module _ (h : Head) (t : Table) (f : Framed t (h .g) (h .n)) where
   none-rising : row6 h t ≡ none → Rising t
   none-rising e q i d = ⊎-elim (λ z. absurd (d z)) (λ b. b .1) (none-fair e q i)
 
-  rules-6 : Within t (h .g) → Rising t → row6 h t ≡ none
+  pub rules-6 : Within t (h .g) → Rising t → row6 h t ≡ none
   rules-6 w r = row6-none h t (λ q _. holds-none (h .g) t q (h .n) (λ i _. not-bad (h .g) q (t .child q i) .1 (fair q i)))
     where
       fair : (q i : ℕ) → Fair q i
@@ -250,7 +250,7 @@ module _ (h : Head) (t : Table) (f : Framed t (h .g) (h .n)) where
       let (a′, b′) = inside p j (rw (← s) d) in
       counted-once t x (h .n) (omega arith) b (omega arith) b′ refl (sym s) (none-row7 h t e x (omega arith) (w q i))
 
-  rules-7 : Once t → row7 h t ≡ none
+  pub rules-7 : Once t → row7 h t ≡ none
   rules-7 once = row7-none h t (λ x b _. stands-once t x (h .n) (h .g + 1) b once)
 
   none-named : row8 h t ≡ none → Named t (h .g)

@@ -174,7 +174,7 @@ module _ {l key : List ℕ} {value : ℕ} (s : Granted l key value) where
 
 -- ---- a lookup in an accepted image
 
-quiet : {at : Option ℕ} → at ≡ none → rowAt at ≡ none
+pub quiet : {at : Option ℕ} → at ≡ none → rowAt at ≡ none
 unfolding rowAt
 quiet e = ap rowAt e
 

@@ -66,7 +66,7 @@ fresh {g = g} q x l h e =
     }
 
 -- a link that is not empty stays
-grow-child-full : (t : Table) (q x c p i : ℕ) → t .child q x ≡ 0 → t .child p i ≢ 0 → grow t q x c .child p i ≡ t .child p i
+pub grow-child-full : (t : Table) (q x c p i : ℕ) → t .child q x ≡ 0 → t .child p i ≢ 0 → grow t q x c .child p i ≡ t .child p i
 grow-child-full t q x c p i e h = grow-child-other t q x c p i (λ s. h (rw (s .0, s .1) e))
 
 complete-stays : {t : Table} (q x c : ℕ) {a r : ℕ} {k : List ℕ} → t .child q x ≡ 0 → Walk t a k (complete r)

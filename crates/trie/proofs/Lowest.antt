@@ -37,6 +37,16 @@ module _ (p : ℕ → Bool) where
       let e : suc a + k ≡ a + suc k = omega arith in
       lowest-on a k (none a (omega arith) (omega arith)) ∙ lowest-none (suc a) k (λ y l h. none y (omega arith) (omega arith)) ∙ e
 
+  -- one that passes, where none before it does
+  pub lowest-at : (a k y : ℕ) → a ≤ y → y < a + k → p y ≡ true → ((z : ℕ) → a ≤ z → z < y → p z ≡ false) → lowest p a k ≡ y
+  lowest-at a zero y low high e none = absurd (omega arith)
+  lowest-at a (suc k) y low high e none =
+      go (ℕ-discrete a y) (λ b. lowest-at (suc a) k y b (omega arith) e (λ z c d. none z (omega arith) d))
+    where
+      go : Dec (a ≡ y) → (suc a ≤ y → lowest p (suc a) k ≡ y) → lowest p a (suc k) ≡ y
+      go (yes s) on = lowest-here a k (rw s e) ∙ s
+      go (no d) on = lowest-on a k (none a (omega arith) (omega arith)) ∙ on (omega arith)
+
   -- what was not found does not pass
   pub none-lowest : (a k : ℕ) → a + k ≤ lowest p a k → NonePasses a k
   none-lowest a zero h y low high = absurd (omega arith)

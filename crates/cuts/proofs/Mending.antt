@@ -1,0 +1,203 @@
+-- Mending, for every image: what it leaves, and that no look up's answer changes by it. Where G is lowered the lowered image is accepted,
+-- so that a walk in it stays among the nodes that it still has; and these are as they were, so the walk goes alike before and after.
+use Prim.Native.Nat.{ℕ, _+_, _-_, _*_, _^_, _≤_, _<_}
+use mathlib.Core.Path.{_≡_, refl, sym, ap, subst, _∙_}
+use mathlib.Core.Bool.{Bool, true, false, cond}
+use mathlib.Core.Logic.{inl, inr, ⊎-elim}
+use mathlib.Core.Option.{Option, none}
+use mathlib.Core.List.{List, [], _∷_}
+use native.Mathlib.Nat.{mul-le-mul, le-refl}
+use native.Mathlib.Omega.{arith}
+use lib.Dec.{eqb}
+use lib.ListN.{length, getD}
+use lib.Seq.{length-sets}
+use lib.IntN.{pos}
+use borrow.Author.Tests.{eqb-true}
+use Rattle.field.specs.Field.{digits}
+use Rattle.field.proofs.Range.{both, between-true}
+use Rattle.field.proofs.Laid.{getD-outside}
+use Rattle.field.proofs.Fields.{length-digits}
+use Rattle.trie.specs.Table.{Table, answer, fault}
+use Rattle.trie.specs.Rules.{Within}
+use Rattle.trie.proofs.Lowered.{Agree, answer-alike, fault-alike}
+use Rattle.head.specs.declared.Head.{Head}
+use Rattle.head.specs.Fields.{shortestImage, longestImage, headOf, nodeWidth}
+use Rattle.head.proofs.Fields.{head-total}
+use Rattle.head.proofs.Permitted.{bounds}
+use Rattle.head.proofs.Places.{width-least, used}
+use Rattle.alphabet.specs.Letters.{letters, lettersIn, keyOfText}
+use Rattle.node.specs.Image.{tableOf}
+use Rattle.node.proofs.Heads.{withTotal, child-kept, value-kept}
+use Rattle.node.proofs.Writes.{table-outside}
+use Rattle.paper.specs.Hearing.{Row, Numbers, Outcome, outcome, first, heard, doneNumbers}
+use Rattle.paper.specs.Rows.{badLink, row6path, row9, row10}
+use Rattle.paper.specs.Orders.{alphabetIn, openingOf, byLetters, byText, lookingUp}
+use Rattle.paper.specs.Calls.{tableIn, workAfter, checkOf, lookUpBy, lookUpOf, namedIn, lookUpTextOf, withG, isAccepted, mends, mendOf}
+use Rattle.paper.specs.Accepted.{Accepted}
+use Rattle.paper.proofs.Hearing.{first-nil, first-none, second-part, silent-end}
+use Rattle.paper.proofs.Opening.{Passed, passed}
+use Rattle.paper.proofs.Checking.{not-bad, check-exactly}
+use Rattle.paper.proofs.Storing.{quiet, unfaulted, looks-up-accepted}
+use Rattle.paper.proofs.Mending.{accepted-exactly, mend-kept, mend-lowered, Eight, eight}
+use Rattle.cuts.specs.Answers.{mendedImage}
+use Rattle.cuts.proofs.Seen.{same-alphabet}
+
+-- ---- either way
+
+-- "if the check answers 8 at p, and the image with G set to p-1 is accepted"
+lowers-tell : (l : List ℕ) (m : Numbers) → mends l m ≡ true → (m .number ≡ 8) × (isAccepted (withG l (m .place - 1)) ≡ true)
+unfolding mends
+lowers-tell l m e = let b = both (eqb (m .number) 8) (isAccepted (withG l (m .place - 1))) e in (eqb-true (m .number) 8 (b .0), b .1)
+
+module _ (l work : List ℕ) where
+  abbrev numbers : Numbers
+  numbers = checkOf l work .numbers
+
+  mended-kept : mends l numbers ≡ false → mendedImage l work ≡ l
+  unfolding mendedImage
+  mended-kept e = ap (λ (b : Bool). cond b (withG l (numbers .place - 1)) l) e
+
+  mended-lowered : mends l numbers ≡ true → mendedImage l work ≡ withG l (numbers .place - 1)
+  unfolding mendedImage
+  mended-lowered e = ap (λ (b : Bool). cond b (withG l (numbers .place - 1)) l) e
+
+  either : (P : List ℕ → Type 0) → P l → (mends l numbers ≡ true → P (withG l (numbers .place - 1))) → P (mendedImage l work)
+  either P kept lowered = go (mends l numbers) refl
+    where
+      go : (b : Bool) → mends l (checkOf l work .numbers) ≡ b → P (mendedImage l work)
+      go false e = subst P (sym (mended-kept e)) kept
+      go true e = subst P (sym (mended-lowered e)) (lowered e)
+
+  -- what it leaves of the image and of the working numbers
+  pub mend-leaves : mendOf l work .lent ≡ mendedImage l work ∷ workAfter l work ∷ []
+  mend-leaves = go (mends l numbers) refl
+    where
+      go : (b : Bool) → mends l (checkOf l work .numbers) ≡ b → mendOf l work .lent ≡ mendedImage l work ∷ workAfter l work ∷ []
+      go false e =
+          ap (λ (o : Outcome). o .lent) (mend-kept l work e) ∙ ap (λ (r : List ℕ). r ∷ workAfter l work ∷ []) (sym (mended-kept e))
+      go true e =
+          ap (λ (o : Outcome). o .lent) (mend-lowered l work e) ∙ ap (λ (r : List ℕ). r ∷ workAfter l work ∷ []) (sym (mended-lowered e))
+
+  -- the image is as long as it was, and of its bytes only the four of G change
+  pub mend-length : length (mendedImage l work) ≡ length l
+  unfolding withG
+  mend-length = either (λ (r : List ℕ). length r ≡ length l) refl (λ _. length-sets l 0 (digits 4 (numbers .place - 1)))
+
+  pub mend-four : (p : ℕ) → 4 ≤ p → getD (mendedImage l work) p 0 ≡ getD l p 0
+  unfolding withG
+  mend-four p b =
+      let g : ℕ = numbers .place - 1 in
+      either (λ (r : List ℕ). getD r p 0 ≡ getD l p 0) refl (λ _. getD-outside l (digits 4 g) 0 p 0 (inr (omega (arith, length-digits 4 g))))
+
+  -- an accepted image is left as it is, with whatever working numbers
+  pub mend-accepted : Accepted l → mendedImage l work ≡ l
+  mend-accepted a =
+      either (λ (r : List ℕ). r ≡ l) refl
+      (λ e.
+      let n : numbers .number ≡ 8 = lowers-tell l numbers e .0 in
+      absurd (omega (arith, check-exactly l work (eight l work n .lent) .1 a)))
+
+-- ---- a look up in an image that was opened, on a path with no bad link
+
+module _ (l : List ℕ) (keyed : List Row) (key : List ℕ) (opened : first (openingOf l) ≡ none) (fair : fault (badLink (headOf l .g)) (tableIn l) 0 key ≡ none) where
+  key-decides : first (lookingUp l keyed key) ≡ first keyed
+  unfolding lookingUp row6path tableIn
+  key-decides = second-part (openingOf l) _ opened ∙ silent-end keyed _ (first-none _ [] (quiet fair) ∙ first-nil)
+
+  looks-up-open : lookUpBy l keyed key ≡ heard (first keyed) [] (outcome (doneNumbers 0 (pos 0) (answer (tableIn l) key)) [])
+  unfolding lookUpBy
+  looks-up-open = ap (λ (r : Row). heard r [] (outcome (doneNumbers 0 (pos 0) (answer (tableIn l) key)) [])) key-decides
+
+-- ---- where G is lowered
+
+module _ (l work : List ℕ) (e : mends l (checkOf l work .numbers) ≡ true) where
+  abbrev h : Head
+  h = headOf l
+
+  abbrev low : ℕ
+  low = checkOf l work .numbers .place - 1
+
+  abbrev m : List ℕ
+  m = withG l low
+
+  told : Eight l work
+  told = eight l work (lowers-tell l (checkOf l work .numbers) e .0)
+
+  again : Accepted m
+  again = accepted-exactly m .0 (lowers-tell l (checkOf l work .numbers) e .1)
+
+  opened : Passed h (alphabetIn h l) (length l)
+  unfolding openingOf
+  opened = passed h (alphabetIn h l) (length l) (told .opened)
+
+  -- every node takes a byte at least, so G is less than the image is long
+  below : low < h .g + 1
+  below = omega (arith, told .least, told .most)
+
+  fits : low < 2 ^ 32
+  fits =
+      let long = between-true (length l) shortestImage longestImage (opened .allowed) in
+      let each : (h .g + 1) * 1 ≤ (h .g + 1) * nodeWidth h = mul-le-mul (le-refl (h .g + 1)) (omega (arith, width-least (bounds h (opened .head-permitted)))) in
+      omega (arith, below, used h, opened .room)
+
+  heads : headOf m ≡ withTotal h low
+  unfolding withG
+  heads = let long = between-true (length l) shortestImage longestImage (opened .allowed) in head-total l low (omega arith) fits
+
+  tables : tableIn m ≡ tableOf (withTotal h low) l
+  unfolding tableIn withG
+  tables =
+      ap (λ (k : Head). tableOf k m) heads
+      ∙ table-outside (withTotal h low) l (digits 4 low) 0 (inl (omega (arith, length-digits 4 low)))
+
+  agree : Agree (tableIn m) (tableIn l) low
+  unfolding tableIn
+  agree =
+      record {
+        links = λ q i b. ap (λ (t : Table). t .child q i) tables ∙ child-kept h l low q (omega (arith, below)) b i;
+        values = λ q b. ap (λ (t : Table). t .value q) tables ∙ value-kept h l low q (omega (arith, below)) b;
+      }
+
+  within : Within (tableIn m) low
+  within = subst (λ (k : Head). Within (tableIn m) (k .g)) heads (again .within)
+
+  -- what is bad with the G there was is bad with the lower one
+  milder : (q c : ℕ) → badLink (headOf m .g) q c ≡ false → badLink (h .g) q c ≡ false
+  milder q c f =
+      let g : headOf m .g ≡ low = ap (λ (k : Head). k .g) heads in
+      not-bad (h .g) q c .1 (⊎-elim inl (λ b. inr (omega (arith, below), b .1)) (not-bad (headOf m .g) q c .0 f))
+
+  looks-alike : (keyed : List Row) (key : List ℕ) → lookUpBy m keyed key ≡ lookUpBy l keyed key
+  looks-alike keyed key =
+      looks-up-accepted again keyed key
+      ∙ ap (λ (v : ℕ). heard (first keyed) [] (outcome (doneNumbers 0 (pos 0) v) [])) (answer-alike agree within key)
+      ∙ sym
+      (looks-up-open l keyed key (told .opened)
+      (fault-alike agree within (badLink (headOf m .g)) (badLink (h .g)) milder 0 key (omega arith) (unfaulted again 0 key)))
+
+  letters-alike : (key : List ℕ) → lookUpOf m key ≡ lookUpOf l key
+  unfolding lookUpOf byLetters row9 row10
+  letters-alike key = ap (λ (k : Head). lookUpBy m (byLetters k key) key) heads ∙ looks-alike (byLetters h key) key
+
+  same-name : (text : List ℕ) → namedIn m text ≡ namedIn l text
+  unfolding namedIn alphabetIn withG
+  same-name text =
+      ap (λ (alphabet : List ℕ). keyOfText (letters alphabet) text)
+      (ap (λ (k : Head). alphabetIn k m) heads
+      ∙ same-alphabet h m l (length-sets l 0 (digits 4 low)) (λ p b _. getD-outside l (digits 4 low) 0 p 0 (inr (omega (arith, length-digits 4 low)))))
+
+  texts-alike : (text : List ℕ) → lookUpTextOf m text ≡ lookUpTextOf l text
+  unfolding lookUpTextOf byText row9
+  texts-alike text =
+      ap (λ (o : Option (List ℕ)). lookUpBy m (byText (headOf m) o) (lettersIn o)) (same-name text)
+      ∙ ap (λ (k : Head). lookUpBy m (byText k (namedIn l text)) (lettersIn (namedIn l text))) heads
+      ∙ looks-alike (byText h (namedIn l text)) (lettersIn (namedIn l text))
+
+-- ---- no look up's answer changes: no stored key's value becomes another's
+
+module _ (l work : List ℕ) where
+  pub mend-looks : (key : List ℕ) → lookUpOf (mendedImage l work) key ≡ lookUpOf l key
+  mend-looks key = either l work (λ (r : List ℕ). lookUpOf r key ≡ lookUpOf l key) refl (λ e. letters-alike l work e key)
+
+  pub mend-texts : (text : List ℕ) → lookUpTextOf (mendedImage l work) text ≡ lookUpTextOf l text
+  mend-texts text = either l work (λ (r : List ℕ). lookUpTextOf r text ≡ lookUpTextOf l text) refl (λ e. texts-alike l work e text)

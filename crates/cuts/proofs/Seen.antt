@@ -1,0 +1,139 @@
+-- What the calls that do not write see of an image: its head, its table, its alphabet and its length, and nothing else. So images that
+-- look the same answer alike. Bytes from U on are not seen, and of the first four only the number in them.
+use Prim.Native.Nat.{ℕ, _+_, _≤_, _<_}
+use mathlib.Core.Path.{_≡_, sym, ap, ap₂, subst, _∙_}
+use mathlib.Core.Bool.{true}
+use mathlib.Core.Option.{Option}
+use mathlib.Core.List.{List, [], _∷_, _++_}
+use native.Mathlib.Omega.{arith}
+use lib.ListN.{length, getD, take, drop, length-take, length-drop}
+use lib.Seq.{sets, ext-getD, getD-take, getD-drop}
+use lib.IntN.{pos}
+use Rattle.trie.specs.Table.{Table, answer}
+use Rattle.trie.specs.Keys.{listing, meets, firstMeeting}
+use Rattle.trie.specs.Rules.{Within, Rising, Named, Once}
+use Rattle.head.specs.declared.Head.{Head}
+use Rattle.head.specs.Fields.{shortestImage, longestImage, fieldsLen, headOf, permitted, usedLen}
+use Rattle.head.proofs.Fields.{head-same}
+use Rattle.head.proofs.Places.{used-le, place-least}
+use Rattle.alphabet.specs.Letters.{goodAlphabet, letters, lettersIn, keyOfText}
+use Rattle.node.specs.Image.{tableOf}
+use Rattle.node.proofs.Tables.{table-bytes}
+use Rattle.paper.specs.Hearing.{Row, Outcome, outcome, doneNumbers, first, heard}
+use Rattle.paper.specs.Rows.{row5, row6path, row14, row15}
+use Rattle.paper.specs.Orders.{alphabetIn, opening, openingOf, linking, checking, byLetters, byText, byNext, lookingUp, nexting}
+use Rattle.paper.specs.Calls.{tableIn, clearedBy, workAfter, checkOf, storedKeys, countOf, lookUpBy, lookUpOf, namedIn, lookUpTextOf, nextIn, foundIn, nextKeyOf}
+use Rattle.paper.specs.Accepted.{Accepted}
+use Rattle.cuts.specs.Answers.{SameAnswers}
+
+pub record Seen : Type 0 where
+  pub head : Head
+  pub table : Table
+  pub alphabet : List ℕ
+  pub len : ℕ
+
+abbrev pub seenIn : List ℕ → Seen
+seenIn l = record { head = headOf l; table = tableIn l; alphabet = alphabetIn (headOf l) l; len = length l }
+
+seen-eq : (s t : Seen) → s .head ≡ t .head → s .table ≡ t .table → s .alphabet ≡ t .alphabet → s .len ≡ t .len → s ≡ t
+seen-eq s t h u a n i = record { head = h i; table = u i; alphabet = a i; len = n i }
+
+-- ---- what looks the same
+
+-- the F bytes after the fields are inside what is used
+pub before-used : (h : Head) → fieldsLen + h .f ≤ usedLen h
+before-used h = omega (arith, place-least h 0, used-le h 0 (omega arith))
+
+-- two images have the same bytes from G's end up to a place
+abbrev pub SameUpTo : ℕ → List ℕ → List ℕ → Type 0
+SameUpTo to a b = (p : ℕ) → 4 ≤ p → p < to → getD a p 0 ≡ getD b p 0
+
+pub same-alphabet : (h : Head) (a b : List ℕ) → length a ≡ length b → SameUpTo (fieldsLen + h .f) a b → alphabetIn h a ≡ alphabetIn h b
+unfolding alphabetIn
+same-alphabet h a b n e =
+    ext-getD 0 (take (h .f) (drop fieldsLen a)) (take (h .f) (drop fieldsLen b)) (simp (length-take, length-drop, n))
+    (λ i c.
+    let d : i < h .f = omega (arith, simp length-take at c) in
+    simp (getD-take, getD-drop) (e (fieldsLen + i) (omega arith) (omega arith)))
+
+-- of 1 to 4 the nodes' bytes are no part
+pub opens-same : (a b : List ℕ) → headOf a ≡ headOf b → length a ≡ length b → SameUpTo (fieldsLen + headOf b .f) a b → openingOf a ≡ openingOf b
+unfolding openingOf
+opens-same a b heads n e =
+    ap (λ (k : Head). opening k (alphabetIn k a) (length a)) heads ∙ ap₂ (opening (headOf b)) (same-alphabet (headOf b) a b n e) n
+
+-- where the heads are equal and the bytes after G, as far as is used
+pub seen-same : (a b : List ℕ) → headOf a ≡ headOf b → length a ≡ length b
+    → SameUpTo (usedLen (headOf b)) a b → seenIn a ≡ seenIn b
+unfolding tableIn
+seen-same a b heads n e =
+    let h : Head = headOf b in
+    seen-eq (seenIn a) (seenIn b) heads
+    (ap (λ (k : Head). tableOf k a) heads ∙ table-bytes h a b (λ p c d. e p (omega arith) d))
+    (ap (λ (k : Head). alphabetIn k a) heads ∙ same-alphabet h a b n (λ p c d. e p c (omega (arith, before-used h))))
+    n
+
+-- where all bytes are equal, as far as is used
+pub seen-below : (a b : List ℕ) → length a ≡ length b → ((p : ℕ) → p < usedLen (headOf b) → getD a p 0 ≡ getD b p 0)
+    → seenIn a ≡ seenIn b
+seen-below a b n e =
+    seen-same a b (head-same a b (λ k c. e k (omega (arith, before-used (headOf b))))) n (λ p _ c. e p c)
+
+-- ---- it answers alike
+
+-- the orders and what is left, by what is seen
+abbrev opens : Seen → List Row
+opens s = opening (s .head) (s .alphabet) (s .len)
+
+abbrev checks : Seen → List ℕ → List Row
+checks s work = opens s ++ (row5 (s .head) (length work) ∷ linking (s .head) (s .table))
+
+abbrev clears : Seen → List ℕ → List ℕ
+clears s work = clearedBy (first (opens s ++ (row5 (s .head) (length work) ∷ []))) (s .head .g + 1) work
+
+abbrev lists : Seen → List (List ℕ)
+lists s = listing (s .table) (s .head .n) (s .head .min) (s .head .max)
+
+abbrev names : Seen → List ℕ → Option (List ℕ)
+names s text = keyOfText (letters (s .alphabet)) text
+
+abbrev looks : Seen → List Row → List ℕ → Outcome
+looks s keyed key =
+    heard (first (opens s ++ (keyed ++ (row6path (s .head) (s .table) key ∷ [])))) []
+    (outcome (doneNumbers 0 (pos 0) (answer (s .table) key)) [])
+
+abbrev nexts : Seen → List ℕ → List ℕ → List ℕ → Option (List ℕ) → Outcome
+nexts s work key buffer found =
+    heard (first (checks s work ++ (byNext (s .head) key ++ (row14 (s .head) (length buffer) ∷ row15 found ∷ []))))
+    (clears s work ∷ buffer ∷ [])
+    (outcome (doneNumbers (length (lettersIn found)) (pos 0) (answer (s .table) (lettersIn found)))
+    (clears s work ∷ sets buffer 0 (lettersIn found) ∷ []))
+
+module _ {a b : List ℕ} (e : seenIn a ≡ seenIn b) where
+  pub same-answers : SameAnswers a b
+  unfolding openingOf checking lookingUp nexting tableIn workAfter checkOf storedKeys countOf lookUpBy lookUpOf namedIn lookUpTextOf nextIn foundIn nextKeyOf
+  same-answers =
+      record {
+        checks = λ work. ap (λ (s : Seen). heard (first (checks s work)) (clears s work ∷ []) (outcome (doneNumbers 0 (pos 0) 0) (clears s work ∷ []))) e;
+        counts = λ work. ap (λ (s : Seen). heard (first (checks s work)) (clears s work ∷ []) (outcome (doneNumbers 0 (pos 0) (length (lists s))) (clears s work ∷ []))) e;
+        looks = λ key. ap (λ (s : Seen). looks s (byLetters (s .head) key) key) e;
+        texts = λ text. ap (λ (s : Seen). looks s (byText (s .head) (names s text)) (lettersIn (names s text))) e;
+        nexts = λ work key after buffer. ap (λ (s : Seen). nexts s work key buffer (firstMeeting (meets after key) (lists s))) e;
+        lists = ap lists e;
+      }
+
+  -- and one is accepted where the other is
+  pub same-accepted : Accepted b → Accepted a
+  same-accepted x =
+      let back : seenIn b ≡ seenIn a = sym e in
+      record {
+        long-enough = subst (λ (s : Seen). shortestImage ≤ s .len) back (x .long-enough);
+        short-enough = subst (λ (s : Seen). s .len ≤ longestImage) back (x .short-enough);
+        head-permitted = subst (λ (s : Seen). permitted (s .head) ≡ true) back (x .head-permitted);
+        alphabet-good = subst (λ (s : Seen). 0 < s .head .f → goodAlphabet (s .head .n) (s .alphabet) ≡ true) back (x .alphabet-good);
+        room = subst (λ (s : Seen). usedLen (s .head) ≤ s .len) back (x .room);
+        within = subst (λ (s : Seen). Within (s .table) (s .head .g)) back (x .within);
+        rising = subst (λ (s : Seen). Rising (s .table)) back (x .rising);
+        named = subst (λ (s : Seen). Named (s .table) (s .head .g)) back (x .named);
+        once = subst (λ (s : Seen). Once (s .table)) back (x .once);
+      }
