@@ -5,13 +5,16 @@ use mathlib.Core.Path.{_≡_, refl, sym, _∙_, ap}
 use mathlib.Core.Option.{none, some}
 use mathlib.Core.List.{List}
 use native.Mathlib.Omega.{arith}
+use Rattle.head.specs.Fields.{headOf}
 use Rattle.paper.specs.declared.Refusal.{Refusal}
 use Rattle.paper.specs.declared.Verdict.{Verdict}
 use Rattle.paper.specs.Hearing.{Row}
 use Rattle.paper.specs.Answers.{rowOf}
 use Rattle.paper.specs.Orders.{checking}
+use Rattle.paper.specs.Accepted.{Accepted}
 use Rattle.paper.proofs.Hearing.{first-part, second-part, told-refused, told-passed}
 use Rattle.key.specs.declared.Key.{Key}
+use Rattle.key.specs.Hand.{Ready}
 use Rattle.opening.specs.declared.Opened.{Opened}
 use Rattle.audit.specs.Audit.{Checked}
 use Rattle.audit.proofs.Verdicts.{checked-accepted, checked-head}
@@ -52,3 +55,8 @@ module _ {l work : List ℕ} {r : Opened} {work′ codes : List ℕ} (o : Checke
             let p = row-passed v f in
             record { accepted = checked-accepted o e; head = checked-head o e; ready = j .ready p; letters = j .same p };
       }
+
+-- what a store asks for
+pub store-asks : {l work : List ℕ} {keyed : List Row} {key : List ℕ} {r : Asked} {work′ : List ℕ} → Asks l work keyed key r work′
+    → r .verdict ≡ Verdict.Passed → Accepted l × ((r .head ≡ headOf l) × Ready (r .head) (r .key))
+store-asks a e = let b = a .allowed (told-passed refl e) in (b .accepted, (b .head, b .ready))

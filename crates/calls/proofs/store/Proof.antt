@@ -1,14 +1,13 @@
--- `calls::store` meets its contract: 1 to 8 by the audit, 9 and 10 by the key in hand, the rest by what stands behind them.
+-- `calls::store` meets its contract: 1 to 10 by what stands in front of every store, the rest by what stands behind them.
 -- Assumes nothing.
 use borrow.Author.Needs.{needs}
-use Rattle.audit.proofs.Verdicts.{checked-accepted, checked-head}
-use Rattle.calls.proofs.Keyed.{behind-check, by-letters}
-use Rattle.calls.proofs.Storing.{stores-unchecked, stores-unkeyed, stores-stored}
+use Rattle.calls.proofs.Asking.{store-asks}
+use Rattle.calls.proofs.Storing.{stores-refused, stores-passed}
 use Rattle.calls.proofs.store.Statement.{statement}
 use Rattle.calls.proofs.store.Tie as tie
 
-check-requires : tie.Need-check-requires
-check-requires c κs = search needs
+ask-requires : tie.Need-ask-requires
+ask-requires c κs = search needs
 
 enum-known-verdict : tie.Need-enum-known-verdict
 enum-known-verdict c = search needs
@@ -16,28 +15,10 @@ enum-known-verdict c = search needs
 enum-told : tie.Need-enum-told
 enum-told c = search needs
 
-of-requires : tie.Need-of-requires
-of-requires c κs = search needs
-
-judge-requires : tie.Need-judge-requires
-judge-requires c κs =
-    let told = c .before .before in
-    behind-check (told .before .before .before .before .check .ensures) (told .enum-told .given .1) .image .head-permitted
-
-enum-known-judged : tie.Need-enum-known-judged
-enum-known-judged c = search needs
-
-enum-told-2 : tie.Need-enum-told-2
-enum-told-2 c = search needs
-
 store-requires : tie.Need-store-requires
 store-requires c κs =
-    let judge = c .before .before .before in
-    let told = judge .before .before .before in
-    let o = told .before .before .before .before .check .ensures in
-    let e = told .enum-told .given .1 in
-    let k = by-letters (behind-check o e) _ _ (judge .before .of .ensures) (judge .judge .ensures) in
-    (checked-accepted o e, (checked-head o e, k .ready (c .before .enum-told2 .given .1)))
+    let told = c .before in
+    store-asks (told .before .before .before .before .ask .ensures) (told .enum-told .given .1)
 
 same-length : tie.Need-same-length
 same-length c = search needs
@@ -46,7 +27,7 @@ same-length-2 : tie.Need-same-length-2
 same-length-2 c = search needs
 
 returns : tie.Need-returns
-returns c = stores-unchecked (c .before .before .before .before .before .check .ensures) _ _ (c .before .verdict .given .1)
+returns c = stores-refused (c .before .before .before .before .before .ask .ensures) _ (c .before .verdict .given .1)
 
 same-length-3 : tie.Need-same-length-3
 same-length-3 c = search needs
@@ -56,48 +37,21 @@ same-length-4 c = search needs
 
 returns-2 : tie.Need-returns-2
 returns-2 c =
-    let judge = c .before .before .before in
-    let told = judge .before .before .before in
-    let o = told .before .before .before .before .check .ensures in
-    let e = told .enum-told .given .1 in
-    let k = by-letters (behind-check o e) _ _ (judge .before .of .ensures) (judge .judge .ensures) in
-    stores-unkeyed o _ e k (c .before .judged .given .1)
-
-same-length-5 : tie.Need-same-length-5
-same-length-5 c = search needs
-
-same-length-6 : tie.Need-same-length-6
-same-length-6 c = search needs
-
-returns-3 : tie.Need-returns-3
-returns-3 c =
     let stored = c .before .before in
-    let passed = stored .before .before in
-    let judge = passed .before .before in
-    let told = judge .before .before .before in
-    let o = told .before .before .before .before .check .ensures in
-    let e = told .enum-told .given .1 in
-    let k = by-letters (behind-check o e) _ _ (judge .before .of .ensures) (judge .judge .ensures) in
-    stores-stored o _ e k (passed .enum-told2 .given .1) _ (stored .store .ensures)
+    let told = stored .before .before in
+    stores-passed (told .before .before .before .before .ask .ensures) _ (told .enum-told .given .1) _ (stored .store .ensures)
 
 pub store-spec : {M : Type 1} → statement M
 store-spec =
     tie.close
     (tie.spec
-    check-requires
+    ask-requires
     enum-known-verdict
     enum-told
-    of-requires
-    judge-requires
-    enum-known-judged
-    enum-told-2
     store-requires
     same-length
     same-length-2
     returns
     same-length-3
     same-length-4
-    returns-2
-    same-length-5
-    same-length-6
-    returns-3)
+    returns-2)
