@@ -1,13 +1,14 @@
 // The C face: what a bench links. Each function calls one public call of the library and lists the numbers of its answer; its promise is
 // that call's own. A slice comes as a pointer and a length. include/trieff.h declares all of it for C.
 ghost use mathlib.Core.Path.{_≡_};
-ghost use Rattle.paper.specs.Answers.{refusalNumbers, doneOf, countedOf, lookedOf, storedOf, foundOf};
+ghost use Rattle.paper.specs.Answers.{refusalNumbers, doneOf, countedOf, lookedOf, storedOf, listedOf, foundOf};
 ghost use Rattle.paper.specs.Hearing.{doneNumbers};
-ghost use Rattle.paper.specs.Promises.{Makes, Checks, Counts, LooksUp, LooksUpText, Stores, StoresText, Nexts};
+ghost use Rattle.paper.specs.Promises.{Makes, Checks, Counts, LooksUp, LooksUpText, Stores, StoresText, StoresWrites, StoresTextWrites, Mends, Nexts};
 ghost use Rattle.trieff.specs.Face.{numbersOf};
 use paper::Counted;
 use paper::Done;
 use paper::Found;
+use paper::Listed;
 use paper::Looked;
 use paper::Refusal;
 use paper::Stored;
@@ -97,6 +98,42 @@ pub extern "C" fn trieff_store_text(
 }
 
 #[no_mangle]
+pub extern "C" fn trieff_store_writes(
+    image: &mut [u8],
+    work: &mut [u32],
+    letters: &[u8],
+    value: u32,
+    writes: &mut [u32; 132],
+) -> TrieffAnswer
+    ensures { λ r. ⌜ StoresWrites (now (image .entry)) (now (work .entry)) (now (letters .entry)) value (now (writes .entry)) (numbersOf r) (now (image .exit)) (now (work .exit)) (now (writes .exit)) ⌝ }
+{
+    let answer = calls::store_writes(image, work, letters, value, writes);
+    listed(answer)
+}
+
+#[no_mangle]
+pub extern "C" fn trieff_store_text_writes(
+    image: &mut [u8],
+    work: &mut [u32],
+    text: &[u8],
+    value: u32,
+    writes: &mut [u32; 132],
+) -> TrieffAnswer
+    ensures { λ r. ⌜ StoresTextWrites (now (image .entry)) (now (work .entry)) (now (text .entry)) value (now (writes .entry)) (numbersOf r) (now (image .exit)) (now (work .exit)) (now (writes .exit)) ⌝ }
+{
+    let answer = calls::store_text_writes(image, work, text, value, writes);
+    listed(answer)
+}
+
+#[no_mangle]
+pub extern "C" fn trieff_mend(image: &mut [u8], work: &mut [u32]) -> TrieffAnswer
+    ensures { λ r. ⌜ Mends (now (image .entry)) (now (work .entry)) (numbersOf r) (now (image .exit)) (now (work .exit)) ⌝ }
+{
+    let answer = calls::mend(image, work);
+    done(answer)
+}
+
+#[no_mangle]
 pub extern "C" fn trieff_next_key(
     image: &[u8],
     work: &mut [u32],
@@ -169,6 +206,15 @@ fn stored(answer: Stored) -> TrieffAnswer
     match answer {
         Stored::Change(change) => told(0, change, 0),
         Stored::Refused(why) => refused(why),
+    }
+}
+
+fn listed(answer: Listed) -> TrieffAnswer
+    ensures { λ r. ⌜ numbersOf r ≡ listedOf answer ⌝ }
+{
+    match answer {
+        Listed::Change { change, writes } => told(writes, change, 0),
+        Listed::Refused(why) => refused(why),
     }
 }
 

@@ -1,0 +1,24 @@
+-- `trieff::trieff_store_writes` meets its contract: `calls::store_writes` does, and its answer is listed in numbers. Assumes nothing.
+use borrow.Author.Needs.{needs}
+use Rattle.trieff.proofs.Face.{by-numbers}
+use Rattle.trieff.proofs.trieff_store_writes.Statement.{statement}
+use Rattle.trieff.proofs.trieff_store_writes.Tie as tie
+
+store-writes-requires : tie.Need-store-writes-requires
+store-writes-requires c κs = search needs
+
+listed-requires : tie.Need-listed-requires
+listed-requires c κs = search needs
+
+same-length : tie.Need-same-length
+same-length c = search needs
+
+same-length-2 : tie.Need-same-length-2
+same-length-2 c = search needs
+
+returns : tie.Need-returns
+returns c = by-numbers (c .listed .ensures) (c .before .before .before .before .before .store-writes .ensures)
+
+pub trieff-store-writes-spec : {M : Type 1} → statement M
+trieff-store-writes-spec =
+    tie.close (tie.spec store-writes-requires listed-requires same-length same-length-2 returns)
