@@ -30,7 +30,7 @@
    next is begun. examples/bench_file.c does all of this. It rests on what the keeper must promise:
    - The writes before the cut landed whole, and none after the one that was hit was begun.
    - A write of G, of a link or of a data field lands whole or not at all. They are 1 to 4 bytes long and stand where the image's numbers put
-     them, so they may lie across the end of a sector; they do not where A and D are 1, 2 or 4 and divide 28 + F, N*A and W.
+     them, so they may lie across the end of a sector; they do not where A and D are 1, 2 or 4 and both divide 28 + F, N*A and W.
    - A write of a node goes to spare bytes. Any of its bytes may have landed and the others not.
    - No byte changes that was not written.
    Then, wherever the cut was, mending answers TRIEFF_DONE, and every answer is the one from before the store or every answer is the one from
