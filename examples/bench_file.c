@@ -70,12 +70,13 @@ static void flush(int fd)
         stop("fdatasync: %s. Do not go on with this file: restart the machine first", strerror(errno));
 }
 
-/* One write into a file, whole, and flushed. A full disk, or one that fails, stops the bench: the file is then as after a cut. */
+/* One write into a file, whole, and flushed. A full disk, or one that fails, stops the bench: the file is then as after a cut. Half a field
+   in it could not be mended. Lack of room does not leave one, since every byte of the file was written when it was made. */
 static void put(int fd, const uint8_t *bytes, size_t length, size_t place)
 {
     ssize_t landed = pwrite(fd, bytes, length, (off_t)place);
     if (landed < 0)
-        stop("pwrite: %s. Start again when it is mended", strerror(errno));
+        stop("pwrite: %s. Start again when the disk is well", strerror(errno));
     if ((size_t)landed != length)
         stop("pwrite: %zd bytes of %zu landed. Start again when there is room", landed, length);
     flush(fd);

@@ -422,8 +422,13 @@ pub fn store_text_writes(image: &mut [u8], work: &mut [u32], text: &[u8], value:
 /// assert_eq!(image[..4], [0, 0, 0, 0]);
 /// assert_eq!(check(&image, &mut work), Ok(()));
 ///
-/// image[32] = 1; // a link to node 1, with G = 0: that is no cut of a store
-/// assert_eq!(mend(&mut image, &mut work), Err(Refusal::Link(0)));
+/// // what no cut of a store leaves is not touched: the node without a link is not the last
+/// let mut image = [0; 43];
+/// let mut work = [0; 3];
+/// make(&mut image, Shape { n: 3, a: 1, d: 1, min: 1, max: 3 }, b"ABC")?;
+/// (image[3], image[32]) = (2, 2);
+/// assert_eq!(mend(&mut image, &mut work), Err(Refusal::NotLinked(1)));
+/// assert_eq!(image[..4], [0, 0, 0, 2]);
 /// # Ok::<(), Refusal>(())
 /// ```
 pub fn mend(image: &mut [u8], work: &mut [u32]) -> Result<(), Refusal> {
