@@ -4,13 +4,15 @@
 cuts.py BENCH SHIM FOLDER [MISTAKE]
 
 BENCH is the compiled bench, SHIM the compiled shim, FOLDER one to work in. Every answer after a start is held to a plain list of labels that is
-kept here: as before the store that was hit, or as after it if the last of its writes landed. Then the session goes on to its end. MISTAKE is a
-CUT_WRONG of the shim, which must be reported. The last line says how many stops were tried; exit status 1 if an answer was wrong.
+kept here: as before the store that was hit, or as after it if the last of its writes landed. Then the session goes on to its end, and the file
+must hold what the list tells. MISTAKE is a CUT_WRONG of the shim, which must be reported. The last line says how many stops were tried; exit
+status 1 if anything was wrong.
 """
 import itertools
 import os
 import random
 import shutil
+import struct
 import subprocess
 import sys
 
@@ -85,6 +87,16 @@ class Labels:
             del self.records[label]
         return writes, f"{label} = {record}: change {change}, writes {len(writes)}"
 
+    def image(self):
+        """The bytes of the image, as far as they are used."""
+        nodes = [bytearray(WIDTH) for _ in self.nodes]
+        for prefix, address in self.nodes.items():
+            if prefix:
+                struct.pack_into(">H", nodes[self.nodes[prefix[:-1]]], 2 * ALPHABET.index(prefix[-1]), address)
+            struct.pack_into(">I", nodes[address], 16 * 2, self.records.get(prefix, 0))
+        head = struct.pack(">7I", len(nodes) - 1, 16, 2, 4, len(ALPHABET), 1, LONGEST)
+        return head + ALPHABET.encode() + b"".join(nodes)
+
     def answers(self, labels):
         lines = [f"{a}: record {self.records[a]}" if a in self.records else f"{a}: absent" for a in labels]
         ordered = sorted(self.records, key=lambda a: [ALPHABET.index(c) for c in a])
@@ -127,6 +139,12 @@ class Bench:
         with open(self.file, "rb") as f:
             return f.read()
 
+    def holds(self, what, labels):
+        image, held = labels.image(), self.held()
+        if held[: len(image)] != image:
+            at = next(i for i in range(len(image)) if held[i : i + 1] != image[i : i + 1])
+            self.report(what, f"byte {at} of the file is {held[at : at + 1].hex()} instead of {image[at : at + 1].hex()}")
+
     def run(self, lines, shim=True, **cut):
         self.starts += 1
         env = {"PATH": os.environ.get("PATH", "")}
@@ -163,10 +181,11 @@ class Bench:
         return False
 
     def goes_on(self, what, labels, rest, mended=None):
-        """A start without a cut: all is as the labels say, and the rest of the session can be stored."""
+        """A start without a cut: all is as the labels say, the rest of the session can be stored, and the file then holds it."""
         lines, end = told(labels, rest)
         ran = self.run(ASKING + commands(rest) + ASKING)
-        return self.expect(what, ran, 0, labels.answers(ASKED) + lines + end.answers(ASKED), mended)
+        if self.expect(what, ran, 0, labels.answers(ASKED) + lines + end.answers(ASKED), mended):
+            self.holds(what, end)
 
     def stop(self, what, stores, done, at, how, seed=0):
         """A start that is stopped at a write, in the midst of the session, with the first stores done."""
@@ -197,7 +216,7 @@ def each_stop(bench, image, labels, stores, counted=0, then=()):
                 bench.put(image)
                 if not bench.stop(what, stores, lines, counted + j + 1, how, seed):
                     continue
-                # a field that stands behind new nodes is G; the link comes after it
+                # G landed and the link did not
                 mended = len(writes) > 1 and landed == len(writes) - 1
                 bench.goes_on(what, after if over else labels, stores[i + over :] + list(then), mended)
         counted += len(writes)
@@ -248,6 +267,7 @@ def main():
     lines, end = told(Labels(), SESSION)
     bench.put(None)
     bench.expect("the session", bench.run(commands(SESSION) + ASKING, shim=False), 0, lines + end.answers(ASKED), False)
+    bench.holds("the session", end)
     bench.put(None)
     if not bench.expect("the session", bench.run(commands(SESSION), trace=bench.trace), 0, lines):
         bench.end("and no more were tried")
