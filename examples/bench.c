@@ -1,5 +1,6 @@
-/* What a bench's firmware does with the library: it keeps the labels of buckets in an image, each with its record number, and hears every
-   refusal once. All memory is static. From the repository's root, after `rt staticlib trieff`:
+/* What a bench's firmware does with the library: it keeps the labels of buckets in an image, each with its record number, hears every
+   refusal once, and mends an image after a cut. All memory is static; bench_file.c keeps its image in a file. From the repository's root,
+   after `rt staticlib trieff`:
 
      gcc -std=c11 -O2 -Iinclude -o target/bench-c examples/bench.c target/staticlib/libtrieff.a && target/bench-c
 
@@ -20,8 +21,8 @@ static uint32_t work[NODES];
 #define ALL(array) (array), sizeof(array) / sizeof *(array)
 
 /* What the bench shows for an answer. The worker can mend 9 to 11; 12 and 13 need a greater image; 5 and 14 are mistakes of the firmware;
-   15 is the end of the list. After the others the image isn't one to go on with, and the bench loads its copy; the place says where to
-   look. */
+   15 is the end of the list; 8 may come from a cut, and mending helps. After the others the image isn't one to go on with, and the bench
+   loads its copy; the place says where to look. */
 static void show(const char *asked, trieff_answer heard)
 {
     printf("%s: ", asked);
@@ -149,6 +150,32 @@ static void refused_address(void)
     show("one more", heard);
 }
 
+/* A cut between two writes. `kept` stands for the flash that keeps the small image: the writes of a store of AC = 7 are put into it one by
+   one, and the power goes before the last, which is the link. */
+static void cut_off(void)
+{
+    static uint8_t kept[sizeof small];
+    uint32_t writes[TRIEFF_WRITES_LEN];
+    memcpy(kept, small, sizeof kept);
+    trieff_answer heard = trieff_store_text_writes(ALL(small), ALL(work), TEXT("AC"), 7, writes);
+    if (heard.number != TRIEFF_DONE || heard.length == 0) {
+        show("store AC = 7", heard);
+        return;
+    }
+    printf("store AC = 7: change %d, writes %u\n", (int)heard.change, (unsigned)heard.length);
+    for (uint32_t i = 0; i < heard.length; i++) {
+        uint32_t place = writes[2 * i], length = writes[2 * i + 1];
+        printf("write %u: %u bytes at %u\n", (unsigned)i, (unsigned)length, (unsigned)place);
+        if (i + 1 < heard.length)
+            memcpy(kept + place, small + place, length);
+    }
+    show("cut before the last", trieff_check(ALL(kept), ALL(work)));
+    show("mend", trieff_mend(ALL(kept), ALL(work)));
+    printf("AC: %llu in memory, %llu kept\n", (unsigned long long)trieff_look_up_text(ALL(small), TEXT("AC")).value,
+           (unsigned long long)trieff_look_up_text(ALL(kept), TEXT("AC")).value);
+    printf("BA: %llu kept, node %u is the last\n", (unsigned long long)trieff_look_up_text(ALL(kept), TEXT("BA")).value, (unsigned)kept[3]);
+}
+
 int main(void)
 {
     show("make the labels' image", trieff_make(ALL(image), N, A, D, TEXT(alphabet), MIN, MAX));
@@ -165,5 +192,6 @@ int main(void)
     refused_images();
     refused_keys();
     refused_address();
+    cut_off();
     return 0;
 }

@@ -12,7 +12,7 @@
 
 enum { DEEP = TRIEFF_KEY_MOST, NODES = DEEP + 1, ROOM = 65536, MOST = 2048, COUNT_MOST = 16384, NEXT_MOST = 32768 };
 static uint8_t image[TRIEFF_LENGTH(NODES, 2, 1, 1, 2)];
-static uint32_t work[NODES];
+static uint32_t work[NODES], writes[TRIEFF_WRITES_LEN];
 static uint8_t letters[DEEP], text[DEEP], key[DEEP];
 static uint8_t stack[ROOM];
 static trieff_answer heard;
@@ -24,12 +24,27 @@ static trieff_answer heard;
 static void call_make(void) { heard = trieff_make(IMAGE, 2, 1, 1, (const uint8_t *)"AB", 2, 0, DEEP); }
 static void call_store(void) { heard = trieff_store(IMAGE, WORK, letters, DEEP, 7); }
 static void call_store_text(void) { heard = trieff_store_text(IMAGE, WORK, text, DEEP, 7); }
+static void call_store_writes(void) { heard = trieff_store_writes(IMAGE, WORK, letters, DEEP, 7, writes); }
+static void call_store_text_writes(void) { heard = trieff_store_text_writes(IMAGE, WORK, text, DEEP, 7, writes); }
+static void call_mend(void) { heard = trieff_mend(IMAGE, WORK); }
 static void call_check(void) { heard = trieff_check(IMAGE, WORK); }
 static void call_count(void) { heard = trieff_count(IMAGE, WORK); }
 static void call_look_up(void) { heard = trieff_look_up(IMAGE, letters, DEEP); }
 static void call_look_up_text(void) { heard = trieff_look_up_text(IMAGE, text, DEEP); }
 static void call_next_key(void) { heard = trieff_next_key(IMAGE, WORK, letters, 0, false, key, DEEP); }
 static void call_nothing(void) { heard = (trieff_answer){0}; }
+
+/* The image before the call: fresh, with the key stored, or cut between G and the link, which is the second of the root's two. */
+static void whole(void)
+{
+    call_make();
+    call_store();
+}
+static void cut(void)
+{
+    whole();
+    image[28 + 2 + 1] = 0;
+}
 
 static size_t taken_by(void (*call)(void))
 {
@@ -49,26 +64,30 @@ static size_t taken_by(void (*call)(void))
 
 int main(void)
 {
-    static const struct { const char *name; void (*call)(void); size_t most; uint64_t value; } calls[] = {
-        {"make", call_make, MOST, 0},
-        {"store", call_store, MOST, 0},
-        {"store_text", call_store_text, MOST, 0},
-        {"check", call_check, MOST, 0},
-        {"look_up", call_look_up, MOST, 7},
-        {"look_up_text", call_look_up_text, MOST, 7},
-        {"count", call_count, COUNT_MOST, 1},
-        {"next_key", call_next_key, NEXT_MOST, 7},
+    static const struct { const char *name; void (*before)(void), (*call)(void); size_t most; uint32_t length; uint64_t value; } calls[] = {
+        {"make", whole, call_make, MOST, 0, 0},
+        {"store", call_make, call_store, MOST, 0, 0},
+        {"store_text", call_make, call_store_text, MOST, 0, 0},
+        {"store_writes", call_make, call_store_writes, MOST, TRIEFF_WRITES_MOST, 0},
+        {"store_text_writes", call_make, call_store_text_writes, MOST, TRIEFF_WRITES_MOST, 0},
+        {"mend", cut, call_mend, MOST, 0, 0},
+        {"check", whole, call_check, MOST, 0, 0},
+        {"look_up", whole, call_look_up, MOST, 0, 7},
+        {"look_up_text", whole, call_look_up_text, MOST, 0, 7},
+        {"count", whole, call_count, COUNT_MOST, 0, 1},
+        {"next_key", whole, call_next_key, NEXT_MOST, DEEP, 7},
     };
     int failed = 0;
     memset(letters, 1, DEEP);
     memset(text, 'B', DEEP);
-    call_make();
-    call_store(); /* the linker's own work at a first memset is done here */
+    whole(); /* the linker's own work at a first memset is done here */
     size_t bare = taken_by(call_nothing);
     for (size_t i = 0; i < sizeof calls / sizeof *calls; i++) {
+        calls[i].before();
         size_t taken = taken_by(calls[i].call) - bare;
         int good = heard.number == TRIEFF_DONE && heard.value == calls[i].value && taken <= calls[i].most;
-        printf("%-12s %5zu bytes of stack, at most %zu%s\n", calls[i].name, taken, calls[i].most, good ? "" : ": FAILED");
+        good = good && heard.length == calls[i].length;
+        printf("%-17s %5zu bytes of stack, at most %zu%s\n", calls[i].name, taken, calls[i].most, good ? "" : ": FAILED");
         failed |= !good;
     }
     return failed;

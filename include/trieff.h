@@ -1,11 +1,13 @@
-/* TRIEFF 0.6.0 images over lent memory: make, check, count, look up, store, list. Link with libtrieff.a, which `rt staticlib trieff` builds.
+/* TRIEFF 0.6.0 images over lent memory: make, check, count, look up, store, mend, list. Link with libtrieff.a, which `rt staticlib trieff`
+   builds.
 
-   What is lent. Every slice is a pointer and the number of its elements: bytes, but 32-bit numbers for `work`. It is lent for the call alone:
+   What is lent. Every slice is a pointer and the number of its elements: bytes, but 32-bit numbers for `work`. The list of a store's writes is
+   a pointer alone, to exactly TRIEFF_WRITES_LEN 32-bit numbers. A slice is lent for the call alone:
    the library keeps no pointer, has no variables, allocates nothing and never stops the program. It calls memcpy and memset, and
    nothing else. It does not trust what the slices hold: any bytes, key, text and value may be handed over, and each has its answer. What C
    cannot check is the caller's part:
    - A pointer is not NULL, also where the length is 0, and that many elements are really there.
-   - `work` is aligned as uint32_t is, as every array of uint32_t is.
+   - `work` and `writes` are aligned as uint32_t is, as every array of uint32_t is.
    - A slice that a call may write to overlaps no other slice of that call.
    - Nobody else changes a lent slice during the call.
    - `after` is false or true.
@@ -15,12 +17,24 @@
    What is answered. Each call answers the first refusal that applies, in the order that stands with it, else TRIEFF_DONE. A refused call
    changes nothing but the working numbers. A call that is done changes only what it is said to write.
 
-   Working numbers. check, count, store and next_key need one for each node in use, G+1, and the answer does not depend on what
+   Working numbers. check, count, the stores, mend and next_key need one for each node in use, G+1, and the answer does not depend on what
    they held. Once TRIEFF_TOO_FEW_NUMBERS is passed, the first G+1 of them are 0 when the call returns, with the G of entry,
-   whatever the answer; the rest keep what they held. Before that all keep what they held.
+   whatever the answer, also where mend lowers G; the rest keep what they held. Before that all keep what they held.
 
    The image. Seven big-endian 32-bit fields G, N, A, D, F, min, max, then F bytes of alphabet, then the nodes 0 to G of W = N*A + D bytes:
-   N links of A bytes, then D bytes of data. The used length is U = 28 + F + (G+1)*W; bytes from U on are spare and are never judged. */
+   N links of A bytes, then D bytes of data. The used length is U = 28 + F + (G+1)*W; bytes from U on are spare and are never judged.
+
+   A cut between two writes. An image that must outlive a power cut is kept twice: in memory, and in a file, flash or other store that keeps
+   it. Read it into memory at the start and mend it; if that changed its first four bytes, write them back. Store by store_writes or
+   store_text_writes, and write what they list into the kept image: one write after the other, in the list's order, each flushed before the
+   next is begun. examples/bench_file.c does all of this. It rests on what the keeper must promise:
+   - The writes before the cut landed whole, and none after the one that was hit was begun.
+   - A write of G, of a link or of a data field lands whole or not at all. They are 1 to 4 bytes long and stand where the image's numbers put
+     them, so they may lie across the end of a sector; they do not where A and D are 1, 2 or 4 and both divide 28 + F, N*A and W.
+   - A write of a node goes to spare bytes. Any of its bytes may have landed and the others not.
+   - No byte changes that was not written.
+   Then, wherever the cut was, mending answers TRIEFF_DONE, and every answer is the one from before the store or every answer is the one from
+   after it: after, exactly if the last write of the list landed. A key is never half stored, and no other key is touched. */
 #ifndef TRIEFF_H
 #define TRIEFF_H
 
@@ -41,6 +55,10 @@ extern "C" {
 #define TRIEFF_D_MOST 4
 #define TRIEFF_F_MOST 1024
 #define TRIEFF_KEY_MOST 64
+
+/* The most writes that a store lists, 64 new nodes, G and a link, and the numbers of their list, two for each. */
+#define TRIEFF_WRITES_MOST 66
+#define TRIEFF_WRITES_LEN 132
 
 /* The used length of an image of so many nodes, for static memory: `static uint8_t image[TRIEFF_LENGTH(nodes, n, a, d, f)]`, for which
    `static uint32_t work[nodes]` is enough as long as the image in it was made with these numbers. */
@@ -70,8 +88,8 @@ enum trieff_number {
 typedef struct trieff_answer {
     uint32_t number; /* of enum trieff_number: TRIEFF_DONE, else the refusal */
     uint32_t place;  /* the node or address that the refusal names, else 0 */
-    uint32_t length; /* next_key: how many letters were written to the key buffer */
-    int32_t change;  /* store: the change in the number of stored keys, -1, 0 or 1 */
+    uint32_t length; /* next_key: how many letters were written to the key buffer; store_writes, store_text_writes: how many writes are listed */
+    int32_t change;  /* the stores: the change in the number of stored keys, -1, 0 or 1 */
     uint64_t value;  /* look_up, next_key: the value, 0 for absent; count: the number of stored keys */
 } trieff_answer;
 
@@ -112,6 +130,29 @@ trieff_answer trieff_store(uint8_t *image, size_t image_len, uint32_t *work, siz
    Refusals: 1 to 8, 10, 9, 11, 12, 13. */
 trieff_answer trieff_store_text(uint8_t *image, size_t image_len, uint32_t *work, size_t work_len,
                                 const uint8_t *text, size_t text_len, uint32_t value);
+
+/* As trieff_store in every refusal, number and byte, and besides it lists what it wrote: for each write its place and its length in bytes, in
+   order, from the front of `writes`. `length` says how many writes they are, 0 to TRIEFF_WRITES_MOST. The bytes of a write are those of the
+   image after the call. So write i of the list puts the bytes image[p] to image[p + n - 1] at place p, where p is writes[2*i] and n is
+   writes[2*i + 1]. All of them, in order, make the image from before the call into the image after it.
+   Refusals: 1 to 8, 9, 10, 11, 12, 13.
+   Done: writes what trieff_store writes, and the list. Where the key's path is complete it is one write, of the data field, also if
+   the value was there already. Where it is not, a value of 0 lists nothing; any other lists the new nodes, one write each by rising address,
+   then G (place 0, 4 bytes), then the link to the first of them. The numbers after the list keep what they held, and a refusal changes none. */
+trieff_answer trieff_store_writes(uint8_t *image, size_t image_len, uint32_t *work, size_t work_len,
+                                  const uint8_t *letters, size_t letters_len, uint32_t value, uint32_t *writes);
+
+/* The same for a key given as text in UTF-8.
+   Refusals: 1 to 8, 10, 9, 11, 12, 13. */
+trieff_answer trieff_store_text_writes(uint8_t *image, size_t image_len, uint32_t *work, size_t work_len,
+                                       const uint8_t *text, size_t text_len, uint32_t value, uint32_t *writes);
+
+/* Mends an image after a cut: if the check answers 8 at p, and the image with G set to p - 1 is accepted, G becomes p - 1 and the answer is
+   TRIEFF_DONE. Otherwise nothing changes and the check's answer is returned: TRIEFF_DONE for an image that is accepted as it is.
+   It is fixed for every image, cut or not. What it may change is the first four bytes. Write them back to where the image is kept, as one write
+   that lands whole or not at all; if a cut comes there, the next start mends again. Until they are back, new nodes would not go to spare bytes.
+   Refusals: 1 to 8. */
+trieff_answer trieff_mend(uint8_t *image, size_t image_len, uint32_t *work, size_t work_len);
 
 /* The first stored key at or after the key given or, where `after` is true, after it. A key comes before its extensions; otherwise the first
    different letter number decides. The key given has 0 to max letters and need not be stored; at or after the empty key is the first.

@@ -1,11 +1,11 @@
-//! What a bench's firmware does with the library, in short: labels stored, found, listed and deleted, and what it hears when a worker or
-//! the memory goes wrong. examples/bench.txt holds what it must print.
+//! What a bench's firmware does with the library, in short: labels stored, found, listed and deleted, what it hears when a worker or
+//! the memory goes wrong, and an image mended after a cut. examples/bench.txt holds what it must print.
 //!
 //! ```sh
 //! cargo run --manifest-path rust/Cargo.toml --example bench
 //! ```
 
-use trieff::{check, count, look_up_text, make, next_key, store_text, Refusal, Shape};
+use trieff::{check, count, look_up_text, make, mend, next_key, store_text, store_text_writes, Refusal, Shape, Writes};
 
 const ALPHABET: &[u8] = b"0123456789ABCDE-";
 const SHAPE: Shape = Shape {
@@ -25,7 +25,8 @@ fn advice(refusal: Refusal) -> &'static str {
         Refusal::TooFewNumbers | Refusal::ShortBuffer => "lend more memory",
         Refusal::NoKey => "end of the list",
         Refusal::ImageLength | Refusal::HeadField | Refusal::Alphabet | Refusal::ImageRoom => "load the copy",
-        Refusal::Link(_) | Refusal::LinkedTwice(_) | Refusal::NotLinked(_) => "load the copy",
+        Refusal::NotLinked(_) => "mend it, or load the copy",
+        Refusal::Link(_) | Refusal::LinkedTwice(_) => "load the copy",
         Refusal::Unknown { .. } => "call the maker",
     }
 }
@@ -58,6 +59,22 @@ fn list(image: &[u8], work: &mut [u32]) -> Result<(), Refusal> {
     }
 }
 
+/// A label is stored in memory and put write by write into the copy that is kept; the power goes before write `cut`.
+fn cut_off(image: &[u8], label: &str, record: u32, cut: usize) -> Result<(), Refusal> {
+    let (mut memory, mut kept) = (image.to_vec(), image.to_vec());
+    let mut work = [0; NODES];
+    let mut writes = Writes::new();
+    store_text_writes(&mut memory, &mut work, label.as_bytes(), record, &mut writes)?;
+    for write in writes.iter().take(cut) {
+        kept[write.clone()].copy_from_slice(&memory[write]);
+    }
+    println!("{label}, cut after {cut} of {} writes", writes.len());
+    show("check", check(&kept, &mut work));
+    show("mend", mend(&mut kept, &mut work));
+    show(&format!("look up {label}"), look_up_text(&kept, label.as_bytes()));
+    Ok(())
+}
+
 fn main() {
     let mut image = [0; SHAPE.length(NODES, ALPHABET.len())];
     let mut work = [0; NODES];
@@ -73,6 +90,9 @@ fn main() {
     show("list", list(&image, &mut work));
     show("delete B04-117-1", store_text(&mut image, &mut work, b"B04-117-1", 0));
     show("list", list(&image, &mut work));
+    for cut in 1..=3 {
+        show("cut", cut_off(&image, "B04-118", 2412, cut));
+    }
 
     show("look up B04/117", look_up_text(&image, b"B04/117"));
     show("look up 13 letters", look_up_text(&image, b"0123456789ABC"));

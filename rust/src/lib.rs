@@ -1,12 +1,12 @@
-//! TRIEFF 0.6.0 images over lent memory, for Rust: make, check, count, look up, store, list.
+//! TRIEFF 0.6.0 images over lent memory, for Rust: make, check, count, look up, store, mend, list.
 //!
 //! Every call works on slices that are lent for the call alone. It allocates nothing and keeps nothing, and any bytes, key, text and value may
 //! be handed over: each has its answer, the first [`Refusal`] that applies or what was asked for. A refused call changes nothing but the
 //! working numbers. The code behind it is `libtrieff.a`, which `rt staticlib trieff` proves and builds; the crate needs no `std`.
 //!
-//! Working numbers: [`check`], [`count`], [`store`] and [`next_key`] need one for each node in use, G+1, and the answer does not depend on what
-//! they held. Once [`Refusal::TooFewNumbers`] is passed, the first G+1 of them are 0 when the call returns, whatever the answer; before
-//! that all keep what they held.
+//! Working numbers: [`check`], [`count`], the stores, [`mend`] and [`next_key`] need one for each node in use, G+1, and the answer does not
+//! depend on what they held. Once [`Refusal::TooFewNumbers`] is passed, the first G+1 of them are 0 when the call returns, with the G of
+//! entry, whatever the answer; before that all keep what they held.
 //!
 //! ```
 //! use trieff::{count, look_up_text, make, next_key, store_text, Refusal, Shape};
@@ -24,14 +24,56 @@
 //! assert_eq!((&key[..found.length], found.value), (&[1][..], 5));
 //! # Ok::<(), Refusal>(())
 //! ```
+//!
+//! # A cut between two writes
+//!
+//! An image that must outlive a power cut is kept twice: in memory, and in a file, flash or other store that keeps it. Read it into memory at
+//! the start and [`mend`] it; if that changed its first four bytes, write them back. Store by [`store_writes`] or [`store_text_writes`], and
+//! write what they list into the kept image: one write after the other, in the list's order, each flushed before the next is begun. The
+//! keeper must promise that
+//!
+//! - the writes before the cut landed whole, and none after the one that was hit was begun;
+//! - a write of G, of a link or of a data field lands whole or not at all. They are 1 to 4 bytes long and may lie across the end of a sector;
+//!   they do not where A and D are 1, 2 or 4 and both divide 28 + F, N*A and W;
+//! - a write of a node, which goes to spare bytes, may land in any part;
+//! - no byte changes that was not written.
+//!
+//! Then, wherever the cut was, mending is done, and every answer is the one from before the store or every answer is the one from after it:
+//! after, exactly if the last write of the list landed.
+//!
+//! ```
+//! use trieff::{look_up_text, make, mend, store_text_writes, Refusal, Shape, Writes};
+//!
+//! let mut image = [0; 100];
+//! let mut work = [0; 16];
+//! let mut writes = Writes::new();
+//! make(&mut image, Shape { n: 3, a: 1, d: 1, min: 1, max: 3 }, b"ABC")?;
+//! let mut kept = image; // stands for the file
+//!
+//! store_text_writes(&mut image, &mut work, b"BA", 9, &mut writes)?;
+//! for write in writes.iter().take(3) {
+//!     kept[write.clone()].copy_from_slice(&image[write]);
+//! } // and here the power goes: the link is missing
+//! mend(&mut kept, &mut work)?;
+//! assert_eq!(look_up_text(&kept, b"BA")?, None);
+//!
+//! for write in writes.iter() {
+//!     kept[write.clone()].copy_from_slice(&image[write]);
+//! }
+//! mend(&mut kept, &mut work)?;
+//! assert_eq!(look_up_text(&kept, b"BA")?, Some(9));
+//! # Ok::<(), Refusal>(())
+//! ```
 #![no_std]
 #![warn(missing_docs)]
 
 pub mod raw;
 mod refusal;
+mod writes;
 
 use raw::TrieffAnswer;
 pub use refusal::Refusal;
+pub use writes::{Writes, WRITES_MOST};
 
 /// The numbers that a fresh image is made with. Its alphabet is given beside them; G begins at 0.
 #[derive(Clone, Copy, Debug, PartialEq, Eq)]
@@ -283,6 +325,118 @@ pub fn store_text(image: &mut [u8], work: &mut [u32], text: &[u8], value: u32) -
     heard(answer).map(|done| done.change)
 }
 
+/// The same as [`store`], in what it answers, refuses and writes to the image; besides it lists its writes, so that they can be put into a kept
+/// copy of the image one by one.
+///
+/// Where the key's path is complete it is one write, of the data field, also if the value was there already. Where it is not, a value of 0
+/// lists nothing; any other lists the new nodes, one write each by rising address, then G, then the link to the first of them. All of them, in
+/// order, make the image from before the call into the image after it. A refusal leaves the list as it was.
+///
+/// Refusals: 1 to 8, 9, 10, 11, 12, 13.
+///
+/// ```
+/// use trieff::{make, store_writes, Refusal, Shape, Writes};
+///
+/// let mut image = [0; 43];
+/// let mut work = [0; 3];
+/// let mut writes = Writes::new();
+/// make(&mut image, Shape { n: 3, a: 1, d: 1, min: 1, max: 3 }, b"ABC")?;
+/// let mut kept = image;
+/// assert_eq!(store_writes(&mut image, &mut work, &[1, 0], 9, &mut writes)?, 1);
+/// for write in writes.iter() {
+///     kept[write.clone()].copy_from_slice(&image[write]);
+/// }
+/// assert_eq!(kept, image);
+///
+/// assert_eq!(store_writes(&mut image, &mut work, &[2, 2, 2], 1, &mut writes), Err(Refusal::NoRoom));
+/// assert_eq!(writes.len(), 4);
+/// # Ok::<(), Refusal>(())
+/// ```
+pub fn store_writes(image: &mut [u8], work: &mut [u32], letters: &[u8], value: u32, writes: &mut Writes) -> Result<i32, Refusal> {
+    // SAFETY: a slice's pointer and length, and an array of 132; image, work and writes are borrowed for writing, so no two overlap.
+    let answer = unsafe {
+        raw::trieff_store_writes(
+            image.as_mut_ptr(),
+            image.len(),
+            work.as_mut_ptr(),
+            work.len(),
+            letters.as_ptr(),
+            letters.len(),
+            value,
+            writes.numbers.as_mut_ptr(),
+        )
+    };
+    listed(answer, writes)
+}
+
+/// The same as [`store_writes`] for a key given by its text in UTF-8.
+///
+/// Refusals: 1 to 8, 10, 9, 11, 12, 13.
+///
+/// ```
+/// use trieff::{make, store_text_writes, Refusal, Shape, Writes};
+///
+/// let mut image = [0; 48];
+/// let mut work = [0; 3];
+/// let mut writes = Writes::new();
+/// make(&mut image, Shape { n: 3, a: 1, d: 1, min: 1, max: 3 }, "AÉ→".as_bytes())?;
+/// assert_eq!(store_text_writes(&mut image, &mut work, "É→".as_bytes(), 9, &mut writes)?, 1);
+/// assert!(writes.iter().eq([38..42, 42..46, 0..4, 35..36]));
+/// assert_eq!(store_text_writes(&mut image, &mut work, b"E", 9, &mut writes), Err(Refusal::Letter));
+/// # Ok::<(), Refusal>(())
+/// ```
+pub fn store_text_writes(image: &mut [u8], work: &mut [u32], text: &[u8], value: u32, writes: &mut Writes) -> Result<i32, Refusal> {
+    // SAFETY: a slice's pointer and length, and an array of 132; image, work and writes are borrowed for writing, so no two overlap.
+    let answer = unsafe {
+        raw::trieff_store_text_writes(
+            image.as_mut_ptr(),
+            image.len(),
+            work.as_mut_ptr(),
+            work.len(),
+            text.as_ptr(),
+            text.len(),
+            value,
+            writes.numbers.as_mut_ptr(),
+        )
+    };
+    listed(answer, writes)
+}
+
+/// Mends an image after a cut: if [`check`] refuses it with 8 at p, and the image with G set to p - 1 is accepted, G becomes p - 1. Otherwise
+/// nothing changes and the check's answer is returned, which is `Ok` for an image that is accepted as it is.
+///
+/// It is fixed for every image, cut or not, and changes the first four bytes or none. Where they changed, write them back to where the image is
+/// kept, as one write that lands whole or not at all; if a cut comes there, the next start mends again.
+///
+/// Refusals: 1 to 8.
+///
+/// ```
+/// use trieff::{check, make, mend, Refusal, Shape};
+///
+/// let mut image = [0; 39];
+/// let mut work = [0; 2];
+/// make(&mut image, Shape { n: 3, a: 1, d: 1, min: 1, max: 3 }, b"ABC")?;
+/// image[3] = 1; // G = 1, and no link to node 1
+/// assert_eq!(check(&image, &mut work), Err(Refusal::NotLinked(1)));
+/// assert_eq!(mend(&mut image, &mut work), Ok(()));
+/// assert_eq!(image[..4], [0, 0, 0, 0]);
+/// assert_eq!(check(&image, &mut work), Ok(()));
+///
+/// // what no cut of a store leaves is not touched: the node without a link is not the last
+/// let mut image = [0; 43];
+/// let mut work = [0; 3];
+/// make(&mut image, Shape { n: 3, a: 1, d: 1, min: 1, max: 3 }, b"ABC")?;
+/// (image[3], image[32]) = (2, 2);
+/// assert_eq!(mend(&mut image, &mut work), Err(Refusal::NotLinked(1)));
+/// assert_eq!(image[..4], [0, 0, 0, 2]);
+/// # Ok::<(), Refusal>(())
+/// ```
+pub fn mend(image: &mut [u8], work: &mut [u32]) -> Result<(), Refusal> {
+    // SAFETY: a slice's pointer and length; image and work are borrowed for writing, so they do not overlap.
+    let answer = unsafe { raw::trieff_mend(image.as_mut_ptr(), image.len(), work.as_mut_ptr(), work.len()) };
+    heard(answer).map(|_| ())
+}
+
 /// The first stored key at or after the key given or, where `after` is true, after it. A key comes before its extensions; otherwise the first
 /// different letter number decides. The key given has 0 to max letters and need not be stored; at or after the empty key is the first.
 ///
@@ -334,6 +488,12 @@ fn heard(answer: TrieffAnswer) -> Result<TrieffAnswer, Refusal> {
         None => Ok(answer),
         Some(refusal) => Err(refusal),
     }
+}
+
+fn listed(answer: TrieffAnswer, writes: &mut Writes) -> Result<i32, Refusal> {
+    let done = heard(answer)?;
+    writes.count = done.length as usize;
+    Ok(done.change)
 }
 
 fn present(done: TrieffAnswer) -> Option<u64> {

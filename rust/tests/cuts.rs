@@ -1,0 +1,101 @@
+//! Every cut of a list of writes, in memory: after mending, the answers are those from before the store, or those from after it exactly if the
+//! last write landed.
+
+use trieff::{check, count, look_up, make, mend, next_key, store_writes, Refusal, Shape, Writes};
+
+const SHAPE: Shape = Shape {
+    n: 3,
+    a: 2,
+    d: 3,
+    min: 0,
+    max: 3,
+};
+const ROOM: usize = SHAPE.length(20, 0);
+const STORES: [(&[u8], u32); 9] = [
+    (&[1, 0], 9),
+    (&[1], 5),
+    (&[2, 2, 2], 70_000),
+    (&[1, 0], 9),
+    (&[1, 0], 0),
+    (&[0, 0, 0], 0),
+    (&[], 3),
+    (&[2, 2, 1], 1),
+    (&[0, 1, 2], 2),
+];
+
+/// What an image answers: the number of keys, and each key with its value, by the listing and by lookup.
+fn answers(image: &[u8]) -> (u64, Vec<(Vec<u8>, u64)>) {
+    let mut work = [0; 20];
+    let (mut all, mut last, mut after) = (Vec::new(), Vec::new(), false);
+    loop {
+        let mut key = [0; 3];
+        match next_key(image, &mut work, &last, after, &mut key) {
+            Ok(found) => last = key[..found.length].to_vec(),
+            Err(refusal) => {
+                assert_eq!(refusal, Refusal::NoKey);
+                return (count(image, &mut work).unwrap(), all);
+            }
+        }
+        all.push((last.clone(), look_up(image, &last).unwrap().unwrap()));
+        after = true;
+    }
+}
+
+#[test]
+fn after_any_cut_the_store_is_whole_or_has_not_been() {
+    // spare bytes hold anything
+    let mut image: [u8; ROOM] = std::array::from_fn(|i| (i * 37 % 251) as u8);
+    let mut work = [0; 20];
+    let mut writes = Writes::new();
+    let mut lists = Vec::new();
+    make(&mut image, SHAPE, b"").unwrap();
+    for (letters, value) in STORES {
+        let before = image;
+        store_writes(&mut image, &mut work, letters, value, &mut writes).unwrap();
+        let list: Vec<_> = writes.iter().collect();
+        for cut in 0..=list.len() {
+            let mut kept = before;
+            for write in &list[..cut] {
+                kept[write.clone()].copy_from_slice(&image[write.clone()]);
+            }
+            // what a node's write can leave: the bytes by lot
+            for lot in 0..4 {
+                let mut torn = kept;
+                if cut + 2 < list.len() {
+                    for i in list[cut].clone().filter(|i| i * 7 / 4 % 4 == lot) {
+                        torn[i] = image[i];
+                    }
+                }
+                let hit = torn;
+                assert_eq!(mend(&mut torn, &mut work), Ok(()));
+                assert_eq!(torn[4..], hit[4..]);
+                assert_eq!(check(&torn, &mut work), Ok(()));
+                assert_eq!(answers(&torn), answers(if cut == list.len() { &image } else { &before }));
+            }
+            if cut == list.len() {
+                assert_eq!(kept, image);
+            }
+        }
+        lists.push(list.len());
+    }
+    assert_eq!(lists, [4, 1, 5, 1, 1, 0, 1, 3, 5]);
+}
+
+#[test]
+fn the_longest_list_and_a_list_in_words() {
+    const DEEP: Shape = Shape {
+        n: 1,
+        a: 1,
+        d: 1,
+        min: 0,
+        max: 64,
+    };
+    let mut image = [0; DEEP.length(65, 0)];
+    let mut writes = Writes::default();
+    make(&mut image, DEEP, b"").unwrap();
+    store_writes(&mut image, &mut [0; 65], &[0; 64], 1, &mut writes).unwrap();
+    assert_eq!((writes.len(), writes.iter().len()), (trieff::WRITES_MOST, 66));
+    assert_eq!(writes.iter().next_back(), Some(28..29));
+    store_writes(&mut image, &mut [0; 65], &[], 1, &mut writes).unwrap();
+    assert_eq!(format!("{writes:?}"), "[29..30]");
+}
