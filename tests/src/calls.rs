@@ -67,7 +67,9 @@ impl Call {
     /// The value that a store is given.
     pub fn stored(&self) -> Option<u32> {
         match *self {
-            Call::Store { value } | Call::StoreText { value } | Call::StoreWrites { value } | Call::StoreTextWrites { value } => Some(value),
+            Call::Store { value } | Call::StoreText { value } | Call::StoreWrites { value } | Call::StoreTextWrites { value } => {
+                Some(value)
+            }
             _ => None,
         }
     }

@@ -1,6 +1,6 @@
-//! Cuts: what request 1 of document 02 asks of a store that is cut short. The library's own list of its writes is carried out on the image from
-//! before, up to every cut; each image so left is mended and then asked everything. What it must answer comes from a map of last values that is
-//! kept beside the image.
+//! Cuts: what request 1 of document 02 asks of a store that is cut short. The library's own list of its writes is carried out on the image
+//! from before, up to every cut; each image so left is mended and then asked everything. What it must answer comes from a map of last values
+//! that is kept beside the image.
 
 use crate::calls::{ask_library, Call, Pointers};
 use crate::keys;
@@ -41,8 +41,8 @@ impl Held {
     }
 }
 
-/// What was tried: stores that were not refused, the images that their cuts left, and of these those that a write in part left and those whose
-/// G was lowered.
+/// What was tried: stores that were not refused, the images that their cuts left, and of these those with a write in part and those whose G
+/// was lowered.
 #[derive(Clone, Copy, Default)]
 pub struct Tried {
     pub images: u64,
@@ -64,12 +64,17 @@ impl Tried {
     }
 }
 
-fn claim(holds: bool, broken: &str) -> Result<(), String> {
+fn claim(holds: bool, broken: impl Fn() -> String) -> Result<(), String> {
     if holds {
         Ok(())
     } else {
-        Err(broken.to_string())
+        Err(broken())
     }
+}
+
+/// Whether the key can be asked by text. Without an alphabet only the empty one can.
+fn has_text(key: &Key) -> bool {
+    key.letters.is_empty() || !key.text.is_empty()
 }
 
 /// Asks the library alone, and only calls that change nothing but working numbers and key buffer.
@@ -95,7 +100,7 @@ impl Reader {
         for key in keys {
             let expected = Answer { value: stored.get(&key.letters).copied().unwrap_or(0), ..Answer::default() };
             let by_letters = self.ask(Call::LookUp, image, &key.letters);
-            let by_text = if key.text.is_empty() { by_letters } else { self.ask(Call::LookUpText, image, &key.text) };
+            let by_text = if has_text(key) { self.ask(Call::LookUpText, image, &key.text) } else { by_letters };
             for found in [by_letters, by_text] {
                 if found != expected && (mended || found.number == 0) {
                     return Err(format!("mended {mended}: look up of {:?} gives {found:?}, not {expected:?}", key.letters));
@@ -108,19 +113,19 @@ impl Reader {
     /// Everything that a mended image answers.
     fn all(&mut self, image: &[u8], stored: &Stored, keys: &[Key]) -> Result<(), String> {
         let checked = self.ask(Call::Check, image, &[]);
-        claim(checked == Answer::default(), &format!("the check of the mended image gives {checked:?}"))?;
+        claim(checked == Answer::default(), || format!("the check of the mended image gives {checked:?}"))?;
         self.look_ups(image, stored, keys, true)?;
         let counted = self.ask(Call::Count, image, &[]);
-        claim(counted == Answer { value: stored.len() as u64, ..Answer::default() }, &format!("the number of keys is {counted:?}"))?;
+        claim(counted == Answer { value: stored.len() as u64, ..Answer::default() }, || format!("the number of keys is {counted:?}"))?;
         let mut last: &[u8] = &[];
         for (i, (key, value)) in stored.iter().enumerate() {
             let next = self.ask(Call::NextKey { after: i > 0 }, image, last);
             let expected = Answer { length: key.len() as u32, value: *value, ..Answer::default() };
-            claim(next == expected && self.key[..key.len()] == key[..], &format!("after {last:?} comes {next:?}, not {key:?}"))?;
+            claim(next == expected && self.key[..key.len()] == key[..], || format!("after {last:?} comes {next:?}, not {key:?}"))?;
             last = key;
         }
         let end = self.ask(Call::NextKey { after: !stored.is_empty() }, image, last);
-        claim(end.number == 15, &format!("after the last key comes {end:?}"))
+        claim(end.number == 15, || format!("after the last key comes {end:?}"))
     }
 }
 
@@ -153,8 +158,12 @@ impl Worker {
 
     /// A store with all its cuts. If it is not refused: one of the mended images, and what that one holds.
     fn store(&mut self, held: &Held, key: &Key, value: u32, keys: &[Key]) -> Result<Option<Held>, String> {
-        let by_text = !key.text.is_empty() && self.rng.one_in(2);
-        let answer = if by_text {
+        self.try_store(held, key, value, keys)
+            .map_err(|why| format!("store of {value} under {:?}: {why}\n    image [{}]\n", key.letters, report::hex(&held.image)))
+    }
+
+    fn try_store(&mut self, held: &Held, key: &Key, value: u32, keys: &[Key]) -> Result<Option<Held>, String> {
+        let answer = if has_text(key) && self.rng.one_in(2) {
             self.ask(Call::StoreTextWrites { value }, &held.image, &key.text)?
         } else {
             self.ask(Call::StoreWrites { value }, &held.image, &key.letters)?
@@ -166,7 +175,7 @@ impl Worker {
         let list = listed(self.twins.library.writes(), answer.length as usize, held.image.len())?;
         let after = self.twins.library.image().to_vec();
         self.ask(Call::Store { value }, &held.image, &key.letters)?;
-        claim(self.twins.library.image() == after.as_slice(), "the store and the listed store leave different bytes")?;
+        claim(self.twins.library.image() == after, || "the store leaves other bytes than the listed store".to_string())?;
         self.cuts(held, key, value, &list, &after, keys).map(Some)
     }
 
@@ -184,7 +193,7 @@ impl Worker {
             }
             landed[write.clone()].copy_from_slice(&after[write.clone()]);
         }
-        claim(landed == after, &format!("the list {list:?} carried out whole leaves other bytes than the store"))?;
+        claim(landed == after, || format!("the list {list:?} carried out whole leaves other bytes than the store"))?;
         let mut stored = held.stored.clone();
         if value > 0 {
             stored.insert(key.letters.clone(), u64::from(value));
@@ -209,11 +218,12 @@ impl Worker {
             let some = |set: usize| bytes.iter().enumerate().filter(|(i, _)| set >> i & 1 == 1).map(|(_, at)| *at).collect();
             return (0..(1 << bytes.len()) - 1).map(some).collect();
         }
-        let middle = 1 + self.rng.below(bytes.len() as u64 - 1) as usize;
-        let any = bytes.iter().copied().filter(|_| self.rng.one_in(2)).collect();
-        let (first, last) = (bytes[..middle].to_vec(), bytes[middle..].to_vec());
+        let (first, last) = (bytes[0], bytes[bytes.len() - 1]);
+        let middle = self.rng.below(bytes.len() as u64) as usize;
+        let one_side = if self.rng.one_in(2) { &bytes[..middle] } else { &bytes[middle..] };
         let all_but_one = bytes.iter().copied().filter(|at| *at != bytes[middle]).collect();
-        vec![Vec::new(), vec![bytes[middle]], first, last, all_but_one, any]
+        let any = bytes.iter().copied().filter(|_| self.rng.one_in(2)).collect();
+        vec![Vec::new(), vec![first], vec![last], one_side.to_vec(), all_but_one, any]
     }
 
     /// Mends what a cut left and asks it everything. The mended image.
@@ -222,18 +232,12 @@ impl Worker {
         self.reader.work.resize(Head::read(&left).g as usize + 1, 7);
         self.reader.look_ups(&left, stored, keys, false)?;
         let answer = self.ask(Call::Mend, &left, &[])?;
-        claim(answer == Answer::default(), &format!("mend gives {answer:?}"))?;
+        claim(answer == Answer::default(), || format!("mend gives {answer:?}"))?;
         let mended = self.twins.library.image().to_vec();
-        claim(mended[4..] == left[4..], "mend changes more than G")?;
+        claim(mended[4..] == left[4..], || "mend changes more than G".to_string())?;
         self.done.lowered += u64::from(mended != left);
         self.reader.all(&mended, stored, keys)?;
         Ok(mended)
-    }
-
-    /// As `store`; a failure tells all that repeats it.
-    fn tell_store(&mut self, held: &Held, key: &Key, value: u32, keys: &[Key]) -> Result<Option<Held>, String> {
-        self.store(held, key, value, keys)
-            .map_err(|why| format!("store of {value} under {:?}: {why}\n    image [{}]\n", key.letters, report::hex(&held.image)))
     }
 }
 
@@ -241,8 +245,19 @@ impl Worker {
 fn listed(writes: &[u32], many: usize, image_len: usize) -> Result<Vec<Range<usize>>, String> {
     let range = |pair: &[u32]| pair[0] as usize..pair[0] as usize + pair[1] as usize;
     let list: Vec<Range<usize>> = writes.chunks(2).take(many).map(range).collect();
-    claim(list.len() == many && list.iter().all(|write| write.end <= image_len), &format!("{many} writes, to {list:?}"))?;
+    claim(list.len() == many && list.iter().all(|write| write.end <= image_len), || format!("{many} writes, to {list:?}"))?;
     Ok(list)
+}
+
+/// Those of the keys that the image does not refuse, each once, with their text where there is an alphabet.
+fn keys_of(image: &[u8], mut keys: Vec<Vec<u8>>) -> Vec<Key> {
+    let head = Head::read(image);
+    let alphabet = model::characters(&image[28..28 + head.f as usize]).unwrap_or_default();
+    keys.retain(|key| key.len() >= head.min as usize && key.len() <= head.max as usize && key.iter().all(|l| u32::from(*l) < head.n));
+    keys.sort();
+    keys.dedup();
+    let text = |key: &[u8]| if head.f > 0 { key.iter().flat_map(|l| alphabet[usize::from(*l)].to_vec()).collect() } else { Vec::new() };
+    keys.into_iter().map(|letters| Key { text: text(&letters), letters }).collect()
 }
 
 // ---- small images ----
@@ -257,7 +272,7 @@ struct Family {
     settings: usize,
 }
 
-const FAMILIES: [Family; 12] = [
+const FAMILIES: [Family; 14] = [
     Family { n: 1, g: 0, data: &[0, 1, 255], settings: 1 },
     Family { n: 1, g: 1, data: &[0, 1, 255], settings: 1 },
     Family { n: 1, g: 2, data: &[0, 1, 255], settings: 1 },
@@ -267,9 +282,11 @@ const FAMILIES: [Family; 12] = [
     Family { n: 2, g: 1, data: &[0, 1, 255], settings: 1 },
     Family { n: 2, g: 2, data: &[0, 1, 255], settings: 8 },
     Family { n: 2, g: 3, data: &[0, 1], settings: 8 },
+    Family { n: 2, g: 4, data: &[0, 1], settings: 56 },
     Family { n: 3, g: 0, data: &[0, 1, 255], settings: 1 },
     Family { n: 3, g: 1, data: &[0, 1, 255], settings: 8 },
     Family { n: 3, g: 2, data: &[0, 1], settings: 8 },
+    Family { n: 3, g: 3, data: &[0, 1], settings: 56 },
 ];
 
 /// Every key and these values are stored.
@@ -283,7 +300,7 @@ fn run_tree(worker: &mut Worker, family: &Family, index: usize, links: &[u8]) ->
             let keys = keys_of(&held.image, small::keys(family.n).into_iter().map(|key| key.letters).collect());
             for key in &keys {
                 for value in VALUES {
-                    worker.tell_store(&held, key, value, &keys)?;
+                    worker.store(&held, key, value, &keys)?;
                 }
             }
         }
@@ -323,17 +340,6 @@ pub fn run_small() -> Tried {
 
 // ---- random images ----
 
-/// Those of the keys that the image does not refuse, each once, with their text where there is an alphabet.
-fn keys_of(image: &[u8], mut keys: Vec<Vec<u8>>) -> Vec<Key> {
-    let head = Head::read(image);
-    let alphabet = model::characters(&image[28..28 + head.f as usize]).unwrap_or_default();
-    keys.retain(|key| key.len() >= head.min as usize && key.len() <= head.max as usize && key.iter().all(|l| u32::from(*l) < head.n));
-    keys.sort();
-    keys.dedup();
-    let text = |key: &[u8]| if head.f > 0 { key.iter().flat_map(|l| alphabet[usize::from(*l)].to_vec()).collect() } else { Vec::new() };
-    keys.into_iter().map(|letters| Key { text: text(&letters), letters }).collect()
-}
-
 /// The stored keys, the key itself, its neighbours, and some others.
 fn keys_near(rng: &mut Rng, held: &Held, key: &[u8]) -> Vec<Key> {
     let mut near: Vec<Vec<u8>> = held.stored.keys().cloned().collect();
@@ -358,7 +364,8 @@ fn begin(rng: &mut Rng) -> Held {
         model::make(&mut image, n, a, d, &shape.alphabet_bytes(), min, max);
         return Held { image, stored: Stored::new() };
     }
-    shape.head.g = rng.below(9) as u32;
+    let most = rng.pick(&[8, 8, 8, 8, 8, 40]);
+    shape.head.g = rng.between(0, most) as u32;
     let image = shape.grow(rng, spare);
     Held::of(image)
 }
@@ -372,10 +379,13 @@ fn history(worker: &mut Worker, seed: u64) -> Result<(), String> {
         let letters = keys::letters(&mut rng, &held.image, &[]);
         let keys = keys_near(&mut rng, &held, &letters);
         let value = keys::value(&mut rng, &held.image);
-        if let Some(key) = keys.iter().find(|key| key.letters == letters) {
-            if let Some(next) = worker.tell_store(&held, key, value, &keys).map_err(|why| format!("seed {seed}: {why}"))? {
-                held = next;
-            }
+        let key = match keys.iter().find(|key| key.letters == letters) {
+            Some(key) => key,
+            None => continue,
+        };
+        let tell = |why| format!("replay with tests/replay cuts {seed}: {why}");
+        if let Some(next) = worker.store(&held, key, value, &keys).map_err(tell)? {
+            held = next;
         }
     }
     Ok(())
@@ -397,7 +407,7 @@ pub fn run_random(start: u64, histories: u64) -> Tried {
                         break;
                     }
                     let seed = start.wrapping_add(index);
-                    progress.at(&format!("cuts: seed {seed}"));
+                    progress.at(&format!("tests/replay cuts {seed}"));
                     worker.done.images += 1;
                     if let Err(failure) = history(&mut worker, seed) {
                         print!("FAILED: cuts: {failure}");
@@ -410,6 +420,17 @@ pub fn run_random(start: u64, histories: u64) -> Tried {
         }
     });
     tried.into_inner().unwrap()
+}
+
+/// Repeats one history and tells of its failure. Returns whether there was none.
+pub fn replay(seed: u64) -> bool {
+    let mut worker = Worker::new(0, None);
+    let outcome = history(&mut worker, seed);
+    match &outcome {
+        Ok(()) => println!("seed {seed}: {} cuts of {} stores, all mended", worker.done.cuts, worker.done.stores),
+        Err(failure) => print!("FAILED: cuts: {failure}"),
+    }
+    outcome.is_ok()
 }
 
 /// Every saboteur of the cuts must be reported within the same histories, by what the images answer alone. Returns how many were not.

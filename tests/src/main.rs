@@ -27,7 +27,7 @@ const GATE_CASES: u64 = 26_000;
 const GATE_CALLS: u64 = 1_000_000;
 const LONG_CASES: u64 = 10 * GATE_CASES;
 /// These histories leave more than a million images that were cut; the long ones make more than a million stores.
-const GATE_HISTORIES: u64 = 20_000;
+const GATE_HISTORIES: u64 = 16_000;
 const GATE_CUTS: u64 = 1_000_000;
 const LONG_HISTORIES: u64 = 250_000;
 const LONG_STORES: u64 = 1_000_000;
@@ -40,8 +40,9 @@ fn main() {
         ["long"] => long(fresh_seed()),
         ["long", seed] => long(number(seed)),
         ["replay", seed] => random::replay(number(seed)),
+        ["replay", "cuts", seed] => cuts::replay(number(seed)),
         _ => {
-            eprintln!("usage: judge gate | judge long [SEED] | judge replay SEED");
+            eprintln!("usage: judge gate | judge long [SEED] | judge replay [cuts] SEED");
             exit(2);
         }
     };
@@ -95,7 +96,11 @@ fn random_cuts(seed: u64, histories: u64) -> cuts::Tried {
 fn told(sort: &str, tried: &cuts::Tried, begun: Instant) {
     let cuts::Tried { images, stores, cuts, partly, lowered, .. } = *tried;
     let [images, stores, cuts, partly, lowered] = [images, stores, cuts, partly, lowered].map(grouped);
-    println!("cuts: {stores} stores from {images} {sort} images on, {cuts} images mended, {partly} with a write in part, {lowered} with G lowered, in {:.1} s", begun.elapsed().as_secs_f64());
+    println!(
+        "cuts: {stores} stores from {images} {sort} images on, {cuts} images mended, {partly} with a write in part, {lowered} with G lowered, \
+         in {:.1} s",
+        begun.elapsed().as_secs_f64()
+    );
 }
 
 fn gate() -> bool {

@@ -186,7 +186,9 @@ pub const SITUATIONS: [Situation; 60] = [
     Situation { name: "list: one write", met: |s| s.lists(1) },
     Situation {
         name: "list: one write, of the value already there",
-        met: |s| s.lists(1) && s.by_letters() && s.value() > 0 && model::look_up(s.asked.image, s.asked.given).value == u64::from(s.value()),
+        met: |s| {
+            s.lists(1) && s.by_letters() && s.value() > 0 && model::look_up(s.asked.image, s.asked.given).value == u64::from(s.value())
+        },
     },
     Situation { name: "list: three writes", met: |s| s.lists(3) },
     Situation { name: "list: 66 writes", met: |s| s.lists(66) },

@@ -58,7 +58,8 @@ impl Arena {
         self.lay_words(asked.work_len, asked.call.writes_len(), rng);
     }
 
-    /// Rubbish of three sorts: any, small numbers that look like counts, and one that looks like neither.
+    /// Rubbish of three sorts: any, small numbers that look like counts, and one that looks like neither. In the list of writes it rises by
+    /// steps, for that is quick.
     fn lay_words(&mut self, work_len: usize, writes_len: usize, rng: &mut Rng) {
         let start = 2 + rng.below(3) as usize;
         self.work = start..start + work_len;
@@ -66,7 +67,9 @@ impl Arena {
         self.writes = start..start + writes_len;
         self.words.clear();
         let mask = rng.pick(&[u32::MAX, u32::MAX, 1, 3]);
-        self.words.extend((0..self.writes.end + 3).map(|_| (rng.next() >> 20) as u32 & mask));
+        self.words.extend((0..start).map(|_| (rng.next() >> 20) as u32 & mask));
+        let (first, step) = (rng.next() as u32, rng.next() as u32);
+        self.words.extend((0..writes_len as u32 + 3).map(|i| first.wrapping_add(i.wrapping_mul(step))));
     }
 
     /// As `clone`, in the memory that is there.
