@@ -68,7 +68,7 @@ impl Case {
             return None;
         }
         self.asked += 1;
-        self.damage_or_mend();
+        self.damage_or_restore();
         let call = self.draw();
         Some(Step { call, key_len: self.draw_key_len(), work_len: self.draw_work_len() })
     }
@@ -90,7 +90,7 @@ impl Case {
     }
 
     /// A damaged image stays for some calls, then the whole one is back.
-    fn damage_or_mend(&mut self) {
+    fn damage_or_restore(&mut self) {
         let often = match self.sort {
             Sort::Makes => return,
             Sort::Huge => 8,

@@ -157,7 +157,11 @@ fn long(seed: u64) -> bool {
         failed += 1;
     }
     let cut = random_cuts(seed, LONG_HISTORIES);
-    failed += cut.failed + usize::from(cut.failed == 0 && cut.stores < LONG_STORES);
+    failed += cut.failed;
+    if failed == 0 && cut.stores < LONG_STORES {
+        println!("FAILED: the random stores that are cut are too few");
+        failed += 1;
+    }
     println!(
         "tests: {} random calls and {} cuts of {} random stores from seed {seed}: {failed} failed",
         grouped(tally.calls),

@@ -99,7 +99,7 @@ impl Seen<'_> {
     }
 }
 
-pub const SITUATIONS: [Situation; 60] = [
+pub const SITUATIONS: [Situation; 61] = [
     Situation { name: "1: the image is shorter than 28", met: |s| s.number() == 1 && s.image_len() < 28 },
     Situation { name: "1: the image is longer than 16,777,216", met: |s| s.number() == 1 && s.image_len() > 28 },
     Situation { name: "an image of 16,777,216 bytes, done", met: |s| s.done() && s.image_len() == 16_777_216 },
@@ -200,6 +200,7 @@ pub const SITUATIONS: [Situation; 60] = [
         name: "mend: G lowered, with more working numbers than needed",
         met: |s| s.mended_at().map_or(false, |p| p > 0) && s.asked.work_len as u64 > u64::from(s.head().g) + 1,
     },
+    Situation { name: "mend: 8 stays, for a node before the gap links past it", met: |s| s.call() == Call::Mend && s.number() == 8 },
     Situation {
         name: "next key: the key given is shorter than min",
         met: |s| s.is_next_key() && s.done() && (s.asked.given.len() as u32) < s.head().min,
