@@ -1,8 +1,8 @@
-//! The calls, each with its name, the numbers that document 01 lets it answer, and how the model and the library are asked.
+//! The calls, each with its name, the numbers that documents 01 and 02 let it answer, and how the model and the library are asked.
 //!
 //! To add a call: a variant of `Call`, its row in `KINDS`, an arm in `ask_model` and in `ask_library`, and a choice in `cases::Case::draw`.
 
-use crate::model::{self, Answer};
+use crate::model::{self, Answer, WRITES};
 use trieff::raw;
 
 /// A call without the memory lent to it. What it is given to read (alphabet, letters or text) is lent memory too.
@@ -15,6 +15,9 @@ pub enum Call {
     LookUpText,
     Store { value: u32 },
     StoreText { value: u32 },
+    StoreWrites { value: u32 },
+    StoreTextWrites { value: u32 },
+    Mend,
     NextKey { after: bool },
 }
 
@@ -22,11 +25,11 @@ pub struct Kind {
     pub name: &'static str,
     /// What `given` is.
     pub given: &'static str,
-    /// The numbers that 01's order names, and 0.
+    /// The numbers that its order names, and 0.
     pub numbers: &'static [u32],
 }
 
-pub const KINDS: [Kind; 8] = [
+pub const KINDS: [Kind; 11] = [
     Kind { name: "make", given: "alphabet", numbers: &[0, 1, 2, 3, 4] },
     Kind { name: "check", given: "nothing", numbers: &[0, 1, 2, 3, 4, 5, 6, 7, 8] },
     Kind { name: "count", given: "nothing", numbers: &[0, 1, 2, 3, 4, 5, 6, 7, 8] },
@@ -34,6 +37,9 @@ pub const KINDS: [Kind; 8] = [
     Kind { name: "look_up_text", given: "text", numbers: &[0, 1, 2, 3, 4, 6, 9, 10] },
     Kind { name: "store", given: "letters", numbers: &[0, 1, 2, 3, 4, 5, 6, 7, 8, 9, 10, 11, 12, 13] },
     Kind { name: "store_text", given: "text", numbers: &[0, 1, 2, 3, 4, 5, 6, 7, 8, 9, 10, 11, 12, 13] },
+    Kind { name: "store_writes", given: "letters", numbers: &[0, 1, 2, 3, 4, 5, 6, 7, 8, 9, 10, 11, 12, 13] },
+    Kind { name: "store_text_writes", given: "text", numbers: &[0, 1, 2, 3, 4, 5, 6, 7, 8, 9, 10, 11, 12, 13] },
+    Kind { name: "mend", given: "nothing", numbers: &[0, 1, 2, 3, 4, 5, 6, 7, 8] },
     Kind { name: "next_key", given: "letters", numbers: &[0, 1, 2, 3, 4, 5, 6, 7, 8, 9, 10, 14, 15] },
 ];
 
@@ -51,7 +57,28 @@ impl Call {
             Call::LookUpText => 4,
             Call::Store { .. } => 5,
             Call::StoreText { .. } => 6,
-            Call::NextKey { .. } => 7,
+            Call::StoreWrites { .. } => 7,
+            Call::StoreTextWrites { .. } => 8,
+            Call::Mend => 9,
+            Call::NextKey { .. } => 10,
+        }
+    }
+
+    /// The value that a store is given.
+    pub fn stored(&self) -> Option<u32> {
+        match *self {
+            Call::Store { value } | Call::StoreText { value } | Call::StoreWrites { value } | Call::StoreTextWrites { value } => {
+                Some(value)
+            }
+            _ => None,
+        }
+    }
+
+    /// How many numbers it is lent for its list of writes.
+    pub fn writes_len(&self) -> usize {
+        match self {
+            Call::StoreWrites { .. } | Call::StoreTextWrites { .. } => WRITES,
+            _ => 0,
         }
     }
 }
@@ -62,10 +89,11 @@ pub struct Lent<'a> {
     pub given: &'a [u8],
     pub key: &'a mut [u8],
     pub work: &'a mut [u32],
+    pub writes: &'a mut [u32],
 }
 
 pub fn ask_model(call: Call, lent: Lent) -> Answer {
-    let Lent { image, given, key, work } = lent;
+    let Lent { image, given, key, work, writes } = lent;
     match call {
         Call::Make { n, a, d, min, max } => model::make(image, n, a, d, given, min, max),
         Call::Check => model::check(image, work),
@@ -74,6 +102,9 @@ pub fn ask_model(call: Call, lent: Lent) -> Answer {
         Call::LookUpText => model::look_up_text(image, given),
         Call::Store { value } => model::store(image, work, given, value),
         Call::StoreText { value } => model::store_text(image, work, given, value),
+        Call::StoreWrites { value } => model::store_writes(image, work, given, value, writes),
+        Call::StoreTextWrites { value } => model::store_text_writes(image, work, given, value, writes),
+        Call::Mend => model::mend(image, work),
         Call::NextKey { after } => model::next_key(image, work, given, after, key),
     }
 }
@@ -85,9 +116,10 @@ pub struct Pointers {
     pub given: (*mut u8, usize),
     pub key: (*mut u8, usize),
     pub work: (*mut u32, usize),
+    pub writes: *mut u32,
 }
 
-/// Safe where the four pieces of memory are there, each its own.
+/// Safe where the five pieces of memory are there, each its own.
 pub unsafe fn ask_library(call: Call, lent: &Pointers) -> Answer {
     let ((image, image_len), (given, given_len), (work, work_len)) = (lent.image, lent.given, lent.work);
     let raw::TrieffAnswer { number, place, length, change, value } = match call {
@@ -98,6 +130,11 @@ pub unsafe fn ask_library(call: Call, lent: &Pointers) -> Answer {
         Call::LookUpText => raw::trieff_look_up_text(image, image_len, given, given_len),
         Call::Store { value } => raw::trieff_store(image, image_len, work, work_len, given, given_len, value),
         Call::StoreText { value } => raw::trieff_store_text(image, image_len, work, work_len, given, given_len, value),
+        Call::StoreWrites { value } => raw::trieff_store_writes(image, image_len, work, work_len, given, given_len, value, lent.writes),
+        Call::StoreTextWrites { value } => {
+            raw::trieff_store_text_writes(image, image_len, work, work_len, given, given_len, value, lent.writes)
+        }
+        Call::Mend => raw::trieff_mend(image, image_len, work, work_len),
         Call::NextKey { after } => raw::trieff_next_key(image, image_len, work, work_len, given, given_len, after, lent.key.0, lent.key.1),
     };
     Answer { number, place, length, change, value }

@@ -68,7 +68,7 @@ impl Case {
             return None;
         }
         self.asked += 1;
-        self.damage_or_mend();
+        self.damage_or_restore();
         let call = self.draw();
         Some(Step { call, key_len: self.draw_key_len(), work_len: self.draw_work_len() })
     }
@@ -80,15 +80,17 @@ impl Case {
 
     /// The case goes on from what the call left.
     pub fn learn(&mut self, call: Call, answer: &Answer, image: &[u8], key: &[u8]) {
-        match call {
-            Call::Make { .. } | Call::Store { .. } | Call::StoreText { .. } if answer.number == 0 => self.image.copy_from_slice(image),
-            Call::NextKey { .. } if answer.number == 0 => self.last_found = key[..answer.length as usize].to_vec(),
-            _ => {}
+        if answer.number > 0 {
+            return;
+        }
+        self.image.copy_from_slice(image);
+        if let Call::NextKey { .. } = call {
+            self.last_found = key[..answer.length as usize].to_vec();
         }
     }
 
     /// A damaged image stays for some calls, then the whole one is back.
-    fn damage_or_mend(&mut self) {
+    fn damage_or_restore(&mut self) {
         let often = match self.sort {
             Sort::Makes => return,
             Sort::Huge => 8,
@@ -120,9 +122,9 @@ impl Case {
             Sort::Makes => 0,
             _ if make_first => 0,
             Sort::Fresh if self.rng.one_in(2) => self.rng.between(12, 19),
-            Sort::Huge => self.rng.between(1, 24),
+            Sort::Huge => self.rng.between(1, 26),
             _ if self.rng.one_in(60) => 0,
-            _ => self.rng.between(1, 24),
+            _ => self.rng.between(1, 26),
         };
         match choice {
             0 => self.draw_make(),
@@ -132,12 +134,13 @@ impl Case {
             9..=11 => self.with_text(Call::LookUpText),
             12..=15 => {
                 let value = keys::value(&mut self.rng, &self.image);
-                self.with_letters(Call::Store { value })
+                self.with_letters(if choice < 14 { Call::Store { value } } else { Call::StoreWrites { value } })
             }
             16..=19 => {
                 let value = keys::value(&mut self.rng, &self.image);
-                self.with_text(Call::StoreText { value })
+                self.with_text(if choice < 18 { Call::StoreText { value } } else { Call::StoreTextWrites { value } })
             }
+            20..=21 => Call::Mend,
             _ => self.draw_next_key(),
         }
     }

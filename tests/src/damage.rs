@@ -131,7 +131,7 @@ fn body(rng: &mut Rng, image: &mut [u8]) {
         Some(head) => head,
         None => return,
     };
-    match rng.below(8) {
+    match rng.below(9) {
         0 => {
             let node = rng.between(0, u64::from(head.g));
             let value = if rng.one_in(3) { 0 } else { shapes::value(rng, head.d) };
@@ -144,7 +144,8 @@ fn body(rng: &mut Rng, image: &mut [u8]) {
             }
         }
         2..=3 => copy_link(rng, image, &head),
-        4 => unlinked_node(image, &head),
+        4 => unlinked_nodes(rng, image, &head),
+        5 => empty_link(rng, image, &head),
         _ => tear(rng, image, &head),
     }
 }
@@ -184,6 +185,15 @@ fn tear(rng: &mut Rng, image: &mut [u8], head: &Head) {
     write_number(&mut image[at..at + head.a as usize], address.min(most));
 }
 
+/// A link becomes 0, so that its address stands in none. Nodes before that address may link past it.
+fn empty_link(rng: &mut Rng, image: &mut [u8], head: &Head) {
+    let node = some_node(rng, image, head);
+    if let Some(letter) = taken_letter(rng, image, head, node) {
+        let at = head.link_at(node, letter);
+        image[at..at + head.a as usize].fill(0);
+    }
+}
+
 /// One link's bytes over another's: an address that stands twice, or in no link, or both.
 fn copy_link(rng: &mut Rng, image: &mut [u8], head: &Head) {
     let from = some_node(rng, image, head);
@@ -197,14 +207,22 @@ fn copy_link(rng: &mut Rng, image: &mut [u8], head: &Head) {
     image.copy_within(start..start + head.a as usize, at);
 }
 
-/// G one higher, with an empty node there, where there is room: it stands in no link, and perhaps no link could hold it.
-fn unlinked_node(image: &mut [u8], head: &Head) {
-    let node = head.u() as usize;
-    let end = node + head.w() as usize;
-    if end <= image.len() {
-        image[node..end].fill(0);
-        write_number(&mut image[..4], u64::from(head.g) + 1);
+/// G some nodes higher, where there is room, as after a cut before the old link: the first of them stands in no link, and perhaps no link
+/// could hold it; each other mostly in the one before.
+fn unlinked_nodes(rng: &mut Rng, image: &mut [u8], head: &Head) {
+    let (first, many) = (u64::from(head.g) + 1, rng.pick(&[1, 1, 2, 3]));
+    let (start, end) = (head.node(first) as usize, head.node(first + many) as usize);
+    if end > image.len() {
+        return;
     }
+    image[start..end].fill(0);
+    for node in first + 1..first + many {
+        if node <= greatest(head.a) && !rng.one_in(8) {
+            let at = head.link_at(node - 1, rng.below(u64::from(head.n)));
+            write_number(&mut image[at..at + head.a as usize], node);
+        }
+    }
+    write_number(&mut image[..4], first + many - 1);
 }
 
 /// Bytes that are no well-formed character, in each way: overlong, surrogate, past the end, stray, cut.

@@ -3,10 +3,10 @@
 //! on every image with N and G up to 2, refused or not; of greater families the images that are refused are asked less, as `Asks` says.
 
 use crate::calls::Call;
-use crate::model::Head;
 use crate::progress::Progress;
 use crate::report;
 use crate::rng::Rng;
+use crate::small::{self, keys, settings, trees, tuples, Key, Setting};
 use crate::twins::{Asked, Twins};
 use std::sync::Mutex;
 
@@ -18,7 +18,7 @@ const ENOUGH: usize = 5;
 enum Asks {
     /// Every call with every key.
     All,
-    /// The check, of one image for all data.
+    /// The check and mend, of one image for all data.
     Check,
     /// Nothing: only the accepted ones are made.
     Nothing,
@@ -67,50 +67,6 @@ const FAMILIES: [Family; 16] = [
     Family { n: 2, g: 4, links: &[], data: &[0, 1], refused: Asks::Nothing, settings: 8 },
 ];
 
-/// What stands around the body.
-#[derive(Clone, Copy)]
-struct Setting {
-    lengths: (u32, u32),
-    alphabet: bool,
-    /// Spare bytes: so many nodes and so many bytes.
-    spare: (usize, usize),
-}
-
-const LENGTHS: [(u32, u32); 7] = [(0, 3), (1, 3), (0, 0), (1, 2), (2, 2), (0, 1), (3, 3)];
-const SPARE: [(usize, usize); 4] = [(0, 0), (1, 0), (2, 2), (3, 1)];
-
-fn settings() -> Vec<Setting> {
-    let mut all = Vec::new();
-    for lengths in LENGTHS {
-        for alphabet in [false, true] {
-            all.extend(SPARE.iter().map(|spare| Setting { lengths, alphabet, spare: *spare }));
-        }
-    }
-    all
-}
-
-/// Letters of one, two and three bytes; the last is outside every alphabet and shares a byte with a letter.
-const CHARACTERS: [&str; 3] = ["A", "é", "€"];
-const OUTSIDE: &str = "ê";
-
-/// A key by its letters and as text.
-struct Key {
-    letters: Vec<u8>,
-    text: Vec<u8>,
-}
-
-/// Every key over the letters 0 to n up to length 3.
-fn keys(n: u32) -> Vec<Key> {
-    let mut all: Vec<Vec<u8>> = vec![Vec::new()];
-    let mut longest = all.clone();
-    for _ in 0..3 {
-        longest = longest.iter().flat_map(|key| (0..=n as u8).map(move |letter| [key.as_slice(), &[letter]].concat())).collect();
-        all.extend(longest.clone());
-    }
-    let character = |letter: &u8| if u32::from(*letter) < n { CHARACTERS[usize::from(*letter)] } else { OUTSIDE };
-    all.into_iter().map(|letters| Key { text: letters.iter().map(character).collect::<String>().into_bytes(), letters }).collect()
-}
-
 /// What was tried.
 #[derive(Clone, Copy, Default)]
 pub struct Exhausted {
@@ -148,27 +104,16 @@ impl Worker {
     }
 
     fn image(&mut self, family: &Family, links: &[u8], data: &[u8], setting: &Setting) -> Vec<u8> {
-        let alphabet: String = if setting.alphabet { CHARACTERS[..family.n as usize].concat() } else { String::new() };
-        let (min, max) = setting.lengths;
-        let head = Head { g: family.g, n: family.n, a: 1, d: 1, f: alphabet.len() as u32, min, max };
-        let mut image = vec![0; 28];
-        head.write(&mut image);
-        image.extend(alphabet.into_bytes());
-        for (node, value) in links.chunks(family.n as usize).zip(data) {
-            image.extend(node);
-            image.push(*value);
-        }
-        let spare = setting.spare.0 * head.w() as usize + setting.spare.1;
-        let rubbish = self.rng.rubbish(spare);
-        image.extend(rubbish);
         self.done.images += 1;
-        image
+        small::image(&mut self.rng, family.n, links, data, setting)
     }
 
-    /// Check and number of keys, with enough working numbers and with too few.
+    /// Check, mend and number of keys, with enough working numbers and with too few.
     fn ask_without_key(&mut self, image: &[u8], g: usize) {
         self.ask(Call::Check, image, &[], 0, g + 1);
         self.ask(Call::Check, image, &[], 0, g);
+        self.ask(Call::Mend, image, &[], 0, g + 2);
+        self.ask(Call::Mend, image, &[], 0, g);
         self.ask(Call::Count, image, &[], 0, g + 2);
         self.ask(Call::Count, image, &[], 0, g);
     }
@@ -185,8 +130,10 @@ impl Worker {
         let max = setting.lengths.1 as usize;
         for value in [0, 1, 256] {
             self.ask(Call::Store { value }, image, &key.letters, 0, g + 1);
+            self.ask(Call::StoreWrites { value }, image, &key.letters, 0, g + 1);
             if setting.alphabet || key.letters.is_empty() {
                 self.ask(Call::StoreText { value }, image, &key.text, 0, g + 1);
+                self.ask(Call::StoreTextWrites { value }, image, &key.text, 0, g + 1);
             }
         }
         for after in [false, true] {
@@ -209,6 +156,7 @@ impl Worker {
         let turn = |i: usize| &settings[(index + i) % settings.len()];
         let first = self.image(family, links, &[1; 5], turn(0));
         let accepted = self.ask(Call::Check, &first, &[], 0, g + 1) == 0;
+        self.ask(Call::Mend, &first, &[], 0, g + 1);
         if !accepted && matches!(family.refused, Asks::Check | Asks::Nothing) {
             return;
         }
@@ -224,39 +172,6 @@ impl Worker {
             }
         }
     }
-}
-
-/// Every tuple of so many of the values.
-fn tuples(values: &[u8], length: usize) -> impl Iterator<Item = Vec<u8>> {
-    let values = values.to_vec();
-    let many = values.len().pow(length as u32);
-    (0..many).map(move |index| {
-        let mut rest = index;
-        let mut next = |_| {
-            let value = values[rest % values.len()];
-            rest /= values.len();
-            value
-        };
-        (0..length).map(&mut next).collect()
-    })
-}
-
-/// The links of every accepted tree: each address from 1 to G in an empty link of a lower node.
-fn trees(n: usize, g: usize) -> Vec<Vec<u8>> {
-    let mut all = vec![vec![0; n * (g + 1)]];
-    for address in 1..=g {
-        let hang = |tree: &Vec<u8>| {
-            let free: Vec<usize> = (0..n * address).filter(|link| tree[*link] == 0).collect();
-            let tree = tree.clone();
-            free.into_iter().map(move |link| {
-                let mut taller = tree.clone();
-                taller[link] = address as u8;
-                taller
-            })
-        };
-        all = all.iter().flat_map(hang).collect();
-    }
-    all
 }
 
 /// The patterns of links of a family: all of them, or those of the accepted trees.

@@ -1,7 +1,8 @@
-//! The judge: compares libtrieff.a and the listing program with a model written from document 01 alone. README.md tells how.
+//! The judge: compares libtrieff.a and the listing program with a model written from documents 01 and 02 alone. README.md tells how.
 
 mod calls;
 mod cases;
+mod cuts;
 mod damage;
 mod exhaustive;
 mod keys;
@@ -14,6 +15,7 @@ mod rng;
 mod saboteurs;
 mod shapes;
 mod situations;
+mod small;
 mod twins;
 
 use std::process::exit;
@@ -24,6 +26,11 @@ const GATE_SEED: u64 = 20_240_601;
 const GATE_CASES: u64 = 26_000;
 const GATE_CALLS: u64 = 1_000_000;
 const LONG_CASES: u64 = 10 * GATE_CASES;
+/// These histories leave more than a million images that were cut; the long ones make more than a million stores.
+const GATE_HISTORIES: u64 = 16_000;
+const GATE_CUTS: u64 = 1_000_000;
+const LONG_HISTORIES: u64 = 250_000;
+const LONG_STORES: u64 = 1_000_000;
 
 fn main() {
     let words: Vec<String> = std::env::args().skip(1).collect();
@@ -33,8 +40,9 @@ fn main() {
         ["long"] => long(fresh_seed()),
         ["long", seed] => long(number(seed)),
         ["replay", seed] => random::replay(number(seed)),
+        ["replay", "cuts", seed] => cuts::replay(number(seed)),
         _ => {
-            eprintln!("usage: judge gate | judge long [SEED] | judge replay SEED");
+            eprintln!("usage: judge gate | judge long [SEED] | judge replay [cuts] SEED");
             exit(2);
         }
     };
@@ -77,6 +85,24 @@ fn random_part(seed: u64, cases: u64) -> (random::Tally, usize) {
     (tally, failures.len())
 }
 
+/// The cuts of random stores.
+fn random_cuts(seed: u64, histories: u64) -> cuts::Tried {
+    let begun = Instant::now();
+    let tried = cuts::run_random(seed, histories);
+    told("random", &tried, begun);
+    tried
+}
+
+fn told(sort: &str, tried: &cuts::Tried, begun: Instant) {
+    let cuts::Tried { images, stores, cuts, partly, lowered, .. } = *tried;
+    let [images, stores, cuts, partly, lowered] = [images, stores, cuts, partly, lowered].map(grouped);
+    println!(
+        "cuts: {stores} stores from {images} {sort} images on, {cuts} images mended, {partly} with a write in part, {lowered} with G lowered, \
+         in {:.1} s",
+        begun.elapsed().as_secs_f64()
+    );
+}
+
 fn gate() -> bool {
     let (tally, mut failed) = random_part(GATE_SEED, GATE_CASES);
     if failed == 0 && (!tally.print() || tally.calls < GATE_CALLS) {
@@ -88,24 +114,39 @@ fn gate() -> bool {
     println!("exhaustive: {:.1} s", begun.elapsed().as_secs_f64());
     failed += exhausted.failed;
     let begun = Instant::now();
+    let small = cuts::run_small();
+    told("small", &small, begun);
+    let cut = random_cuts(GATE_SEED, GATE_HISTORIES);
+    failed += small.failed + cut.failed;
+    if failed == 0 && cut.cuts < GATE_CUTS {
+        println!("FAILED: the random cuts are too few");
+        failed += 1;
+    }
+    let begun = Instant::now();
     let listed = listing::run(GATE_SEED);
     println!("listing: {:.1} s", begun.elapsed().as_secs_f64());
     failed += listed.failed;
     if failed == 0 {
         let begun = Instant::now();
-        println!("self-test: {} saboteurs", saboteurs::SABOTEURS.len());
+        println!("self-test: {} saboteurs", saboteurs::SABOTEURS.len() + saboteurs::CUT_SABOTEURS.len());
         failed += random::self_test(GATE_SEED, GATE_CASES);
+        failed += cuts::self_test(GATE_SEED, GATE_HISTORIES);
         println!("self-test: {:.1} s", begun.elapsed().as_secs_f64());
     } else {
         println!("self-test: left out, since a case that fails by itself shows nothing of a saboteur");
     }
     println!(
-        "tests: {} random calls, {} exhaustive calls on {} images, {} listings, {} saboteurs: {failed} failed",
+        "tests: {} random calls, {} exhaustive calls on {} images, {} and {} cuts of {} small and {} random stores, {} listings, {} saboteurs: \
+         {failed} failed",
         grouped(tally.calls),
         grouped(exhausted.calls),
         grouped(exhausted.images),
+        grouped(small.cuts),
+        grouped(cut.cuts),
+        grouped(small.stores),
+        grouped(cut.stores),
         grouped(listed.tried),
-        saboteurs::SABOTEURS.len()
+        saboteurs::SABOTEURS.len() + saboteurs::CUT_SABOTEURS.len()
     );
     failed == 0
 }
@@ -115,6 +156,17 @@ fn long(seed: u64) -> bool {
     if failed == 0 && !tally.print() {
         failed += 1;
     }
-    println!("tests: {} random calls from seed {seed}: {failed} failed", grouped(tally.calls));
+    let cut = random_cuts(seed, LONG_HISTORIES);
+    failed += cut.failed;
+    if failed == 0 && cut.stores < LONG_STORES {
+        println!("FAILED: the random stores that are cut are too few");
+        failed += 1;
+    }
+    println!(
+        "tests: {} random calls and {} cuts of {} random stores from seed {seed}: {failed} failed",
+        grouped(tally.calls),
+        grouped(cut.cuts),
+        grouped(cut.stores)
+    );
     failed == 0
 }

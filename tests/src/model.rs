@@ -1,6 +1,6 @@
-//! The model: every call as document 01 words it, in its order, plain rather than quick. It knows nothing of the library.
+//! The model: every call as documents 01 and 02 word it, in their order, plain rather than quick. It knows nothing of the library.
 //!
-//! A refusal is one function, named by its number. A call is the list of its refusals in 01's order, then what it does when it is done.
+//! A refusal is one function, named by its number. A call is the list of its refusals in its order, then what it does when it is done.
 
 use std::collections::BTreeSet;
 
@@ -13,6 +13,8 @@ pub const WIDEST_LINK: u32 = 4;
 pub const WIDEST_DATA: u32 = 4;
 pub const LONGEST_ALPHABET: u32 = 1_024;
 pub const LONGEST_KEY: u32 = 64;
+/// The numbers lent for a list of writes: two for each of 64 new nodes, G and the link.
+pub const WRITES: usize = 2 * (LONGEST_KEY as usize + 2);
 /// What the listing program reads and has.
 pub const LONGEST_INPUT: usize = 65_536;
 pub const LISTING_WORK: usize = 16_384;
@@ -398,6 +400,22 @@ pub fn check(image: &[u8], work: &mut [u32]) -> Answer {
     answer(one_to_eight(image, work).map(|_| Answer::default()))
 }
 
+/// Mend: "if the check answers 8 at p, and the image with G set to p-1 is accepted, G becomes p-1 and the answer is 0; otherwise nothing
+/// changes and the check's answer is returned".
+pub fn mend(image: &mut [u8], work: &mut [u32]) -> Answer {
+    let answered = check(image, work);
+    if answered.number == 8 {
+        let p = answered.place;
+        let mut trial = image.to_vec();
+        Head { g: p - 1, ..Head::read(image) }.write(&mut trial);
+        if one_to_eight(&trial, &mut vec![0; p as usize]).is_ok() {
+            image.copy_from_slice(&trial);
+            return Answer::default();
+        }
+    }
+    answered
+}
+
 /// Number of stored keys: 1 to 8.
 pub fn count(image: &[u8], work: &mut [u32]) -> Answer {
     answer(one_to_eight(image, work).map(|head| {
@@ -449,26 +467,36 @@ fn walk(image: &[u8], head: &Head, letters: &[u8]) -> Result<Answer, Refusal> {
 
 /// Store by letters: 1 to 8, 9, 10, 11, 12, 13.
 pub fn store(image: &mut [u8], work: &mut [u32], letters: &[u8], value: u32) -> Answer {
-    answer(try_store(image, work, letters, value))
+    answer(before_store(image, work, letters).and_then(|head| store_at(image, &head, letters, value)))
 }
 
-fn try_store(image: &mut [u8], work: &mut [u32], letters: &[u8], value: u32) -> Result<Answer, Refusal> {
+/// Store by letters with its writes listed: the same.
+pub fn store_writes(image: &mut [u8], work: &mut [u32], letters: &[u8], value: u32, writes: &mut [u32]) -> Answer {
+    answer(before_store(image, work, letters).and_then(|head| store_and_list(image, &head, letters, value, writes)))
+}
+
+fn before_store(image: &[u8], work: &mut [u32], letters: &[u8]) -> Result<Head, Refusal> {
     let head = one_to_eight(image, work)?;
     refusal_9(&head, letters.len())?;
     refusal_10_of_letters(&head, letters)?;
-    store_at(image, &head, letters, value)
+    Ok(head)
 }
 
 /// Store by text: 1 to 8, 10, 9, 11, 12, 13.
 pub fn store_text(image: &mut [u8], work: &mut [u32], text: &[u8], value: u32) -> Answer {
-    answer(try_store_text(image, work, text, value))
+    answer(before_store_text(image, work, text).and_then(|(head, letters)| store_at(image, &head, &letters, value)))
 }
 
-fn try_store_text(image: &mut [u8], work: &mut [u32], text: &[u8], value: u32) -> Result<Answer, Refusal> {
+/// Store by text with its writes listed: the same.
+pub fn store_text_writes(image: &mut [u8], work: &mut [u32], text: &[u8], value: u32, writes: &mut [u32]) -> Answer {
+    answer(before_store_text(image, work, text).and_then(|(head, letters)| store_and_list(image, &head, &letters, value, writes)))
+}
+
+fn before_store_text(image: &[u8], work: &mut [u32], text: &[u8]) -> Result<(Head, Vec<u8>), Refusal> {
     let head = one_to_eight(image, work)?;
     let letters = refusal_10_of_text(image, &head, text)?;
     refusal_9(&head, letters.len())?;
-    store_at(image, &head, &letters, value)
+    Ok((head, letters))
 }
 
 /// How far the key's path goes in an accepted image: the last node and how many letters led there.
@@ -508,6 +536,34 @@ fn store_at(image: &mut [u8], head: &Head, letters: &[u8], value: u32) -> Result
     }
     let change = i32::from(value != 0) - i32::from(before != 0);
     Ok(Answer { change, ..Answer::default() })
+}
+
+/// The store, and its list at the front of the numbers lent; a refusal leaves them all.
+fn store_and_list(image: &mut [u8], head: &Head, letters: &[u8], value: u32, writes: &mut [u32]) -> Result<Answer, Refusal> {
+    let listed = list(image, head, letters, value);
+    let done = store_at(image, head, letters, value)?;
+    for (pair, (place, length)) in writes.chunks_mut(2).zip(&listed) {
+        pair.copy_from_slice(&[*place as u32, *length as u32]);
+    }
+    Ok(Answer { length: listed.len() as u32, ..done })
+}
+
+/// Where the writes of a store go and how many bytes each has: "first the new nodes, one write each by rising address, then G, then the old
+/// link; for a complete path, the data field alone".
+fn list(image: &[u8], head: &Head, letters: &[u8], value: u32) -> Vec<(usize, usize)> {
+    let (last, depth) = path(image, head, letters);
+    let k = (letters.len() - depth) as u64;
+    if k == 0 {
+        return vec![(head.data_at(last), head.d as usize)];
+    }
+    if value == 0 {
+        return Vec::new();
+    }
+    let new = u64::from(head.g) + 1;
+    let mut writes: Vec<(usize, usize)> = (new..new + k).map(|node| (head.node(node) as usize, head.w() as usize)).collect();
+    writes.push((0, 4));
+    writes.push((head.link_at(last, u64::from(letters[depth])), head.a as usize));
+    writes
 }
 
 /// Next key: 1 to 8, 9 (longer than max), 10, 14, 15. `after`: else "at or after".

@@ -1,4 +1,4 @@
-//! Holds the model to document 01's cases, with the bytes written out by hand, and to the UTF-8 table.
+//! Holds the model to document 01's cases, and to their lists and cuts, with the bytes written out by hand, and to the UTF-8 table.
 
 use super::*;
 
@@ -144,6 +144,103 @@ fn p12_next_key() {
     assert_eq!(next_key(&p3(), &mut work, &[B, A], true, &mut key), refused(15, 0));
     assert_eq!(key, [B, A, 7, 7]);
     assert_eq!(next_key(&p3(), &mut work, &[B, A], true, &mut [7; 2]), refused(14, 0), "14 before 15");
+}
+
+fn listed(length: u32, change: i32) -> Answer {
+    Answer { length, change, ..Answer::default() }
+}
+
+/// The numbers lent for a list: its writes, then the 7s that were there.
+fn list_of(writes: &[(u32, u32)]) -> [u32; WRITES] {
+    let mut numbers = [7; WRITES];
+    for (i, (place, length)) in writes.iter().enumerate() {
+        numbers[2 * i] = *place;
+        numbers[2 * i + 1] = *length;
+    }
+    numbers
+}
+
+/// Asks both listed stores and the store: the image that all three leave.
+fn store_all_ways(image: &[u8], letters: &[u8], text: &[u8], value: u32, answered: Answer, list: &[(u32, u32)]) -> Vec<u8> {
+    let (mut plain, mut by_letters, mut by_text) = (image.to_vec(), image.to_vec(), image.to_vec());
+    let mut writes = [7; WRITES];
+    assert_eq!(store(&mut plain, &mut [7; 6], letters, value), Answer { length: 0, ..answered });
+    assert_eq!(store_writes(&mut by_letters, &mut [7; 6], letters, value, &mut writes), answered);
+    assert_eq!((&by_letters, writes), (&plain, list_of(list)));
+    let mut writes = [7; WRITES];
+    assert_eq!(store_text_writes(&mut by_text, &mut [7; 6], text, value, &mut writes), answered);
+    assert_eq!((&by_text, writes), (&plain, list_of(list)));
+    plain
+}
+
+#[test]
+fn lists_of_p2_p3_p6_p7() {
+    assert_eq!(WRITES, 132);
+    let image = with_room(abc("00000000", "00000000"), 50);
+    let image = store_all_ways(&image, &[B, A], b"BA", 9, listed(4, 1), &[(35, 4), (39, 4), (0, 4), (32, 1)]);
+    assert_eq!(image, with_room(p2(), 50));
+    let image = store_all_ways(&image, &[B], b"B", 5, listed(1, 1), &[(38, 1)]);
+    assert_eq!(image, with_room(p3(), 50));
+    store_all_ways(&image, &[B], b"B", 5, listed(1, 0), &[(38, 1)]);
+    store_all_ways(&image, &[B, A], b"BA", 256, refused(11, 0), &[]);
+    store_all_ways(&image, &[A, B, C], b"ABC", 0, listed(0, 0), &[]);
+    store_all_ways(&image, &[B, A], b"BA", 0, listed(1, -1), &[(42, 1)]);
+    store_all_ways(&with_room(p3(), 54), &[C, C, C], b"CCC", 1, refused(13, 0), &[]);
+    store_all_ways(&with_room(p3(), 55), &[C, C, C], b"CCC", 1, listed(5, 1), &[(43, 4), (47, 4), (51, 4), (0, 4), (33, 1)]);
+}
+
+#[test]
+fn p7_cut_at_each_write() {
+    let before = "00010000 02000005 00000009";
+    let cuts = [
+        ("00000002", "EEEEEEEE EEEEEEEE EEEEEEEE"),
+        ("00000002", "EE00EE00 EEEEEEEE EEEEEEEE"),
+        ("00000002", "00000400 EEEEEEEE EEEEEEEE"),
+        ("00000002", "00000400 EEEE05EE EEEEEEEE"),
+        ("00000002", "00000400 00000500 EEEEEEEE"),
+        ("00000002", "00000400 00000500 EEEEEE01"),
+        ("00000002", "00000400 00000500 00000001"),
+        ("00000005", "00000400 00000500 00000001"),
+    ];
+    for (g, nodes) in cuts {
+        let mut image = abc(g, &format!("{before} {nodes}"));
+        assert_eq!(mend(&mut image, &mut [7; 6]), Answer::default());
+        assert_eq!(image, abc("00000002", &format!("{before} {nodes}")));
+        assert_eq!((look_up(&image, &[C, C, C]), count(&image, &mut [7; 3])), (value(0), value(2)));
+    }
+    let whole = abc("00000005", "00010300 02000005 00000009 00000400 00000500 00000001");
+    let mut image = whole.clone();
+    assert_eq!(mend(&mut image, &mut [7; 6]), Answer::default());
+    assert_eq!(image, whole);
+    assert_eq!((look_up(&image, &[C, C, C]), count(&image, &mut [7; 6])), (value(1), value(3)));
+}
+
+#[test]
+fn mend_lowers_g_or_changes_nothing() {
+    // G, body, answer, the G that is left
+    let cases = [
+        ("00000001", "00000000 00000000", Answer::default(), "00000000"),
+        ("00000002", "00000000 02000000 00000000", Answer::default(), "00000000"),
+        ("00000003", "01000000 00000000 03000000 00000000", Answer::default(), "00000001"),
+        ("00000002", "00010000 02000005 00000009", Answer::default(), "00000002"),
+        ("00000002", "02000000 00000000 00000000", refused(8, 1), "00000002"),
+        ("00000001", "00010100 00000000", refused(7, 1), "00000001"),
+        ("00000001", "00020000 00000000", refused(6, 0), "00000001"),
+        ("00000001", "00010000 00010000", refused(6, 1), "00000001"),
+    ];
+    for (g, body, answered, left) in cases {
+        let mut image = abc(g, body);
+        let nodes = body.split(' ').count();
+        let mut work = [7; 5];
+        assert_eq!(mend(&mut image, &mut work), answered);
+        assert_eq!(image, abc(left, body));
+        let cleared: Vec<u32> = (0..5).map(|i| if i < nodes { 0 } else { 7 }).collect();
+        assert_eq!(work[..], cleared[..], "the first G+1 with the G of entry");
+        let mut image = abc(g, body);
+        let mut too_few = vec![7; nodes - 1];
+        assert_eq!(mend(&mut image, &mut too_few), refused(5, 0));
+        assert_eq!((image, too_few), (abc(g, body), vec![7; nodes - 1]));
+    }
 }
 
 #[test]

@@ -5,7 +5,7 @@ use crate::cases::Case;
 use crate::progress::Progress;
 use crate::report::{self, say};
 use crate::rng::Rng;
-use crate::saboteurs::{Saboteur, SABOTEURS};
+use crate::saboteurs::{Saboteur, CUT_SABOTEURS, SABOTEURS};
 use crate::situations::{Seen, SITUATIONS};
 use crate::twins::Twins;
 use std::sync::atomic::{AtomicU64, Ordering};
@@ -47,15 +47,15 @@ impl Tally {
         }
     }
 
-    /// Prints the tables; true if all that 01 allows was met often, and nothing else.
+    /// Prints the tables; true if all that is allowed was met often, and nothing else.
     pub fn print(&self) -> bool {
         let mut good = true;
         println!("answers by call and number:");
-        print!("{:14}", "");
+        print!("{:18}", "");
         (0..NUMBERS).for_each(|number| print!("{number:>8}"));
         println!();
         for (kind, met) in KINDS.iter().zip(&self.numbers) {
-            print!("{:14}", kind.name);
+            print!("{:18}", kind.name);
             for (number, times) in met.iter().enumerate() {
                 let allowed = kind.numbers.contains(&(number as u32));
                 let fault = allowed != (*times >= OFTEN) && (allowed || *times > 0);
@@ -138,7 +138,7 @@ pub fn run(start: u64, cases: u64) -> (Tally, Vec<String>) {
 /// Every saboteur must be reported within the same cases. Returns how many were not.
 pub fn self_test(start: u64, cases: u64) -> usize {
     let mut missed = 0;
-    for saboteur in &SABOTEURS {
+    for saboteur in SABOTEURS.iter().chain(&CUT_SABOTEURS) {
         let mut twins = Twins::default();
         let mut tally = Tally::new();
         let caught = (0..cases).find(|index| run_case(start.wrapping_add(*index), &mut twins, &mut tally, Some(saboteur)).is_err());

@@ -38,12 +38,11 @@ pub fn asked(asked: &Asked) -> String {
     let kind = &KINDS[asked.call.kind()];
     let own = match asked.call {
         Call::Make { n, a, d, min, max } => format!(", n {n}, a {a}, d {d}, min {min}, max {max}"),
-        Call::Store { value } | Call::StoreText { value } => format!(", value {value}"),
         Call::NextKey { after } => format!(", {}, key buffer of {}", if after { "after" } else { "at or after" }, asked.key_len),
-        _ => String::new(),
+        _ => asked.call.stored().map_or(String::new(), |value| format!(", value {value}")),
     };
     let given = match asked.call {
-        Call::Check | Call::Count => String::new(),
+        Call::Check | Call::Count | Call::Mend => String::new(),
         _ => format!(", {} of {} bytes [{}]", kind.given, asked.given.len(), hex(asked.given)),
     };
     let work = match asked.call {

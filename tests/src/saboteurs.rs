@@ -19,7 +19,17 @@ pub struct Saboteur {
 
 impl Spoiled<'_> {
     fn is_store(&self) -> bool {
-        matches!(self.call, Call::Store { .. } | Call::StoreText { .. })
+        self.call.stored().is_some()
+    }
+
+    /// A store that was done and listed its writes.
+    fn listed(&self) -> bool {
+        self.call.writes_len() > 0 && self.done()
+    }
+
+    /// A mend that was done and lowered G.
+    fn lowered(&self) -> bool {
+        self.call == Call::Mend && self.done() && self.g() < self.head().unwrap().g
     }
 
     fn number(&self) -> u32 {
@@ -31,10 +41,23 @@ impl Spoiled<'_> {
     }
 
     fn value(&self) -> u32 {
-        match self.call {
-            Call::Store { value } | Call::StoreText { value } => value,
-            _ => 0,
-        }
+        self.call.stored().unwrap_or(0)
+    }
+
+    /// G at return.
+    fn g(&self) -> u32 {
+        Head::read(self.after.image()).g
+    }
+
+    fn set_g(&mut self, g: u32) {
+        let start = self.after.image.start;
+        model::write_number(&mut self.after.bytes[start..start + 4], u64::from(g));
+    }
+
+    /// The numbers of the list in use.
+    fn list(&mut self) -> &mut [u32] {
+        let start = self.after.writes.start;
+        &mut self.after.words[start..start + 2 * self.answer.length as usize]
     }
 
     /// The head at entry, where there is one.
@@ -78,7 +101,7 @@ impl Spoiled<'_> {
     }
 }
 
-pub const SABOTEURS: [Saboteur; 33] = [
+pub const SABOTEURS: [Saboteur; 39] = [
     Saboteur {
         name: "the place of 7 is one too high",
         spoil: |s| {
@@ -400,6 +423,151 @@ pub const SABOTEURS: [Saboteur; 33] = [
             let length = s.after.image.len();
             if (length == model::LONGEST_IMAGE || length == 28) && s.number() != 1 {
                 s.refuse(1);
+            }
+        },
+    },
+    Saboteur {
+        name: "a number after the last write is touched",
+        spoil: |s| {
+            let at = s.after.writes.start + 2 * s.answer.length as usize;
+            if s.listed() && at < s.after.writes.end {
+                s.after.words[at] ^= 1;
+            }
+        },
+    },
+    Saboteur {
+        name: "a refused store touches the list",
+        spoil: |s| {
+            if s.call.writes_len() > 0 && !s.done() {
+                let at = s.after.writes.end - 1;
+                s.after.words[at] ^= 1;
+            }
+        },
+    },
+    Saboteur {
+        name: "a value that is there already is not listed",
+        spoil: |s| {
+            if s.listed() && s.answer.length == 1 && s.before.image() == s.after.image() {
+                s.restore_work();
+                s.answer.length = 0;
+            }
+        },
+    },
+    Saboteur {
+        name: "mend does not try the lowered image",
+        spoil: |s| {
+            if s.call == Call::Mend && s.number() == 8 {
+                s.set_g(s.answer.place - 1);
+                s.refuse(0);
+            }
+        },
+    },
+    Saboteur {
+        name: "mend answers what the trial answered",
+        spoil: |s| {
+            if s.call == Call::Mend && s.number() == 8 {
+                let mut trial = s.before.image().to_vec();
+                model::write_number(&mut trial[..4], u64::from(s.answer.place) - 1);
+                *s.answer = model::check(&trial, &mut vec![0; s.answer.place as usize]);
+            }
+        },
+    },
+    Saboteur {
+        name: "mend clears only the working numbers of the lowered G",
+        spoil: |s| {
+            if s.lowered() {
+                let kept = s.after.work.start + s.g() as usize + 1..s.after.work.end;
+                s.after.words[kept.clone()].copy_from_slice(&s.before.words[kept]);
+            }
+        },
+    },
+];
+
+/// Those that the cuts must report too, by what a mended image answers and with no look at the model's own list and mend.
+pub const CUT_SABOTEURS: [Saboteur; 10] = [
+    Saboteur {
+        name: "the old link is listed before G",
+        spoil: |s| {
+            if s.listed() && s.answer.length > 1 {
+                let list = s.list();
+                let end = list.len();
+                list[end - 4..].rotate_left(2);
+            }
+        },
+    },
+    Saboteur {
+        name: "the old link is listed first",
+        spoil: |s| {
+            if s.listed() && s.answer.length > 1 {
+                s.list().rotate_right(2);
+            }
+        },
+    },
+    Saboteur {
+        name: "G is listed before the nodes",
+        spoil: |s| {
+            if s.listed() && s.answer.length > 1 {
+                let list = s.list();
+                let end = list.len();
+                list[..end - 2].rotate_right(2);
+            }
+        },
+    },
+    Saboteur {
+        name: "the last write is missing",
+        spoil: |s| {
+            if s.listed() {
+                s.answer.length = s.answer.length.saturating_sub(1);
+            }
+        },
+    },
+    Saboteur {
+        name: "the number of writes is one too high",
+        spoil: |s| {
+            if s.listed() {
+                s.answer.length += 1;
+            }
+        },
+    },
+    Saboteur {
+        name: "the first write is a byte short",
+        spoil: |s| {
+            if s.listed() && s.answer.length > 0 {
+                s.list()[1] -= 1;
+            }
+        },
+    },
+    Saboteur {
+        name: "mend only checks",
+        spoil: |s| {
+            if s.lowered() {
+                *s.answer = Answer { number: 8, place: s.g() + 1, ..Answer::default() };
+                s.restore_image();
+            }
+        },
+    },
+    Saboteur {
+        name: "mend lowers G of an accepted image",
+        spoil: |s| {
+            if s.call == Call::Mend && s.done() && !s.lowered() && s.g() > 0 {
+                s.set_g(s.g() - 1);
+            }
+        },
+    },
+    Saboteur {
+        name: "mend lowers G twice",
+        spoil: |s| {
+            if s.lowered() && s.g() > 0 {
+                s.set_g(s.g() - 1);
+            }
+        },
+    },
+    Saboteur {
+        name: "mend clears the spare bytes",
+        spoil: |s| {
+            if let Some(used) = s.used().filter(|_| s.lowered()) {
+                let spare = s.after.image.start + used..s.after.image.end;
+                s.after.bytes[spare].fill(0);
             }
         },
     },

@@ -43,7 +43,21 @@ impl Seen<'_> {
     }
 
     fn is_store(&self) -> bool {
-        matches!(self.call(), Call::Store { .. } | Call::StoreText { .. })
+        self.call().stored().is_some()
+    }
+
+    /// A store that was done and listed so many writes.
+    fn lists(&self, writes: u32) -> bool {
+        self.call().writes_len() > 0 && self.done() && self.answer.length == writes
+    }
+
+    /// A mend that was done: the address that stood in no link, or 0 where the image was accepted as it was.
+    fn mended_at(&self) -> Option<u32> {
+        if self.call() == Call::Mend && self.done() {
+            self.check().map(|answer| answer.place)
+        } else {
+            None
+        }
     }
 
     fn is_look_up(&self) -> bool {
@@ -51,7 +65,7 @@ impl Seen<'_> {
     }
 
     fn by_letters(&self) -> bool {
-        matches!(self.call(), Call::Store { .. })
+        matches!(self.call(), Call::Store { .. } | Call::StoreWrites { .. })
     }
 
     fn is_next_key(&self) -> bool {
@@ -59,19 +73,15 @@ impl Seen<'_> {
     }
 
     fn value(&self) -> u32 {
-        match self.call() {
-            Call::Store { value } | Call::StoreText { value } => value,
-            _ => 0,
-        }
+        self.call().stored().unwrap_or(0)
     }
 
     /// How many nodes the path of a store by letters lacks.
     fn missing(&self) -> usize {
-        match self.call() {
-            Call::Store { .. } if matches!(self.number(), 0 | 11 | 12 | 13) => {
-                self.asked.given.len() - model::path(self.asked.image, &self.head(), self.asked.given).1
-            }
-            _ => 0,
+        if self.by_letters() && matches!(self.number(), 0 | 11 | 12 | 13) {
+            self.asked.given.len() - model::path(self.asked.image, &self.head(), self.asked.given).1
+        } else {
+            0
         }
     }
 
@@ -89,7 +99,7 @@ impl Seen<'_> {
     }
 }
 
-pub const SITUATIONS: [Situation; 50] = [
+pub const SITUATIONS: [Situation; 61] = [
     Situation { name: "1: the image is shorter than 28", met: |s| s.number() == 1 && s.image_len() < 28 },
     Situation { name: "1: the image is longer than 16,777,216", met: |s| s.number() == 1 && s.image_len() > 28 },
     Situation { name: "an image of 16,777,216 bytes, done", met: |s| s.done() && s.image_len() == 16_777_216 },
@@ -172,6 +182,25 @@ pub const SITUATIONS: [Situation; 50] = [
     Situation { name: "store: a changed value", met: |s| s.is_store() && s.done() && s.answer.change == 0 && s.value() > 0 },
     Situation { name: "store: 1 on a complete path", met: |s| s.by_letters() && s.answer.change == 1 && s.missing() == 0 },
     Situation { name: "store: FFFFFFFF", met: |s| s.is_store() && s.done() && s.value() == u32::MAX },
+    Situation { name: "list: no write", met: |s| s.lists(0) },
+    Situation { name: "list: one write", met: |s| s.lists(1) },
+    Situation {
+        name: "list: one write, of the value already there",
+        met: |s| {
+            s.lists(1) && s.by_letters() && s.value() > 0 && model::look_up(s.asked.image, s.asked.given).value == u64::from(s.value())
+        },
+    },
+    Situation { name: "list: three writes", met: |s| s.lists(3) },
+    Situation { name: "list: 66 writes", met: |s| s.lists(66) },
+    Situation { name: "mend: accepted as it is", met: |s| s.mended_at() == Some(0) },
+    Situation { name: "mend: G lowered by one", met: |s| s.mended_at().map_or(false, |p| p == s.head().g && p > 0) },
+    Situation { name: "mend: G lowered by more", met: |s| s.mended_at().map_or(false, |p| p < s.head().g && p > 0) },
+    Situation { name: "mend: G lowered to 0", met: |s| s.mended_at() == Some(1) },
+    Situation {
+        name: "mend: G lowered, with more working numbers than needed",
+        met: |s| s.mended_at().map_or(false, |p| p > 0) && s.asked.work_len as u64 > u64::from(s.head().g) + 1,
+    },
+    Situation { name: "mend: 8 stays, for a node before the gap links past it", met: |s| s.call() == Call::Mend && s.number() == 8 },
     Situation {
         name: "next key: the key given is shorter than min",
         met: |s| s.is_next_key() && s.done() && (s.asked.given.len() as u32) < s.head().min,

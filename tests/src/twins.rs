@@ -7,7 +7,7 @@ use crate::rng::Rng;
 use crate::saboteurs::{Saboteur, Spoiled};
 use std::ops::Range;
 
-/// A call with what it is lent; key buffer and working numbers are given by their lengths, for they hold rubbish.
+/// A call with what it is lent; key buffer and working numbers are given by their lengths, for they hold rubbish, as does a list of writes.
 #[derive(Clone, Copy)]
 pub struct Asked<'a> {
     pub call: Call,
@@ -17,7 +17,7 @@ pub struct Asked<'a> {
     pub work_len: usize,
 }
 
-/// Guard, image, guard, given, guard, key buffer, guard; and guard, working numbers, guard.
+/// Guard, image, guard, given, guard, key buffer, guard; and guard, working numbers, guard, list of writes, guard.
 #[derive(Clone, Default)]
 pub struct Arena {
     pub bytes: Vec<u8>,
@@ -26,6 +26,7 @@ pub struct Arena {
     pub given: Range<usize>,
     pub key: Range<usize>,
     pub work: Range<usize>,
+    pub writes: Range<usize>,
 }
 
 impl Arena {
@@ -54,16 +55,21 @@ impl Arena {
         self.key = start..self.bytes.len();
         rng.fill(&mut self.bytes[start..]);
         self.guard(rng);
-        self.lay_words(asked.work_len, rng);
+        self.lay_words(asked.work_len, asked.call.writes_len(), rng);
     }
 
-    /// Rubbish of three sorts: any, small numbers that look like counts, and one that looks like neither.
-    fn lay_words(&mut self, work_len: usize, rng: &mut Rng) {
+    /// Rubbish of three sorts: any, small numbers that look like counts, and one that looks like neither. In the list of writes it rises by
+    /// steps, for that is quick.
+    fn lay_words(&mut self, work_len: usize, writes_len: usize, rng: &mut Rng) {
         let start = 2 + rng.below(3) as usize;
         self.work = start..start + work_len;
+        let start = self.work.end + 3;
+        self.writes = start..start + writes_len;
         self.words.clear();
         let mask = rng.pick(&[u32::MAX, u32::MAX, 1, 3]);
-        self.words.extend((0..start + work_len + 3).map(|_| (rng.next() >> 20) as u32 & mask));
+        self.words.extend((0..start).map(|_| (rng.next() >> 20) as u32 & mask));
+        let (first, step) = (rng.next() as u32, rng.next() as u32);
+        self.words.extend((0..writes_len as u32 + 3).map(|i| first.wrapping_add(i.wrapping_mul(step))));
     }
 
     /// As `clone`, in the memory that is there.
@@ -74,16 +80,19 @@ impl Arena {
         self.given = other.given.clone();
         self.key = other.key.clone();
         self.work = other.work.clone();
+        self.writes = other.writes.clone();
     }
 
     fn lent(&mut self) -> Lent<'_> {
         let (front, key) = self.bytes.split_at_mut(self.key.start);
         let (front, given) = front.split_at_mut(self.given.start);
+        let (work, writes) = self.words.split_at_mut(self.writes.start);
         Lent {
             image: &mut front[self.image.clone()],
             given: &given[..self.given.len()],
             key: &mut key[..self.key.len()],
-            work: &mut self.words[self.work.clone()],
+            work: &mut work[self.work.clone()],
+            writes: &mut writes[..self.writes.len()],
         }
     }
 
@@ -96,6 +105,7 @@ impl Arena {
             given: piece(&self.given),
             key: piece(&self.key),
             work: (unsafe { words.add(self.work.start) }, self.work.len()),
+            writes: unsafe { words.add(self.writes.start) },
         }
     }
 
@@ -111,27 +121,28 @@ impl Arena {
         &self.bytes[self.key.clone()]
     }
 
+    pub fn writes(&self) -> &[u32] {
+        &self.words[self.writes.clone()]
+    }
+
     fn name_byte(&self, at: usize) -> String {
-        let pieces = [("image", &self.image), ("given", &self.given), ("key buffer", &self.key)];
-        if let Some((name, range)) = pieces.iter().find(|(_, range)| range.contains(&at)) {
-            return format!("byte {} of the {name}", at - range.start);
-        }
-        // a guard, told from the nearer of its two ends
-        let before = pieces.iter().filter(|(_, range)| at < range.start).map(|(name, range)| (range.start - at, "before", name));
-        let after = pieces.iter().filter(|(_, range)| at >= range.end).map(|(name, range)| (at - range.end + 1, "after", name));
-        let (far, side, name) = before.chain(after).min_by_key(|(far, _, _)| *far).expect("every byte has a neighbour");
-        format!("guard byte {far} {side} the {name}")
+        name("byte", at, &[("image", &self.image), ("given", &self.given), ("key buffer", &self.key)])
     }
 
     fn name_word(&self, at: usize) -> String {
-        if at < self.work.start {
-            format!("guard word {} before the working numbers", self.work.start - at)
-        } else if at < self.work.end {
-            format!("working number {}", at - self.work.start)
-        } else {
-            format!("guard word {} after the working numbers", at - self.work.end + 1)
-        }
+        name("number", at, &[("working numbers", &self.work), ("list of writes", &self.writes)])
     }
+}
+
+/// Where `at` is among the pieces; a guard is told from the nearer of its two ends.
+fn name(what: &str, at: usize, pieces: &[(&str, &Range<usize>)]) -> String {
+    if let Some((name, range)) = pieces.iter().find(|(_, range)| range.contains(&at)) {
+        return format!("{what} {} of the {name}", at - range.start);
+    }
+    let before = pieces.iter().filter(|(_, range)| at < range.start).map(|(name, range)| (range.start - at, "before", name));
+    let after = pieces.iter().filter(|(_, range)| at >= range.end).map(|(name, range)| (at - range.end + 1, "after", name));
+    let (far, side, name) = before.chain(after).min_by_key(|(far, _, _)| *far).expect("every guard has a neighbour");
+    format!("guard {what} {far} {side} the {name}")
 }
 
 /// What both answered, and where they differ, in words.
@@ -163,7 +174,7 @@ impl Twins {
         Outcome { model, library, difference }
     }
 
-    /// The answers, then the first byte, then the first working number.
+    /// The answers, then the first byte, then the first number.
     fn difference(&self, model: &Answer, library: &Answer) -> Option<String> {
         let answers = if model != library { Some("the answers".to_string()) } else { None };
         let found: Vec<String> = [answers, self.first_byte(), self.first_word()].into_iter().flatten().collect();

@@ -1,0 +1,450 @@
+//! Cuts: what request 1 of document 02 asks of a store that is cut short. The library's own list of its writes is carried out on the image
+//! from before, up to every cut; each image so left is mended and then asked everything. What it must answer comes from a map of last values
+//! that is kept beside the image.
+
+use crate::calls::{ask_library, Call, Pointers};
+use crate::keys;
+use crate::model::{self, Answer, Head};
+use crate::progress::Progress;
+use crate::report;
+use crate::rng::Rng;
+use crate::saboteurs::{Saboteur, CUT_SABOTEURS};
+use crate::shapes::Shape;
+use crate::small::{self, Key};
+use crate::twins::{Asked, Twins};
+use std::collections::BTreeMap;
+use std::ops::Range;
+use std::ptr::NonNull;
+use std::sync::atomic::{AtomicU64, Ordering};
+use std::sync::Mutex;
+
+/// After so many failures a run stops.
+const ENOUGH: usize = 5;
+
+/// A write to spare bytes lands in every part if it has so many bytes or fewer.
+const EVERY_PART: usize = 4;
+
+/// The values of the stored keys. A key comes before its extensions, as 01 orders them.
+type Stored = BTreeMap<Vec<u8>, u64>;
+
+/// An accepted image and what it holds.
+#[derive(Clone)]
+struct Held {
+    image: Vec<u8>,
+    stored: Stored,
+}
+
+impl Held {
+    fn of(image: Vec<u8>) -> Held {
+        let stored = model::stored_keys(&image, &Head::read(&image)).into_iter().collect();
+        Held { image, stored }
+    }
+}
+
+/// What was tried: stores that were not refused, the images that their cuts left, and of these those with a write in part and those whose G
+/// was lowered.
+#[derive(Clone, Copy, Default)]
+pub struct Tried {
+    pub images: u64,
+    pub stores: u64,
+    pub cuts: u64,
+    pub partly: u64,
+    pub lowered: u64,
+    pub failed: usize,
+}
+
+impl Tried {
+    fn add(&mut self, other: &Tried) {
+        self.images += other.images;
+        self.stores += other.stores;
+        self.cuts += other.cuts;
+        self.partly += other.partly;
+        self.lowered += other.lowered;
+        self.failed += other.failed;
+    }
+}
+
+fn claim(holds: bool, broken: impl Fn() -> String) -> Result<(), String> {
+    if holds {
+        Ok(())
+    } else {
+        Err(broken())
+    }
+}
+
+/// Whether the key can be asked by text. Without an alphabet only the empty one can.
+fn has_text(key: &Key) -> bool {
+    key.letters.is_empty() || !key.text.is_empty()
+}
+
+/// Asks the library alone, and only calls that change nothing but working numbers and key buffer.
+struct Reader {
+    work: Vec<u32>,
+    key: [u8; 64],
+}
+
+impl Reader {
+    fn ask(&mut self, call: Call, image: &[u8], given: &[u8]) -> Answer {
+        let lent = Pointers {
+            image: (image.as_ptr() as *mut u8, image.len()),
+            given: (given.as_ptr() as *mut u8, given.len()),
+            key: (self.key.as_mut_ptr(), self.key.len()),
+            work: (self.work.as_mut_ptr(), self.work.len()),
+            writes: NonNull::dangling().as_ptr(),
+        };
+        unsafe { ask_library(call, &lent) }
+    }
+
+    /// Look ups by letters and, where there is text, by text. Only an image that is not mended yet may refuse them.
+    fn look_ups(&mut self, image: &[u8], stored: &Stored, keys: &[Key], mended: bool) -> Result<(), String> {
+        for key in keys {
+            let expected = Answer { value: stored.get(&key.letters).copied().unwrap_or(0), ..Answer::default() };
+            let by_letters = self.ask(Call::LookUp, image, &key.letters);
+            let by_text = if has_text(key) { self.ask(Call::LookUpText, image, &key.text) } else { by_letters };
+            for found in [by_letters, by_text] {
+                if found != expected && (mended || found.number == 0) {
+                    return Err(format!("mended {mended}: look up of {:?} gives {found:?}, not {expected:?}", key.letters));
+                }
+            }
+        }
+        Ok(())
+    }
+
+    /// Everything that a mended image answers.
+    fn all(&mut self, image: &[u8], stored: &Stored, keys: &[Key]) -> Result<(), String> {
+        let checked = self.ask(Call::Check, image, &[]);
+        claim(checked == Answer::default(), || format!("the check of the mended image gives {checked:?}"))?;
+        self.look_ups(image, stored, keys, true)?;
+        let counted = self.ask(Call::Count, image, &[]);
+        claim(counted == Answer { value: stored.len() as u64, ..Answer::default() }, || format!("the number of keys is {counted:?}"))?;
+        let mut last: &[u8] = &[];
+        for (i, (key, value)) in stored.iter().enumerate() {
+            let next = self.ask(Call::NextKey { after: i > 0 }, image, last);
+            let expected = Answer { length: key.len() as u32, value: *value, ..Answer::default() };
+            claim(next == expected && self.key[..key.len()] == key[..], || format!("after {last:?} comes {next:?}, not {key:?}"))?;
+            last = key;
+        }
+        let end = self.ask(Call::NextKey { after: !stored.is_empty() }, image, last);
+        claim(end.number == 15, || format!("after the last key comes {end:?}"))
+    }
+}
+
+/// One thread's work.
+struct Worker {
+    twins: Twins,
+    rng: Rng,
+    reader: Reader,
+    /// Spoils the listed store and mend, and is to be found with no look at the model.
+    saboteur: Option<&'static Saboteur>,
+    done: Tried,
+}
+
+impl Worker {
+    fn new(seed: u64, saboteur: Option<&'static Saboteur>) -> Worker {
+        let reader = Reader { work: Vec::new(), key: [0; 64] };
+        Worker { twins: Twins::default(), rng: Rng::new(seed), reader, saboteur, done: Tried::default() }
+    }
+
+    /// A call compared with the model, with enough working numbers.
+    fn ask(&mut self, call: Call, image: &[u8], given: &[u8]) -> Result<Answer, String> {
+        let work_len = Head::read(image).g as usize + 1 + self.rng.below(2) as usize;
+        let asked = Asked { call, image, given, key_len: 0, work_len };
+        let outcome = self.twins.ask(&asked, &mut self.rng, self.saboteur);
+        match outcome.difference {
+            Some(_) if self.saboteur.is_none() => Err(report::asked(&asked) + &report::outcome(&outcome)),
+            _ => Ok(outcome.library),
+        }
+    }
+
+    /// A store with all its cuts. If it is not refused: one of the mended images, and what that one holds.
+    fn store(&mut self, held: &Held, key: &Key, value: u32, keys: &[Key]) -> Result<Option<Held>, String> {
+        self.try_store(held, key, value, keys)
+            .map_err(|why| format!("store of {value} under {:?}: {why}\n    image [{}]\n", key.letters, report::hex(&held.image)))
+    }
+
+    fn try_store(&mut self, held: &Held, key: &Key, value: u32, keys: &[Key]) -> Result<Option<Held>, String> {
+        let answer = if has_text(key) && self.rng.one_in(2) {
+            self.ask(Call::StoreTextWrites { value }, &held.image, &key.text)?
+        } else {
+            self.ask(Call::StoreWrites { value }, &held.image, &key.letters)?
+        };
+        if answer.number > 0 {
+            return Ok(None);
+        }
+        self.done.stores += 1;
+        let list = listed(self.twins.library.writes(), answer.length as usize, held.image.len())?;
+        let after = self.twins.library.image().to_vec();
+        self.ask(Call::Store { value }, &held.image, &key.letters)?;
+        claim(self.twins.library.image() == after, || "the store leaves other bytes than the listed store".to_string())?;
+        self.cuts(held, key, value, &list, &after, keys).map(Some)
+    }
+
+    fn cuts(&mut self, held: &Held, key: &Key, value: u32, list: &[Range<usize>], after: &[u8], keys: &[Key]) -> Result<Held, String> {
+        let used = Head::read(&held.image).u() as usize;
+        let mut landed = held.image.clone();
+        let mut left = Vec::new();
+        for (i, write) in list.iter().enumerate() {
+            for part in self.parts(write, write.start >= used) {
+                let mut image = landed.clone();
+                part.iter().for_each(|at| image[*at] = after[*at]);
+                self.done.partly += u64::from(!part.is_empty());
+                let tell = |why| format!("cut at write {i} of {list:?}, of which the bytes {part:?} landed: {why}");
+                left.push(self.mend(image, &held.stored, keys).map_err(tell)?);
+            }
+            landed[write.clone()].copy_from_slice(&after[write.clone()]);
+        }
+        claim(landed == after, || format!("the list {list:?} carried out whole leaves other bytes than the store"))?;
+        let mut stored = held.stored.clone();
+        if value > 0 {
+            stored.insert(key.letters.clone(), u64::from(value));
+        } else {
+            stored.remove(&key.letters);
+        }
+        let whole = self.mend(landed, &stored, keys).map_err(|why| format!("all of {list:?} landed: {why}"))?;
+        if left.is_empty() || self.rng.one_in(2) {
+            return Ok(Held { image: whole, stored });
+        }
+        let any = self.rng.below(left.len() as u64) as usize;
+        Ok(Held { image: left.swap_remove(any), stored: held.stored.clone() })
+    }
+
+    /// The bytes of a write that land if it is the one hit: none, or if it goes to spare bytes some of them, in every way or in some.
+    fn parts(&mut self, write: &Range<usize>, spare: bool) -> Vec<Vec<usize>> {
+        let bytes: Vec<usize> = write.clone().collect();
+        if !spare {
+            return vec![Vec::new()];
+        }
+        if bytes.len() <= EVERY_PART {
+            let some = |set: usize| bytes.iter().enumerate().filter(|(i, _)| set >> i & 1 == 1).map(|(_, at)| *at).collect();
+            return (0..(1 << bytes.len()) - 1).map(some).collect();
+        }
+        let (first, last) = (bytes[0], bytes[bytes.len() - 1]);
+        let middle = self.rng.below(bytes.len() as u64) as usize;
+        let one_side = if self.rng.one_in(2) { &bytes[..middle] } else { &bytes[middle..] };
+        let all_but_one = bytes.iter().copied().filter(|at| *at != bytes[middle]).collect();
+        let any = bytes.iter().copied().filter(|_| self.rng.one_in(2)).collect();
+        vec![Vec::new(), vec![first], vec![last], one_side.to_vec(), all_but_one, any]
+    }
+
+    /// Mends what a cut left and asks it everything. The mended image.
+    fn mend(&mut self, left: Vec<u8>, stored: &Stored, keys: &[Key]) -> Result<Vec<u8>, String> {
+        self.done.cuts += 1;
+        self.reader.work.resize(Head::read(&left).g as usize + 1, 7);
+        self.reader.look_ups(&left, stored, keys, false)?;
+        let answer = self.ask(Call::Mend, &left, &[])?;
+        claim(answer == Answer::default(), || format!("mend gives {answer:?}"))?;
+        let mended = self.twins.library.image().to_vec();
+        claim(mended[4..] == left[4..], || "mend changes more than G".to_string())?;
+        self.done.lowered += u64::from(mended != left);
+        self.reader.all(&mended, stored, keys)?;
+        Ok(mended)
+    }
+}
+
+/// The writes of a list, each as the bytes that it goes to.
+fn listed(writes: &[u32], many: usize, image_len: usize) -> Result<Vec<Range<usize>>, String> {
+    let range = |pair: &[u32]| pair[0] as usize..pair[0] as usize + pair[1] as usize;
+    let list: Vec<Range<usize>> = writes.chunks(2).take(many).map(range).collect();
+    claim(list.len() == many && list.iter().all(|write| write.end <= image_len), || format!("{many} writes, to {list:?}"))?;
+    Ok(list)
+}
+
+/// Those of the keys that the image does not refuse, each once, with their text where there is an alphabet.
+fn keys_of(image: &[u8], mut keys: Vec<Vec<u8>>) -> Vec<Key> {
+    let head = Head::read(image);
+    let alphabet = model::characters(&image[28..28 + head.f as usize]).unwrap_or_default();
+    keys.retain(|key| key.len() >= head.min as usize && key.len() <= head.max as usize && key.iter().all(|l| u32::from(*l) < head.n));
+    keys.sort();
+    keys.dedup();
+    let text = |key: &[u8]| if head.f > 0 { key.iter().flat_map(|l| alphabet[usize::from(*l)].to_vec()).collect() } else { Vec::new() };
+    keys.into_iter().map(|letters| Key { text: text(&letters), letters }).collect()
+}
+
+// ---- small images ----
+
+/// All accepted images with A = D = 1 of so many links and so great a G.
+struct Family {
+    n: u32,
+    g: u32,
+    /// The data values of every node.
+    data: &'static [u8],
+    /// An image is tried in one of so many settings.
+    settings: usize,
+}
+
+const FAMILIES: [Family; 14] = [
+    Family { n: 1, g: 0, data: &[0, 1, 255], settings: 1 },
+    Family { n: 1, g: 1, data: &[0, 1, 255], settings: 1 },
+    Family { n: 1, g: 2, data: &[0, 1, 255], settings: 1 },
+    Family { n: 1, g: 3, data: &[0, 1, 255], settings: 1 },
+    Family { n: 1, g: 4, data: &[0, 1], settings: 1 },
+    Family { n: 2, g: 0, data: &[0, 1, 255], settings: 1 },
+    Family { n: 2, g: 1, data: &[0, 1, 255], settings: 1 },
+    Family { n: 2, g: 2, data: &[0, 1, 255], settings: 8 },
+    Family { n: 2, g: 3, data: &[0, 1], settings: 8 },
+    Family { n: 2, g: 4, data: &[0, 1], settings: 56 },
+    Family { n: 3, g: 0, data: &[0, 1, 255], settings: 1 },
+    Family { n: 3, g: 1, data: &[0, 1, 255], settings: 8 },
+    Family { n: 3, g: 2, data: &[0, 1], settings: 8 },
+    Family { n: 3, g: 3, data: &[0, 1], settings: 56 },
+];
+
+/// Every key and these values are stored.
+const VALUES: [u32; 3] = [0, 1, 255];
+
+fn run_tree(worker: &mut Worker, family: &Family, index: usize, links: &[u8]) -> Result<(), String> {
+    for (i, data) in small::tuples(family.data, family.g as usize + 1).enumerate() {
+        for setting in small::settings().iter().skip((index + i) % family.settings).step_by(family.settings) {
+            let held = Held::of(small::image(&mut worker.rng, family.n, links, &data, setting));
+            worker.done.images += 1;
+            let keys = keys_of(&held.image, small::keys(family.n).into_iter().map(|key| key.letters).collect());
+            for key in &keys {
+                for value in VALUES {
+                    worker.store(&held, key, value, &keys)?;
+                }
+            }
+        }
+    }
+    Ok(())
+}
+
+/// Every cut of every store on the small images, in two threads.
+pub fn run_small() -> Tried {
+    let tried = Mutex::new(Tried::default());
+    std::thread::scope(|scope| {
+        for thread in 0..2 {
+            let tried = &tried;
+            scope.spawn(move || {
+                let mut worker = Worker::new(thread as u64, None);
+                let mut progress = Progress::of(thread);
+                let trees = |family: &'static Family| {
+                    small::trees(family.n as usize, family.g as usize).into_iter().enumerate().map(move |(i, links)| (family, i, links))
+                };
+                for (family, index, links) in FAMILIES.iter().flat_map(trees).skip(thread).step_by(2) {
+                    progress.at(&format!("cuts: N {} G {} links {}", family.n, family.g, report::hex(&links)));
+                    if let Err(failure) = run_tree(&mut worker, family, index, &links) {
+                        print!("FAILED: cuts: {failure}");
+                        worker.done.failed += 1;
+                        if worker.done.failed >= ENOUGH {
+                            break;
+                        }
+                    }
+                }
+                progress.done();
+                tried.lock().unwrap().add(&worker.done);
+            });
+        }
+    });
+    tried.into_inner().unwrap()
+}
+
+// ---- random images ----
+
+/// The stored keys, the key itself, its neighbours, and some others.
+fn keys_near(rng: &mut Rng, held: &Held, key: &[u8]) -> Vec<Key> {
+    let mut near: Vec<Vec<u8>> = held.stored.keys().cloned().collect();
+    near.push(key.to_vec());
+    if let Some((last, front)) = key.split_last() {
+        near.push(front.to_vec());
+        near.push([front, &[last.wrapping_add(1)]].concat());
+        near.push([front, &[last.wrapping_sub(1)]].concat());
+    }
+    near.push([key, &[0]].concat());
+    near.extend((0..3).map(|_| keys::letters(rng, &held.image, key)));
+    keys_of(&held.image, near)
+}
+
+/// A small image to begin with: fresh, or grown with data also where min and max hide it.
+fn begin(rng: &mut Rng) -> Held {
+    let mut shape = Shape::draw(rng);
+    let spare = shape.draw_spare(rng) + shape.draw_spare(rng);
+    if rng.one_in(2) {
+        let Head { n, a, d, min, max, .. } = shape.head;
+        let mut image = rng.rubbish(shape.head.u() as usize + spare);
+        model::make(&mut image, n, a, d, &shape.alphabet_bytes(), min, max);
+        return Held { image, stored: Stored::new() };
+    }
+    let most = rng.pick(&[8, 8, 8, 8, 8, 40]);
+    shape.head.g = rng.between(0, most) as u32;
+    let image = shape.grow(rng, spare);
+    Held::of(image)
+}
+
+/// A run of stores from one image on, each with all its cuts. It goes on from one of the images that were mended.
+fn history(worker: &mut Worker, seed: u64) -> Result<(), String> {
+    let mut rng = Rng::new(seed);
+    worker.rng = Rng::new(!seed);
+    let mut held = begin(&mut rng);
+    for _ in 0..rng.between(4, 12) {
+        let letters = keys::letters(&mut rng, &held.image, &[]);
+        let keys = keys_near(&mut rng, &held, &letters);
+        let value = keys::value(&mut rng, &held.image);
+        let key = match keys.iter().find(|key| key.letters == letters) {
+            Some(key) => key,
+            None => continue,
+        };
+        let tell = |why| format!("replay with tests/replay cuts {seed}: {why}");
+        if let Some(next) = worker.store(&held, key, value, &keys).map_err(tell)? {
+            held = next;
+        }
+    }
+    Ok(())
+}
+
+/// So many histories from the starting seed on, in two threads.
+pub fn run_random(start: u64, histories: u64) -> Tried {
+    let next = AtomicU64::new(0);
+    let tried = Mutex::new(Tried::default());
+    std::thread::scope(|scope| {
+        for thread in 0..2 {
+            let (next, tried) = (&next, &tried);
+            scope.spawn(move || {
+                let mut worker = Worker::new(0, None);
+                let mut progress = Progress::of(thread);
+                loop {
+                    let index = next.fetch_add(1, Ordering::Relaxed);
+                    if index >= histories || worker.done.failed >= ENOUGH {
+                        break;
+                    }
+                    let seed = start.wrapping_add(index);
+                    progress.at(&format!("tests/replay cuts {seed}"));
+                    worker.done.images += 1;
+                    if let Err(failure) = history(&mut worker, seed) {
+                        print!("FAILED: cuts: {failure}");
+                        worker.done.failed += 1;
+                    }
+                }
+                progress.done();
+                tried.lock().unwrap().add(&worker.done);
+            });
+        }
+    });
+    tried.into_inner().unwrap()
+}
+
+/// Repeats one history and tells of its failure. Returns whether there was none.
+pub fn replay(seed: u64) -> bool {
+    let mut worker = Worker::new(0, None);
+    let outcome = history(&mut worker, seed);
+    match &outcome {
+        Ok(()) => println!("seed {seed}: {} cuts of {} stores, all mended", worker.done.cuts, worker.done.stores),
+        Err(failure) => print!("FAILED: cuts: {failure}"),
+    }
+    outcome.is_ok()
+}
+
+/// Every saboteur of the cuts must be reported within the same histories, by what the images answer alone. Returns how many were not.
+pub fn self_test(start: u64, histories: u64) -> usize {
+    let mut missed = 0;
+    for saboteur in &CUT_SABOTEURS {
+        let mut worker = Worker::new(0, Some(saboteur));
+        match (0..histories).find(|index| history(&mut worker, start.wrapping_add(*index)).is_err()) {
+            Some(index) => println!("    caught in history {:>3} of the cuts: {}", index + 1, saboteur.name),
+            None => {
+                missed += 1;
+                println!("    NOT CAUGHT by the cuts: {}", saboteur.name);
+            }
+        }
+    }
+    missed
+}

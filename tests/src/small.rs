@@ -1,0 +1,99 @@
+//! Small images with A = D = 1, and the keys that go with them: what the exhaustive part and the cuts have in common.
+
+use crate::model::Head;
+use crate::rng::Rng;
+
+/// What stands around the body.
+#[derive(Clone, Copy)]
+pub struct Setting {
+    pub lengths: (u32, u32),
+    pub alphabet: bool,
+    /// Spare bytes: so many nodes and so many bytes.
+    pub spare: (usize, usize),
+}
+
+const LENGTHS: [(u32, u32); 7] = [(0, 3), (1, 3), (0, 0), (1, 2), (2, 2), (0, 1), (3, 3)];
+const SPARE: [(usize, usize); 4] = [(0, 0), (1, 0), (2, 2), (3, 1)];
+
+pub fn settings() -> Vec<Setting> {
+    let mut all = Vec::new();
+    for lengths in LENGTHS {
+        for alphabet in [false, true] {
+            all.extend(SPARE.iter().map(|spare| Setting { lengths, alphabet, spare: *spare }));
+        }
+    }
+    all
+}
+
+/// Letters of one, two and three bytes; the last is outside every alphabet and shares a byte with a letter.
+pub const CHARACTERS: [&str; 3] = ["A", "é", "€"];
+const OUTSIDE: &str = "ê";
+
+/// A key by its letters and as text.
+pub struct Key {
+    pub letters: Vec<u8>,
+    pub text: Vec<u8>,
+}
+
+/// Every key over the letters 0 to n up to length 3.
+pub fn keys(n: u32) -> Vec<Key> {
+    let mut all: Vec<Vec<u8>> = vec![Vec::new()];
+    let mut longest = all.clone();
+    for _ in 0..3 {
+        longest = longest.iter().flat_map(|key| (0..=n as u8).map(move |letter| [key.as_slice(), &[letter]].concat())).collect();
+        all.extend(longest.clone());
+    }
+    let character = |letter: &u8| if u32::from(*letter) < n { CHARACTERS[usize::from(*letter)] } else { OUTSIDE };
+    all.into_iter().map(|letters| Key { text: letters.iter().map(character).collect::<String>().into_bytes(), letters }).collect()
+}
+
+/// The image of so many links in a node, with rubbish in its spare bytes.
+pub fn image(rng: &mut Rng, n: u32, links: &[u8], data: &[u8], setting: &Setting) -> Vec<u8> {
+    let alphabet: String = if setting.alphabet { CHARACTERS[..n as usize].concat() } else { String::new() };
+    let (min, max) = setting.lengths;
+    let g = (links.len() / n as usize) as u32 - 1;
+    let head = Head { g, n, a: 1, d: 1, f: alphabet.len() as u32, min, max };
+    let mut image = vec![0; 28];
+    head.write(&mut image);
+    image.extend(alphabet.into_bytes());
+    for (node, value) in links.chunks(n as usize).zip(data) {
+        image.extend(node);
+        image.push(*value);
+    }
+    let rubbish = rng.rubbish(setting.spare.0 * head.w() as usize + setting.spare.1);
+    image.extend(rubbish);
+    image
+}
+
+/// Every tuple of so many of the values.
+pub fn tuples(values: &[u8], length: usize) -> impl Iterator<Item = Vec<u8>> {
+    let values = values.to_vec();
+    let many = values.len().pow(length as u32);
+    (0..many).map(move |index| {
+        let mut rest = index;
+        let mut next = |_| {
+            let value = values[rest % values.len()];
+            rest /= values.len();
+            value
+        };
+        (0..length).map(&mut next).collect()
+    })
+}
+
+/// The links of every accepted tree: each address from 1 to G in an empty link of a lower node.
+pub fn trees(n: usize, g: usize) -> Vec<Vec<u8>> {
+    let mut all = vec![vec![0; n * (g + 1)]];
+    for address in 1..=g {
+        let hang = |tree: &Vec<u8>| {
+            let free: Vec<usize> = (0..n * address).filter(|link| tree[*link] == 0).collect();
+            let tree = tree.clone();
+            free.into_iter().map(move |link| {
+                let mut taller = tree.clone();
+                taller[link] = address as u8;
+                taller
+            })
+        };
+        all = all.iter().flat_map(hang).collect();
+    }
+    all
+}
