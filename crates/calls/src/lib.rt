@@ -264,7 +264,7 @@ pub fn mend(image: &mut [u8], work: &mut [u32]) -> Done
             if why.number() != 8 {
                 return Done::Refused(why);
             }
-            let trial = mending::lower(image, work, why.place());
+            let trial = mending::lower(image, work, why.place(), &mut codes);
             match trial {
                 Verdict::Passed => Done::Done,
                 Verdict::Refused(_) => Done::Refused(why),

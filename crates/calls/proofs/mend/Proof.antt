@@ -34,11 +34,12 @@ place-requires c κs = search needs
 
 lower-requires : tie.Need-lower-requires
 lower-requires c κs =
-    let eighth = c .before .before .before in
+    let placed = c .before in
+    let eighth = placed .before .before .before in
     let number = eighth .before in
     let told = number .before .before in
     let a = lower-asks (told .before .before .before .before .check .ensures) (told .verdict .given .1) (sym (number .number .ensures) ∙ eighth .if1 .left) in
-    (rw (c .place .ensures) (a .0), a .1)
+    (rw (placed .place .ensures) (a .0), a .1)
 
 enum-told-2 : tie.Need-enum-told-2
 enum-told-2 c = search needs
@@ -65,7 +66,7 @@ same-length-6 c = search needs
 returns-3 : tie.Need-returns-3
 returns-3 c =
     let tried = c .before .before .before .before .before .before in
-    let placed = tried .before in
+    let placed = tried .before .before in
     let eighth = placed .before .before .before in
     let number = eighth .before in
     let told = number .before .before in
@@ -81,7 +82,7 @@ same-length-8 c = search needs
 returns-4 : tie.Need-returns-4
 returns-4 c =
     let tried = c .before .before .before .before .before .before in
-    let placed = tried .before in
+    let placed = tried .before .before in
     let eighth = placed .before .before .before in
     let number = eighth .before in
     let told = number .before .before in
