@@ -1,8 +1,8 @@
 -- What stands in front of every store, at each way out: 1 to 8 refused, or the key judged. It is said once for any rows of the key, and the
 -- letters and the text given differ in those alone.
 use Prim.Native.Nat.{ℕ}
-use mathlib.Core.Path.{_≡_, refl, sym, _∙_, ap}
-use mathlib.Core.Option.{none, some}
+use mathlib.Core.Path.{_≡_, refl, sym, _∙_}
+use mathlib.Core.Option.{none}
 use mathlib.Core.List.{List}
 use native.Mathlib.Omega.{arith}
 use Rattle.head.specs.Fields.{headOf}

@@ -1,10 +1,9 @@
 -- The outcome of mend, at each way out: the check passed, it answered another number than 8, or the trial was made and passed or was refused.
 use Prim.Native.Nat.{ℕ, _-_, _^_, _≤_, _<_}
-use mathlib.Core.Path.{_≡_, refl, sym, _∙_, ap}
-use mathlib.Core.Bool.{Bool, true, false}
+use mathlib.Core.Path.{_≡_, sym, _∙_, ap}
+use mathlib.Core.Bool.{false}
 use mathlib.Core.Logic.{_≢_}
-use mathlib.Core.Option.{none, some}
-use mathlib.Core.List.{List, [], _∷_}
+use mathlib.Core.List.{List}
 use native.Mathlib.Omega.{arith}
 use borrow.Author.Tests.{ne-eqb}
 use lib.IntN.{pos}
@@ -12,9 +11,9 @@ use lib.ListN.{length}
 use Rattle.paper.specs.declared.Refusal.{Refusal}
 use Rattle.paper.specs.declared.Verdict.{Verdict}
 use Rattle.paper.specs.declared.Done.{Done}
-use Rattle.paper.specs.Hearing.{Numbers, Outcome, outcome, refusedNumbers, doneNumbers}
+use Rattle.paper.specs.Hearing.{Numbers, Outcome, refusedNumbers, doneNumbers}
 use Rattle.paper.specs.Answers.{saidOf, refusalNumbers, doneOf}
-use Rattle.paper.specs.Calls.{workAfter, checkOf, withG, mends, mendOf}
+use Rattle.paper.specs.Calls.{workAfter, checkOf, mends}
 use Rattle.paper.specs.Promises.{Mends}
 use Rattle.paper.proofs.Hearing.{heard-refused, heard-done, told-refused, told-passed}
 use Rattle.paper.proofs.Mending.{mend-kept, mend-lowered, eight, eight-long, trial-mends, trial-work, trial-keeps}

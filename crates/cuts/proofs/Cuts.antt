@@ -1,7 +1,7 @@
 -- 02, Ask 1: "After a cut anywhere, a mending call with enough working numbers must leave the answers from before the store or after it."
 -- A cut among the new nodes has changed spare bytes alone. Once G has landed and the link has not, the first new node is the only one
 -- that stands in no link; the check answers 8 there, and G lowered to the address before it is the G that was. Else all has landed.
-use Prim.Native.Nat.{ℕ, zero, suc, _+_, _-_, _*_, _^_, _≤_, _<_}
+use Prim.Native.Nat.{ℕ, zero, suc, _+_, _-_, _^_, _≤_, _<_}
 use mathlib.Core.Path.{_≡_, refl, sym, ap, ap₂, subst, _∙_}
 use mathlib.Core.Bool.{Bool, true, false, _&&_}
 use mathlib.Core.Logic.{inl, inr}
@@ -17,12 +17,11 @@ use borrow.Author.Tests.{eq-eqb}
 use Rattle.field.specs.Field.{digits, putField}
 use Rattle.field.proofs.Laid.{getD-outside}
 use Rattle.field.proofs.Fields.{length-digits}
-use Rattle.trie.specs.Table.{Table, Descent, complete, stopped, descend, missing}
-use Rattle.trie.specs.Storing.{grow, added}
+use Rattle.trie.specs.Table.{Table, Descent, complete, stopped, descend}
+use Rattle.trie.specs.Storing.{grow}
 use Rattle.trie.proofs.Walk.{complete-within, where-stopped}
-use Rattle.trie.proofs.Grow.{room}
 use Rattle.head.specs.declared.Head.{Head}
-use Rattle.head.specs.Fields.{fieldsLen, headOf, nodeWidth, nodePlace, usedLen}
+use Rattle.head.specs.Fields.{fieldsLen, headOf, nodePlace, usedLen}
 use Rattle.head.proofs.Fields.{head-outside, head-total}
 use Rattle.head.proofs.Permitted.{bounds, addresses-fit}
 use Rattle.head.proofs.Places.{place-le, place-least}
@@ -32,17 +31,17 @@ use Rattle.node.specs.Writes.{Write, carriedOut, newNodes, totalWrite, linkWrit
 use Rattle.node.proofs.Places.{link-from, link-inside, data-inside, inside-used}
 use Rattle.node.proofs.Tables.{table-bytes}
 use Rattle.node.proofs.Writes.{table-link}
-use Rattle.node.proofs.Heads.{withTotal, child-kept, used-total, used-more}
+use Rattle.node.proofs.Heads.{withTotal, child-kept, used-total}
 use Rattle.node.proofs.Storing.{Storable, length-carried, carried-append, new-head}
 use Rattle.paper.specs.Hearing.{Numbers, Outcome, outcome, first, refusedNumbers, doneNumbers}
 use Rattle.paper.specs.Answers.{said}
-use Rattle.paper.specs.Orders.{openingOf, checking, newOf}
+use Rattle.paper.specs.Orders.{openingOf, checking}
 use Rattle.paper.specs.Calls.{tableIn, workAfter, checkOf, namedIn, writesIn, storedImage, storeOf, storeTextOf, withG, isAccepted, mends}
 use Rattle.paper.specs.Accepted.{Accepted}
 use Rattle.paper.specs.Granted.{Granted}
 use Rattle.paper.proofs.Hearing.{heard-done}
-use Rattle.paper.proofs.Checking.{accepted-opens, accepted-checks, accepted-linked}
-use Rattle.paper.proofs.Storing.{accepted-again, store-granted, store-text-granted}
+use Rattle.paper.proofs.Checking.{accepted-opens, accepted-checks}
+use Rattle.paper.proofs.Storing.{able, accepted-again, store-granted, store-text-granted}
 use Rattle.paper.proofs.Mending.{accepted-exactly, mend-kept, mend-lowered}
 use Rattle.cuts.specs.Cut.{hit, cutAfter}
 use Rattle.cuts.specs.Answers.{MendsTo}
@@ -115,22 +114,11 @@ module _ {l key : List ℕ} {v : ℕ} (s : Granted l key (suc v)) {q x : ℕ} {x
   abbrev counted : List ℕ
   counted = sets begun 0 (digits 4 total)
 
-  pub able : Storable (headOf l) l q x xs (suc v)
-  unfolding tableIn newOf missing added
-  able =
-      let r = room key (accepted-linked (s .accepted)) (s .fit .below) e in
-      let k : newOf h l key (suc v) ≡ suc (length xs) = rw e in
-      let lies : usedLen h + suc (length xs) * nodeWidth h ≤ length l = rw k at (s .room (omega arith)) in
-      record {
-        node = r .node;
-        letters = r .letters;
-        addresses = omega (arith, s .addresses (omega arith));
-        value = s .value-fits;
-        room = rw (used-more h (suc (length xs))) lies;
-      }
+  enough : Storable (headOf l) l q x xs (suc v)
+  enough = able s e
 
   fits : total < 2 ^ 32
-  fits = omega (arith, able .addresses, addresses-fit (bounds h (s .accepted .head-permitted)))
+  fits = omega (arith, enough .addresses, addresses-fit (bounds h (s .accepted .head-permitted)))
 
   spare : (p : ℕ) → p < usedLen (headOf l) → From (suc p) nodes
   unfolding usedLen
@@ -174,17 +162,17 @@ module _ {l key : List ℕ} {v : ℕ} (s : Granted l key (suc v)) {q x : ℕ} {x
   unfolding tableIn linkPlace
   linked =
       let k : Head = withTotal h total in
-      let r : usedLen k ≤ length counted = omega (arith, long, able .room) in
+      let r : usedLen k ≤ length counted = omega (arith, long, enough .room) in
       ap (λ (m : Head). tableOf m (storedImage l key (suc v))) (same-head ∙ heads)
       ∙ ap (tableOf k) last
-      ∙ table-link k counted r q x (suc g) (omega (arith, able .node)) (able .letters .0) (omega (arith, able .addresses))
+      ∙ table-link k counted r q x (suc g) (omega (arith, enough .node)) (enough .letters .0) (omega (arith, enough .addresses))
       ∙ ap (λ (m : Head). grow (tableOf m counted) q x (suc g)) (sym heads)
 
   empty : tableIn counted .child q x ≡ 0
   unfolding tableIn
   empty =
       ap (λ (k : Head). tableOf k counted .child q x) heads
-      ∙ child-kept h counted total q (able .node) (omega (arith, able .node)) x
+      ∙ child-kept h counted total q (enough .node) (omega (arith, enough .node)) x
       ∙ ap (λ (t : Table). t .child q x) (table-bytes h counted l (λ p a b. after-g p (omega arith) b))
       ∙ where-stopped (tableIn l) 0 key e .empty
 
@@ -240,9 +228,9 @@ module _ {l key : List ℕ} {v : ℕ} (s : Granted l key (suc v)) {q x : ℕ} {x
 
   link-used : linkPlace h q x < usedLen (headOf counted)
   link-used =
-      let a = link-inside h q (able .letters .0) in
+      let a = link-inside h q (enough .letters .0) in
       rw (heads, used-total h total)
-      (omega (arith, bounds h (s .accepted .head-permitted) .a-least, place-le h (q + 1) (suc total) (omega (arith, able .node))))
+      (omega (arith, bounds h (s .accepted .head-permitted) .a-least, place-le h (q + 1) (suc total) (omega (arith, enough .node))))
 
   cut-behind : (lands : ℕ → Bool) (work : List ℕ) (j : ℕ) → j < 2
       → Before l work (cutAfter j lands begun (totalWrite total ∷ linkWrite h q x (suc g) ∷ []))

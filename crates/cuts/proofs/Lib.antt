@@ -1,3 +1,4 @@
+pub mod Callers
 pub mod Computed
 pub mod Cuts
 pub mod Listed

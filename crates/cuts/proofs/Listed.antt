@@ -21,9 +21,10 @@ use Rattle.node.proofs.Heads.{used-total}
 use Rattle.node.proofs.Nodes.{length-path, length-last}
 use Rattle.paper.specs.Calls.{tableIn, writesIn, storedImage}
 use Rattle.paper.specs.Granted.{Granted}
+use Rattle.paper.proofs.Storing.{able}
 use Rattle.cuts.specs.Answers.{readBack}
 use Rattle.cuts.proofs.Lists.{From, Misses, Laid, read-laid}
-use Rattle.cuts.proofs.Cuts.{nodes-from, able}
+use Rattle.cuts.proofs.Cuts.{nodes-from}
 
 -- whether the store is granted or not
 pub whole : (l key : List ℕ) (value : ℕ) → carriedOut l (writesIn l key value) ≡ storedImage l key value

@@ -4,7 +4,7 @@ use Prim.Native.Nat.{ℕ, _+_, _-_, _*_, _^_, _≤_, _<_}
 use mathlib.Core.Path.{_≡_, refl, sym, ap, subst, _∙_}
 use mathlib.Core.Bool.{Bool, true, false, cond}
 use mathlib.Core.Logic.{inl, inr, ⊎-elim}
-use mathlib.Core.Option.{Option, none}
+use mathlib.Core.Option.{Option}
 use mathlib.Core.List.{List, [], _∷_}
 use native.Mathlib.Nat.{mul-le-mul, le-refl}
 use native.Mathlib.Omega.{arith}
@@ -17,7 +17,7 @@ use Rattle.field.specs.Field.{digits}
 use Rattle.field.proofs.Range.{both, between-true}
 use Rattle.field.proofs.Laid.{getD-outside}
 use Rattle.field.proofs.Fields.{length-digits}
-use Rattle.trie.specs.Table.{Table, answer, fault}
+use Rattle.trie.specs.Table.{Table}
 use Rattle.trie.specs.Rules.{Within}
 use Rattle.trie.proofs.Lowered.{Agree, answer-alike, fault-alike}
 use Rattle.head.specs.declared.Head.{Head}
@@ -30,14 +30,13 @@ use Rattle.node.specs.Image.{tableOf}
 use Rattle.node.proofs.Heads.{withTotal, child-kept, value-kept}
 use Rattle.node.proofs.Writes.{table-outside}
 use Rattle.paper.specs.Hearing.{Row, Numbers, Outcome, outcome, first, heard, doneNumbers}
-use Rattle.paper.specs.Rows.{badLink, row6path, row9, row10}
-use Rattle.paper.specs.Orders.{alphabetIn, openingOf, byLetters, byText, lookingUp}
+use Rattle.paper.specs.Rows.{badLink, row9, row10}
+use Rattle.paper.specs.Orders.{alphabetIn, openingOf, byLetters, byText}
 use Rattle.paper.specs.Calls.{tableIn, workAfter, checkOf, lookUpBy, lookUpOf, namedIn, lookUpTextOf, withG, isAccepted, mends, mendOf}
 use Rattle.paper.specs.Accepted.{Accepted}
-use Rattle.paper.proofs.Hearing.{first-nil, first-none, second-part, silent-end}
 use Rattle.paper.proofs.Opening.{Passed, passed}
 use Rattle.paper.proofs.Checking.{not-bad, check-exactly}
-use Rattle.paper.proofs.Storing.{quiet, unfaulted, looks-up-accepted}
+use Rattle.paper.proofs.Storing.{unfaulted, looks-up-open, looks-up-accepted}
 use Rattle.paper.proofs.Mending.{accepted-exactly, mend-kept, mend-lowered, Eight, eight}
 use Rattle.cuts.specs.Answers.{mendedImage}
 use Rattle.cuts.proofs.Seen.{same-alphabet}
@@ -96,17 +95,6 @@ module _ (l work : List ℕ) where
       (λ e.
       let n : numbers .number ≡ 8 = lowers-tell l numbers e .0 in
       absurd (omega (arith, check-exactly l work (eight l work n .lent) .1 a)))
-
--- ---- a look up in an image that was opened, on a path with no bad link
-
-module _ (l : List ℕ) (keyed : List Row) (key : List ℕ) (opened : first (openingOf l) ≡ none) (fair : fault (badLink (headOf l .g)) (tableIn l) 0 key ≡ none) where
-  key-decides : first (lookingUp l keyed key) ≡ first keyed
-  unfolding lookingUp row6path tableIn
-  key-decides = second-part (openingOf l) _ opened ∙ silent-end keyed _ (first-none _ [] (quiet fair) ∙ first-nil)
-
-  looks-up-open : lookUpBy l keyed key ≡ heard (first keyed) [] (outcome (doneNumbers 0 (pos 0) (answer (tableIn l) key)) [])
-  unfolding lookUpBy
-  looks-up-open = ap (λ (r : Row). heard r [] (outcome (doneNumbers 0 (pos 0) (answer (tableIn l) key)) [])) key-decides
 
 -- ---- where G is lowered
 

@@ -21,7 +21,7 @@ use Rattle.head.proofs.Fields.{head-total}
 use Rattle.alphabet.specs.Letters.{among}
 use Rattle.node.specs.Image.{tableOf}
 use Rattle.paper.specs.Hearing.{Said, Row, Outcome, outcome, given, first, heard, refusedNumbers, doneNumbers}
-use Rattle.paper.specs.Rows.{row5, givenLowest, row6, row7, row8, times}
+use Rattle.paper.specs.Rows.{row5, givenLowest, row6, row7, row8}
 use Rattle.paper.specs.Orders.{alphabetIn, openingOf, linking, checking}
 use Rattle.paper.specs.Calls.{clearedBy, workAfter, checkOf, withG, isAccepted, mends, mendBy, mendOf}
 use Rattle.paper.specs.Accepted.{Accepted}

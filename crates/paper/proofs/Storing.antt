@@ -53,6 +53,23 @@ use Rattle.paper.proofs.Looking.{named-fit}
 
 -- ---- the head and the table after it
 
+-- where nodes are missing, what is granted is what the writes of the new ones ask
+pub able : {l key : List ℕ} {v q x : ℕ} {xs : List ℕ} → Granted l key (suc v) → descend (tableIn l) 0 key ≡ stopped q x xs
+    → Storable (headOf l) l q x xs (suc v)
+unfolding tableIn newOf missing added
+able {l} {key} {v} {xs = xs} s e =
+    let h : Head = headOf l in
+    let r = room key (accepted-linked (s .accepted)) (s .fit .below) e in
+    let k : newOf h l key (suc v) ≡ suc (length xs) = rw e in
+    let lies : usedLen h + suc (length xs) * nodeWidth h ≤ length l = rw k at (s .room (omega arith)) in
+    record {
+      node = r .node;
+      letters = r .letters;
+      addresses = omega (arith, s .addresses (omega arith));
+      value = s .value-fits;
+      room = rw (used-more h (suc (length xs))) lies;
+    }
+
 -- what the writes of a store make of them, where the key's walk ended so and g is the G there will be
 record Written (l : List ℕ) (d : Descent) (v g : ℕ) : Type 0 where
   head : headOf (carriedOut l (storeWrites (headOf l) d v)) ≡ withTotal (headOf l) g
@@ -80,21 +97,11 @@ module _ {l key : List ℕ} {value : ℕ} (s : Granted l key value) where
       })
   written (stopped q x xs) zero e f i = rw (add-zero (headOf l .g)) (record { head = refl; table = refl })
   written (stopped q x xs) (suc v) e f i =
-      let h : Head = headOf l in
-      let k : newOf h l key value ≡ suc (length xs) = rw (e, f) in
-      let few : h .g + suc (length xs) < 256 ^ h .a = omega (arith, s .addresses (omega arith)) in
-      let lies : usedLen h + suc (length xs) * nodeWidth h ≤ length l = rw k at (s .room (omega arith)) in
-      let able : Storable h l q x xs (suc v) = record {
-        node = i .0;
-        letters = i .1;
-        addresses = few;
-        value = rw (← f) (s .value-fits);
-        room = rw (used-more h (suc (length xs))) lies;
-      } in
-      let narrow = addresses-fit (bounds h (s .accepted .head-permitted)) in
+      let a = able (subst (Granted l key) f s) e in
+      let narrow = addresses-fit (bounds (headOf l) (s .accepted .head-permitted)) in
       record {
-        head = store-head h l q x xs v (omega (arith, s .accepted .long-enough)) (omega arith);
-        table = store-new h l q x xs v able;
+        head = store-head (headOf l) l q x xs v (omega (arith, s .accepted .long-enough)) (omega (arith, a .addresses));
+        table = store-new (headOf l) l q x xs v a;
       }
 
   pub stored-head : headOf (storedImage l key value) ≡ withTotal (headOf l) (headOf l .g + newOf (headOf l) l key value)
@@ -172,11 +179,24 @@ module _ {l key : List ℕ} {value : ℕ} (s : Granted l key value) where
         once = rw (stored-table s) (stored-links .once);
       }
 
--- ---- a lookup in an accepted image
+-- ---- a lookup in an image that was opened, on a path with no bad link
 
-pub quiet : {at : Option ℕ} → at ≡ none → rowAt at ≡ none
+quiet : {at : Option ℕ} → at ≡ none → rowAt at ≡ none
 unfolding rowAt
 quiet e = ap rowAt e
+
+module _ (l : List ℕ) (keyed : List Row) (key : List ℕ) (opened : first (openingOf l) ≡ none)
+    (fair : fault (badLink (headOf l .g)) (tableIn l) 0 key ≡ none) where
+  -- none of 1 to 4 and no 6 is heard, so the part for the key alone decides
+  key-decides : first (lookingUp l keyed key) ≡ first keyed
+  unfolding lookingUp row6path tableIn
+  key-decides = second-part (openingOf l) _ opened ∙ silent-end keyed _ (first-none _ [] (quiet fair) ∙ first-nil)
+
+  pub looks-up-open : lookUpBy l keyed key ≡ heard (first keyed) [] (outcome (doneNumbers 0 (pos 0) (answer (tableIn l) key)) [])
+  unfolding lookUpBy
+  looks-up-open = ap (λ (r : Row). heard r [] (outcome (doneNumbers 0 (pos 0) (answer (tableIn l) key)) [])) key-decides
+
+-- ---- and in an accepted image
 
 module _ {l : List ℕ} (a : Accepted l) where
   -- on no key's path is there a bad link
@@ -195,18 +215,9 @@ module _ {l : List ℕ} (a : Accepted l) where
       go (no e) rest =
           fault-on bad (tableIn l) q x xs refl e (not-bad (headOf l .g) q c .1 (inr (a .within q x, a .rising q x e))) ∙ rest
 
-  -- none of 1 to 4 and no 6 is heard, so the part for the key alone decides
-  key-decides : (keyed : List Row) (key : List ℕ) → first (lookingUp l keyed key) ≡ first keyed
-  unfolding lookingUp row6path tableIn
-  key-decides keyed key =
-      second-part (openingOf l) _ (accepted-opens a)
-      ∙ silent-end keyed _ (first-none (rowAt (fault (badLink (headOf l .g)) (tableIn l) 0 key)) [] (quiet (unfaulted 0 key)) ∙ first-nil)
-
   pub looks-up-accepted : (keyed : List Row) (key : List ℕ)
       → lookUpBy l keyed key ≡ heard (first keyed) [] (outcome (doneNumbers 0 (pos 0) (answer (tableIn l) key)) [])
-  unfolding lookUpBy
-  looks-up-accepted keyed key =
-      ap (λ (r : Row). heard r [] (outcome (doneNumbers 0 (pos 0) (answer (tableIn l) key)) [])) (key-decides keyed key)
+  looks-up-accepted keyed key = looks-up-open l keyed key (accepted-opens a) (unfaulted 0 key)
 
 -- ---- what keys answer after a store
 

@@ -1,0 +1,124 @@
+-- What a caller has of a listed store: all that the store leaves, and of the lent array the writes, since they are at most 66. Read back with
+-- the image after the call they are the store's own.
+use Prim.Native.Nat.{ℕ, zero, suc, _+_, _*_, _≤_}
+use mathlib.Core.Path.{_≡_, refl, sym, ap, _∙_}
+use mathlib.Core.Bool.{Bool, true, false, cond}
+use mathlib.Core.List.{List, [], _∷_, _++_}
+use native.Mathlib.Omega.{arith}
+use lib.Dec.{eqb}
+use lib.ListN.{length, take, drop, length-append}
+use lib.Seq.{sets, sets-eq, take-append-seam}
+use borrow.Author.Tests.{eqb-true}
+use Rattle.field.proofs.Range.{between-true}
+use Rattle.trie.specs.Table.{Descent, complete, stopped, descend, answer}
+use Rattle.trie.specs.Storing.{changeOf}
+use Rattle.trie.proofs.Walk.{where-stopped}
+use Rattle.head.specs.declared.Head.{Head}
+use Rattle.head.specs.Fields.{headOf}
+use Rattle.head.proofs.Permitted.{bounds}
+use Rattle.alphabet.specs.Letters.{lettersIn}
+use Rattle.node.specs.Writes.{Write, listed, newNodes, totalWrite, linkWrite, storeWrites}
+use Rattle.paper.specs.Hearing.{Outcome, outcome, doneNumbers}
+use Rattle.paper.specs.Calls.{tableIn, workAfter, namedIn, writesIn, storedImage, storeOf, storeTextOf, withList, storeWritesOf, storeTextWritesOf}
+use Rattle.paper.specs.Granted.{Granted}
+use Rattle.paper.proofs.Storing.{store-granted, store-leaves, store-text-granted, store-text-leaves}
+use Rattle.cuts.specs.Answers.{readBack}
+use Rattle.cuts.proofs.Listed.{read-back}
+
+-- ---- how many they are
+
+long-nodes : (h : Head) (q : ℕ) (ys : List ℕ) (v : ℕ) → length (newNodes h q ys v) ≡ suc (length ys)
+unfolding newNodes
+long-nodes h q [] v = refl
+long-nodes h q (y ∷ ys) v = ap suc (long-nodes h (suc q) ys v)
+
+-- a node for each letter of the key at most, the node total and the link
+long-writes : (h : Head) (key : List ℕ) (d : Descent) (v : ℕ) → ((q x : ℕ) (xs : List ℕ) → d ≡ stopped q x xs → suc (length xs) ≤ length key)
+    → length (storeWrites h d v) ≤ length key + 2
+unfolding storeWrites
+long-writes h key (complete q) v few = omega arith
+long-writes h key (stopped q x xs) zero few = omega arith
+long-writes h key (stopped q x xs) (suc v) few =
+    let nodes : List Write = newNodes h (suc (h .g)) xs (suc v) in
+    let two : List Write = totalWrite (h .g + suc (length xs)) ∷ linkWrite h q x (suc (h .g)) ∷ [] in
+    omega (arith, few q x xs refl, length-append nodes two, long-nodes h (suc (h .g)) xs (suc v))
+
+pub few-writes : {l key : List ℕ} {value : ℕ} → Granted l key value → length (writesIn l key value) ≤ 66
+few-writes {l} {key} {value} s =
+    let short = between-true (length key) (headOf l .min) (headOf l .max) (s .fit .allowed) .1 in
+    let most = bounds (headOf l) (s .accepted .head-permitted) .max-most in
+    omega (arith, long-writes (headOf l) key (descend (tableIn l) 0 key) value left)
+  where
+    left : (q x : ℕ) (xs : List ℕ) → descend (tableIn l) 0 key ≡ stopped q x xs → suc (length xs) ≤ length key
+    left q x xs e =
+        let w = where-stopped (tableIn l) 0 key e in
+        omega (arith, ap length (w .key), length-append (w .path) (x ∷ xs))
+
+-- ---- the array, read by its caller
+
+length-listed : (ws : List Write) → length (listed ws) ≡ 2 * length ws
+unfolding listed
+length-listed [] = refl
+length-listed (w ∷ ws) = omega (arith, length-listed ws)
+
+front : (list vs : List ℕ) → length vs ≤ length list → take (length vs) (sets list 0 vs) ≡ vs
+front list vs b = ap (take (length vs)) (sets-eq vs list 0 (omega arith)) ∙ take-append-seam vs (drop (0 + length vs) list)
+
+-- the writes that the first entries of the array and the image after the call tell are those of the store
+pub had-writes : {l key : List ℕ} {value : ℕ} → Granted l key value → (list : List ℕ) → 132 ≤ length list
+    → readBack (storedImage l key value) (take (2 * length (writesIn l key value)) (sets list 0 (listed (writesIn l key value)))) ≡ writesIn l key value
+had-writes {l} {key} {value} s list b =
+    let ws : List Write = writesIn l key value in
+    let e : length (listed ws) ≡ 2 * length ws = length-listed ws in
+    ap (λ (n : ℕ). readBack (storedImage l key value) (take n (sets list 0 (listed ws)))) (sym e)
+    ∙ ap (readBack (storedImage l key value)) (front list (listed ws) (omega (arith, few-writes s)))
+    ∙ read-back s
+
+-- ---- the calls
+
+-- the store's own number
+same-number : (ws : List Write) (list : List ℕ) (o : Outcome) → withList ws list o .numbers .number ≡ o .numbers .number
+unfolding withList doneNumbers
+same-number ws list o = go (eqb (o .numbers .number) 0) refl
+  where
+    go : (b : Bool) → eqb (o .numbers .number) 0 ≡ b
+        → cond b (outcome (doneNumbers (length ws) (o .numbers .change) 0) (o .lent ++ (sets list 0 (listed ws) ∷ [])))
+        (outcome (o .numbers) (o .lent ++ (list ∷ []))) .numbers .number
+        ≡ o .numbers .number
+    go true e = sym (eqb-true (o .numbers .number) 0 e)
+    go false e = refl
+
+module _ (l work key : List ℕ) (value : ℕ) (list : List ℕ) where
+  pub store-writes-number : storeWritesOf l work key value list .numbers .number ≡ storeOf l work key value .numbers .number
+  unfolding storeWritesOf
+  store-writes-number = same-number (writesIn l key value) list (storeOf l work key value)
+
+  pub store-writes-leaves : storeOf l work key value .numbers .number ≡ 0
+      → storeWritesOf l work key value list
+      ≡ outcome (doneNumbers (length (writesIn l key value)) (changeOf (answer (tableIn l) key) value) 0)
+      (storedImage l key value ∷ workAfter l work ∷ sets list 0 (listed (writesIn l key value)) ∷ [])
+  unfolding storeWritesOf withList doneNumbers
+  store-writes-leaves z = ap (withList (writesIn l key value) list) (store-leaves l work key value z)
+
+  pub store-writes-told : storeOf l work key value .numbers .number ≡ 0 → 132 ≤ length list
+      → readBack (storedImage l key value) (take (2 * length (writesIn l key value)) (sets list 0 (listed (writesIn l key value)))) ≡ writesIn l key value
+  store-writes-told z b = had-writes (store-granted l work key value z) list b
+
+module _ (l work text : List ℕ) (value : ℕ) (list : List ℕ) where
+  abbrev key : List ℕ
+  key = lettersIn (namedIn l text)
+
+  pub store-text-writes-number : storeTextWritesOf l work text value list .numbers .number ≡ storeTextOf l work text value .numbers .number
+  unfolding storeTextWritesOf
+  store-text-writes-number = same-number (writesIn l key value) list (storeTextOf l work text value)
+
+  pub store-text-writes-leaves : storeTextOf l work text value .numbers .number ≡ 0
+      → storeTextWritesOf l work text value list
+      ≡ outcome (doneNumbers (length (writesIn l key value)) (changeOf (answer (tableIn l) key) value) 0)
+      (storedImage l key value ∷ workAfter l work ∷ sets list 0 (listed (writesIn l key value)) ∷ [])
+  unfolding storeTextWritesOf withList doneNumbers
+  store-text-writes-leaves z = ap (withList (writesIn l key value) list) (store-text-leaves l work text value z)
+
+  pub store-text-writes-told : storeTextOf l work text value .numbers .number ≡ 0 → 132 ≤ length list
+      → readBack (storedImage l key value) (take (2 * length (writesIn l key value)) (sets list 0 (listed (writesIn l key value)))) ≡ writesIn l key value
+  store-text-writes-told z b = had-writes (store-text-granted l work text value z) list b
