@@ -170,7 +170,7 @@ module _ {h : Head} {alphabet : List ℕ} {r : Run} (i : Holds h alphabet r) whe
 
 -- ---- mending
 
--- the check of an accepted image answers 0, or 5 where too few working numbers are lent, and neither is mended
+-- an accepted image is never mended: an 8 came past 5, and lent enough working numbers its check answers 0
 not-mended : {l : List ℕ} → Accepted l → (work : List ℕ) → mends l (checkOf l work .numbers) ≡ false
 unfolding mends
 not-mended {l} a work = go (eqb (checkOf l work .numbers .number) 8) refl
