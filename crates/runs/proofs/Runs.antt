@@ -1,12 +1,13 @@
 -- Demand 3, "A run of calls from a fresh image answers as a plain list of last values", and 01's sum of the changes. One invariant says
 -- both: it holds of a fresh image, every call keeps it, and what is asked of a run is read off it. Every beginning of a run is a run, so
 -- that a call in the middle is answered by the same laws.
-use Prim.Native.Nat.{ℕ, _+_, _≤_}
+use Prim.Native.Nat.{ℕ, _+_, _-_, _≤_}
 use mathlib.Core.Path.{_≡_, refl, sym, _∙_, ap}
-use mathlib.Core.Bool.{Bool, true, false, true≢false, cond}
+use mathlib.Core.Bool.{Bool, true, false, true≢false, _&&_}
 use mathlib.Core.Logic.{_≢_}
 use mathlib.Core.Option.{Option, none, some, Option·some-ne-none}
 use mathlib.Core.List.{List, [], _∷_, _++_}
+use native.Mathlib.Omega.{arith}
 use lib.Dec.{eqb}
 use lib.IntN.{ℤ, pos, _+ℤ_, +ℤ-idr}
 use lib.ListN.{length}
@@ -18,21 +19,23 @@ use Rattle.trie.proofs.Storing.{stored-answer, stored-answer-other}
 use Rattle.head.specs.declared.Head.{Head}
 use Rattle.head.specs.Fields.{headOf}
 use Rattle.alphabet.specs.Letters.{letters, lettersIn, keyOfText}
+use Rattle.node.specs.Writes.{Write}
 use Rattle.node.proofs.Heads.{withTotal}
 use Rattle.paper.specs.Hearing.{Said, Row, Outcome, outcome, first, heard, refusedNumbers, doneNumbers}
 use Rattle.paper.specs.Rows.{row9, row10, row10text}
 use Rattle.paper.specs.Orders.{alphabetIn, newOf, checking, byLetters, byText, lookingUp, storing, nexting}
-use Rattle.paper.specs.Calls.{tableIn, workAfter, freshHead, freshImage, makeOf, storedKeys, countOf, lookUpBy, lookUpOf, namedIn, lookUpTextOf, storedImage, storeBy, nextIn}
+use Rattle.paper.specs.Calls.{tableIn, workAfter, freshHead, freshImage, makeOf, storedKeys, countOf, lookUpBy, lookUpOf, namedIn, lookUpTextOf, writesIn, storedImage, storeBy, storeOf, storeTextOf, withList, checkOf, withG, isAccepted, mends, nextIn}
 use Rattle.paper.specs.Accepted.{Accepted}
 use Rattle.paper.specs.Granted.{Fit, Granted}
 use Rattle.paper.proofs.Hearing.{heard-done, heard-alike}
 use Rattle.paper.proofs.Numbers.{AllSay}
 use Rattle.paper.proofs.Keying.{keyNumbers, letters-fit, letters-say, text-says}
-use Rattle.paper.proofs.Checking.{accepted-opens, accepted-checks, accepted-linked}
+use Rattle.paper.proofs.Checking.{accepted-opens, accepted-checks, check-exactly, accepted-linked}
 use Rattle.paper.proofs.Looking.{named-fit}
 use Rattle.paper.proofs.Storing.{accepted-again, stored-head, stored-alphabet, stored-table, stored-change, looks-up-accepted, granted, store-passed}
+use Rattle.paper.proofs.Mending.{mend-kept, eight}
 use Rattle.paper.proofs.Fresh.{Made, make-done, fresh-head, fresh-alphabet, fresh-accepted, fresh-answers, fresh-keys}
-use Rattle.runs.specs.Runs.{sameKey, lastOf, Call, check, count, lookUp, lookUpText, store, storeText, nextKey, firstLeft, Run, after, ran, startOf, ranFrom, telling}
+use Rattle.runs.specs.Runs.{sameKey, lastOf, Call, check, count, lookUp, lookUpText, store, storeText, storeWrites, storeTextWrites, mend, nextKey, firstLeft, notedBy, Run, after, ran, startOf, ranFrom, telling}
 
 -- ---- the plain list
 
@@ -78,11 +81,11 @@ start {h} {alphabet} {image} m =
 
 -- ---- a store
 
--- how a store ends: granted and done, or refused with the image as it was
+-- how a store ends, listed or not: granted and done, or refused with the image as it was
 data Ended (l key : List ℕ) (value : ℕ) : Outcome → Type 0 where
-  was-done : {work : List ℕ} → Granted l key value
-      → Ended l key value (outcome (doneNumbers 0 (changeOf (answer (tableIn l) key) value) 0) (storedImage l key value ∷ work ∷ []))
-  was-refused : (s : Said) {work : List ℕ} → s .number ≢ 0 → Ended l key value (outcome (refusedNumbers s) (l ∷ work ∷ []))
+  was-done : (writes : ℕ) {others : List (List ℕ)} → Granted l key value
+      → Ended l key value (outcome (doneNumbers writes (changeOf (answer (tableIn l) key) value) 0) (storedImage l key value ∷ others))
+  was-refused : (s : Said) {others : List (List ℕ)} → s .number ≢ 0 → Ended l key value (outcome (refusedNumbers s) (l ∷ others))
 
 ended : (l work : List ℕ) (keyed : List Row) (key : List ℕ) (value : ℕ) → AllSay keyNumbers keyed → (first keyed ≡ none → Fit (headOf l) key)
     → Ended l key value (storeBy l work keyed key value)
@@ -90,15 +93,37 @@ unfolding storeBy heard refusedNumbers
 ended l work keyed key value says fits = go (first (storing l work keyed key value)) refl
   where
     go : (row : Row) → first (storing l work keyed key value) ≡ row → Ended l key value (storeBy l work keyed key value)
-    go none e = rw e (was-done (granted l work keyed key value e fits))
+    go none e = rw e (was-done 0 (granted l work keyed key value e fits))
     go (some s) e = rw e (was-refused s (λ z. Option·some-ne-none s (sym e ∙ store-passed l work keyed key value says (rw e z))))
+
+-- by letters, and by text
+ended-letters : (l work key : List ℕ) (value : ℕ) → Ended l key value (storeOf l work key value)
+unfolding storeOf
+ended-letters l work key value =
+    let h : Head = headOf l in
+    ended l work (byLetters h key) key value (letters-say h key) (letters-fit h key)
+
+ended-text : {l : List ℕ} → Accepted l → (work text : List ℕ) (value : ℕ)
+    → Ended l (lettersIn (namedIn l text)) value (storeTextOf l work text value)
+unfolding storeTextOf
+ended-text {l} a work text value =
+    let h : Head = headOf l in
+    let named : Option (List ℕ) = namedIn l text in
+    ended l work (byText h named) (lettersIn named) value (text-says h named) (named-fit l text (accepted-opens a))
+
+-- the list of its writes is one buffer more, and changes neither the number nor the change
+ended-listed : {l key : List ℕ} {value : ℕ} (ws : List Write) (list : List ℕ) {o : Outcome} → Ended l key value o
+    → Ended l key value (withList ws list o)
+unfolding withList doneNumbers refusedNumbers
+ended-listed ws list (was-done n s) = was-done (length ws) s
+ended-listed ws list (was-refused s d) = rw (ne-eqb (s .number) 0 d) (was-refused s d)
 
 -- where a run stands after a store that left this outcome
 abbrev storedRun : Run → List ℕ → ℕ → Outcome → Run
 storedRun r key value o =
     record {
       image = firstLeft (o .lent);
-      plain = cond (eqb (o .numbers .number) 0) (record { key = key; value = value } ∷ r .plain) (r .plain);
+      plain = notedBy o key value (r .plain);
       sum = r .sum +ℤ o .numbers .change;
     }
 
@@ -131,8 +156,8 @@ module _ {h : Head} {alphabet : List ℕ} {r : Run} (i : Holds h alphabet r) whe
 
   -- however a store ended
   step-store : {key : List ℕ} {value : ℕ} {o : Outcome} → Ended (r .image) key value o → Holds h alphabet (storedRun r key value o)
-  unfolding firstLeft doneNumbers refusedNumbers
-  step-store {key} {value} (was-done s) =
+  unfolding firstLeft notedBy doneNumbers refusedNumbers
+  step-store {key} {value} (was-done n s) =
       let g : ℕ = headOf (r .image) .g + newOf (headOf (r .image)) (r .image) key value in
       record {
         accepted = accepted-again s;
@@ -142,6 +167,21 @@ module _ {h : Head} {alphabet : List ℕ} {r : Run} (i : Holds h alphabet r) whe
         sums = ap (_+ℤ changeOf (answer (tableIn (r .image)) key) value) (i .sums) ∙ sym (stored-change s);
       }
   step-store (was-refused s d) = rw (ne-eqb (s .number) 0 d) (unchanged refl)
+
+-- ---- mending
+
+-- an accepted image is never mended: an 8 came past 5, and lent enough working numbers its check answers 0
+not-mended : {l : List ℕ} → Accepted l → (work : List ℕ) → mends l (checkOf l work .numbers) ≡ false
+unfolding mends
+not-mended {l} a work = go (eqb (checkOf l work .numbers .number) 8) refl
+  where
+    go : (b : Bool) → eqb (checkOf l work .numbers .number) 8 ≡ b
+        → (eqb (checkOf l work .numbers .number) 8 && isAccepted (withG l (checkOf l work .numbers .place - 1))) ≡ false
+    go false e = rw e
+    go true e =
+        let at8 = eqb-true (checkOf l work .numbers .number) 8 e in
+        let at0 = check-exactly l work (eight l work at8 .lent) .1 a in
+        absurd (omega arith)
 
 -- ---- every call
 
@@ -160,15 +200,16 @@ module _ {h : Head} {alphabet : List ℕ} where
   step r (lookUpText text) i =
       let named : Option (List ℕ) = namedIn (r .image) text in
       unchanged i (no-change (first (lookingUp (r .image) (byText (headOf (r .image)) named) (lettersIn named))) _ _ refl)
-  step r (store work key value) i =
-      let h : Head = headOf (r .image) in
-      step-store i (ended (r .image) work (byLetters h key) key value (letters-say h key) (letters-fit h key))
-  step r (storeText work text value) i =
-      let h : Head = headOf (r .image) in
-      let named : Option (List ℕ) = namedIn (r .image) text in
+  step r (store work key value) i = step-store i (ended-letters (r .image) work key value)
+  step r (storeText work text value) i = step-store i (ended-text (i .accepted) work text value)
+  step r (storeWrites work key value list) i =
+      step-store i (ended-listed (writesIn (r .image) key value) list (ended-letters (r .image) work key value))
+  step r (storeTextWrites work text value list) i =
       step-store i
-      (ended (r .image) work (byText h named) (lettersIn named) value (text-says h named)
-      (named-fit (r .image) text (accepted-opens (i .accepted))))
+      (ended-listed (writesIn (r .image) (lettersIn (namedIn (r .image) text)) value) list (ended-text (i .accepted) work text value))
+  step r (mend work) i =
+      rw (mend-kept (r .image) work (not-mended (i .accepted) work))
+      (unchanged i (no-change (first (checking (r .image) work)) _ _ refl))
   step r (nextKey work key onward buffer) i =
       unchanged i (no-change (first (nexting (r .image) work key (length buffer) (nextIn (r .image) key onward))) _ _ refl)
 

@@ -1,6 +1,6 @@
 -- Demand 3, "A run of calls from a fresh image answers as a plain list of last values"; 01, "The sum of these from a fresh image equals the
--- number of keys stored now". A run is any list of calls on one image, each on what the one before left. Beside it goes a plain list: a
--- store that was done adds its key and value in front, and nothing else changes the list.
+-- number of keys stored now". A run is any list of calls on one image, each on what the one before left; the listed stores and mending
+-- are 02's, Ask 1. Beside it goes a plain list: a store that was done adds its key and value in front, and nothing else changes the list.
 use Prim.Native.Nat.{ℕ}
 use mathlib.Core.Bool.{Bool, true, false, _&&_, cond}
 use mathlib.Core.List.{List, [], _∷_}
@@ -9,7 +9,7 @@ use lib.IntN.{ℤ, pos, _+ℤ_}
 use Rattle.head.specs.declared.Head.{Head}
 use Rattle.alphabet.specs.Letters.{lettersIn}
 use Rattle.paper.specs.Hearing.{Outcome, outcome, doneNumbers}
-use Rattle.paper.specs.Calls.{freshImage, checkOf, countOf, lookUpOf, lookUpTextOf, namedIn, storeOf, storeTextOf, nextKeyOf}
+use Rattle.paper.specs.Calls.{freshImage, checkOf, countOf, lookUpOf, lookUpTextOf, namedIn, storeOf, storeTextOf, storeWritesOf, storeTextWritesOf, mendOf, nextKeyOf}
 
 -- ---- the plain list
 
@@ -39,43 +39,58 @@ pub data Call : Type 0 where
   lookUpText : (text : List ℕ) → Call
   store : (work key : List ℕ) (value : ℕ) → Call
   storeText : (work text : List ℕ) (value : ℕ) → Call
+  storeWrites : (work key : List ℕ) (value : ℕ) (list : List ℕ) → Call
+  storeTextWrites : (work text : List ℕ) (value : ℕ) (list : List ℕ) → Call
+  mend : (work : List ℕ) → Call
   nextKey : (work key : List ℕ) (after : Bool) (buffer : List ℕ) → Call
 
 -- what it answers and leaves, in this image
 unfoldable pub heardOf : List ℕ → Call → Outcome
-unfolding checkOf countOf lookUpOf lookUpTextOf storeOf storeTextOf nextKeyOf
+unfolding checkOf countOf lookUpOf lookUpTextOf storeOf storeTextOf storeWritesOf storeTextWritesOf mendOf nextKeyOf
 heardOf l (check work) = checkOf l work
 heardOf l (count work) = countOf l work
 heardOf l (lookUp key) = lookUpOf l key
 heardOf l (lookUpText text) = lookUpTextOf l text
 heardOf l (store work key value) = storeOf l work key value
 heardOf l (storeText work text value) = storeTextOf l work text value
+heardOf l (storeWrites work key value list) = storeWritesOf l work key value list
+heardOf l (storeTextWrites work text value list) = storeTextWritesOf l work text value list
+heardOf l (mend work) = mendOf l work
 heardOf l (nextKey work key after buffer) = nextKeyOf l work key after buffer
 
--- the first of the buffers that a call leaves: for a store, the image
+-- the first of the buffers that a call leaves: for a store and for a mending, the image
 unfoldable pub firstLeft : List (List ℕ) → List ℕ
 firstLeft [] = []
 firstLeft (l ∷ rest) = l
 
--- the image after a call: only a store is lent it to write
+-- the image after a call: only a store and a mending are lent it to write
 unfoldable pub imageAfter : List ℕ → Call → List ℕ
 unfolding firstLeft heardOf
 imageAfter l (store work key value) = firstLeft (heardOf l (store work key value) .lent)
 imageAfter l (storeText work text value) = firstLeft (heardOf l (storeText work text value) .lent)
+imageAfter l (storeWrites work key value list) = firstLeft (heardOf l (storeWrites work key value list) .lent)
+imageAfter l (storeTextWrites work text value list) = firstLeft (heardOf l (storeTextWrites work text value list) .lent)
+imageAfter l (mend work) = firstLeft (heardOf l (mend work) .lent)
 imageAfter l (check work) = l
 imageAfter l (count work) = l
 imageAfter l (lookUp key) = l
 imageAfter l (lookUpText text) = l
 imageAfter l (nextKey work key after buffer) = l
 
--- the plain list after a call on this image: a store that answers number 0 is noted
+-- the plain list after a store that left this outcome: one that answers number 0 is noted
+unfoldable pub notedBy : Outcome → List ℕ → ℕ → List Entry → List Entry
+notedBy o key value plain = cond (eqb (o .numbers .number) 0) (record { key = key; value = value } ∷ plain) plain
+
+-- and after any call on this image
 unfoldable pub noted : List ℕ → Call → List Entry → List Entry
-unfolding heardOf namedIn lettersIn
-noted l (store work key value) plain =
-    cond (eqb (heardOf l (store work key value) .numbers .number) 0) (record { key = key; value = value } ∷ plain) plain
+unfolding notedBy heardOf namedIn lettersIn
+noted l (store work key value) plain = notedBy (heardOf l (store work key value)) key value plain
 noted l (storeText work text value) plain =
-    cond (eqb (heardOf l (storeText work text value) .numbers .number) 0)
-    (record { key = lettersIn (namedIn l text); value = value } ∷ plain) plain
+    notedBy (heardOf l (storeText work text value)) (lettersIn (namedIn l text)) value plain
+noted l (storeWrites work key value list) plain = notedBy (heardOf l (storeWrites work key value list)) key value plain
+noted l (storeTextWrites work text value list) plain =
+    notedBy (heardOf l (storeTextWrites work text value list)) (lettersIn (namedIn l text)) value plain
+noted l (mend work) plain = plain
 noted l (check work) plain = plain
 noted l (count work) plain = plain
 noted l (lookUp key) plain = plain
