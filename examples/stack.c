@@ -10,7 +10,7 @@
 #include <string.h>
 #include <ucontext.h>
 
-enum { DEEP = TRIEFF_KEY_MOST, NODES = DEEP + 1, ROOM = 65536, MOST = 2048, COUNT_MOST = 16384, NEXT_MOST = 32768 };
+enum { DEEP = TRIEFF_KEY_MOST, NODES = DEEP + 1, ROOM = 65536, MOST = 2304, COUNT_MOST = 16384, NEXT_MOST = 32768 };
 static uint8_t image[TRIEFF_LENGTH(NODES, 2, 1, 1, 2)];
 static uint32_t work[NODES], writes[TRIEFF_WRITES_LEN];
 static uint8_t letters[DEEP], text[DEEP], key[DEEP];

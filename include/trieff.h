@@ -11,7 +11,7 @@
    - A slice that a call may write to overlaps no other slice of that call.
    - Nobody else changes a lent slice during the call.
    - `after` is false or true.
-   Calls that share no slice that is written to may run at the same time. As measured (examples/stack.c), a call takes at most 2 KiB of stack,
+   Calls that share no slice that is written to may run at the same time. As measured (examples/stack.c), a call takes at most 2,304 bytes of stack,
    but count 16 KiB and next_key 32 KiB, since they go down 64 levels.
 
    What is answered. Each call answers the first refusal that applies, in the order that stands with it, else TRIEFF_DONE. A refused call
