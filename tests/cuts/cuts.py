@@ -1,5 +1,5 @@
 #!/usr/bin/env python3
-"""Stops examples/bench_file.c at every write of a session, in every way that examples/cut_shim.c knows, and asks it after the next start.
+"""Stops examples/bench_file.c at every write of a session, in every way that tests/cuts/cut_shim.c knows, and asks it after the next start.
 
 cuts.py BENCH SHIM FOLDER [MISTAKE]
 

@@ -1,7 +1,7 @@
 /* Pulls the plug on examples/bench_file.c: a library that is loaded before the C library (LD_PRELOAD) and stands in for its pwrite, rename,
    fdatasync and fsync. Writes and renames are counted from 1, and at one of them the process is stopped. It promises of a file what the
    bench's head asks for, and no more: what was flushed is kept, the write that was hit is in the file whole, not at all or, to
-   spare bytes, in any part. examples/cuts.py sets the variables:
+   spare bytes, in any part. tests/cuts/cuts.py sets the variables:
 
      CUT_AT      which write or rename, in decimal; without it none
      CUT_HOW     before: stopped, and nothing of it landed     after: stopped, and all of it landed
@@ -14,7 +14,7 @@
    It stops with 77 at the cut, 98 if it should tear a write that does not go to spare bytes, 99 if a write is begun, or the process ends,
    before the last write was flushed. A flush is only noted: no power is cut here, so the disk need not be waited for.
 
-     gcc -std=c11 -O2 -shared -fPIC -o target/cut_shim.so examples/cut_shim.c */
+     gcc -std=c11 -O2 -shared -fPIC -o target/cut_shim.so tests/cuts/cut_shim.c */
 #define _POSIX_C_SOURCE 200809L
 #include <errno.h>
 #include <fcntl.h>
