@@ -267,7 +267,7 @@ pub fn mend(image: &mut [u8], work: &mut [u32]) -> Done
             let trial = mending::lower(image, work, why.place(), &mut codes);
             match trial {
                 Verdict::Passed => Done::Done,
-                Verdict::Refused(_) => Done::Refused(why),
+                Verdict::Refused(_worse) => Done::Refused(why),
             }
         }
     }

@@ -44,8 +44,8 @@ lower-requires c κs =
 enum-told-2 : tie.Need-enum-told-2
 enum-told-2 c = search needs
 
-enum-told-3 : tie.Need-enum-told-3
-enum-told-3 c = search needs
+enum-known-trial : tie.Need-enum-known-trial
+enum-known-trial c = search needs
 
 same-length-3 : tie.Need-same-length-3
 same-length-3 c = search needs
@@ -81,13 +81,13 @@ same-length-8 c = search needs
 
 returns-4 : tie.Need-returns-4
 returns-4 c =
-    let tried = c .before .before .before .before .before .before in
+    let tried = c .before .before .before .before .before .before .before in
     let placed = tried .before .before in
     let eighth = placed .before .before .before in
     let number = eighth .before in
     let told = number .before .before in
     mends-kept (told .before .before .before .before .check .ensures) (told .verdict .given .1) (sym (number .number .ensures) ∙ eighth .if1 .left)
-    (omega (arith, placed .place .ensures, placed .place .ok)) (rw (placed .place .ensures) at (tried .lower .ensures)) (c .enum-told3 .given .1)
+    (omega (arith, placed .place .ensures, placed .place .ok)) (rw (placed .place .ensures) at (tried .lower .ensures)) (c .before .trial .given .1)
 
 pub mend-spec : {M : Type 1} → statement M
 mend-spec =
@@ -103,7 +103,7 @@ mend-spec =
     place-requires
     lower-requires
     enum-told-2
-    enum-told-3
+    enum-known-trial
     same-length-3
     same-length-4
     returns-2
