@@ -1,10 +1,12 @@
-// Document 01's cases, run through the public calls: a line for each with the answer's number and place, its length and value or its change
-// where the call has them, and every lent buffer afterwards. What it must write stands in `stdout`. Buffers held AA, working numbers 7.
+// Document 01's cases and those of a cut between two writes, run through the public calls: a line for each with the answer's number and
+// place, its length and value or its change where the call has them, and every lent buffer afterwards. What it must write stands in `stdout`.
+// Buffers held AA, working numbers and lists of writes 7.
 ghost use Prim.Native.Nat.{_≤_, _<_};
 use libc::STDOUT_FILENO;
 use paper::Counted;
 use paper::Done;
 use paper::Found;
+use paper::Listed;
 use paper::Looked;
 use paper::Stored;
 
@@ -27,6 +29,8 @@ fn main() {
     empty_key();
     characters();
     full();
+    writes();
+    mended();
 }
 
 // P1: fresh in 35 bytes, and in one byte less.
@@ -171,6 +175,7 @@ fn few_numbers() {
     count(b"P3 with 2 numbers", &image, &mut [7; 2]);
     store(b"P3 with 2 numbers", &mut image, &mut [7; 2], &[3], 256);
     store_text(b"P3 with 2 numbers", &mut image, &mut [7; 2], b"D", 256);
+    mend(b"P3 with 2 numbers", &mut image, &mut [7; 2]);
 }
 
 // The empty key alone, in the root's data, where no text but the empty one names a key.
@@ -226,7 +231,31 @@ fn full() {
     next_key(b"G = 255 with 6 numbers", &image, &[], false, 4);
 }
 
-// Every call but make, with the key BA; next key after B.
+// Request 1: the writes of P2, P3, P6 and P7, each with the pair of numbers behind them. Then P7 without its last write, which is mended.
+fn writes() {
+    let mut image = [0xAAu8; 55];
+    make(b"P1 in 55 bytes", &mut image, 3, 1, 1, b"ABC", 1, 3);
+    store_writes(b"P2 BA = 9", &mut image, &[1, 0], 9, 10);
+    store_text_writes(b"P3 B = 5", &mut image, b"B", 5, 4);
+    store_writes(b"P6 BA = 256", &mut image, &[1, 0], 256, 2);
+    store_writes(b"P6 ABC = 0", &mut image, &[0, 1, 2], 0, 2);
+    store_writes(b"P7 CCC = 1", &mut image, &[2, 2, 2], 1, 12);
+    image[33] = 0;
+    mend(b"P7 without the link", &mut image, &mut [7; 8]);
+    count(b"P7 mended", &image, &mut [7; 6]);
+}
+
+// Images that mending leaves: one that is accepted, one that has too few numbers for the G of entry, and one that is no better with a lower G.
+fn mended() {
+    let mut image = P3;
+    mend(b"P3", &mut image, &mut [7; 6]);
+    mend(b"P10 with 1 number", &mut two_nodes([0; 8]), &mut [7; 1]);
+    image[32] = 2;
+    image[35] = 0;
+    mend(b"8 at 1, and a link to 2", &mut image, &mut [7; 6]);
+}
+
+// Every call but make, with the key BA; next key after B. The stores that list their writes are left out.
 fn every(label: &[u8], image: &mut [u8]) {
     check(label, image, &mut [7; 6]);
     count(label, image, &mut [7; 6]);
@@ -234,6 +263,7 @@ fn every(label: &[u8], image: &mut [u8]) {
     next_key(label, image, &[1], true, 4);
     store(label, image, &mut [7; 6], &[1, 0], 9);
     store_text(label, image, &mut [7; 6], b"BA", 9);
+    mend(label, image, &mut [7; 6]);
 }
 
 // The same on the first bytes of an image.
@@ -413,6 +443,35 @@ fn store_text(label: &[u8], image: &mut [u8], work: &mut [u32], name: &[u8], val
     left(image, work);
 }
 
+// The same, with the writes listed. So many numbers of the list are shown.
+fn store_writes(label: &[u8], image: &mut [u8], key: &[u8], value: u32, shown: usize)
+    requires { ⌜ shown ≤ 132 ⌝ }
+{
+    let mut work = [7u32; 6];
+    let mut list = [7u32; 132];
+    let answer = calls::store_writes(image, &mut work, key, value, &mut list);
+    listed(b"store letters, ", label, answer);
+    front(list, shown);
+    left(image, &work);
+}
+
+fn store_text_writes(label: &[u8], image: &mut [u8], name: &[u8], value: u32, shown: usize)
+    requires { ⌜ shown ≤ 132 ⌝ }
+{
+    let mut work = [7u32; 6];
+    let mut list = [7u32; 132];
+    let answer = calls::store_text_writes(image, &mut work, name, value, &mut list);
+    listed(b"store text, ", label, answer);
+    front(list, shown);
+    left(image, &work);
+}
+
+fn mend(label: &[u8], image: &mut [u8], work: &mut [u32]) {
+    let answer = calls::mend(image, work);
+    plain(b"mend, ", label, answer);
+    left(image, work);
+}
+
 // A store in the first bytes of an image that is too long for a line, which shows G, how many bytes changed, and the working numbers from the
 // 253rd on.
 fn wide(label: &[u8], image: [u8; 800], room: usize, key: &[u8], value: u32) -> [u8; 800]
@@ -449,6 +508,25 @@ fn stored(call: &[u8], label: &[u8], answer: Stored) {
         }
         Stored::Refused(why) => said(why.number(), why.place()),
     }
+}
+
+fn listed(call: &[u8], label: &[u8], answer: Listed) {
+    match answer {
+        Listed::Change { change, writes } => {
+            stored(call, label, Stored::Change(change));
+            say(b" writes ");
+            io::print_decimal(STDOUT_FILENO, writes as u64);
+        }
+        Listed::Refused(why) => stored(call, label, Stored::Refused(why)),
+    }
+}
+
+// The front of a list of writes.
+fn front(list: [u32; 132], shown: usize)
+    requires { ⌜ shown ≤ 132 ⌝ }
+{
+    say(b" list");
+    decimals(&list[..shown]);
 }
 
 fn next_key(label: &[u8], image: &[u8], key: &[u8], after: bool, room: usize)
@@ -491,7 +569,7 @@ fn done(length: u32, value: u64) {
     io::print_decimal(STDOUT_FILENO, value);
 }
 
-// What a store leaves, and the line's end.
+// What a store or a mending leaves, and the line's end.
 fn left(image: &[u8], work: &[u32]) {
     say(b" image");
     bytes(image);
@@ -502,10 +580,15 @@ fn left(image: &[u8], work: &[u32]) {
 // The working numbers.
 fn numbers(work: &[u32]) {
     say(b" work");
+    decimals(work);
+}
+
+// The numbers in decimals.
+fn decimals(list: &[u32]) {
     let mut i: usize = 0;
-    while i < work.len() {
+    while i < list.len() {
         space();
-        io::print_decimal(STDOUT_FILENO, work[i] as u64);
+        io::print_decimal(STDOUT_FILENO, list[i] as u64);
         i += 1;
     }
 }

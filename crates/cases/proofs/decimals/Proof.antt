@@ -1,23 +1,17 @@
--- `cases::numbers` meets its contract, which asks only that it is safe and ends: the place stays within the working numbers.
+-- `cases::decimals` meets its contract, which asks only that it is safe and ends: the place stays within the list.
 -- Assumes nothing.
 use Prim.Native.Nat.{_-_, _≤_}
 use native.Mathlib.Omega.{arith}
 use borrow.Author.Needs.{needs}
 use lib.ListN.{length}
-use Rattle.cases.proofs.numbers.Statement.{statement}
-use Rattle.cases.proofs.numbers.Tie as tie
+use Rattle.cases.proofs.decimals.Statement.{statement}
+use Rattle.cases.proofs.decimals.Tie as tie
 
 abbrev Inv-loop : tie.InvT-loop
-Inv-loop work i₀ i = i ≤ length work
+Inv-loop list i₀ i = i ≤ length list
 
 abbrev μ-loop : tie.MeasureT-loop
-μ-loop work i₀ i = length work - i
-
-slice-aggregate-say : tie.Need-slice-aggregate-say Inv-loop μ-loop
-slice-aggregate-say c = search needs
-
-say-requires : tie.Need-say-requires Inv-loop μ-loop
-say-requires c κs = search needs
+μ-loop list i₀ i = length list - i
 
 loop-holds : tie.Need-loop-holds Inv-loop μ-loop
 loop-holds c = search needs
@@ -49,14 +43,12 @@ loop-again c = search needs
 returns : tie.Need-returns Inv-loop μ-loop
 returns c = search needs
 
-pub numbers-spec : {M : Type 1} → statement M
-numbers-spec =
+pub decimals-spec : {M : Type 1} → statement M
+decimals-spec =
     tie.close
     (tie.spec
     Inv-loop
     μ-loop
-    slice-aggregate-say
-    say-requires
     loop-holds
     space-requires
     mul-print-decimal
