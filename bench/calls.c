@@ -27,13 +27,17 @@ ON_ALL(look_up, IMAGE, KEY)
 ON_ALL(look_up_text, IMAGE, KEY)
 ON_ALL(store, IMAGE, WORK, KEY, lent->value)
 ON_ALL(store_text, IMAGE, WORK, KEY, lent->value)
+ON_ALL(store_writes, IMAGE, WORK, KEY, lent->value, lent->writes)
+ON_ALL(store_text_writes, IMAGE, WORK, KEY, lent->value, lent->writes)
+ON_ALL(mend, IMAGE, WORK)
 ON_ALL(next_key, IMAGE, WORK, KEY, lent->after, BUFFER)
 ON_WALK(trieff, measure_walk)
 ON_WALK(naive, naive_walk)
 ON_WALK(tuned, tuned_walk)
 
 static const struct call calls[] = {
-    ROW(check), ROW(count), ROW(look_up), ROW(look_up_text), ROW(store), ROW(store_text), ROW(next_key), ROW(walk),
+    ROW(check), ROW(count), ROW(look_up), ROW(look_up_text), ROW(store), ROW(store_text), ROW(store_writes), ROW(store_text_writes),
+    ROW(mend), ROW(next_key), ROW(walk),
 };
 
 const struct call *call_at(size_t place)
@@ -75,6 +79,7 @@ static struct lent copies(const struct lent *from)
     to.work = copy_of(from->work, from->work_len * sizeof *from->work);
     to.key = copy_of(from->key, from->key_len);
     to.buffer = copy_of(from->buffer, from->buffer_len);
+    to.writes = copy_of(from->writes, TRIEFF_WRITES_LEN * sizeof *from->writes);
     return to;
 }
 
@@ -84,6 +89,7 @@ static void drop(struct lent *lent)
     free(lent->work);
     free((void *)lent->key);
     free(lent->buffer);
+    free(lent->writes);
 }
 
 static void print_answer(const char *of, trieff_answer a)
@@ -104,10 +110,12 @@ static bool same(const char *call, int version, const struct lent *a, const stru
     bool image = memcmp(a->image, b->image, a->image_len) == 0;
     bool work = memcmp(a->work, b->work, a->work_len * sizeof *a->work) == 0;
     bool buffer = memcmp(a->buffer, b->buffer, a->buffer_len) == 0;
-    if (answer && image && work && buffer)
+    bool writes = memcmp(a->writes, b->writes, TRIEFF_WRITES_LEN * sizeof *a->writes) == 0;
+    if (answer && image && work && buffer && writes)
         return true;
-    fprintf(stderr, "%s: project and %s differ in%s%s%s%s\n", call, version_names[version], answer ? "" : " the answer",
-            image ? "" : " the image", work ? "" : " the working numbers", buffer ? "" : " the key buffer");
+    fprintf(stderr, "%s: project and %s differ in%s%s%s%s%s\n", call, version_names[version], answer ? "" : " the answer",
+            image ? "" : " the image", work ? "" : " the working numbers", buffer ? "" : " the key buffer",
+            writes ? "" : " the list of writes");
     print_answer("project", x);
     print_answer(version_names[version], y);
     return false;

@@ -21,6 +21,11 @@
                              const uint8_t *letters, size_t letters_len, uint32_t value);                              \
     trieff_answer of##_store_text(uint8_t *image, size_t image_len, uint32_t *work, size_t work_len,                   \
                                   const uint8_t *text, size_t text_len, uint32_t value);                               \
+    trieff_answer of##_store_writes(uint8_t *image, size_t image_len, uint32_t *work, size_t work_len,                 \
+                                    const uint8_t *letters, size_t letters_len, uint32_t value, uint32_t *writes);     \
+    trieff_answer of##_store_text_writes(uint8_t *image, size_t image_len, uint32_t *work, size_t work_len,            \
+                                         const uint8_t *text, size_t text_len, uint32_t value, uint32_t *writes);      \
+    trieff_answer of##_mend(uint8_t *image, size_t image_len, uint32_t *work, size_t work_len);                        \
     trieff_answer of##_next_key(const uint8_t *image, size_t image_len, uint32_t *work, size_t work_len,               \
                                 const uint8_t *letters, size_t letters_len, bool after, uint8_t *key, size_t key_len); \
     /* how many stored keys the walk meets besides the root's, 0 for an image that is refused */                       \
@@ -52,6 +57,7 @@ struct lent {
     bool after;
     uint8_t *buffer;
     size_t buffer_len;
+    uint32_t *writes; /* TRIEFF_WRITES_LEN of them */
 };
 
 struct call {
@@ -65,8 +71,8 @@ const struct call *call_named(const char *name);
 /* The call at a place in the table, NULL behind the last. */
 const struct call *call_at(size_t place);
 
-/* Performs a call in every version, on copies of what is lent. True where the five numbers, image, working numbers and key buffer are
-   the same in all; otherwise standard error says in what they differ. The answer is the project's. */
+/* Performs a call in every version, on copies of what is lent. True where the five numbers, image, working numbers, key buffer and list of
+   writes are the same in all; otherwise standard error says in what they differ. The answer is the project's. */
 bool agree(const struct call *call, const struct lent *lent, trieff_answer *answer);
 
 #endif

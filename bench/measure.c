@@ -23,12 +23,13 @@ struct row {
     uint8_t key[256];
     size_t key_len;
     uint32_t value;
-    bool stores;
+    bool stores, mends;
     char answer[24]; /* what it must answer, or "*" */
 };
 
 static uint8_t image[IMAGE_MOST + 1], kept_image[IMAGE_MOST + 1];
 static uint8_t buffer[KEY_MOST];
+static uint32_t writes[TRIEFF_WRITES_LEN];
 static uint32_t *work;
 static size_t image_len, work_len;
 static const char *image_name;
@@ -41,6 +42,14 @@ static void fail(const char *what, const char *which)
 
 /* ---- the image and the plan */
 
+static uint32_t field(const uint8_t *at, uint32_t width)
+{
+    uint32_t v = 0;
+    for (uint32_t i = 0; i < width; i++)
+        v = v << 8 | at[i];
+    return v;
+}
+
 static void read_image(const char *folder)
 {
     char path[4096];
@@ -52,8 +61,7 @@ static void read_image(const char *folder)
     fclose(file);
     if (image_len < 28)
         fail("no image in", path);
-    uint32_t g = (uint32_t)kept_image[0] << 24 | kept_image[1] << 16 | kept_image[2] << 8 | kept_image[3];
-    work_len = (size_t)g + 1 + SPARE_NUMBERS;
+    work_len = (size_t)field(kept_image, 4) + 1 + SPARE_NUMBERS;
     work = malloc(work_len * sizeof *work);
     if (work == NULL)
         fail("no memory for", path);
@@ -62,7 +70,7 @@ static void read_image(const char *folder)
 /* A row's key: the text as it stands, or the letter numbers of its one-byte characters. */
 static void set_key(struct row *row, const char *text)
 {
-    uint32_t f = (uint32_t)kept_image[18] << 8 | kept_image[19];
+    uint32_t f = field(kept_image + 16, 4);
     row->key_len = strcmp(text, "-") == 0 ? 0 : strlen(text);
     for (size_t i = 0; i < row->key_len; i++) {
         row->key[i] = (uint8_t)text[i];
@@ -109,6 +117,7 @@ static size_t read_plan(const char *path, struct row *rows)
             fail("too many rows in", path);
         row->call = call_named(call);
         row->stores = strcmp(value, "-") != 0;
+        row->mends = strcmp(call, "mend") == 0;
         row->value = (uint32_t)strtoul(value, NULL, 10);
         set_key(row, key);
     }
@@ -116,13 +125,36 @@ static size_t read_plan(const char *path, struct row *rows)
     return count;
 }
 
-/* What a row lends: the image as it was read, and rubbish in the other buffers. */
-static struct lent lend(const struct row *row)
+/* Empties the link to a key's own node: the store of the last new key, cut before its last write. */
+static void cut(const struct row *row)
+{
+    uint32_t n = field(image + 4, 4), a = field(image + 8, 4), d = field(image + 12, 4), f = field(image + 16, 4), node = 0;
+    uint8_t *link = NULL;
+    for (size_t i = 0; i < row->key_len; i++) {
+        link = image + 28 + f + (size_t)node * (n * a + d) + row->key[i] * a;
+        node = field(link, a);
+    }
+    if (node == 0 || node != field(image, 4))
+        fail("not the last new key:", row->name);
+    memset(link, 0, a);
+}
+
+/* The image as it was read; to be mended without the last link of its row's key, if there is one. */
+static void put_back(const struct row *row)
 {
     memcpy(image, kept_image, image_len);
+    if (row->mends && row->key_len > 0)
+        cut(row);
+}
+
+/* What a row lends: its image, and rubbish in the other buffers. */
+static struct lent lend(const struct row *row)
+{
+    put_back(row);
     memset(work, RUBBISH, work_len * sizeof *work);
     memset(buffer, RUBBISH, sizeof buffer);
-    return (struct lent){image, image_len, work, work_len, row->key, row->key_len, row->value, true, buffer, sizeof buffer};
+    memset(writes, RUBBISH, sizeof writes);
+    return (struct lent){image, image_len, work, work_len, row->key, row->key_len, row->value, true, buffer, sizeof buffer, writes};
 }
 
 /* ---- compare, count, time */
@@ -162,22 +194,28 @@ static double seconds(void)
     return (double)now.tv_sec + (double)now.tv_nsec / 1e9;
 }
 
-/* The time of so many calls in a row. A store finds the image as it was. */
+/* A row that changes its image is called once a run. */
+static bool changes(const struct row *row)
+{
+    return row->stores || row->mends;
+}
+
+/* The time of so many calls in a row. A store or a mending finds the image as it was. */
 static double one_run(const struct row *row, int version, struct lent *lent, int calls)
 {
-    if (row->stores)
-        memcpy(image, kept_image, image_len);
+    if (changes(row))
+        put_back(row);
     double start = seconds();
     for (int i = 0; i < calls; i++)
         row->call->perform[version](lent);
     return (seconds() - start) / calls;
 }
 
-/* So many calls take 100 microseconds or more; a store is called once a run. */
+/* So many calls take 100 microseconds or more. */
 static int calls_in_a_run(const struct row *row, struct lent *lent)
 {
     int calls = 1;
-    while (!row->stores && calls < 100000 && one_run(row, TUNED, lent, calls) * calls < 1e-4)
+    while (!changes(row) && calls < 100000 && one_run(row, TUNED, lent, calls) * calls < 1e-4)
         calls *= 2;
     return calls;
 }

@@ -288,9 +288,24 @@ static uint32_t greatest(uint32_t width)
     return width == 4 ? 0xFFFFFFFF : (1u << 8 * width) - 1;
 }
 
+/* The list of a store's writes, where there is one. */
+struct list {
+    uint32_t *numbers;
+    uint32_t len;
+};
+
+static void note(struct list *list, size_t place, size_t len)
+{
+    if (list == NULL)
+        return;
+    list->numbers[2 * list->len] = (uint32_t)place;
+    list->numbers[2 * list->len + 1] = (uint32_t)len;
+    list->len++;
+}
+
 /* The path stops at a node at a depth: nodes for the letters left, then G, then the link that was empty. */
-static trieff_answer extend(uint8_t *image, size_t len, const struct head *h, const struct key *key, uint32_t node,
-                            size_t depth, uint32_t value)
+static inline trieff_answer extend(uint8_t *image, size_t len, const struct head *h, const struct key *key, uint32_t node,
+                                   size_t depth, uint32_t value, struct list *list)
 {
     uint64_t total = h->g + (uint64_t)(key->len - depth);
     if (value == 0)
@@ -305,15 +320,18 @@ static trieff_answer extend(uint8_t *image, size_t len, const struct head *h, co
             put_field(image + link_place(h, fresh, key->letters[depth + fresh - h->g]), h->a, fresh + 1);
         else
             put_field(image + data_place(h, fresh), h->d, value);
+        note(list, node_place(h, fresh), node_width(h));
     }
     put_field(image, 4, (uint32_t)total);
+    note(list, 0, 4);
     put_field(image + link_place(h, node, key->letters[depth]), h->a, h->g + 1);
+    note(list, link_place(h, node, key->letters[depth]), h->a);
     return (trieff_answer){.change = 1};
 }
 
-/* A store behind the check and the judging of the key. It stays a function of its own, so that it can be counted alone. */
-__attribute__((noinline)) static trieff_answer inner_store(uint8_t *image, size_t len, const struct head *h,
-                                                           const struct key *key, uint32_t value)
+/* A store behind the check and the judging of the key; without a list for its writes the tests for one fall out. */
+__attribute__((always_inline)) static inline trieff_answer store_in(uint8_t *image, size_t len, const struct head *h,
+                                                                    const struct key *key, uint32_t value, struct list *list)
 {
     if (value > greatest(h->d))
         return refusal(11, 0);
@@ -321,12 +339,29 @@ __attribute__((noinline)) static trieff_answer inner_store(uint8_t *image, size_
     for (size_t depth = 0; depth < key->len; depth++) {
         uint32_t link = link_of(image, h, node, key->letters[depth]);
         if (link == 0)
-            return extend(image, len, h, key, node, depth, value);
+            return extend(image, len, h, key, node, depth, value, list);
         node = link;
     }
     uint32_t old = data_of(image, h, node);
     put_field(image + data_place(h, node), h->d, value);
+    note(list, data_place(h, node), h->d);
     return (trieff_answer){.change = (value != 0) - (old != 0)};
+}
+
+/* It stays a function of its own, so that it can be counted alone. */
+__attribute__((noinline)) static trieff_answer inner_store(uint8_t *image, size_t len, const struct head *h,
+                                                           const struct key *key, uint32_t value)
+{
+    return store_in(image, len, h, key, value, NULL);
+}
+
+__attribute__((noinline)) static trieff_answer inner_store_writes(uint8_t *image, size_t len, const struct head *h,
+                                                                  const struct key *key, uint32_t value, uint32_t *writes)
+{
+    struct list list = {.numbers = writes};
+    trieff_answer answer = store_in(image, len, h, key, value, &list);
+    answer.length = list.len;
+    return answer;
 }
 
 trieff_answer naive_store(uint8_t *image, size_t image_len, uint32_t *work, size_t work_len, const uint8_t *letters,
@@ -351,6 +386,45 @@ trieff_answer naive_store_text(uint8_t *image, size_t image_len, uint32_t *work,
     struct key key;
     uint32_t number = judge_text(image, &h, text, text_len, &key);
     return number != 0 ? refusal(number, 0) : inner_store(image, image_len, &h, &key, value);
+}
+
+trieff_answer naive_store_writes(uint8_t *image, size_t image_len, uint32_t *work, size_t work_len, const uint8_t *letters,
+                                 size_t letters_len, uint32_t value, uint32_t *writes)
+{
+    struct head h;
+    trieff_answer answer = check(image, image_len, work, work_len, &h);
+    if (answer.number != 0)
+        return answer;
+    struct key key = key_of(letters, letters_len);
+    uint32_t number = judge_key(&h, &key);
+    return number != 0 ? refusal(number, 0) : inner_store_writes(image, image_len, &h, &key, value, writes);
+}
+
+trieff_answer naive_store_text_writes(uint8_t *image, size_t image_len, uint32_t *work, size_t work_len,
+                                      const uint8_t *text, size_t text_len, uint32_t value, uint32_t *writes)
+{
+    struct head h;
+    trieff_answer answer = check(image, image_len, work, work_len, &h);
+    if (answer.number != 0)
+        return answer;
+    struct key key;
+    uint32_t number = judge_text(image, &h, text, text_len, &key);
+    return number != 0 ? refusal(number, 0) : inner_store_writes(image, image_len, &h, &key, value, writes);
+}
+
+/* ---- mending */
+
+trieff_answer naive_mend(uint8_t *image, size_t image_len, uint32_t *work, size_t work_len)
+{
+    struct head h, trial;
+    trieff_answer answer = check(image, image_len, work, work_len, &h);
+    if (answer.number != 8)
+        return answer;
+    put_field(image, 4, answer.place - 1);
+    if (check(image, image_len, work, work_len, &trial).number == 0)
+        return valued(0);
+    put_field(image, 4, h.g);
+    return answer;
 }
 
 /* ---- the stored keys in order */

@@ -1,5 +1,5 @@
 /* Compares the three versions on random small images and calls: whole images, damaged ones, and every limit of 9 to 15 nearby.
-   Each number from 0 to 15 must be heard, or the run fails. Usage: random SEED IMAGES */
+   Each number from 0 to 15 must be heard, and images be mended and 8 stay 8, or the run fails. Usage: random SEED IMAGES */
 #include "calls.h"
 #include <stdio.h>
 #include <stdlib.h>
@@ -116,12 +116,28 @@ static void make_whole(struct small *s)
         s->bytes[s->len++] = (uint8_t)any_below(256);
 }
 
-/* One harm: a head field near its limits, a link, any byte, G, or the length. */
+/* Empties the link to one of the last nodes, as a store that is cut before its last write leaves it. The nodes behind it may be the rest of
+   its path, or stand elsewhere too, so that mending is of no use. */
+static void lose_link(struct small *s)
+{
+    uint32_t lost = s->g - any_below(3);
+    for (uint32_t q = 0; q <= s->g; q++)
+        for (uint32_t i = 0; i < s->n; i++) {
+            uint8_t *link = node_of(s, q) + i * s->a;
+            uint32_t v = 0;
+            for (uint32_t j = 0; j < s->a; j++)
+                v = v << 8 | link[j];
+            if (v == lost)
+                put_field(link, s->a, 0);
+        }
+}
+
+/* One harm: a head field near its limits, a link, any byte, G, the length, or a link that is missing. */
 static void harm(struct small *s)
 {
     static const uint32_t ODD[] = {0, 1, 2, 4, 5, 64, 65, 256, 257, 1024, 1025, 0xFFFFFFFF};
     static const uint32_t GREAT[] = {0xFFFFFFFF, 0x7FFFFFFF, 0x3FFFFFFF, 0x00FFFFFF};
-    switch (any_below(6)) {
+    switch (any_below(8)) {
     case 0:
         put_field(s->bytes + 4 * any_below(7), 4, ODD[any_below(sizeof ODD / sizeof *ODD)]);
         break;
@@ -135,8 +151,11 @@ static void harm(struct small *s)
     case 4:
         put_field(s->bytes, 4, one_in(3) ? GREAT[any_below(4)] : s->g + any_below(3) - 1);
         break;
-    default:
+    case 5:
         s->len = one_in(2) ? any_below((uint32_t)s->len + 1) : s->len - 1;
+        break;
+    default:
+        lose_link(s);
     }
 }
 
@@ -179,11 +198,17 @@ static uint32_t any_value(const struct small *s)
     return one_in(4) ? 0 : one_in(6) ? most + 1 : one_in(4) ? most : any_below(most);
 }
 
-/* A random call on an image, compared; the number that is heard is noted. */
-static bool try_call(const struct small *s, uint64_t *heard)
+/* What was heard: each number, and what became of the images that a mending found to have an address in no link. */
+struct heard {
+    uint64_t numbers[16];
+    uint64_t mended, left;
+};
+
+/* A random call on an image, compared; what is heard is noted. */
+static bool try_call(const struct small *s, struct heard *heard)
 {
     static uint8_t image[ROOM], key[400], buffer[80];
-    static uint32_t work[600];
+    static uint32_t work[600], writes[TRIEFF_WRITES_LEN];
     size_t calls = 0;
     while (call_at(calls) != NULL)
         calls++;
@@ -191,7 +216,8 @@ static bool try_call(const struct small *s, uint64_t *heard)
     memcpy(image, s->bytes, s->len);
     memset(work, 0xA5, sizeof work);
     memset(buffer, 0xA5, sizeof buffer);
-    struct lent lent = {.image = image, .image_len = s->len, .work = work, .key = key, .buffer = buffer};
+    memset(writes, 0xA5, sizeof writes);
+    struct lent lent = {.image = image, .image_len = s->len, .work = work, .key = key, .buffer = buffer, .writes = writes};
     lent.work_len = one_in(8) ? any_below(s->g + 2) : s->g + 1 + any_below(4);
     lent.buffer_len = one_in(6) ? any_below(s->max + 1) : s->max + any_below(4);
     lent.key_len = strstr(call->name, "_text") != NULL ? any_text(s, key) : any_letters(s, key);
@@ -200,14 +226,18 @@ static bool try_call(const struct small *s, uint64_t *heard)
     trieff_answer answer;
     if (!agree(call, &lent, &answer))
         return false;
-    heard[answer.number]++;
+    heard->numbers[answer.number]++;
+    if (strcmp(call->name, "mend") != 0)
+        return true;
+    heard->left += answer.number == 8;
+    heard->mended += answer.number == 0 && trieff_check(image, lent.image_len, work, lent.work_len).number == 8;
     return true;
 }
 
 int main(int argc, char **argv)
 {
     static struct small s;
-    uint64_t heard[16] = {0};
+    struct heard heard = {0};
     unsigned long long seed = argc == 3 ? strtoull(argv[1], NULL, 10) : 0;
     long images = argc == 3 ? strtol(argv[2], NULL, 10) : 0;
     if (seed == 0 || images <= 0)
@@ -219,15 +249,15 @@ int main(int argc, char **argv)
         if (one_in(3))
             harm(&s);
         for (int j = 0; j < CALLS_PER_IMAGE && good; j++)
-            good = try_call(&s, heard);
+            good = try_call(&s, &heard);
         if (!good)
             fprintf(stderr, "  on image %ld of seed %llu\n", i, seed);
     }
     printf("random calls, seed %llu: %ld images, %d calls each; heard", seed, images, CALLS_PER_IMAGE);
     for (int number = 0; number < 16; number++) {
-        printf(" %d:%llu", number, (unsigned long long)heard[number]);
-        good = good && heard[number] > 0;
+        printf(" %d:%llu", number, (unsigned long long)heard.numbers[number]);
+        good = good && heard.numbers[number] > 0;
     }
-    printf("\n");
-    return good ? 0 : 1;
+    printf("; of 8, mended %llu, left %llu\n", (unsigned long long)heard.mended, (unsigned long long)heard.left);
+    return good && heard.mended > 0 && heard.left > 0 ? 0 : 1;
 }

@@ -140,7 +140,8 @@ def goals(table):
         return row, image, table[row, image]["project"], most
 
     yield goal("check", full, 36000000)
-    yield goal("count", full, 2.5 * table["check", full]["project"])
+    for row in ("count", "mend, accepted", "mend, cut before the link"):
+        yield goal(row, full, 2.5 * table["check", full]["project"])
     for row, image in table:
         if row.startswith("text look up"):
             yield goal(row, image, {"full-16MiB": 1400, "ascending-200": 15000, "anyorder-200": 50000}[image])

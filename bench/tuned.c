@@ -243,6 +243,15 @@ static inline struct pass pass_links(const struct opened *o, uint32_t *work, boo
     return p;
 }
 
+/* 8 of an image that has it and neither 6 nor 7: the lowest address that no link was met for. */
+static trieff_answer not_linked(const uint32_t *work)
+{
+    uint32_t x = 1;
+    while (work[x] != 0)
+        x++;
+    return refusal(8, x);
+}
+
 /* 7 or 8 of an image that has one of them and no bad link: how often each address stands in a link, after all. */
 static trieff_answer blame(const struct opened *o, uint32_t *work)
 {
@@ -253,16 +262,12 @@ static trieff_answer blame(const struct opened *o, uint32_t *work)
     uint32_t x = 1;
     while (x <= o->g && work[x] < 2)
         x++;
-    if (x <= o->g)
-        return refusal(7, x);
-    x = 1;
-    while (work[x] != 0)
-        x++;
-    return refusal(8, x);
+    return x <= o->g ? refusal(7, x) : not_linked(work);
 }
 
-/* 5 to 8; the answer's value is the number of stored keys where they are counted. */
-static inline trieff_answer judge_links(const struct opened *o, uint32_t *work, size_t work_len, bool counting)
+/* 5 to 8; the answer's value is the number of stored keys where they are counted. `*links` is how many links are not empty, if there is no 5
+   and no 6. */
+static inline trieff_answer judge_links(const struct opened *o, uint32_t *work, size_t work_len, bool counting, uint32_t *links)
 {
     size_t nodes = (size_t)o->g + 1;
     if (work_len < nodes)
@@ -270,8 +275,12 @@ static inline trieff_answer judge_links(const struct opened *o, uint32_t *work, 
     memset(work, 0, nodes * sizeof *work);
     struct pass p = pass_links(o, work, counting);
     trieff_answer answer = {.value = p.keys};
+    if (links != NULL)
+        *links = p.links;
     if (p.bad <= o->g)
         answer = refusal(6, p.bad);
+    else if (!counting && p.twice == 0 && p.links != o->g) /* with the counting it would cost the pass a register */
+        answer = not_linked(work);
     else if (p.links != o->g || p.twice != 0)
         answer = blame(o, work);
     memset(work, 0, nodes * sizeof *work);
@@ -280,17 +289,17 @@ static inline trieff_answer judge_links(const struct opened *o, uint32_t *work, 
 
 /* 1 to 8. It stays a function of its own, so that what a call takes beyond it can be told. */
 __attribute__((noinline)) static trieff_answer check(const uint8_t *image, size_t len, uint32_t *work, size_t work_len, struct opened *o,
-                                                     struct alphabet *al)
+                                                     struct alphabet *al, uint32_t *links)
 {
     uint32_t number = open_image(image, len, o, al);
-    return number != 0 ? refusal(number, 0) : judge_links(o, work, work_len, false);
+    return number != 0 ? refusal(number, 0) : judge_links(o, work, work_len, false, links);
 }
 
 trieff_answer tuned_check(const uint8_t *image, size_t image_len, uint32_t *work, size_t work_len)
 {
     struct opened o;
     struct alphabet al;
-    return check(image, image_len, work, work_len, &o, &al);
+    return check(image, image_len, work, work_len, &o, &al, NULL);
 }
 
 trieff_answer tuned_count(const uint8_t *image, size_t image_len, uint32_t *work, size_t work_len)
@@ -298,7 +307,7 @@ trieff_answer tuned_count(const uint8_t *image, size_t image_len, uint32_t *work
     struct opened o;
     struct alphabet al;
     uint32_t number = open_image(image, image_len, &o, &al);
-    return number != 0 ? refusal(number, 0) : judge_links(&o, work, work_len, true);
+    return number != 0 ? refusal(number, 0) : judge_links(&o, work, work_len, true, NULL);
 }
 
 /* ---- keys: 9 and 10 */
@@ -386,9 +395,19 @@ trieff_answer tuned_look_up_text(const uint8_t *image, size_t image_len, const u
 
 /* ---- store: 11, 12, 13 */
 
+/* Puts a write into a list, where there is one; what is behind it. */
+static inline uint32_t *note(uint32_t *list, size_t place, size_t len)
+{
+    if (list == NULL)
+        return NULL;
+    list[0] = (uint32_t)place;
+    list[1] = (uint32_t)len;
+    return list + 2;
+}
+
 /* The path stops at a link: nodes for the letters behind it, then G, then that link. The letters are those behind the link's own. */
-static trieff_answer extend(uint8_t *image, size_t image_len, const struct opened *o, uint8_t *link_end,
-                            const uint8_t *letters, size_t len, uint32_t value)
+static inline trieff_answer extend(uint8_t *image, size_t image_len, const struct opened *o, uint8_t *link_end,
+                                   const uint8_t *letters, size_t len, uint32_t value, uint32_t *list)
 {
     size_t k = len + 1;
     if (value == 0)
@@ -404,12 +423,19 @@ static trieff_answer extend(uint8_t *image, size_t image_len, const struct opene
     put_field(node + o->width, o->data_mask, value);
     put_field(image + 4, 0xFFFFFFFF, (uint32_t)(o->g + k));
     put_field(link_end, o->link_mask, o->g + 1);
-    return (trieff_answer){.change = 1};
+    if (list == NULL)
+        return (trieff_answer){.change = 1};
+    size_t place = (size_t)(node_at(o, o->g + 1) - image);
+    for (size_t i = 0; i < k; i++, place += o->width)
+        list = note(list, place, o->width);
+    note(note(list, 0, 4), (size_t)(link_end - image) - o->a, o->a);
+    return (trieff_answer){.change = 1, .length = (uint32_t)k + 2};
 }
 
-/* A store behind the check and the judging of the key. It stays a function of its own, so that it can be counted alone. */
-__attribute__((noinline)) static trieff_answer inner_store(uint8_t *image, size_t image_len, const struct opened *o,
-                                                           const uint8_t *letters, size_t len, uint32_t value)
+/* A store behind the check and the judging of the key; without a list for its writes the tests for one fall out. */
+__attribute__((always_inline)) static inline trieff_answer store_in(uint8_t *image, size_t image_len, const struct opened *o,
+                                                                    const uint8_t *letters, size_t len, uint32_t value,
+                                                                    uint32_t *list)
 {
     if (value > o->data_mask)
         return refusal(11, 0);
@@ -418,12 +444,27 @@ __attribute__((noinline)) static trieff_answer inner_store(uint8_t *image, size_
         uint8_t *end = node + (size_t)letters[i] * o->a + o->a;
         uint32_t link = field(end, o->link_mask);
         if (link == 0)
-            return extend(image, image_len, o, end, letters + i + 1, len - i - 1, value);
+            return extend(image, image_len, o, end, letters + i + 1, len - i - 1, value, list);
         node = nodes + link * o->width;
     }
     uint32_t old = data_of(o, node);
     put_field(node + o->width, o->data_mask, value);
-    return (trieff_answer){.change = (value != 0) - (old != 0)};
+    uint32_t *end = note(list, (size_t)(node - image) + o->links_len, o->d);
+    return (trieff_answer){.change = (value != 0) - (old != 0), .length = end != NULL};
+}
+
+/* It stays a function of its own, so that it can be counted alone. */
+__attribute__((noinline)) static trieff_answer inner_store(uint8_t *image, size_t image_len, const struct opened *o,
+                                                           const uint8_t *letters, size_t len, uint32_t value)
+{
+    return store_in(image, image_len, o, letters, len, value, NULL);
+}
+
+__attribute__((noinline)) static trieff_answer inner_store_writes(uint8_t *image, size_t image_len, const struct opened *o,
+                                                                  const uint8_t *letters, size_t len, uint32_t value,
+                                                                  uint32_t *writes)
+{
+    return store_in(image, image_len, o, letters, len, value, writes);
 }
 
 trieff_answer tuned_store(uint8_t *image, size_t image_len, uint32_t *work, size_t work_len, const uint8_t *letters,
@@ -431,7 +472,7 @@ trieff_answer tuned_store(uint8_t *image, size_t image_len, uint32_t *work, size
 {
     struct opened o;
     struct alphabet al;
-    trieff_answer answer = check(image, image_len, work, work_len, &o, &al);
+    trieff_answer answer = check(image, image_len, work, work_len, &o, &al, NULL);
     if (answer.number != 0)
         return answer;
     uint32_t number = judge_key(&o, letters, letters_len);
@@ -445,11 +486,66 @@ trieff_answer tuned_store_text(uint8_t *image, size_t image_len, uint32_t *work,
     struct alphabet al;
     uint8_t letters[KEY_MOST];
     size_t len;
-    trieff_answer answer = check(image, image_len, work, work_len, &o, &al);
+    trieff_answer answer = check(image, image_len, work, work_len, &o, &al, NULL);
     if (answer.number != 0)
         return answer;
     uint32_t number = judge_text(&o, &al, text, text_len, letters, &len);
     return number != 0 ? refusal(number, 0) : inner_store(image, image_len, &o, letters, len, value);
+}
+
+trieff_answer tuned_store_writes(uint8_t *image, size_t image_len, uint32_t *work, size_t work_len, const uint8_t *letters,
+                                 size_t letters_len, uint32_t value, uint32_t *writes)
+{
+    struct opened o;
+    struct alphabet al;
+    trieff_answer answer = check(image, image_len, work, work_len, &o, &al, NULL);
+    if (answer.number != 0)
+        return answer;
+    uint32_t number = judge_key(&o, letters, letters_len);
+    return number != 0 ? refusal(number, 0) : inner_store_writes(image, image_len, &o, letters, letters_len, value, writes);
+}
+
+trieff_answer tuned_store_text_writes(uint8_t *image, size_t image_len, uint32_t *work, size_t work_len,
+                                      const uint8_t *text, size_t text_len, uint32_t value, uint32_t *writes)
+{
+    struct opened o;
+    struct alphabet al;
+    uint8_t letters[KEY_MOST];
+    size_t len;
+    trieff_answer answer = check(image, image_len, work, work_len, &o, &al, NULL);
+    if (answer.number != 0)
+        return answer;
+    uint32_t number = judge_text(&o, &al, text, text_len, letters, &len);
+    return number != 0 ? refusal(number, 0) : inner_store_writes(image, image_len, &o, letters, len, value, writes);
+}
+
+/* ---- mending */
+
+/* How many links of the nodes from q on are not empty. */
+static uint32_t links_from(const struct opened *o, uint32_t q)
+{
+    uint32_t links = 0;
+    for (; q <= o->g; q++) {
+        if (childless(o, node_at(o, q)))
+            continue;
+        for (uint32_t i = 0; i < o->n; i++)
+            links += link_of(o, node_at(o, q), i) != 0;
+    }
+    return links;
+}
+
+/* Where 8 at p is heard no address stands in two links, and each below p stands in one of a node below p. So the image is accepted with p
+   nodes exactly if these hold p - 1 links, and no second pass over them is needed. */
+trieff_answer tuned_mend(uint8_t *image, size_t image_len, uint32_t *work, size_t work_len)
+{
+    struct opened o;
+    struct alphabet al;
+    uint32_t links;
+    trieff_answer answer = check(image, image_len, work, work_len, &o, &al, &links);
+    if (answer.number != 8 || links - links_from(&o, answer.place) != answer.place - 1)
+        return answer;
+    put_field(image + 4, 0xFFFFFFFF, answer.place - 1);
+    return (trieff_answer){.value = 0};
 }
 
 /* ---- the next key */
@@ -519,7 +615,7 @@ trieff_answer tuned_next_key(const uint8_t *image, size_t image_len, uint32_t *w
     struct opened o;
     struct alphabet al;
     struct path p;
-    trieff_answer answer = check(image, image_len, work, work_len, &o, &al);
+    trieff_answer answer = check(image, image_len, work, work_len, &o, &al, NULL);
     if (answer.number != 0)
         return answer;
     if (letters_len > o.max)
@@ -571,7 +667,7 @@ uint64_t tuned_walk(const uint8_t *image, size_t image_len, uint32_t *work, size
     struct alphabet al;
     uint8_t letters[KEY_MOST];
     uint64_t keys = 0;
-    if (check(image, image_len, work, work_len, &o, &al).number == 0 && o.max > 0)
+    if (check(image, image_len, work, work_len, &o, &al, NULL).number == 0 && o.max > 0)
         walk_below(&o, o.nodes, 0, letters, add_key, &keys);
     return keys;
 }
@@ -650,7 +746,7 @@ void tuned_list(const uint8_t *image, size_t image_len, uint32_t *work, size_t w
     struct alphabet al;
     uint8_t letters[KEY_MOST];
     uint32_t number = open_image(image, image_len, &o, &al);
-    trieff_answer answer = number != 0 ? refusal(number, 0) : judge_links(&o, work, work_len, true);
+    trieff_answer answer = number != 0 ? refusal(number, 0) : judge_links(&o, work, work_len, true, NULL);
     char *to = add_text(out.text, answer.number != 0 ? "refused " : "entries ");
     to = add_number(to, answer.number != 0 ? answer.number : answer.value);
     if (answer.number != 0)
