@@ -4,10 +4,10 @@ use Prim.Native.Nat.{ℕ, zero, suc, _+_, _-_, _*_, _≤_, _<_}
 use mathlib.Core.Path.{_≡_, refl, sym, _∙_, ap}
 use mathlib.Core.Logic.{_≢_}
 use mathlib.Core.List.{List, [], _∷_, _++_}
-use native.Mathlib.Nat.{add-mul, suc-mul}
+use native.Mathlib.Nat.{add-mul}
 use native.Mathlib.Numerals.{add-one}
 use native.Mathlib.Omega.{arith}
-use lib.ListN.{length, drop, length-append, length-replicate}
+use lib.ListN.{length, drop}
 use lib.Seq.{sets}
 use Rattle.field.proofs.Fields.{length-digits}
 use Rattle.trie.specs.Table.{Letters, missing}
@@ -16,23 +16,11 @@ use Rattle.head.specs.declared.Head.{Head}
 use Rattle.head.specs.Fields.{nodeWidth, nodePlace, usedLen}
 use Rattle.head.proofs.Places.{row, place-add}
 use Rattle.node.specs.Image.{linkPlace, dataPlace}
-use Rattle.node.specs.Writes.{Write, listed, lastNode, pathNode, newNodes, totalWrite, linkWrite, dataWrite, storeWrites}
+use Rattle.node.specs.Writes.{Write, listed, newNodes, totalWrite, linkWrite, dataWrite, storeWrites}
+use Rattle.node.proofs.Nodes.{length-path, length-last}
 use Rattle.walk.specs.declared.Position.{Position}
 use Rattle.walk.specs.declared.Walked.{Walked}
 use Rattle.storing.specs.Storing.{endOf, stoppedAt, Lists}
-
--- ---- the length of a new node
-
-last-long : (h : Head) (v : ℕ) → length (lastNode h v) ≡ nodeWidth h
-unfolding lastNode nodeWidth
-last-long h v = simp (length-append, length-replicate, length-digits)
-
-path-long : (h : Head) (y c : ℕ) → y < h .n → length (pathNode h y c) ≡ nodeWidth h
-unfolding pathNode nodeWidth
-path-long h y c b =
-    let e : suc y + (h .n - suc y) ≡ h .n = omega arith in
-    let links : suc y * h .a + (h .n - suc y) * h .a ≡ h .n * h .a = sym (add-mul (suc y) (h .n - suc y) (h .a)) ∙ ap (λ (m : ℕ). m * h .a) e in
-    simp (length-append, length-replicate, length-digits) (omega (arith, links, suc-mul y (h .a)))
 
 -- ---- the writes of a new path
 
@@ -45,10 +33,10 @@ module _ (h : Head) (v : ℕ) (ws : List Write) where
   nodes-listed : (q : ℕ) (ys : List ℕ) → Letters (h .n) ys
       → listed (newNodes h q ys v ++ ws) ≡ nodesAt (nodePlace h q) (nodeWidth h) (suc (length ys)) ++ listed ws
   unfolding listed newNodes nodesAt
-  nodes-listed q [] s = ap (λ (w : ℕ). nodePlace h q ∷ w ∷ listed ws) (last-long h v)
+  nodes-listed q [] s = ap (λ (w : ℕ). nodePlace h q ∷ w ∷ listed ws) (length-last h v)
   nodes-listed q (y ∷ ys) s =
       let next : nodePlace h (suc q) ≡ nodePlace h q + nodeWidth h = ap (nodePlace h) (sym (add-one q)) ∙ omega (arith, place-add h q 1) in
-      rw (path-long h y (suc q) (s .0), nodes-listed (suc q) ys (s .1), next)
+      rw (length-path h y (suc q) (s .0), nodes-listed (suc q) ys (s .1), next)
 
   nodes-count : (q : ℕ) (ys : List ℕ) → length (newNodes h q ys v ++ ws) ≡ suc (length ys) + length ws
   unfolding newNodes
