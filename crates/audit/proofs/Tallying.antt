@@ -15,7 +15,7 @@ use Rattle.trie.specs.Table.{Table}
 use Rattle.head.specs.declared.Head.{Head}
 use Rattle.node.specs.Image.{tableOf}
 use Rattle.paper.specs.Rows.{badLink, holdsBad, timesIn, times}
-use Rattle.paper.proofs.Checking.{link-within, holds-bad}
+use Rattle.paper.proofs.Linking.{link-within, holds-bad}
 use Rattle.audit.specs.Audit.{Kept, LinksCounted, Tallied, Tally, BadFrom}
 use Rattle.audit.proofs.Seeking.{Seeking, seeking-none, seeking-more, seeking-found, seeking-all}
 

@@ -40,6 +40,7 @@ use Rattle.paper.specs.Calls.{tableIn, workAfter, checkOf, namedIn, writesIn, s
 use Rattle.paper.specs.Accepted.{Accepted}
 use Rattle.paper.specs.Granted.{Granted}
 use Rattle.paper.proofs.Hearing.{heard-done}
+use Rattle.paper.proofs.Linking.{Unlinked}
 use Rattle.paper.proofs.Checking.{accepted-opens, accepted-checks}
 use Rattle.paper.proofs.Storing.{able, accepted-again, store-granted, store-text-granted}
 use Rattle.paper.proofs.Mending.{accepted-exactly, mend-kept, mend-lowered}
@@ -47,7 +48,7 @@ use Rattle.cuts.specs.Cut.{hit, cutAfter}
 use Rattle.cuts.specs.Answers.{MendsTo}
 use Rattle.cuts.proofs.Lists.{From, from-before, length-cut, carried-before, cut-before-all, cut-append, cut-whole, hit-none}
 use Rattle.cuts.proofs.Seen.{seenIn, before-used, opens-same, seen-same, seen-below, same-answers, same-accepted}
-use Rattle.cuts.proofs.Unlinked.{Unlinked, check-unlinked}
+use Rattle.cuts.proofs.Unlinked.{check-unlinked}
 
 -- ---- an image that looks as an accepted one does
 
@@ -183,10 +184,7 @@ module _ {l key : List ℕ} {v : ℕ} (s : Granted l key (suc v)) {q x : ℕ} {x
         empty = empty;
         least = omega arith;
         most = rw heads (omega arith);
-        within = rw (linked, same-head) at (a .within);
-        rising = rw linked at (a .rising);
-        named = rw (linked, same-head) at (a .named);
-        once = rw linked at (a .once);
+        rules = rw (linked, same-head) at (a .links);
       }
 
   opened : first (openingOf counted) ≡ none
@@ -271,7 +269,7 @@ cut-data : {l key : List ℕ} {value q : ℕ} → Granted l key value → descen
 unfolding storeWrites cutAfter dataWrite
 cut-data {l} {key} {value} {q} s e lands work zero b =
     let h : Head = headOf l in
-    let within = complete-within (tableIn l) (h .g) key (s .accepted .within) e in
+    let within = complete-within (tableIn l) (h .g) key (s .accepted .links .within) e in
     let used : dataPlace h q < usedLen h = omega (arith, inside-used (data-inside h q) within, bounds h (s .accepted .head-permitted) .d-least) in
     not-landed lands work l (dataWrite h q value) (s .accepted) refl used
 cut-data s e lands work (suc k) b = absurd (omega arith)

@@ -73,7 +73,7 @@ store-laid : {l key : List ℕ} (d : Descent) (v : ℕ) → descend (tableIn l) 
 unfolding storeWrites dataWrite totalWrite linkWrite
 store-laid {l} {key} (complete q) v e s =
     let h : Head = headOf l in
-    let within = complete-within (tableIn l) (h .g) key (s .accepted .within) e in
+    let within = complete-within (tableIn l) (h .g) key (s .accepted .links .within) e in
     (omega (arith, length-digits (h .d) v, inside-used (data-inside h q) within, s .accepted .room), tt, tt)
 store-laid (stopped q x xs) zero e s = tt
 store-laid {l} (stopped q x xs) (suc v) e s =

@@ -35,7 +35,8 @@ use Rattle.paper.specs.Orders.{alphabetIn, openingOf, byLetters, byText}
 use Rattle.paper.specs.Calls.{tableIn, workAfter, checkOf, lookUpBy, lookUpOf, namedIn, lookUpTextOf, withG, isAccepted, mends, mendOf}
 use Rattle.paper.specs.Accepted.{Accepted}
 use Rattle.paper.proofs.Opening.{Passed, passed}
-use Rattle.paper.proofs.Checking.{not-bad, check-exactly}
+use Rattle.paper.proofs.Linking.{milder}
+use Rattle.paper.proofs.Checking.{check-exactly}
 use Rattle.paper.proofs.Storing.{unfaulted, looks-up-open, looks-up-accepted}
 use Rattle.paper.proofs.Mending.{accepted-exactly, mend-kept, mend-lowered, Eight, eight}
 use Rattle.cuts.specs.Answers.{mendedImage}
@@ -147,13 +148,11 @@ module _ (l work : List ℕ) (e : mends l (checkOf l work .numbers) ≡ true) wh
       }
 
   within : Within (tableIn m) low
-  within = subst (λ (k : Head). Within (tableIn m) (k .g)) heads (again .within)
+  within = subst (λ (k : Head). Within (tableIn m) (k .g)) heads (again .links .within)
 
   -- what is bad with the G there was is bad with the lower one
-  milder : (q c : ℕ) → badLink (headOf m .g) q c ≡ false → badLink (h .g) q c ≡ false
-  milder q c f =
-      let g : headOf m .g ≡ low = ap (λ (k : Head). k .g) heads in
-      not-bad (h .g) q c .1 (⊎-elim inl (λ b. inr (omega (arith, below), b .1)) (not-bad (headOf m .g) q c .0 f))
+  milder-here : (q c : ℕ) → badLink (headOf m .g) q c ≡ false → badLink (h .g) q c ≡ false
+  milder-here q c f = let g : headOf m .g ≡ low = ap (λ (k : Head). k .g) heads in milder (headOf m .g) (h .g) q c (omega (arith, below)) f
 
   looks-alike : (keyed : List Row) (key : List ℕ) → lookUpBy m keyed key ≡ lookUpBy l keyed key
   looks-alike keyed key =
@@ -161,7 +160,7 @@ module _ (l work : List ℕ) (e : mends l (checkOf l work .numbers) ≡ true) wh
       ∙ ap (λ (v : ℕ). heard (first keyed) [] (outcome (doneNumbers 0 (pos 0) v) [])) (answer-alike agree within key)
       ∙ sym
       (looks-up-open l keyed key (told .opened)
-      (fault-alike agree within (badLink (headOf m .g)) (badLink (h .g)) milder 0 key (omega arith) (unfaulted again 0 key)))
+      (fault-alike agree within (badLink (headOf m .g)) (badLink (h .g)) milder-here 0 key (omega arith) (unfaulted again 0 key)))
 
   letters-alike : (key : List ℕ) → lookUpOf m key ≡ lookUpOf l key
   unfolding lookUpOf byLetters row9 row10

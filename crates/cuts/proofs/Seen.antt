@@ -11,7 +11,7 @@ use lib.Seq.{sets, ext-getD, getD-take, getD-drop}
 use lib.IntN.{pos}
 use Rattle.trie.specs.Table.{Table, answer}
 use Rattle.trie.specs.Keys.{listing, meets, firstMeeting}
-use Rattle.trie.specs.Rules.{Within, Rising, Named, Once}
+use Rattle.trie.specs.Rules.{LinkRules}
 use Rattle.head.specs.declared.Head.{Head}
 use Rattle.head.specs.Fields.{shortestImage, longestImage, fieldsLen, headOf, permitted, usedLen}
 use Rattle.head.proofs.Fields.{head-same}
@@ -132,8 +132,5 @@ module _ {a b : List ℕ} (e : seenIn a ≡ seenIn b) where
         head-permitted = subst (λ (s : Seen). permitted (s .head) ≡ true) back (x .head-permitted);
         alphabet-good = subst (λ (s : Seen). 0 < s .head .f → goodAlphabet (s .head .n) (s .alphabet) ≡ true) back (x .alphabet-good);
         room = subst (λ (s : Seen). usedLen (s .head) ≤ s .len) back (x .room);
-        within = subst (λ (s : Seen). Within (s .table) (s .head .g)) back (x .within);
-        rising = subst (λ (s : Seen). Rising (s .table)) back (x .rising);
-        named = subst (λ (s : Seen). Named (s .table) (s .head .g)) back (x .named);
-        once = subst (λ (s : Seen). Once (s .table)) back (x .once);
+        links = subst (λ (s : Seen). LinkRules (s .table) (s .head .g)) back (x .links);
       }

@@ -163,10 +163,13 @@ module _ {h : Head} {alphabet image : List ℕ} (m : Made h alphabet image) wher
             rw (fresh-alphabet, e)
             (unspoilt-good h alphabet (length image) (m .judged .unspoilt) (rw e at b) (sym (m .all-letters)));
         room = rw (e, long) (m .judged .room);
-        within = λ q i. omega (arith, fresh-child q i);
-        rising = λ q i full. absurd (full (fresh-child q i));
-        named = λ x low high. absurd (omega (arith, ap (λ (k : Head). k .g) e, m .root-alone));
-        once = λ q i p j full same. absurd (full (fresh-child q i));
+        links =
+            record {
+              within = λ q i. omega (arith, fresh-child q i);
+              rising = λ q i full. absurd (full (fresh-child q i));
+              named = λ x low high. absurd (omega (arith, ap (λ (k : Head). k .g) e, m .root-alone));
+              once = λ q i p j full same. absurd (full (fresh-child q i));
+            };
       }
 
   pub fresh-answers : (k : List ℕ) → answer (tableIn (freshImage h alphabet image)) k ≡ 0

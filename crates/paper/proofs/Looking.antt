@@ -35,7 +35,7 @@ use Rattle.paper.proofs.Numbers.{Says, AllSay, end, _then_, at-says, pa
 use Rattle.paper.proofs.Opening.{Passed, passed, opening-says, unspoilt-good, alphabet-whole}
 use Rattle.paper.proofs.Keying.{keyNumbers, some-found, letters-fit, text-fit, letters-say, text-says}
 use Rattle.paper.proofs.Named.{named-letters}
-use Rattle.paper.proofs.Checking.{good-link}
+use Rattle.paper.proofs.Linking.{good-link}
 
 -- ---- 002's reads and the table
 

@@ -73,3 +73,23 @@ pub none-heard : {numbers : List ℕ} {r : Row} (kept : List (List ℕ)) (done :
 unfolding heard refusedNumbers
 none-heard kept done silent z e = refl
 none-heard {numbers} kept done (saying p) z e = absurd (true≢false (sym p ∙ ap (λ (m : ℕ). among m numbers) e ∙ z))
+
+-- ---- which row said a number
+
+-- a row that cannot say a number is not what said it
+pub pass-row : {numbers : List ℕ} {r : Row} (rows : List Row) {s : Said} (n : ℕ) → Says numbers r → among n numbers ≡ false → s .number ≡ n
+    → first (r ∷ rows) ≡ some s → (r ≡ none) × (first rows ≡ some s)
+unfolding first
+pass-row rows n silent z k e = (refl, e)
+pass-row {numbers} rows {s} n (saying {s = t} p) z k e =
+    let same : t .number ≡ s .number = cc in
+    absurd (true≢false (sym p ∙ ap (λ (m : ℕ). among m numbers) (same ∙ k) ∙ z))
+
+pub pass-part : {numbers : List ℕ} {xs : List Row} (ys : List Row) {s : Said} (n : ℕ) → AllSay numbers xs → among n numbers ≡ false → s .number ≡ n
+    → first (xs ++ ys) ≡ some s → (first xs ≡ none) × (first ys ≡ some s)
+unfolding first
+pass-part ys n end z k e = (refl, e)
+pass-part ys n (silent then p) z k e = pass-part ys n p z k e
+pass-part {numbers} ys {s} n (saying {s = t} q then p) z k e =
+    let same : t .number ≡ s .number = cc in
+    absurd (true≢false (sym q ∙ ap (λ (m : ℕ). among m numbers) (same ∙ k) ∙ z))

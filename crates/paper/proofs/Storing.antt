@@ -18,13 +18,13 @@ use Rattle.field.specs.Field.{digits}
 use Rattle.field.proofs.Range.{between-true}
 use Rattle.trie.specs.Table.{Table, Descent, complete, stopped, descend, answer, missing, fault}
 use Rattle.trie.specs.Keys.{listing}
-use Rattle.trie.specs.Rules.{Linked}
+use Rattle.trie.specs.Rules.{LinkRules}
 use Rattle.trie.specs.Storing.{stored, storedBy, added, changeOf}
 use Rattle.trie.proofs.Walk.{complete-within}
 use Rattle.trie.proofs.Faults.{fault-nil, fault-empty, fault-on}
 use Rattle.trie.proofs.Grow.{room}
-use Rattle.trie.proofs.Storing.{none-added, stored-answer, stored-answer-other, stored-linked}
-use Rattle.trie.proofs.Rising.{stored-rising}
+use Rattle.trie.proofs.Storing.{none-added, stored-answer, stored-answer-other}
+use Rattle.trie.proofs.Rules.{stored-rules}
 use Rattle.trie.proofs.Count.{stored-count}
 use Rattle.head.specs.declared.Head.{Head}
 use Rattle.head.specs.Fields.{fieldsLen, headOf, permitted, nodeWidth, usedLen}
@@ -37,6 +37,7 @@ use Rattle.node.specs.Writes.{carriedOut, dataWrite, storeWrites}
 use Rattle.node.specs.Frame.{Touched}
 use Rattle.node.proofs.Places.{data-from}
 use Rattle.node.proofs.Heads.{withTotal, used-more}
+use Rattle.node.proofs.Tables.{framed}
 use Rattle.node.proofs.Storing.{length-carried, Storable, store-new, store-over, store-head}
 use Rattle.node.proofs.Frame.{EndsIn, frame, none-before, spare}
 use Rattle.paper.specs.Hearing.{Said, Row, Outcome, first, heard, outcome, doneNumbers}
@@ -48,7 +49,8 @@ use Rattle.paper.specs.Granted.{Fit, Granted}
 use Rattle.paper.proofs.Hearing.{not-given, was-false, first-nil, first-none, yes-row, no-row, first-part, second-part, passed-row, passed-parts, silent-end, heard-done, heard-alike, kept-lent}
 use Rattle.paper.proofs.Numbers.{AllSay, end, _then_, given-says, parts-say, first-says, one-of, none-heard}
 use Rattle.paper.proofs.Keying.{some-found, letters-fit, text-fit, fit-letters, fit-text, keyNumbers, letters-say, text-says}
-use Rattle.paper.proofs.Checking.{not-bad, accepted-opens, check-accepts, accepted-checks, checking-says, checked, accepted-linked}
+use Rattle.paper.proofs.Checking.{accepted-opens, check-accepts, accepted-checks, checking-says, checked, accepted-linked}
+use Rattle.paper.proofs.Linking.{ruled-link}
 use Rattle.paper.proofs.Looking.{named-fit}
 
 -- ---- the head and the table after it
@@ -81,7 +83,7 @@ module _ {l key : List ℕ} {value : ℕ} (s : Granted l key value) where
   ends = go (descend (tableIn l) 0 key) refl
     where
       go : (d : Descent) → descend (tableIn l) 0 key ≡ d → EndsIn (headOf l) d
-      go (complete q) e = complete-within (tableIn l) (headOf l .g) key (s .accepted .within) e
+      go (complete q) e = complete-within (tableIn l) (headOf l .g) key (s .accepted .links .within) e
       go (stopped q x xs) e = let r = room key (accepted-linked (s .accepted)) (s .fit .below) e in (r .node, r .letters)
 
   written : (d : Descent) (v : ℕ) → descend (tableIn l) 0 key ≡ d → value ≡ v → EndsIn (headOf l) d
@@ -156,9 +158,9 @@ module _ {l key : List ℕ} {value : ℕ} (s : Granted l key value) where
       go (yes z) = rw z (omega (arith, s .accepted .room))
       go (no z) = s .room (omega arith)
 
-  stored-links : Linked (stored (tableIn l) (headOf l .g) key value) (headOf l .g + newOf (headOf l) l key value) (headOf l .n)
+  stored-links : LinkRules (stored (tableIn l) (headOf l .g) key value) (headOf l .g + newOf (headOf l) l key value)
   unfolding newOf tableIn
-  stored-links = stored-linked (accepted-linked (s .accepted)) key (s .fit .below) value
+  stored-links = stored-rules (framed (headOf l) l) (s .accepted .links) key (s .fit .below) value
 
   stored-permitted : permitted (headOf (storedImage l key value)) ≡ true
   unfolding permitted
@@ -173,10 +175,7 @@ module _ {l key : List ℕ} {value : ℕ} (s : Granted l key value) where
         head-permitted = stored-permitted;
         alphabet-good = rw (stored-alphabet, stored-head s) (a .alphabet-good);
         room = stored-room;
-        within = rw (stored-table s, stored-head s) (stored-links .within);
-        rising = rw (stored-table s) (stored-rising (tableIn l) (headOf l .g) key value (a .within) (a .rising));
-        named = rw (stored-table s, stored-head s) (stored-links .named);
-        once = rw (stored-table s) (stored-links .once);
+        links = rw (stored-table s, stored-head s) stored-links;
       }
 
 -- ---- a lookup in an image that was opened, on a path with no bad link
@@ -213,7 +212,7 @@ module _ {l : List ℕ} (a : Accepted l) where
       go : Dec (c ≡ 0) → fault bad (tableIn l) c xs ≡ none → fault bad (tableIn l) q (x ∷ xs) ≡ none
       go (yes e) rest = fault-empty bad (tableIn l) q x xs e
       go (no e) rest =
-          fault-on bad (tableIn l) q x xs refl e (not-bad (headOf l .g) q c .1 (inr (a .within q x, a .rising q x e))) ∙ rest
+          fault-on bad (tableIn l) q x xs refl e (ruled-link (a .links) q x e) ∙ rest
 
   pub looks-up-accepted : (keyed : List Row) (key : List ℕ)
       → lookUpBy l keyed key ≡ heard (first keyed) [] (outcome (doneNumbers 0 (pos 0) (answer (tableIn l) key)) [])

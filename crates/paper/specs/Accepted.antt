@@ -5,7 +5,7 @@ use mathlib.Core.Path.{_≡_}
 use mathlib.Core.Bool.{true}
 use mathlib.Core.List.{List}
 use lib.ListN.{length}
-use Rattle.trie.specs.Rules.{Within, Rising, Named, Once}
+use Rattle.trie.specs.Rules.{LinkRules}
 use Rattle.head.specs.Fields.{shortestImage, longestImage, headOf, permitted, usedLen}
 use Rattle.alphabet.specs.Letters.{goodAlphabet}
 use Rattle.paper.specs.Orders.{alphabetIn}
@@ -21,10 +21,6 @@ pub record Accepted (l : List ℕ) : Type 0 where
   pub alphabet-good : 0 < headOf l .f → goodAlphabet (headOf l .n) (alphabetIn (headOf l) l) ≡ true
   -- "The used length is U ... The lent image may be longer"
   pub room : usedLen (headOf l) ≤ length l
-  -- "every link that isn't empty is at most G"
-  pub within : Within (tableIn l) (headOf l .g)
-  -- "and greater than the address of the node it stands in"
-  pub rising : Rising (tableIn l)
-  -- "Every address from 1 to G stands in exactly one link"
-  pub named : Named (tableIn l) (headOf l .g)
-  pub once : Once (tableIn l)
+  -- "every link that isn't empty is at most G and greater than the address of the node it stands in. Every address from 1 to G stands in
+  -- exactly one link"
+  pub links : LinkRules (tableIn l) (headOf l .g)

@@ -16,7 +16,7 @@ use Rattle.trie.proofs.Walk.{follow-empty, follow-on, descend-nil, descend-empt
 use Rattle.paper.specs.declared.Looked.{Looked}
 use Rattle.paper.specs.declared.Refusal.the-variants.{Link}
 use Rattle.paper.specs.Rows.{badLink}
-use Rattle.paper.proofs.Checking.{good-link}
+use Rattle.paper.proofs.Linking.{good-link}
 use Rattle.walk.specs.declared.Position.{Position}
 use Rattle.walk.specs.declared.Step.{Step}
 use Rattle.walk.specs.declared.Walked.{Walked}
