@@ -19,7 +19,8 @@ use Rattle.node.specs.Image.{tableOf, Open}
 use Rattle.node.proofs.Tables.{framed}
 use Rattle.paper.specs.Hearing.{first, heard, doneNumbers}
 use Rattle.paper.specs.Rows.{row5}
-use Rattle.paper.specs.Orders.{alphabetIn, openingOf, linking, checking}
+use Rattle.paper.specs.Given.{alphabetIn}
+use Rattle.paper.specs.Orders.{openingOf, linking, checking}
 use Rattle.paper.specs.Calls.{tableIn, checkOf}
 use Rattle.paper.specs.Accepted.{Accepted}
 use Rattle.paper.proofs.Hearing.{was-false, no-row, second-part, passed-row, passed-parts}

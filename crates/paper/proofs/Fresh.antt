@@ -25,7 +25,8 @@ use Rattle.node.specs.Image.{tableOf}
 use Rattle.node.proofs.Tables.{framed}
 use Rattle.node.proofs.Nodes.{Blank, blank-child, blank-value, blank-cleared}
 use Rattle.paper.specs.Hearing.{first, outcome, doneNumbers}
-use Rattle.paper.specs.Orders.{alphabetIn, opening}
+use Rattle.paper.specs.Given.{alphabetIn}
+use Rattle.paper.specs.Orders.{opening}
 use Rattle.paper.specs.Calls.{tableIn, freshHead, freshImage, makeOf, storedKeys}
 use Rattle.paper.specs.Accepted.{Accepted}
 use Rattle.paper.proofs.Hearing.{heard-done}

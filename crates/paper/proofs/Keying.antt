@@ -1,7 +1,7 @@
 -- 9 and 10, whoever asks: what a key that passes them is known to be, by letters, by text and for next key, and which numbers they say.
 -- Each law goes down the two rows by the laws of `Hearing`.
 use Prim.Native.Nat.{ℕ, _≤_}
-use mathlib.Core.Path.{_≡_, refl, _∙_}
+use mathlib.Core.Path.{_≡_, refl, ap, _∙_}
 use mathlib.Core.Logic.{_↔_}
 use mathlib.Core.Bool.{true, false, not}
 use mathlib.Core.Option.{Option, none, some}
@@ -17,7 +17,8 @@ use Rattle.head.specs.declared.Head.{Head}
 use Rattle.alphabet.specs.Letters.{among, lettersIn}
 use Rattle.paper.specs.Hearing.{first}
 use Rattle.paper.specs.Rows.{row9, row9next, allBelow, row10, isNone, row10text}
-use Rattle.paper.specs.Orders.{byLetters, byText, byNext}
+use Rattle.paper.specs.Given.{Given, asLetters, asText, meantBy}
+use Rattle.paper.specs.Orders.{byLetters, byText, keyingBy, byNext}
 use Rattle.paper.specs.Granted.{Fit}
 use Rattle.paper.proofs.Hearing.{untrue, was-false, first-nil, no-row, passed-row}
 use Rattle.paper.proofs.Numbers.{Says, AllSay, end, _then_, given-says}
@@ -69,7 +70,23 @@ pub fit-text : {h : Head} {key : List ℕ} → Fit h key → first (byText h (so
 unfolding byText row10text isNone row9 lettersIn
 fit-text f = no-row 10 0 _ refl ∙ no-row 9 0 _ (untrue (f .allowed)) ∙ first-nil
 
--- the key from which the next one is sought: "For next key, 9 means only a key longer than max"
+-- ---- a key as it is given, by letters or by text
+
+-- one that passes is meant
+pub given-meant : (h : Head) (alphabet : List ℕ) (given : Given) → first (keyingBy h alphabet given) ≡ none
+    → meantBy alphabet given ≡ some (lettersIn (meantBy alphabet given))
+unfolding keyingBy meantBy lettersIn
+given-meant h alphabet (asLetters key) e = refl
+given-meant h alphabet (asText text) e = let named = meantBy alphabet (asText text) in some-found named (text-fit h named e .0)
+
+-- one that is meant, and fit, passes
+pub fit-given : (h : Head) (alphabet : List ℕ) (given : Given) {key : List ℕ} → meantBy alphabet given ≡ some key → Fit h key
+    → first (keyingBy h alphabet given) ≡ none
+unfolding keyingBy meantBy
+fit-given h alphabet (asLetters k) {key} e f = let same : k ≡ key = cc in fit-letters (rw same f)
+fit-given h alphabet (asText text) e f = ap (λ (named : Option (List ℕ)). first (byText h named)) e ∙ fit-text f
+
+-- ---- the key from which the next one is sought: "For next key, 9 means only a key longer than max"
 pub record Askable (h : Head) (key : List ℕ) : Type 0 where
   pub short : length key ≤ h .max
   pub below : Letters (h .n) key
@@ -92,13 +109,18 @@ ten-says : (h : Head) (key : List ℕ) → Says keyNumbers (row10 h key)
 unfolding row10 among
 ten-says h key = given-says 10 0 (not (allBelow (h .n) key)) refl
 
-pub letters-say : (h : Head) (key : List ℕ) → AllSay keyNumbers (byLetters h key)
+letters-say : (h : Head) (key : List ℕ) → AllSay keyNumbers (byLetters h key)
 unfolding byLetters
 letters-say h key = nine-says h key then ten-says h key then end
 
-pub text-says : (h : Head) (named : Option (List ℕ)) → AllSay keyNumbers (byText h named)
+text-says : (h : Head) (named : Option (List ℕ)) → AllSay keyNumbers (byText h named)
 unfolding byText row10text among
 text-says h named = let ten : Says keyNumbers (row10text named) = given-says 10 0 (isNone named) refl in search (_then_, end, nine-says)
+
+pub given-says-key : (h : Head) (alphabet : List ℕ) (given : Given) → AllSay keyNumbers (keyingBy h alphabet given)
+unfolding keyingBy
+given-says-key h alphabet (asLetters key) = letters-say h key
+given-says-key h alphabet (asText text) = text-says h (meantBy alphabet (asText text))
 
 pub next-says : (h : Head) (key : List ℕ) → AllSay keyNumbers (byNext h key)
 unfolding byNext row9next among

@@ -26,14 +26,15 @@ use Rattle.node.specs.Image.{linkPlace, dataPlace, tableOf}
 use Rattle.node.proofs.Tables.{child-in, value-in}
 use Rattle.paper.specs.Hearing.{Said, Row, Outcome, first, doneNumbers}
 use Rattle.paper.specs.Rows.{badLink, isNone, rowAt, row6path}
-use Rattle.paper.specs.Orders.{alphabetIn, openingOf, byLetters, byText, lookingUp}
-use Rattle.paper.specs.Calls.{tableIn, lookUpBy, lookUpOf, namedIn, lookUpTextOf}
-use Rattle.paper.specs.Walk002.{dataRead, linkRead, unlessEmpty, queryFrom, query002, indexOf, queryChars, queryText002}
+use Rattle.paper.specs.Given.{Given, asLetters, asText, alphabetIn, meantBy, meantIn, keyIn}
+use Rattle.paper.specs.Orders.{openingOf, keyingBy, keying, lookingUp}
+use Rattle.paper.specs.Calls.{tableIn, lookUpOf}
+use Rattle.paper.specs.Walk002.{dataRead, linkRead, unlessEmpty, queryFrom, query002, indexOf, queryChars, queryOf002}
 use Rattle.paper.specs.Granted.{Fit}
 use Rattle.paper.proofs.Hearing.{passed-row, passed-parts, heard-done}
-use Rattle.paper.proofs.Numbers.{Says, AllSay, end, _then_, at-says, parts-say, first-says, one-of, none-heard}
+use Rattle.paper.proofs.Numbers.{Says, end, _then_, at-says, parts-say, first-says, one-of, none-heard}
 use Rattle.paper.proofs.Opening.{Passed, passed, opening-says, unspoilt-good, alphabet-whole}
-use Rattle.paper.proofs.Keying.{keyNumbers, some-found, letters-fit, text-fit, letters-say, text-says}
+use Rattle.paper.proofs.Keying.{some-found, letters-fit, text-fit, given-says-key}
 use Rattle.paper.proofs.Named.{named-letters}
 use Rattle.paper.proofs.Linking.{good-link}
 
@@ -158,16 +159,16 @@ named-002 l (some cs) e = go (lettersOf (allowedIn l) cs) (spells (headOf l) (al
     go none s f = let z : _≡_ {A = ℕ} 0 1 = cc in absurd (omega arith)
     go (some k) s f = ap (query002 l) s
 
--- the letters of the key that a text names are letters of the image
-pub named-fit : (l text : List ℕ) → first (openingOf l) ≡ none → first (byText (headOf l) (namedIn l text)) ≡ none
-    → Fit (headOf l) (lettersIn (namedIn l text))
-unfolding namedIn
-named-fit l text opened passes =
-    let t = text-fit (headOf l) (namedIn l text) passes in
+-- the letters of the key that is meant are letters of the image
+pub given-fit : (l : List ℕ) (given : Given) → first (openingOf l) ≡ none → first (keying l given) ≡ none → Fit (headOf l) (keyIn l given)
+unfolding keying keyingBy keyIn meantIn meantBy lettersIn
+given-fit l (asLetters key) opened passes = letters-fit (headOf l) key passes
+given-fit l (asText text) opened passes =
+    let named : Option (List ℕ) = keyOfText (allowedIn l) text in
+    let t = text-fit (headOf l) named passes in
     record {
       allowed = t .1;
-      below = letters-more _ _ (lettersIn (namedIn l text)) (alphabet-most l opened)
-          (named-letters (allowedIn l) text (some-found (namedIn l text) (t .0)));
+      below = letters-more _ _ (lettersIn named) (alphabet-most l opened) (named-letters (allowedIn l) text (some-found named (t .0)));
     }
 
 -- ---- a lookup that is not refused
@@ -177,37 +178,42 @@ abbrev pub lookUpNumbers : List ℕ
 lookUpNumbers = 1 ∷ 2 ∷ 3 ∷ 4 ∷ 9 ∷ 10 ∷ 6 ∷ []
 
 -- what a lookup that is not refused has passed
-pub record Unrefused (l : List ℕ) (keyed : List Row) (key : List ℕ) : Type 0 where
-  pub none-given : first (lookingUp l keyed key) ≡ none
+pub record Unrefused (l : List ℕ) (given : Given) : Type 0 where
+  pub none-given : first (lookingUp l given) ≡ none
   pub opened : first (openingOf l) ≡ none
-  pub key-passed : first keyed ≡ none
-  pub path : fault (badLink (headOf l .g)) (tableIn l) 0 key ≡ none
+  pub key-passed : first (keying l given) ≡ none
+  pub path : fault (badLink (headOf l .g)) (tableIn l) 0 (keyIn l given) ≡ none
 
 no-fault : (at : Option ℕ) → rowAt at ≡ none → at ≡ none
 unfolding rowAt
 no-fault none e = refl
 no-fault (some q) e = let z : _≡_ {A = ℕ} 0 1 = cc in absurd (omega arith)
 
--- with any part for the key whose rows say 9 and 10
-module _ (l : List ℕ) (keyed : List Row) (key : List ℕ) where
-  pub looking-says : AllSay keyNumbers keyed → Says lookUpNumbers (first (lookingUp l keyed key))
-  unfolding lookingUp openingOf row6path among
-  looking-says p =
-      let path = at-says {numbers = 6 ∷ []} (fault (badLink (headOf l .g)) (tableOf (headOf l) l) 0 key) refl in
-      first-says (parts-say (opening-says (headOf l) (alphabetIn (headOf l) l) (length l)) (parts-say p (path then end)))
+-- where the key passed, 002 makes the same of what is given
+meant-002 : (l : List ℕ) (given : Given) → first (keying l given) ≡ none → queryOf002 l given ≡ query002 l (keyIn l given)
+unfolding keying keyingBy keyIn meantIn meantBy lettersIn queryOf002 keyOfText
+meant-002 l (asLetters key) e = refl
+meant-002 l (asText text) e = named-002 l (chars text) (text-fit (headOf l) (keyOfText (allowedIn l) text) e .0)
+
+module _ (l : List ℕ) (given : Given) where
+  pub looking-says : Says lookUpNumbers (first (lookingUp l given))
+  unfolding lookingUp keying openingOf row6path among
+  looking-says =
+      let path = at-says {numbers = 6 ∷ []} (fault (badLink (headOf l .g)) (tableOf (headOf l) l) 0 (keyIn l given)) refl in
+      let keyed = given-says-key (headOf l) (alphabetIn (headOf l) l) given in
+      first-says (parts-say (opening-says (headOf l) (alphabetIn (headOf l) l) (length l)) (parts-say keyed (path then end)))
 
   -- a lookup's refusals have these numbers alone
-  pub looking-refuses : {s : Said} → AllSay keyNumbers keyed → first (lookingUp l keyed key) ≡ some s
-      → among (s .number) lookUpNumbers ≡ true
-  looking-refuses p e = one-of (looking-says p) e
+  pub looking-refuses : {s : Said} → first (lookingUp l given) ≡ some s → among (s .number) lookUpNumbers ≡ true
+  looking-refuses e = one-of looking-says e
 
-  pub unrefused : AllSay keyNumbers keyed → lookUpBy l keyed key .numbers .number ≡ 0 → Unrefused l keyed key
-  unfolding lookUpBy lookingUp row6path tableIn among
-  unrefused p e =
-      let passes : first (lookingUp l keyed key) ≡ none = none-heard [] _ (looking-says p) refl e in
-      let last : List Row = row6path (headOf l) (tableOf (headOf l) l) key ∷ [] in
-      let after4 = passed-parts (openingOf l) (keyed ++ last) passes in
-      let after10 = passed-parts keyed last (after4 .1) in
+  pub unrefused : lookUpOf l given .numbers .number ≡ 0 → Unrefused l given
+  unfolding lookUpOf lookingUp row6path tableIn among
+  unrefused e =
+      let passes : first (lookingUp l given) ≡ none = none-heard [] _ looking-says refl e in
+      let last : List Row = row6path (headOf l) (tableOf (headOf l) l) (keyIn l given) ∷ [] in
+      let after4 = passed-parts (openingOf l) (keying l given ++ last) passes in
+      let after10 = passed-parts (keying l given) last (after4 .1) in
       record {
         none-given = passes;
         opened = after4 .0;
@@ -216,28 +222,15 @@ module _ (l : List ℕ) (keyed : List Row) (key : List ℕ) where
       }
 
   -- the core: guarded by the rows passed, our walk is 002's
-  pub answered : Unrefused l keyed key → Fit (headOf l) key → lookUpBy l keyed key .numbers .value ≡ query002 l key
-  unfolding lookUpBy query002 answer tableIn doneNumbers
-  answered o k =
+  answered : Unrefused l given → lookUpOf l given .numbers .value ≡ query002 l (keyIn l given)
+  unfolding lookUpOf query002 answer tableIn doneNumbers
+  answered o =
+      let key : List ℕ = keyIn l given in
+      let k = given-fit l given (o .opened) (o .key-passed) in
       let b = between-true (length key) (headOf l .min) (headOf l .max) (k .allowed) in
-      ap (λ (r : Outcome). r .numbers .value) (heard-done (first (lookingUp l keyed key)) [] _ (o .none-given))
+      ap (λ (r : Outcome). r .numbers .value) (heard-done (first (lookingUp l given)) [] _ (o .none-given))
       ∙ agree (headOf l) l 0 key (omega arith) (k .below) (o .path)
       ∙ sym (rw (le-ltb (length key) (headOf l .min) (b .0), le-ltb (headOf l .max) (length key) (b .1)))
 
--- by letters
-pub looks-up-002 : (l key : List ℕ) → lookUpOf l key .numbers .number ≡ 0 → lookUpOf l key .numbers .value ≡ query002 l key
-unfolding lookUpOf
-looks-up-002 l key e =
-    let o = unrefused l (byLetters (headOf l) key) key (letters-say (headOf l) key) e in
-    answered l (byLetters (headOf l) key) key o (letters-fit (headOf l) key (o .key-passed))
-
--- by text
-pub looks-up-text-002 : (l text : List ℕ) → lookUpTextOf l text .numbers .number ≡ 0
-    → lookUpTextOf l text .numbers .value ≡ queryText002 l text
-unfolding lookUpTextOf namedIn keyOfText queryText002
-looks-up-text-002 l text e =
-    let h : Head = headOf l in
-    let named : Option (List ℕ) = namedIn l text in
-    let o = unrefused l (byText h named) (lettersIn named) (text-says h named) e in
-    answered l (byText h named) (lettersIn named) o (named-fit l text (o .opened) (o .key-passed))
-    ∙ sym (named-002 l (chars text) (text-fit h named (o .key-passed) .0))
+  pub looks-up-002 : lookUpOf l given .numbers .number ≡ 0 → lookUpOf l given .numbers .value ≡ queryOf002 l given
+  looks-up-002 e = let o = unrefused e in answered o ∙ sym (meant-002 l given (o .key-passed))

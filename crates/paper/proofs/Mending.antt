@@ -20,7 +20,8 @@ use Rattle.alphabet.specs.Letters.{among}
 use Rattle.node.specs.Image.{tableOf}
 use Rattle.paper.specs.Hearing.{Said, Row, Outcome, outcome, first, heard, refusedNumbers, doneNumbers}
 use Rattle.paper.specs.Rows.{row5}
-use Rattle.paper.specs.Orders.{alphabetIn, openingOf, linking, checking}
+use Rattle.paper.specs.Given.{alphabetIn}
+use Rattle.paper.specs.Orders.{openingOf, linking, checking}
 use Rattle.paper.specs.Calls.{clearedBy, workAfter, checkOf, withG, isAccepted, mends, mendBy, mendOf}
 use Rattle.paper.specs.Accepted.{Accepted}
 use Rattle.paper.proofs.Hearing.{was-false, first-nil, no-row, second-part}

@@ -19,7 +19,8 @@ use Rattle.alphabet.specs.Letters.{among, goodAlphabet}
 use Rattle.paper.specs.Hearing.{Row, first}
 use Rattle.paper.specs.Answers.{said}
 use Rattle.paper.specs.Rows.{row1, row2, row3, row4}
-use Rattle.paper.specs.Orders.{alphabetIn, opening}
+use Rattle.paper.specs.Given.{alphabetIn}
+use Rattle.paper.specs.Orders.{opening}
 use Rattle.paper.proofs.Hearing.{is-given, not-given, untrue, unfalse, yes-row, no-row, passed-row, was-false}
 use Rattle.paper.proofs.Numbers.{AllSay, given-says, end, _then_}
 

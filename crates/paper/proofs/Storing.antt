@@ -31,7 +31,7 @@ use Rattle.head.specs.Fields.{fieldsLen, headOf, permitted, nodeWidth, usedLen}
 use Rattle.head.proofs.Fields.{head-outside}
 use Rattle.head.proofs.Permitted.{bounds, addresses-fit}
 use Rattle.head.proofs.Places.{place-least}
-use Rattle.alphabet.specs.Letters.{among, letters, lettersIn, keyOfText}
+use Rattle.alphabet.specs.Letters.{among, lettersIn}
 use Rattle.node.specs.Image.{dataPlace, tableOf}
 use Rattle.node.specs.Writes.{carriedOut, dataWrite, storeWrites}
 use Rattle.node.specs.Frame.{Touched}
@@ -42,16 +42,17 @@ use Rattle.node.proofs.Storing.{length-carried, Storable, store-new, store-over
 use Rattle.node.proofs.Frame.{EndsIn, frame, none-before, spare}
 use Rattle.paper.specs.Hearing.{Said, Row, Outcome, first, heard, outcome, doneNumbers}
 use Rattle.paper.specs.Rows.{row5, badLink, row9, row10, row11, row12, row13, rowAt, row6path}
-use Rattle.paper.specs.Orders.{alphabetIn, openingOf, checking, byLetters, byText, lookingUp, adding, newOf, storing}
-use Rattle.paper.specs.Calls.{tableIn, workAfter, storedKeys, lookUpBy, lookUpOf, namedIn, lookUpTextOf, storedImage, storeBy, storeOf, storeTextOf}
+use Rattle.paper.specs.Given.{Given, asLetters, asText, alphabetIn, meantBy, meantIn, keyIn}
+use Rattle.paper.specs.Orders.{openingOf, checking, byLetters, byText, keyingBy, keying, lookingUp, adding, newOf, storing}
+use Rattle.paper.specs.Calls.{tableIn, workAfter, storedKeys, lookUpOf, storedImage, storeOf}
 use Rattle.paper.specs.Accepted.{Accepted}
 use Rattle.paper.specs.Granted.{Fit, Granted}
 use Rattle.paper.proofs.Hearing.{not-given, was-false, first-nil, first-none, yes-row, no-row, first-part, second-part, passed-row, passed-parts, silent-end, heard-done, heard-alike, kept-lent}
 use Rattle.paper.proofs.Numbers.{AllSay, end, _then_, given-says, parts-say, first-says, one-of, none-heard}
-use Rattle.paper.proofs.Keying.{some-found, letters-fit, text-fit, fit-letters, fit-text, keyNumbers, letters-say, text-says}
+use Rattle.paper.proofs.Keying.{keyNumbers, given-meant, fit-given, given-says-key}
 use Rattle.paper.proofs.Checking.{accepted-opens, check-accepts, accepted-checks, checking-says, checked, accepted-linked}
 use Rattle.paper.proofs.Linking.{ruled-link}
-use Rattle.paper.proofs.Looking.{named-fit}
+use Rattle.paper.proofs.Looking.{given-fit}
 
 -- ---- the head and the table after it
 
@@ -180,20 +181,24 @@ module _ {l key : List ℕ} {value : ℕ} (s : Granted l key value) where
 
 -- ---- a lookup in an image that was opened, on a path with no bad link
 
+-- what a look up leaves that tells a value
+abbrev pub telling : ℕ → Outcome
+telling v = outcome (doneNumbers 0 (pos 0) v) []
+
 quiet : {at : Option ℕ} → at ≡ none → rowAt at ≡ none
 unfolding rowAt
 quiet e = ap rowAt e
 
-module _ (l : List ℕ) (keyed : List Row) (key : List ℕ) (opened : first (openingOf l) ≡ none)
-    (fair : fault (badLink (headOf l .g)) (tableIn l) 0 key ≡ none) where
+module _ (l : List ℕ) (given : Given) (opened : first (openingOf l) ≡ none)
+    (fair : fault (badLink (headOf l .g)) (tableIn l) 0 (keyIn l given) ≡ none) where
   -- none of 1 to 4 and no 6 is heard, so the part for the key alone decides
-  key-decides : first (lookingUp l keyed key) ≡ first keyed
+  key-decides : first (lookingUp l given) ≡ first (keying l given)
   unfolding lookingUp row6path tableIn
-  key-decides = second-part (openingOf l) _ opened ∙ silent-end keyed _ (first-none _ [] (quiet fair) ∙ first-nil)
+  key-decides = second-part (openingOf l) _ opened ∙ silent-end (keying l given) _ (first-none _ [] (quiet fair) ∙ first-nil)
 
-  pub looks-up-open : lookUpBy l keyed key ≡ heard (first keyed) [] (outcome (doneNumbers 0 (pos 0) (answer (tableIn l) key)) [])
-  unfolding lookUpBy
-  looks-up-open = ap (λ (r : Row). heard r [] (outcome (doneNumbers 0 (pos 0) (answer (tableIn l) key)) [])) key-decides
+  pub looks-up-open : lookUpOf l given ≡ heard (first (keying l given)) [] (telling (answer (tableIn l) (keyIn l given)))
+  unfolding lookUpOf
+  looks-up-open = ap (λ (r : Row). heard r [] (telling (answer (tableIn l) (keyIn l given)))) key-decides
 
 -- ---- and in an accepted image
 
@@ -214,74 +219,69 @@ module _ {l : List ℕ} (a : Accepted l) where
       go (no e) rest =
           fault-on bad (tableIn l) q x xs refl e (ruled-link (a .links) q x e) ∙ rest
 
-  pub looks-up-accepted : (keyed : List Row) (key : List ℕ)
-      → lookUpBy l keyed key ≡ heard (first keyed) [] (outcome (doneNumbers 0 (pos 0) (answer (tableIn l) key)) [])
-  looks-up-accepted keyed key = looks-up-open l keyed key (accepted-opens a) (unfaulted 0 key)
+  pub looks-up-accepted : (given : Given) → lookUpOf l given ≡ heard (first (keying l given)) [] (telling (answer (tableIn l) (keyIn l given)))
+  looks-up-accepted given = looks-up-open l given (accepted-opens a) (unfaulted 0 (keyIn l given))
+
+-- ---- the part for the key, where G alone changed and the alphabet did not
+
+keying-total : (h : Head) (g : ℕ) (alphabet : List ℕ) (given : Given) → keyingBy (withTotal h g) alphabet given ≡ keyingBy h alphabet given
+unfolding keyingBy byLetters byText row9 row10
+keying-total h g alphabet (asLetters key) = refl
+keying-total h g alphabet (asText text) = refl
+
+module _ (a b : List ℕ) {g : ℕ} (heads : headOf a ≡ withTotal (headOf b) g) (alphabets : alphabetIn (headOf a) a ≡ alphabetIn (headOf b) b)
+    (given : Given) where
+  pub same-keying : keying a given ≡ keying b given
+  unfolding keying
+  same-keying =
+      ap₂ (λ (h : Head) (alphabet : List ℕ). keyingBy h alphabet given) heads alphabets ∙ keying-total (headOf b) g (alphabetIn (headOf b) b) given
+
+  pub same-meant : meantIn a given ≡ meantIn b given
+  unfolding meantIn
+  same-meant = ap (λ (alphabet : List ℕ). meantBy alphabet given) alphabets
+
+  pub same-key : keyIn a given ≡ keyIn b given
+  unfolding keyIn
+  same-key = ap lettersIn same-meant
 
 -- ---- what keys answer after a store
 
-module _ {l key : List ℕ} {value : ℕ} (s : Granted l key value) where
-  -- whether the key comes as letters or as text
-  answers-by : (keyed : List Row) → first keyed ≡ none
-      → lookUpBy (storedImage l key value) keyed key ≡ outcome (doneNumbers 0 (pos 0) value) []
-  answers-by keyed e =
-      looks-up-accepted (accepted-again s) keyed key
-      ∙ heard-done (first keyed) [] _ e
-      ∙ ap (λ (t : Table). outcome (doneNumbers 0 (pos 0) (answer t key)) []) (stored-table s)
-      ∙ ap (λ (v : ℕ). outcome (doneNumbers 0 (pos 0) v) []) (stored-answer (accepted-linked (s .accepted)) key (s .fit .below) value)
+module _ {l key : List ℕ} {value : ℕ} (s : Granted l key value) (given : Given) where
+  abbrev after : List ℕ
+  after = storedImage l key value
 
-  others-by : (keyed : List Row) (k : List ℕ) → (first keyed ≡ none → k ≢ key)
-      → lookUpBy (storedImage l key value) keyed k ≡ lookUpBy l keyed k
-  others-by keyed k other =
-      let same : first keyed ≡ none → answer (tableIn (storedImage l key value)) k ≡ answer (tableIn l) k =
-      λ e.
-      ap (λ (t : Table). answer t k) (stored-table s)
-      ∙ stored-answer-other (accepted-linked (s .accepted)) key (s .fit .below) value k (other e) in
-      looks-up-accepted (accepted-again s) keyed k
-      ∙ heard-alike (first keyed) [] (λ e. ap (λ (v : ℕ). outcome (doneNumbers 0 (pos 0) v) []) (same e))
-      ∙ sym (looks-up-accepted (s .accepted) keyed k)
+  -- 9 and 10 are what they were, and the key that is meant is the same
+  looks-after : lookUpOf after given ≡ heard (first (keying l given)) [] (telling (answer (tableIn after) (keyIn l given)))
+  looks-after =
+      looks-up-accepted (accepted-again s) given
+      ∙ ap₂ (λ (rows : List Row) (k : List ℕ). heard (first rows) [] (telling (answer (tableIn after) k)))
+      (same-keying after l (stored-head s) (stored-alphabet s) given) (same-key after l (stored-head s) (stored-alphabet s) given)
 
-  -- 9 and 10 are what they were, and a text names the key it named
-  by-letters : (k : List ℕ) → lookUpOf (storedImage l key value) k ≡ lookUpBy (storedImage l key value) (byLetters (headOf l) k) k
-  unfolding lookUpOf byLetters row9 row10
-  by-letters k = ap (λ (h : Head). lookUpBy (storedImage l key value) (byLetters h k) k) (stored-head s)
-
-  pub same-name : (text : List ℕ) → namedIn (storedImage l key value) text ≡ namedIn l text
-  unfolding namedIn
-  same-name text = ap (λ (alphabet : List ℕ). keyOfText (letters alphabet) text) (stored-alphabet s)
-
-  by-text : (text : List ℕ) {named : Option (List ℕ)} → namedIn l text ≡ named
-      → lookUpTextOf (storedImage l key value) text ≡ lookUpBy (storedImage l key value) (byText (headOf l) named) (lettersIn named)
-  unfolding lookUpTextOf byText row9
-  by-text text {named} e =
-      let after : List ℕ = storedImage l key value in
-      ap (λ (o : Option (List ℕ)). lookUpBy after (byText (headOf after) o) (lettersIn o)) (same-name text ∙ e)
-      ∙ ap (λ (h : Head). lookUpBy after (byText h named) (lettersIn named)) (stored-head s)
-
-  -- the key answers the value
-  pub stored-answers : lookUpOf (storedImage l key value) key ≡ outcome (doneNumbers 0 (pos 0) value) []
-  stored-answers = by-letters key ∙ answers-by (byLetters (headOf l) key) (fit-letters (s .fit))
+  -- the key answers the value, by letters and by every text that means it
+  pub stored-answers : meantIn l given ≡ some key → lookUpOf after given ≡ telling value
+  unfolding keying keyIn meantIn lettersIn
+  stored-answers e =
+      looks-after
+      ∙ heard-done _ [] _ (fit-given (headOf l) (alphabetIn (headOf l) l) given e (s .fit))
+      ∙ ap (λ (k : List ℕ). telling (answer (tableIn after) k)) (ap lettersIn e)
+      ∙ ap (λ (t : Table). telling (answer t key)) (stored-table s)
+      ∙ ap telling (stored-answer (accepted-linked (s .accepted)) key (s .fit .below) value)
 
   -- every other key answers, or is refused, as before
-  pub others-answer : (k : List ℕ) → k ≢ key → lookUpOf (storedImage l key value) k ≡ lookUpOf l k
-  unfolding lookUpOf
-  others-answer k other = by-letters k ∙ others-by (byLetters (headOf l) k) k (λ _. other)
+  pub others-answer : meantIn l given ≢ some key → lookUpOf after given ≡ lookUpOf l given
+  unfolding keying keyIn meantIn
+  others-answer other =
+      let k : List ℕ = keyIn l given in
+      let same : first (keying l given) ≡ none → answer (tableIn after) k ≡ answer (tableIn l) k =
+      λ e.
+      let meant = given-meant (headOf l) (alphabetIn (headOf l) l) given e in
+      ap (λ (t : Table). answer t k) (stored-table s)
+      ∙ stored-answer-other (accepted-linked (s .accepted)) key (s .fit .below) value k (λ f. other (meant ∙ ap (λ (x : List ℕ). some x) f)) in
+      looks-after
+      ∙ heard-alike (first (keying l given)) [] (λ e. ap telling (same e))
+      ∙ sym (looks-up-accepted (s .accepted) given)
 
-  -- so does a text that names the key, and any other text
-  pub text-answers : (text : List ℕ) → namedIn l text ≡ some key
-      → lookUpTextOf (storedImage l key value) text ≡ outcome (doneNumbers 0 (pos 0) value) []
-  unfolding lettersIn
-  text-answers text e = by-text text e ∙ answers-by (byText (headOf l) (some key)) (fit-text (s .fit))
-
-  pub other-texts-answer : (text : List ℕ) → namedIn l text ≢ some key
-      → lookUpTextOf (storedImage l key value) text ≡ lookUpTextOf l text
-  unfolding lookUpTextOf
-  other-texts-answer text other =
-      let named : Option (List ℕ) = namedIn l text in
-      by-text text refl
-      ∙ others-by (byText (headOf l) named) (lettersIn named)
-      (λ e f. other (some-found named (text-fit (headOf l) named e .0) ∙ ap (λ (k : List ℕ). some k) f))
-
+module _ {l key : List ℕ} {value : ℕ} (s : Granted l key value) where
   -- ---- how many keys are stored
 
   -- "the change in the number of stored keys: -1, 0 or 1"
@@ -329,7 +329,7 @@ module _ (h : Head) where
       let w = with-new k len (usedLen h + k * nodeWidth h) in
       (λ e. w .0 (was-false 13 0 _ e), λ f. not-given 13 0 (w .1 f))
 
--- ---- a store by any part for the key
+-- ---- a store
 
 -- the numbers of its refusals, and of those in an accepted image
 abbrev pub storeNumbers : List ℕ
@@ -352,42 +352,46 @@ valued-says l key value =
     then given-says 13 0 (ltb 0 k && ltb (length l) (usedLen h + k * nodeWidth h)) refl
     then end
 
-module _ (l work : List ℕ) (keyed : List Row) (key : List ℕ) (value : ℕ) where
+module _ (l work : List ℕ) (given : Given) (value : ℕ) where
+  abbrev key : List ℕ
+  key = keyIn l given
+
   -- what an order that passed tells of its parts
-  order-passed : first (storing l work keyed key value) ≡ none
-      → (first (checking l work) ≡ none) × (first keyed ≡ none) × (first (valued l key value) ≡ none)
+  order-passed : first (storing l work given value) ≡ none
+      → (first (checking l work) ≡ none) × (first (keying l given) ≡ none) × (first (valued l key value) ≡ none)
   unfolding storing
   order-passed e =
-      let after8 = passed-parts (checking l work) (keyed ++ valued l key value) e in
-      let after10 = passed-parts keyed (valued l key value) (after8 .1) in
+      let after8 = passed-parts (checking l work) (keying l given ++ valued l key value) e in
+      let after10 = passed-parts (keying l given) (valued l key value) (after8 .1) in
       (after8 .0, after10 .0, after10 .1)
 
   -- a store that passes every row is granted
-  pub granted : first (storing l work keyed key value) ≡ none → (first keyed ≡ none → Fit (headOf l) key) → Granted l key value
+  granted : first (storing l work given value) ≡ none → Granted l key value
   unfolding adding
-  granted e fit =
+  granted e =
       let h : Head = headOf l in
       let k : ℕ = newOf h l key value in
       let (checks, keys, values) = order-passed e in
       let after11 = passed-row (row11 h value) (row12 h k ∷ row13 h k (length l) ∷ []) values in
       let after12 = passed-row (row12 h k) (row13 h k (length l) ∷ []) (after11 .1) in
       let after13 = passed-row (row13 h k (length l)) [] (after12 .1) in
+      let accepted = check-accepts l work checks in
       record {
-        accepted = check-accepts l work checks;
-        fit = fit keys;
+        accepted = accepted;
+        fit = given-fit l given (accepted-opens accepted) keys;
         value-fits = none-11 h value .0 (after11 .0);
         addresses = none-12 h k .0 (after12 .0);
         room = none-13 h k (length l) .0 (after13 .0);
       }
 
   -- and one that is granted passes them, where its key does and the working numbers are enough
-  pub grants : Granted l key value → headOf l .g + 1 ≤ length work → first keyed ≡ none → first (storing l work keyed key value) ≡ none
+  grants : Granted l key value → headOf l .g + 1 ≤ length work → first (keying l given) ≡ none → first (storing l work given value) ≡ none
   unfolding storing adding
   grants s lent passes =
       let h : Head = headOf l in
       let k : ℕ = newOf h l key value in
-      second-part (checking l work) (keyed ++ valued l key value) (accepted-checks l work (s .accepted) lent)
-      ∙ second-part keyed (valued l key value) passes
+      second-part (checking l work) (keying l given ++ valued l key value) (accepted-checks l work (s .accepted) lent)
+      ∙ second-part (keying l given) (valued l key value) passes
       ∙ first-none (row11 h value) _ (none-11 h value .1 (s .value-fits))
       ∙ first-none (row12 h k) _ (none-12 h k .1 (s .addresses))
       ∙ first-none (row13 h k (length l)) _ (none-13 h k (length l) .1 (s .room))
@@ -395,14 +399,14 @@ module _ (l work : List ℕ) (keyed : List Row) (key : List ℕ) (value : ℕ) w
 
   -- in an accepted image 5 is asked, then the key's part, then the value's
   pub accepted-order : Accepted l
-      → first (storing l work keyed key value) ≡ first (row5 (headOf l) (length work) ∷ (keyed ++ valued l key value))
+      → first (storing l work given value) ≡ first (row5 (headOf l) (length work) ∷ (keying l given ++ valued l key value))
   unfolding storing checking row5
   accepted-order a = go (decLe (headOf l .g + 1) (length work))
     where
       rest : List Row
-      rest = keyed ++ valued l key value
+      rest = keying l given ++ valued l key value
 
-      go : Dec (headOf l .g + 1 ≤ length work) → first (storing l work keyed key value) ≡ first (row5 (headOf l) (length work) ∷ rest)
+      go : Dec (headOf l .g + 1 ≤ length work) → first (storing l work given value) ≡ first (row5 (headOf l) (length work) ∷ rest)
       go (yes b) =
           second-part (checking l work) rest (accepted-checks l work a b)
           ∙ sym (no-row 5 0 rest (le-ltb (length work) (headOf l .g + 1) b))
@@ -411,107 +415,56 @@ module _ (l work : List ℕ) (keyed : List Row) (key : List ℕ) (value : ℕ) w
           first-part (checking l work) rest (second-part (openingOf l) _ (accepted-opens a) ∙ yes-row 5 0 _ few)
           ∙ sym (yes-row 5 0 rest few)
 
-  module _ (says : AllSay keyNumbers keyed) where
-    -- the reasons for which a store in an accepted image is refused
-    pub store-refuses : {s : Said} → Accepted l → first (storing l work keyed key value) ≡ some s
-        → among (s .number) acceptedNumbers ≡ true
-    unfolding row5 among
-    store-refuses a e =
-        let five : AllSay (5 ∷ []) (row5 (headOf l) (length work) ∷ []) =
-        given-says 5 0 (ltb (length work) (headOf l .g + 1)) refl then end in
-        one-of (first-says (parts-say five (parts-say says (valued-says l key value)))) (sym (accepted-order a) ∙ e)
+  says : AllSay keyNumbers (keying l given)
+  unfolding keying
+  says = given-says-key (headOf l) (alphabetIn (headOf l) l) given
 
-    pub storing-says : AllSay storeNumbers (storing l work keyed key value)
-    unfolding storing
-    storing-says = parts-say (checking-says l work) (parts-say says (valued-says l key value))
+  -- the reasons for which a store in an accepted image is refused
+  pub store-refuses : {s : Said} → Accepted l → first (storing l work given value) ≡ some s → among (s .number) acceptedNumbers ≡ true
+  unfolding row5 among
+  store-refuses a e =
+      let five : AllSay (5 ∷ []) (row5 (headOf l) (length work) ∷ []) =
+      given-says 5 0 (ltb (length work) (headOf l .g + 1)) refl then end in
+      one-of (first-says (parts-say five (parts-say says (valued-says l key value)))) (sym (accepted-order a) ∙ e)
 
-    -- number 0 is said by no row
-    pub store-passed : storeBy l work keyed key value .numbers .number ≡ 0 → first (storing l work keyed key value) ≡ none
-    unfolding storeBy among
-    store-passed z = none-heard _ _ (first-says storing-says) refl z
+  pub storing-says : AllSay storeNumbers (storing l work given value)
+  unfolding storing
+  storing-says = parts-say (checking-says l work) (parts-say says (valued-says l key value))
 
-    -- what a store that is done answers and leaves
-    pub store-by-leaves : storeBy l work keyed key value .numbers .number ≡ 0
-        → storeBy l work keyed key value
-        ≡ outcome (doneNumbers 0 (changeOf (answer (tableIn l) key) value) 0) (storedImage l key value ∷ workAfter l work ∷ [])
-    unfolding storeBy
-    store-by-leaves z = heard-done (first (storing l work keyed key value)) _ _ (store-passed z)
+  -- number 0 is said by no row
+  pub store-passed : storeOf l work given value .numbers .number ≡ 0 → first (storing l work given value) ≡ none
+  unfolding storeOf among
+  store-passed z = none-heard _ _ (first-says storing-says) refl z
 
-  -- one that is granted is done
-  pub store-by-done : Granted l key value → headOf l .g + 1 ≤ length work → first keyed ≡ none
-      → storeBy l work keyed key value .numbers .number ≡ 0
-  unfolding storeBy doneNumbers
-  store-by-done s lent passes = ap (λ (o : Outcome). o .numbers .number) (heard-done _ _ _ (grants s lent passes))
+  pub store-granted : storeOf l work given value .numbers .number ≡ 0 → Granted l key value
+  store-granted z = granted (store-passed z)
 
-  -- "A refused call changes nothing in the image or in any other lent buffer but the working numbers"
-  pub refused-keeps : storeBy l work keyed key value .numbers .number ≢ 0
-      → storeBy l work keyed key value .lent ≡ l ∷ workAfter l work ∷ []
-  unfolding storeBy doneNumbers
-  refused-keeps z = kept-lent (first (storing l work keyed key value)) (l ∷ workAfter l work ∷ []) _ refl z
+  -- the key that it means
+  pub store-means : storeOf l work given value .numbers .number ≡ 0 → meantIn l given ≡ some key
+  unfolding keying keyIn meantIn
+  store-means z = given-meant (headOf l) (alphabetIn (headOf l) l) given (order-passed (store-passed z) .1)
 
--- ---- by letters
-
-module _ (l work key : List ℕ) (value : ℕ) where
-  passed-letters : storeOf l work key value .numbers .number ≡ 0 → first (storing l work (byLetters (headOf l) key) key value) ≡ none
-  unfolding storeOf
-  passed-letters z = store-passed l work (byLetters (headOf l) key) key value (letters-say (headOf l) key) z
-
-  pub store-granted : storeOf l work key value .numbers .number ≡ 0 → Granted l key value
-  store-granted z = granted l work (byLetters (headOf l) key) key value (passed-letters z) (letters-fit (headOf l) key)
-
-  pub store-leaves : storeOf l work key value .numbers .number ≡ 0
-      → storeOf l work key value
+  -- what a store that is done answers and leaves
+  pub store-leaves : storeOf l work given value .numbers .number ≡ 0
+      → storeOf l work given value
       ≡ outcome (doneNumbers 0 (changeOf (answer (tableIn l) key) value) 0) (storedImage l key value ∷ workAfter l work ∷ [])
   unfolding storeOf
-  store-leaves z = store-by-leaves l work (byLetters (headOf l) key) key value (letters-say (headOf l) key) z
+  store-leaves z = heard-done (first (storing l work given value)) _ _ (store-passed z)
 
-  -- it is done exactly where enough working numbers are lent and it is granted
-  pub store-done-exactly : (storeOf l work key value .numbers .number ≡ 0) ↔ ((headOf l .g + 1 ≤ length work) × Granted l key value)
-  unfolding storeOf
+  -- it is done exactly where enough working numbers are lent, a key is meant, and it is granted for that key
+  pub store-done-exactly : (storeOf l work given value .numbers .number ≡ 0)
+      ↔ ((headOf l .g + 1 ≤ length work) × (k : List ℕ) × (meantIn l given ≡ some k) × Granted l k value)
+  unfolding storeOf doneNumbers keying keyIn meantIn lettersIn
   store-done-exactly = (
-    λ z. (checked l work (order-passed l work (byLetters (headOf l) key) key value (passed-letters z) .0) .lent, store-granted z),
-    λ s. store-by-done l work (byLetters (headOf l) key) key value (s .1) (s .0) (fit-letters (s .1 .fit)),
-  )
-
--- ---- by text
-
-module _ (l work text : List ℕ) (value : ℕ) where
-  passed-text : storeTextOf l work text value .numbers .number ≡ 0
-      → first (storing l work (byText (headOf l) (namedIn l text)) (lettersIn (namedIn l text)) value) ≡ none
-  unfolding storeTextOf
-  passed-text z =
-      store-passed l work (byText (headOf l) (namedIn l text)) (lettersIn (namedIn l text)) value (text-says (headOf l) (namedIn l text)) z
-
-  parts-passed : storeTextOf l work text value .numbers .number ≡ 0
-      → (first (checking l work) ≡ none)
-      × (first (byText (headOf l) (namedIn l text)) ≡ none)
-      × (first (valued l (lettersIn (namedIn l text)) value) ≡ none)
-  parts-passed z = order-passed l work (byText (headOf l) (namedIn l text)) (lettersIn (namedIn l text)) value (passed-text z)
-
-  pub store-text-granted : storeTextOf l work text value .numbers .number ≡ 0 → Granted l (lettersIn (namedIn l text)) value
-  store-text-granted z =
-      granted l work (byText (headOf l) (namedIn l text)) (lettersIn (namedIn l text)) value (passed-text z)
-      (named-fit l text (accepted-opens (check-accepts l work (parts-passed z .0))))
-
-  pub store-text-leaves : storeTextOf l work text value .numbers .number ≡ 0
-      → storeTextOf l work text value
-      ≡ outcome (doneNumbers 0 (changeOf (answer (tableIn l) (lettersIn (namedIn l text))) value) 0)
-      (storedImage l (lettersIn (namedIn l text)) value ∷ workAfter l work ∷ [])
-  unfolding storeTextOf
-  store-text-leaves z =
-      store-by-leaves l work (byText (headOf l) (namedIn l text)) (lettersIn (namedIn l text)) value (text-says (headOf l) (namedIn l text)) z
-
-  -- the key that it names
-  pub store-text-names : storeTextOf l work text value .numbers .number ≡ 0 → namedIn l text ≡ some (lettersIn (namedIn l text))
-  store-text-names z = some-found (namedIn l text) (text-fit (headOf l) (namedIn l text) (parts-passed z .1) .0)
-
-  pub store-text-done-exactly : (storeTextOf l work text value .numbers .number ≡ 0)
-      ↔ ((headOf l .g + 1 ≤ length work) × (key : List ℕ) × (namedIn l text ≡ some key) × Granted l key value)
-  unfolding storeTextOf lettersIn
-  store-text-done-exactly = (
-    λ z. (checked l work (parts-passed z .0) .lent, lettersIn (namedIn l text), store-text-names z, store-text-granted z),
+    λ z. (checked l work (order-passed (store-passed z) .0) .lent, key, store-means z, store-granted z),
     λ s.
-        let (lent, key, e, g) = s in
-        ap (λ (named : Option (List ℕ)). storeBy l work (byText (headOf l) named) (lettersIn named) value .numbers .number) e
-        ∙ store-by-done l work (byText (headOf l) (some key)) key value g lent (fit-text (g .fit)),
+        let (lent, k, e, g) = s in
+        let same : key ≡ k = ap lettersIn e in
+        let passes = fit-given (headOf l) (alphabetIn (headOf l) l) given e (g .fit) in
+        ap (λ (o : Outcome). o .numbers .number) (heard-done _ _ _ (grants (subst (λ (j : List ℕ). Granted l j value) (sym same) g) lent passes)),
   )
+
+  -- "A refused call changes nothing in the image or in any other lent buffer but the working numbers"
+  pub refused-keeps : storeOf l work given value .numbers .number ≢ 0 → storeOf l work given value .lent ≡ l ∷ workAfter l work ∷ []
+  unfolding storeOf doneNumbers
+  refused-keeps z = kept-lent (first (storing l work given value)) (l ∷ workAfter l work ∷ []) _ refl z

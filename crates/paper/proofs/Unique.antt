@@ -17,7 +17,8 @@ use Rattle.paper.specs.declared.Listed.{Listed}
 use Rattle.paper.specs.declared.Found.{Found}
 use Rattle.paper.specs.Hearing.{Numbers, Outcome, outcome, refusedNumbers, doneNumbers}
 use Rattle.paper.specs.Answers.{refusalNumbers, doneOf, countedOf, lookedOf, storedOf, listedOf, foundOf}
-use Rattle.paper.specs.Promises.{Makes, Checks, Counts, LooksUp, LooksUpText, Stores, StoresText, StoresWrites, StoresTextWrites, Mends, Nexts}
+use Rattle.paper.specs.Given.{Given}
+use Rattle.paper.specs.Promises.{Makes, Checks, Counts, LooksUp, Stores, StoresWrites, Mends, Nexts}
 
 -- ---- an answer, from its numbers
 
@@ -161,28 +162,17 @@ module _ {R : Type 0} {numbersOf : R → Numbers} (told : Told R numbersOf) {r s
   pub counts-once : (l work : List ℕ) {i j : List ℕ} → Counts l work (numbersOf r) i → Counts l work (numbersOf s) j → (r ≡ s) × (i ≡ j)
   counts-once l work p q = let u = one-outcome told r s _ _ _ p q in (u .0, one (u .1))
 
-  pub looks-up-once : (l key : List ℕ) → LooksUp l key (numbersOf r) → LooksUp l key (numbersOf s) → r ≡ s
-  looks-up-once l key p q = one-outcome told r s _ _ _ p q .0
+  pub looks-up-once : (l : List ℕ) (given : Given) → LooksUp l given (numbersOf r) → LooksUp l given (numbersOf s) → r ≡ s
+  looks-up-once l given p q = one-outcome told r s _ _ _ p q .0
 
-  pub looks-up-text-once : (l text : List ℕ) → LooksUpText l text (numbersOf r) → LooksUpText l text (numbersOf s) → r ≡ s
-  looks-up-text-once l text p q = one-outcome told r s _ _ _ p q .0
+  pub stores-once : (l work : List ℕ) (given : Given) (value : ℕ) {i j v w : List ℕ} → Stores l work given value (numbersOf r) i v
+      → Stores l work given value (numbersOf s) j w → (r ≡ s) × ((i ≡ j) × (v ≡ w))
+  stores-once l work given value p q = let u = one-outcome told r s _ _ _ p q in (u .0, two (u .1))
 
-  pub stores-once : (l work key : List ℕ) (value : ℕ) {i j v w : List ℕ} → Stores l work key value (numbersOf r) i v → Stores l work key value (numbersOf s) j w
-      → (r ≡ s) × ((i ≡ j) × (v ≡ w))
-  stores-once l work key value p q = let u = one-outcome told r s _ _ _ p q in (u .0, two (u .1))
-
-  pub stores-text-once : (l work text : List ℕ) (value : ℕ) {i j v w : List ℕ} → StoresText l work text value (numbersOf r) i v
-      → StoresText l work text value (numbersOf s) j w → (r ≡ s) × ((i ≡ j) × (v ≡ w))
-  stores-text-once l work text value p q = let u = one-outcome told r s _ _ _ p q in (u .0, two (u .1))
-
-  pub stores-writes-once : (l work key : List ℕ) (value : ℕ) (list : List ℕ) {i j v w m n : List ℕ} → StoresWrites l work key value list (numbersOf r) i v m
-      → StoresWrites l work key value list (numbersOf s) j w n → (r ≡ s) × ((i ≡ j) × ((v ≡ w) × (m ≡ n)))
-  stores-writes-once l work key value list p q = let u = one-outcome told r s _ _ _ p q in (u .0, three (u .1))
-
-  pub stores-text-writes-once : (l work text : List ℕ) (value : ℕ) (list : List ℕ) {i j v w m n : List ℕ}
-      → StoresTextWrites l work text value list (numbersOf r) i v m
-      → StoresTextWrites l work text value list (numbersOf s) j w n → (r ≡ s) × ((i ≡ j) × ((v ≡ w) × (m ≡ n)))
-  stores-text-writes-once l work text value list p q = let u = one-outcome told r s _ _ _ p q in (u .0, three (u .1))
+  pub stores-writes-once : (l work : List ℕ) (given : Given) (value : ℕ) (list : List ℕ) {i j v w m n : List ℕ}
+      → StoresWrites l work given value list (numbersOf r) i v m
+      → StoresWrites l work given value list (numbersOf s) j w n → (r ≡ s) × ((i ≡ j) × ((v ≡ w) × (m ≡ n)))
+  stores-writes-once l work given value list p q = let u = one-outcome told r s _ _ _ p q in (u .0, three (u .1))
 
   pub mends-once : (l work : List ℕ) {i j v w : List ℕ} → Mends l work (numbersOf r) i v → Mends l work (numbersOf s) j w
       → (r ≡ s) × ((i ≡ j) × (v ≡ w))

@@ -8,7 +8,7 @@ use lib.ListN.{length}
 use Rattle.trie.specs.Rules.{LinkRules}
 use Rattle.head.specs.Fields.{shortestImage, longestImage, headOf, permitted, usedLen}
 use Rattle.alphabet.specs.Letters.{goodAlphabet}
-use Rattle.paper.specs.Orders.{alphabetIn}
+use Rattle.paper.specs.Given.{alphabetIn}
 use Rattle.paper.specs.Calls.{tableIn}
 
 pub record Accepted (l : List ℕ) : Type 0 where

@@ -14,12 +14,13 @@ use Rattle.trie.specs.Keys.{listing, meets, firstMeeting}
 use Rattle.trie.specs.Storing.{changeOf}
 use Rattle.head.specs.declared.Head.{Head}
 use Rattle.head.specs.Fields.{headOf, headBytes, nodeWidth}
-use Rattle.alphabet.specs.Letters.{letters, lettersIn, keyOfText}
+use Rattle.alphabet.specs.Letters.{lettersIn}
 use Rattle.node.specs.Image.{tableOf}
 use Rattle.node.specs.Writes.{Write, carriedOut, listed, storeWrites}
 use Rattle.paper.specs.Hearing.{Row, Numbers, Outcome, outcome, doneNumbers, first, heard}
 use Rattle.paper.specs.Rows.{row5}
-use Rattle.paper.specs.Orders.{alphabetIn, opening, openingOf, checking, byLetters, byText, lookingUp, storing, nexting}
+use Rattle.paper.specs.Given.{Given, keyIn}
+use Rattle.paper.specs.Orders.{opening, openingOf, checking, lookingUp, storing, nexting}
 
 -- the image's own table
 unfoldable pub tableIn : List ℕ → Table
@@ -75,22 +76,9 @@ countOf l work =
 
 -- look up
 
-unfoldable pub lookUpBy : List ℕ → List Row → List ℕ → Outcome
-unfolding heard first lookingUp doneNumbers answer tableIn
-lookUpBy l keyed key = heard (first (lookingUp l keyed key)) [] (outcome (doneNumbers 0 (pos 0) (answer (tableIn l) key)) [])
-
-unfoldable pub lookUpOf : List ℕ → List ℕ → Outcome
-unfolding lookUpBy byLetters headOf
-lookUpOf l key = lookUpBy l (byLetters (headOf l) key) key
-
--- the key that a text names in an image
-unfoldable pub namedIn : List ℕ → List ℕ → Option (List ℕ)
-unfolding keyOfText letters alphabetIn headOf
-namedIn l text = keyOfText (letters (alphabetIn (headOf l) l)) text
-
-unfoldable pub lookUpTextOf : List ℕ → List ℕ → Outcome
-unfolding lookUpBy byText namedIn lettersIn
-lookUpTextOf l text = lookUpBy l (byText (headOf l) (namedIn l text)) (lettersIn (namedIn l text))
+unfoldable pub lookUpOf : List ℕ → Given → Outcome
+unfolding heard first lookingUp doneNumbers answer tableIn keyIn
+lookUpOf l given = heard (first (lookingUp l given)) [] (outcome (doneNumbers 0 (pos 0) (answer (tableIn l) (keyIn l given))) [])
 
 -- store
 
@@ -103,19 +91,12 @@ unfoldable pub storedImage : List ℕ → List ℕ → ℕ → List ℕ
 unfolding carriedOut storeWrites descend tableIn headOf
 storedImage l key value = carriedOut l (writesIn l key value)
 
-unfoldable pub storeBy : List ℕ → List ℕ → List Row → List ℕ → ℕ → Outcome
-unfolding heard first storing workAfter doneNumbers storedImage changeOf answer
-storeBy l work keyed key value =
-    heard (first (storing l work keyed key value)) (l ∷ workAfter l work ∷ [])
-    (outcome (doneNumbers 0 (changeOf (answer (tableIn l) key) value) 0) (storedImage l key value ∷ workAfter l work ∷ []))
-
-unfoldable pub storeOf : List ℕ → List ℕ → List ℕ → ℕ → Outcome
-unfolding storeBy byLetters headOf
-storeOf l work key value = storeBy l work (byLetters (headOf l) key) key value
-
-unfoldable pub storeTextOf : List ℕ → List ℕ → List ℕ → ℕ → Outcome
-unfolding storeBy byText namedIn lettersIn
-storeTextOf l work text value = storeBy l work (byText (headOf l) (namedIn l text)) (lettersIn (namedIn l text)) value
+unfoldable pub storeOf : List ℕ → List ℕ → Given → ℕ → Outcome
+unfolding heard first storing workAfter doneNumbers storedImage changeOf answer keyIn
+storeOf l work given value =
+    heard (first (storing l work given value)) (l ∷ workAfter l work ∷ [])
+    (outcome (doneNumbers 0 (changeOf (answer (tableIn l) (keyIn l given)) value) 0)
+    (storedImage l (keyIn l given) value ∷ workAfter l work ∷ []))
 
 -- store, with its writes listed
 
@@ -128,13 +109,9 @@ withList ws list o =
     (outcome (doneNumbers (length ws) (o .numbers .change) 0) (o .lent ++ (sets list 0 (listed ws) ∷ [])))
     (outcome (o .numbers) (o .lent ++ (list ∷ [])))
 
-unfoldable pub storeWritesOf : List ℕ → List ℕ → List ℕ → ℕ → List ℕ → Outcome
-unfolding withList storeOf storeWrites descend tableIn headOf
-storeWritesOf l work key value list = withList (writesIn l key value) list (storeOf l work key value)
-
-unfoldable pub storeTextWritesOf : List ℕ → List ℕ → List ℕ → ℕ → List ℕ → Outcome
-unfolding withList storeTextOf storeWrites descend tableIn headOf namedIn lettersIn
-storeTextWritesOf l work text value list = withList (writesIn l (lettersIn (namedIn l text)) value) list (storeTextOf l work text value)
+unfoldable pub storeWritesOf : List ℕ → List ℕ → Given → ℕ → List ℕ → Outcome
+unfolding withList storeOf storeWrites descend tableIn headOf keyIn
+storeWritesOf l work given value list = withList (writesIn l (keyIn l given) value) list (storeOf l work given value)
 
 -- mend
 

@@ -6,7 +6,8 @@ use mathlib.Core.List.{List, [], _∷_, _++_}
 use lib.ListN.{replicate}
 use lib.IntN.{ℤ, pos}
 use Rattle.paper.specs.Hearing.{Outcome, outcome, refusedNumbers, doneNumbers}
-use Rattle.paper.specs.Calls.{makeOf, checkOf, countOf, lookUpOf, lookUpTextOf, storeOf, storeTextOf, nextKeyOf}
+use Rattle.paper.specs.Given.{Given, asLetters, asText}
+use Rattle.paper.specs.Calls.{makeOf, checkOf, countOf, lookUpOf, storeOf, nextKeyOf}
 
 pub record Case : Type 0 where
   pub call : Outcome
@@ -58,18 +59,12 @@ cleared = 0 ∷ 0 ∷ 0 ∷ []
 abbrev buffer : List ℕ
 buffer = rubbish 3
 
--- a look up after P3, by letters and, where a text is given, by text
-abbrev finds : List ℕ → ℕ → Case
-finds key value = record { call = lookUpOf file3 key; leaves = done 0 (pos 0) value [] }
+-- a look up after P3
+abbrev finds : Given → ℕ → Case
+finds given value = record { call = lookUpOf file3 given; leaves = done 0 (pos 0) value [] }
 
-abbrev findsText : List ℕ → ℕ → Case
-findsText text value = record { call = lookUpTextOf file3 text; leaves = done 0 (pos 0) value [] }
-
-abbrev turnsAway : List ℕ → ℕ → Case
-turnsAway key number = record { call = lookUpOf file3 key; leaves = refused number 0 [] }
-
-abbrev turnsTextAway : List ℕ → ℕ → Case
-turnsTextAway text number = record { call = lookUpTextOf file3 text; leaves = refused number 0 [] }
+abbrev turnsAway : Given → ℕ → Case
+turnsAway given number = record { call = lookUpOf file3 given; leaves = refused number 0 [] }
 
 -- a check of the file with G = 1 and this body
 abbrev checks : List ℕ → ℕ → ℕ → Case
@@ -82,37 +77,37 @@ cases =
     ∷ record { call = make 34; leaves = refused 4 0 (rubbish 34 ∷ []) }
     -- P2
     ∷ record {
-      call = storeOf (file 0 body1 25) work (1 ∷ 0 ∷ []) 9;
+      call = storeOf (file 0 body1 25) work (asLetters (1 ∷ 0 ∷ [])) 9;
       leaves = done 0 (pos 1) 0 (file 2 body2 17 ∷ (0 ∷ 7 ∷ 7 ∷ []) ∷ []);
     }
     -- P3, by letters and by text
-    ∷ record { call = storeOf (file 2 body2 17) work (1 ∷ []) 5; leaves = done 0 (pos 1) 0 (file3 ∷ cleared ∷ []) }
-    ∷ record { call = storeTextOf (file 2 body2 17) work (0x42 ∷ []) 5; leaves = done 0 (pos 1) 0 (file3 ∷ cleared ∷ []) }
+    ∷ record { call = storeOf (file 2 body2 17) work (asLetters (1 ∷ [])) 5; leaves = done 0 (pos 1) 0 (file3 ∷ cleared ∷ []) }
+    ∷ record { call = storeOf (file 2 body2 17) work (asText (0x42 ∷ [])) 5; leaves = done 0 (pos 1) 0 (file3 ∷ cleared ∷ []) }
     ∷ record { call = countOf file3 work; leaves = done 0 (pos 0) 2 (cleared ∷ []) }
     -- P4
-    ∷ finds (1 ∷ 0 ∷ []) 9
-    ∷ finds (1 ∷ []) 5
-    ∷ finds (0 ∷ []) 0
-    ∷ finds (1 ∷ 1 ∷ []) 0
-    ∷ finds (1 ∷ 0 ∷ 2 ∷ []) 0
-    ∷ findsText (0x42 ∷ 0x41 ∷ []) 9
-    ∷ findsText (0x42 ∷ []) 5
-    ∷ findsText (0x41 ∷ []) 0
-    ∷ findsText (0x42 ∷ 0x42 ∷ []) 0
-    ∷ findsText (0x42 ∷ 0x41 ∷ 0x43 ∷ []) 0
+    ∷ finds (asLetters (1 ∷ 0 ∷ [])) 9
+    ∷ finds (asLetters (1 ∷ [])) 5
+    ∷ finds (asLetters (0 ∷ [])) 0
+    ∷ finds (asLetters (1 ∷ 1 ∷ [])) 0
+    ∷ finds (asLetters (1 ∷ 0 ∷ 2 ∷ [])) 0
+    ∷ finds (asText (0x42 ∷ 0x41 ∷ [])) 9
+    ∷ finds (asText (0x42 ∷ [])) 5
+    ∷ finds (asText (0x41 ∷ [])) 0
+    ∷ finds (asText (0x42 ∷ 0x42 ∷ [])) 0
+    ∷ finds (asText (0x42 ∷ 0x41 ∷ 0x43 ∷ [])) 0
     -- P5
-    ∷ turnsAway [] 9
-    ∷ turnsAway (1 ∷ 0 ∷ 1 ∷ 0 ∷ []) 9
-    ∷ turnsAway (3 ∷ []) 10
-    ∷ turnsTextAway [] 9
-    ∷ turnsTextAway (0x42 ∷ 0x41 ∷ 0x42 ∷ 0x41 ∷ []) 9
-    ∷ turnsTextAway (0x44 ∷ []) 10
+    ∷ turnsAway (asLetters []) 9
+    ∷ turnsAway (asLetters (1 ∷ 0 ∷ 1 ∷ 0 ∷ [])) 9
+    ∷ turnsAway (asLetters (3 ∷ [])) 10
+    ∷ turnsAway (asText []) 9
+    ∷ turnsAway (asText (0x42 ∷ 0x41 ∷ 0x42 ∷ 0x41 ∷ [])) 9
+    ∷ turnsAway (asText (0x44 ∷ [])) 10
     -- P6
-    ∷ record { call = storeOf file3 work (1 ∷ 0 ∷ []) 256; leaves = refused 11 0 (file3 ∷ cleared ∷ []) }
-    ∷ record { call = storeOf file3 work (0 ∷ 1 ∷ 2 ∷ []) 0; leaves = done 0 (pos 0) 0 (file3 ∷ cleared ∷ []) }
+    ∷ record { call = storeOf file3 work (asLetters (1 ∷ 0 ∷ [])) 256; leaves = refused 11 0 (file3 ∷ cleared ∷ []) }
+    ∷ record { call = storeOf file3 work (asLetters (0 ∷ 1 ∷ 2 ∷ [])) 0; leaves = done 0 (pos 0) 0 (file3 ∷ cleared ∷ []) }
     -- P7
-    ∷ record { call = storeOf (file 2 body3 11) work (2 ∷ 2 ∷ 2 ∷ []) 1; leaves = refused 13 0 (file 2 body3 11 ∷ cleared ∷ []) }
-    ∷ record { call = storeOf (file 2 body3 12) work (2 ∷ 2 ∷ 2 ∷ []) 1; leaves = done 0 (pos 1) 0 (file 5 body7 0 ∷ cleared ∷ []) }
+    ∷ record { call = storeOf (file 2 body3 11) work (asLetters (2 ∷ 2 ∷ 2 ∷ [])) 1; leaves = refused 13 0 (file 2 body3 11 ∷ cleared ∷ []) }
+    ∷ record { call = storeOf (file 2 body3 12) work (asLetters (2 ∷ 2 ∷ 2 ∷ [])) 1; leaves = done 0 (pos 1) 0 (file 5 body7 0 ∷ cleared ∷ []) }
     -- P8 to P11
     ∷ checks (0 ∷ 1 ∷ 1 ∷ 0 ∷ 0 ∷ 0 ∷ 0 ∷ 0 ∷ []) 7 1
     ∷ checks (0 ∷ 2 ∷ 0 ∷ 0 ∷ 0 ∷ 0 ∷ 0 ∷ 0 ∷ []) 6 0

@@ -2,6 +2,7 @@ pub mod Accepted
 pub mod Answers
 pub mod Calls
 pub mod Cases
+pub mod Given
 pub mod Granted
 pub mod Hearing
 pub mod InTurn

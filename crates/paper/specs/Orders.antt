@@ -3,19 +3,16 @@
 use Prim.Native.Nat.{ℕ}
 use mathlib.Core.Option.{Option}
 use mathlib.Core.List.{List, [], _∷_, _++_}
-use lib.ListN.{length, take, drop}
+use lib.ListN.{length}
 use Rattle.trie.specs.Table.{Table, descend, missing}
 use Rattle.trie.specs.Storing.{added}
 use Rattle.alphabet.specs.Letters.{lettersIn}
 use Rattle.head.specs.declared.Head.{Head}
-use Rattle.head.specs.Fields.{headOf, fieldsLen}
+use Rattle.head.specs.Fields.{headOf}
 use Rattle.node.specs.Image.{tableOf}
 use Rattle.paper.specs.Hearing.{Row}
+use Rattle.paper.specs.Given.{Given, asLetters, asText, alphabetIn, meantBy, keyIn}
 use Rattle.paper.specs.Rows.{row1, row2, row3, row4, row5, row6, row6path, row7, row8, row9, row9next, row10, row10text, row11, row12, row13, row14, row15}
-
--- the F bytes after the seven fields, as many of them as the image has
-unfoldable pub alphabetIn : Head → List ℕ → List ℕ
-alphabetIn h l = take (h .f) (drop fieldsLen l)
 
 -- 1 to 4, of a head, its alphabet and the length of the image
 unfoldable pub opening : Head → List ℕ → ℕ → List Row
@@ -44,14 +41,24 @@ unfoldable pub byText : Head → Option (List ℕ) → List Row
 unfolding lettersIn
 byText h named = row10text named ∷ row9 h (lettersIn named) ∷ []
 
+-- 9 and 10 of a key as it is given, with this head and this alphabet, and in an image
+unfoldable pub keyingBy : Head → List ℕ → Given → List Row
+unfolding byLetters byText meantBy
+keyingBy h alphabet (asLetters key) = byLetters h key
+keyingBy h alphabet (asText text) = byText h (meantBy alphabet (asText text))
+
+unfoldable pub keying : List ℕ → Given → List Row
+unfolding keyingBy alphabetIn headOf
+keying l given = keyingBy (headOf l) (alphabetIn (headOf l) l) given
+
 -- 9, 10 of the key from which the next one is sought. "For next key, 9 means only a key longer than max."
 unfoldable pub byNext : Head → List ℕ → List Row
 byNext h key = row9next h key ∷ row10 h key ∷ []
 
--- "look up: 1 to 4, 9, 10, then 6", with the part for the key given
-unfoldable pub lookingUp : List ℕ → List Row → List ℕ → List Row
-unfolding openingOf tableOf
-lookingUp l keyed key = openingOf l ++ (keyed ++ (row6path (headOf l) (tableOf (headOf l) l) key ∷ []))
+-- "look up: 1 to 4, 9, 10, then 6"
+unfoldable pub lookingUp : List ℕ → Given → List Row
+unfolding openingOf keying keyIn tableOf
+lookingUp l given = openingOf l ++ (keying l given ++ (row6path (headOf l) (tableOf (headOf l) l) (keyIn l given) ∷ []))
 
 -- 11, 12, 13, with k missing nodes
 unfoldable pub adding : Head → ℕ → ℕ → ℕ → List Row
@@ -62,10 +69,11 @@ unfoldable pub newOf : Head → List ℕ → List ℕ → ℕ → ℕ
 unfolding added missing descend tableOf
 newOf h l key value = added (missing (descend (tableOf h l) 0 key)) value
 
--- "store: 1 to 8, 9, 10, 11, 12, 13", with the part for the key given
-unfoldable pub storing : List ℕ → List ℕ → List Row → List ℕ → ℕ → List Row
-unfolding checking adding newOf
-storing l work keyed key value = checking l work ++ (keyed ++ adding (headOf l) value (newOf (headOf l) l key value) (length l))
+-- "store: 1 to 8, 9, 10, 11, 12, 13"
+unfoldable pub storing : List ℕ → List ℕ → Given → ℕ → List Row
+unfolding checking keying keyIn adding newOf
+storing l work given value =
+    checking l work ++ (keying l given ++ adding (headOf l) value (newOf (headOf l) l (keyIn l given) value) (length l))
 
 -- "next key: 1 to 8, 9, 10, 14, 15"
 unfoldable pub nexting : List ℕ → List ℕ → List ℕ → ℕ → Option (List ℕ) → List Row

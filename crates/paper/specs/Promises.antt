@@ -5,7 +5,8 @@ use mathlib.Core.Path.{_≡_}
 use mathlib.Core.Bool.{Bool}
 use mathlib.Core.List.{List, [], _∷_}
 use Rattle.paper.specs.Hearing.{Numbers, outcome}
-use Rattle.paper.specs.Calls.{makeOf, checkOf, countOf, lookUpOf, lookUpTextOf, storeOf, storeTextOf, storeWritesOf, storeTextWritesOf, mendOf, nextKeyOf}
+use Rattle.paper.specs.Given.{Given}
+use Rattle.paper.specs.Calls.{makeOf, checkOf, countOf, lookUpOf, storeOf, storeWritesOf, mendOf, nextKeyOf}
 
 abbrev pub Makes : List ℕ → ℕ → ℕ → ℕ → List ℕ → ℕ → ℕ → Numbers → List ℕ → Type 0
 Makes image n a d alphabet least most m image′ = outcome m (image′ ∷ []) ≡ makeOf image n a d alphabet least most
@@ -16,23 +17,14 @@ Checks l work m work′ = outcome m (work′ ∷ []) ≡ checkOf l work
 abbrev pub Counts : List ℕ → List ℕ → Numbers → List ℕ → Type 0
 Counts l work m work′ = outcome m (work′ ∷ []) ≡ countOf l work
 
-abbrev pub LooksUp : List ℕ → List ℕ → Numbers → Type 0
-LooksUp l key m = outcome m [] ≡ lookUpOf l key
+abbrev pub LooksUp : List ℕ → Given → Numbers → Type 0
+LooksUp l given m = outcome m [] ≡ lookUpOf l given
 
-abbrev pub LooksUpText : List ℕ → List ℕ → Numbers → Type 0
-LooksUpText l text m = outcome m [] ≡ lookUpTextOf l text
+abbrev pub Stores : List ℕ → List ℕ → Given → ℕ → Numbers → List ℕ → List ℕ → Type 0
+Stores l work given value m l′ work′ = outcome m (l′ ∷ work′ ∷ []) ≡ storeOf l work given value
 
-abbrev pub Stores : List ℕ → List ℕ → List ℕ → ℕ → Numbers → List ℕ → List ℕ → Type 0
-Stores l work key value m l′ work′ = outcome m (l′ ∷ work′ ∷ []) ≡ storeOf l work key value
-
-abbrev pub StoresText : List ℕ → List ℕ → List ℕ → ℕ → Numbers → List ℕ → List ℕ → Type 0
-StoresText l work text value m l′ work′ = outcome m (l′ ∷ work′ ∷ []) ≡ storeTextOf l work text value
-
-abbrev pub StoresWrites : List ℕ → List ℕ → List ℕ → ℕ → List ℕ → Numbers → List ℕ → List ℕ → List ℕ → Type 0
-StoresWrites l work key value list m l′ work′ list′ = outcome m (l′ ∷ work′ ∷ list′ ∷ []) ≡ storeWritesOf l work key value list
-
-abbrev pub StoresTextWrites : List ℕ → List ℕ → List ℕ → ℕ → List ℕ → Numbers → List ℕ → List ℕ → List ℕ → Type 0
-StoresTextWrites l work text value list m l′ work′ list′ = outcome m (l′ ∷ work′ ∷ list′ ∷ []) ≡ storeTextWritesOf l work text value list
+abbrev pub StoresWrites : List ℕ → List ℕ → Given → ℕ → List ℕ → Numbers → List ℕ → List ℕ → List ℕ → Type 0
+StoresWrites l work given value list m l′ work′ list′ = outcome m (l′ ∷ work′ ∷ list′ ∷ []) ≡ storeWritesOf l work given value list
 
 abbrev pub Mends : List ℕ → List ℕ → Numbers → List ℕ → List ℕ → Type 0
 Mends l work m l′ work′ = outcome m (l′ ∷ work′ ∷ []) ≡ mendOf l work

@@ -13,7 +13,7 @@ use Rattle.utf8.specs.Text.{chars}
 use Rattle.alphabet.specs.Letters.{letters, letterOf}
 use Rattle.head.specs.declared.Head.{Head}
 use Rattle.head.specs.Fields.{headOf}
-use Rattle.paper.specs.Orders.{alphabetIn}
+use Rattle.paper.specs.Given.{Given, asLetters, asText, alphabetIn}
 
 -- return [read [D] bytes at](address * ([N] * [A] + [D]) + [F] + 28 + [N] * [A]);
 unfoldable pub dataRead : Head → List ℕ → ℕ → ℕ
@@ -53,6 +53,8 @@ unfolding query002 indexOf letters alphabetIn
 queryChars l none = 0
 queryChars l (some s) = query002 l (map (indexOf (headOf l) (letters (alphabetIn (headOf l) l))) s)
 
-unfoldable pub queryText002 : List ℕ → List ℕ → ℕ
-unfolding queryChars chars
-queryText002 l text = queryChars l (chars text)
+-- a query by letters, or by text
+unfoldable pub queryOf002 : List ℕ → Given → ℕ
+unfolding query002 queryChars chars
+queryOf002 l (asLetters query) = query002 l query
+queryOf002 l (asText text) = queryChars l (chars text)
