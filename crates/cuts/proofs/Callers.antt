@@ -16,12 +16,12 @@ use Rattle.trie.proofs.Walk.{where-stopped}
 use Rattle.head.specs.declared.Head.{Head}
 use Rattle.head.specs.Fields.{headOf}
 use Rattle.head.proofs.Permitted.{bounds}
-use Rattle.alphabet.specs.Letters.{lettersIn}
 use Rattle.node.specs.Writes.{Write, listed, newNodes, totalWrite, linkWrite, storeWrites}
 use Rattle.paper.specs.Hearing.{Outcome, outcome, doneNumbers}
-use Rattle.paper.specs.Calls.{tableIn, workAfter, namedIn, writesIn, storedImage, storeOf, storeTextOf, withList, storeWritesOf, storeTextWritesOf}
+use Rattle.paper.specs.Given.{Given, keyIn}
+use Rattle.paper.specs.Calls.{tableIn, workAfter, writesIn, storedImage, storeOf, withList, storeWritesOf}
 use Rattle.paper.specs.Granted.{Granted}
-use Rattle.paper.proofs.Storing.{store-granted, store-leaves, store-text-granted, store-text-leaves}
+use Rattle.paper.proofs.Storing.{store-granted, store-leaves}
 use Rattle.cuts.specs.Answers.{readBack}
 use Rattle.cuts.proofs.Listed.{read-back}
 
@@ -88,37 +88,21 @@ same-number ws list o = go (eqb (o .numbers .number) 0) refl
     go true e = sym (eqb-true (o .numbers .number) 0 e)
     go false e = refl
 
-module _ (l work key : List ℕ) (value : ℕ) (list : List ℕ) where
-  pub store-writes-number : storeWritesOf l work key value list .numbers .number ≡ storeOf l work key value .numbers .number
-  unfolding storeWritesOf
-  store-writes-number = same-number (writesIn l key value) list (storeOf l work key value)
+module _ (l work : List ℕ) (given : Given) (value : ℕ) (list : List ℕ) where
+  abbrev key : List ℕ
+  key = keyIn l given
 
-  pub store-writes-leaves : storeOf l work key value .numbers .number ≡ 0
-      → storeWritesOf l work key value list
+  pub store-writes-number : storeWritesOf l work given value list .numbers .number ≡ storeOf l work given value .numbers .number
+  unfolding storeWritesOf
+  store-writes-number = same-number (writesIn l key value) list (storeOf l work given value)
+
+  pub store-writes-leaves : storeOf l work given value .numbers .number ≡ 0
+      → storeWritesOf l work given value list
       ≡ outcome (doneNumbers (length (writesIn l key value)) (changeOf (answer (tableIn l) key) value) 0)
       (storedImage l key value ∷ workAfter l work ∷ sets list 0 (listed (writesIn l key value)) ∷ [])
   unfolding storeWritesOf withList doneNumbers
-  store-writes-leaves z = ap (withList (writesIn l key value) list) (store-leaves l work key value z)
+  store-writes-leaves z = ap (withList (writesIn l key value) list) (store-leaves l work given value z)
 
-  pub store-writes-told : storeOf l work key value .numbers .number ≡ 0 → 132 ≤ length list
+  pub store-writes-told : storeOf l work given value .numbers .number ≡ 0 → 132 ≤ length list
       → readBack (storedImage l key value) (take (2 * length (writesIn l key value)) (sets list 0 (listed (writesIn l key value)))) ≡ writesIn l key value
-  store-writes-told z b = had-writes (store-granted l work key value z) list b
-
-module _ (l work text : List ℕ) (value : ℕ) (list : List ℕ) where
-  abbrev key : List ℕ
-  key = lettersIn (namedIn l text)
-
-  pub store-text-writes-number : storeTextWritesOf l work text value list .numbers .number ≡ storeTextOf l work text value .numbers .number
-  unfolding storeTextWritesOf
-  store-text-writes-number = same-number (writesIn l key value) list (storeTextOf l work text value)
-
-  pub store-text-writes-leaves : storeTextOf l work text value .numbers .number ≡ 0
-      → storeTextWritesOf l work text value list
-      ≡ outcome (doneNumbers (length (writesIn l key value)) (changeOf (answer (tableIn l) key) value) 0)
-      (storedImage l key value ∷ workAfter l work ∷ sets list 0 (listed (writesIn l key value)) ∷ [])
-  unfolding storeTextWritesOf withList doneNumbers
-  store-text-writes-leaves z = ap (withList (writesIn l key value) list) (store-text-leaves l work text value z)
-
-  pub store-text-writes-told : storeTextOf l work text value .numbers .number ≡ 0 → 132 ≤ length list
-      → readBack (storedImage l key value) (take (2 * length (writesIn l key value)) (sets list 0 (listed (writesIn l key value)))) ≡ writesIn l key value
-  store-text-writes-told z b = had-writes (store-text-granted l work text value z) list b
+  store-writes-told z b = had-writes (store-granted l work given value z) list b

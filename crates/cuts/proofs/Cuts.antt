@@ -25,7 +25,6 @@ use Rattle.head.specs.Fields.{fieldsLen, headOf, nodePlace, usedLen}
 use Rattle.head.proofs.Fields.{head-outside, head-total}
 use Rattle.head.proofs.Permitted.{bounds, addresses-fit}
 use Rattle.head.proofs.Places.{place-le, place-least}
-use Rattle.alphabet.specs.Letters.{lettersIn}
 use Rattle.node.specs.Image.{linkPlace, dataPlace, tableOf}
 use Rattle.node.specs.Writes.{Write, carriedOut, newNodes, totalWrite, linkWrite, dataWrite, storeWrites}
 use Rattle.node.proofs.Places.{link-from, link-inside, data-inside, inside-used}
@@ -36,18 +35,20 @@ use Rattle.node.proofs.Storing.{Storable, length-carried, carried-append, new-h
 use Rattle.paper.specs.Hearing.{Numbers, Outcome, outcome, first, refusedNumbers, doneNumbers}
 use Rattle.paper.specs.Answers.{said}
 use Rattle.paper.specs.Orders.{openingOf, checking}
-use Rattle.paper.specs.Calls.{tableIn, workAfter, checkOf, namedIn, writesIn, storedImage, storeOf, storeTextOf, withG, isAccepted, mends}
+use Rattle.paper.specs.Given.{Given, keyIn}
+use Rattle.paper.specs.Calls.{tableIn, workAfter, checkOf, writesIn, storedImage, storeOf, withG, isAccepted, mends}
 use Rattle.paper.specs.Accepted.{Accepted}
 use Rattle.paper.specs.Granted.{Granted}
 use Rattle.paper.proofs.Hearing.{heard-done}
 use Rattle.paper.proofs.Linking.{Unlinked}
 use Rattle.paper.proofs.Checking.{accepted-opens, accepted-checks}
-use Rattle.paper.proofs.Storing.{able, accepted-again, store-granted, store-text-granted}
+use Rattle.paper.proofs.Storing.{able, accepted-again, store-granted}
 use Rattle.paper.proofs.Mending.{accepted-exactly, mend-kept, mend-lowered}
 use Rattle.cuts.specs.Cut.{hit, cutAfter}
 use Rattle.cuts.specs.Answers.{MendsTo}
 use Rattle.cuts.proofs.Lists.{From, from-before, length-cut, carried-before, cut-before-all, cut-append, cut-whole, hit-none}
-use Rattle.cuts.proofs.Seen.{seenIn, before-used, opens-same, seen-same, seen-below, same-answers, same-accepted}
+use Rattle.seen.specs.Seen.{seenIn}
+use Rattle.seen.proofs.Seen.{before-used, opens-same, seen-same, seen-below, same-answers, same-accepted}
 use Rattle.cuts.proofs.Unlinked.{check-unlinked}
 
 -- ---- an image that looks as an accepted one does
@@ -309,9 +310,5 @@ Mended l key value =
 cut-anywhere : {l key : List ℕ} {value : ℕ} → Granted l key value → Mended l key value
 cut-anywhere s k lands work lent = (λ b. cut-before s k lands work b lent, λ b. cut-after s k lands work b lent)
 
-pub cut-store : (l work key : List ℕ) (value : ℕ) → storeOf l work key value .numbers .number ≡ 0 → Mended l key value
-cut-store l work key value z = cut-anywhere (store-granted l work key value z)
-
-pub cut-store-text : (l work text : List ℕ) (value : ℕ) → storeTextOf l work text value .numbers .number ≡ 0
-    → Mended l (lettersIn (namedIn l text)) value
-cut-store-text l work text value z = cut-anywhere (store-text-granted l work text value z)
+pub cut-store : (l work : List ℕ) (given : Given) (value : ℕ) → storeOf l work given value .numbers .number ≡ 0 → Mended l (keyIn l given) value
+cut-store l work given value z = cut-anywhere (store-granted l work given value z)

@@ -4,5 +4,4 @@ pub mod Cuts
 pub mod Listed
 pub mod Lists
 pub mod Mending
-pub mod Seen
 pub mod Unlinked

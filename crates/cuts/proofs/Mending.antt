@@ -1,10 +1,9 @@
 -- Mending, for every image: what it leaves, and that no look up's answer changes by it. Where G is lowered the lowered image is accepted,
 -- so that a walk in it stays among the nodes that it still has; and these are as they were, so the walk goes alike before and after.
 use Prim.Native.Nat.{ℕ, _+_, _-_, _*_, _^_, _≤_, _<_}
-use mathlib.Core.Path.{_≡_, refl, sym, ap, subst, _∙_}
+use mathlib.Core.Path.{_≡_, refl, sym, ap, ap₂, subst, _∙_}
 use mathlib.Core.Bool.{Bool, true, false, cond}
-use mathlib.Core.Logic.{inl, inr, ⊎-elim}
-use mathlib.Core.Option.{Option}
+use mathlib.Core.Logic.{inl, inr}
 use mathlib.Core.List.{List, [], _∷_}
 use native.Mathlib.Nat.{mul-le-mul, le-refl}
 use native.Mathlib.Omega.{arith}
@@ -17,7 +16,7 @@ use Rattle.field.specs.Field.{digits}
 use Rattle.field.proofs.Range.{both, between-true}
 use Rattle.field.proofs.Laid.{getD-outside}
 use Rattle.field.proofs.Fields.{length-digits}
-use Rattle.trie.specs.Table.{Table}
+use Rattle.trie.specs.Table.{Table, answer}
 use Rattle.trie.specs.Rules.{Within}
 use Rattle.trie.proofs.Lowered.{Agree, answer-alike, fault-alike}
 use Rattle.head.specs.declared.Head.{Head}
@@ -25,22 +24,22 @@ use Rattle.head.specs.Fields.{shortestImage, longestImage, headOf, nodeWidth}
 use Rattle.head.proofs.Fields.{head-total}
 use Rattle.head.proofs.Permitted.{bounds}
 use Rattle.head.proofs.Places.{width-least, used}
-use Rattle.alphabet.specs.Letters.{letters, lettersIn, keyOfText}
 use Rattle.node.specs.Image.{tableOf}
 use Rattle.node.proofs.Heads.{withTotal, child-kept, value-kept}
 use Rattle.node.proofs.Writes.{table-outside}
 use Rattle.paper.specs.Hearing.{Row, Numbers, Outcome, outcome, first, heard, doneNumbers}
-use Rattle.paper.specs.Rows.{badLink, row9, row10}
-use Rattle.paper.specs.Orders.{alphabetIn, openingOf, byLetters, byText}
-use Rattle.paper.specs.Calls.{tableIn, workAfter, checkOf, lookUpBy, lookUpOf, namedIn, lookUpTextOf, withG, isAccepted, mends, mendOf}
+use Rattle.paper.specs.Given.{Given, alphabetIn, keyIn}
+use Rattle.paper.specs.Rows.{badLink}
+use Rattle.paper.specs.Orders.{openingOf, keying}
+use Rattle.paper.specs.Calls.{tableIn, workAfter, checkOf, lookUpOf, withG, isAccepted, mends, mendOf}
 use Rattle.paper.specs.Accepted.{Accepted}
 use Rattle.paper.proofs.Opening.{Passed, passed}
 use Rattle.paper.proofs.Linking.{milder}
 use Rattle.paper.proofs.Checking.{check-exactly}
-use Rattle.paper.proofs.Storing.{unfaulted, looks-up-open, looks-up-accepted}
+use Rattle.paper.proofs.Storing.{telling, unfaulted, looks-up-open, looks-up-accepted, same-keying, same-key}
 use Rattle.paper.proofs.Mending.{accepted-exactly, mend-kept, mend-lowered, Eight, eight}
+use Rattle.seen.proofs.Seen.{same-alphabet}
 use Rattle.cuts.specs.Answers.{mendedImage}
-use Rattle.cuts.proofs.Seen.{same-alphabet}
 
 -- ---- either way
 
@@ -154,37 +153,24 @@ module _ (l work : List ℕ) (e : mends l (checkOf l work .numbers) ≡ true) wh
   milder-here : (q c : ℕ) → badLink (headOf m .g) q c ≡ false → badLink (h .g) q c ≡ false
   milder-here q c f = let g : headOf m .g ≡ low = ap (λ (k : Head). k .g) heads in milder (headOf m .g) (h .g) q c (omega (arith, below)) f
 
-  looks-alike : (keyed : List Row) (key : List ℕ) → lookUpBy m keyed key ≡ lookUpBy l keyed key
-  looks-alike keyed key =
-      looks-up-accepted again keyed key
-      ∙ ap (λ (v : ℕ). heard (first keyed) [] (outcome (doneNumbers 0 (pos 0) v) [])) (answer-alike agree within key)
+  same-letters : alphabetIn (headOf m) m ≡ alphabetIn h l
+  unfolding alphabetIn withG
+  same-letters =
+      ap (λ (k : Head). alphabetIn k m) heads
+      ∙ same-alphabet h m l (length-sets l 0 (digits 4 low)) (λ p b _. getD-outside l (digits 4 low) 0 p 0 (inr (omega (arith, length-digits 4 low))))
+
+  looks-alike : (given : Given) → lookUpOf m given ≡ lookUpOf l given
+  looks-alike given =
+      let key : List ℕ = keyIn l given in
+      looks-up-accepted again given
+      ∙ ap₂ (λ (rows : List Row) (k : List ℕ). heard (first rows) [] (telling (answer (tableIn m) k)))
+      (same-keying m l heads same-letters given) (same-key m l heads same-letters given)
+      ∙ ap (λ (v : ℕ). heard (first (keying l given)) [] (telling v)) (answer-alike agree within key)
       ∙ sym
-      (looks-up-open l keyed key (told .opened)
+      (looks-up-open l given (told .opened)
       (fault-alike agree within (badLink (headOf m .g)) (badLink (h .g)) milder-here 0 key (omega arith) (unfaulted again 0 key)))
-
-  letters-alike : (key : List ℕ) → lookUpOf m key ≡ lookUpOf l key
-  unfolding lookUpOf byLetters row9 row10
-  letters-alike key = ap (λ (k : Head). lookUpBy m (byLetters k key) key) heads ∙ looks-alike (byLetters h key) key
-
-  same-name : (text : List ℕ) → namedIn m text ≡ namedIn l text
-  unfolding namedIn alphabetIn withG
-  same-name text =
-      ap (λ (alphabet : List ℕ). keyOfText (letters alphabet) text)
-      (ap (λ (k : Head). alphabetIn k m) heads
-      ∙ same-alphabet h m l (length-sets l 0 (digits 4 low)) (λ p b _. getD-outside l (digits 4 low) 0 p 0 (inr (omega (arith, length-digits 4 low)))))
-
-  texts-alike : (text : List ℕ) → lookUpTextOf m text ≡ lookUpTextOf l text
-  unfolding lookUpTextOf byText row9
-  texts-alike text =
-      ap (λ (o : Option (List ℕ)). lookUpBy m (byText (headOf m) o) (lettersIn o)) (same-name text)
-      ∙ ap (λ (k : Head). lookUpBy m (byText k (namedIn l text)) (lettersIn (namedIn l text))) heads
-      ∙ looks-alike (byText h (namedIn l text)) (lettersIn (namedIn l text))
 
 -- ---- no look up's answer changes: no stored key's value becomes another's
 
-module _ (l work : List ℕ) where
-  pub mend-looks : (key : List ℕ) → lookUpOf (mendedImage l work) key ≡ lookUpOf l key
-  mend-looks key = either l work (λ (r : List ℕ). lookUpOf r key ≡ lookUpOf l key) refl (λ e. letters-alike l work e key)
-
-  pub mend-texts : (text : List ℕ) → lookUpTextOf (mendedImage l work) text ≡ lookUpTextOf l text
-  mend-texts text = either l work (λ (r : List ℕ). lookUpTextOf r text ≡ lookUpTextOf l text) refl (λ e. texts-alike l work e text)
+pub mend-looks : (l work : List ℕ) (given : Given) → lookUpOf (mendedImage l work) given ≡ lookUpOf l given
+mend-looks l work given = either l work (λ (r : List ℕ). lookUpOf r given ≡ lookUpOf l given) refl (λ e. looks-alike l work e given)

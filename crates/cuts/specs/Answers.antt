@@ -1,23 +1,15 @@
 -- 02, Ask 1: "a mending call with enough working numbers must leave the answers from before the store or after it".
 use Prim.Native.Nat.{ℕ, _-_}
 use mathlib.Core.Path.{_≡_}
-use mathlib.Core.Bool.{Bool, cond}
+use mathlib.Core.Bool.{cond}
 use mathlib.Core.List.{List, [], _∷_}
 use lib.ListN.{take, drop}
 use lib.IntN.{pos}
 use Rattle.node.specs.Writes.{Write}
 use Rattle.paper.specs.Hearing.{outcome, doneNumbers}
 use Rattle.paper.specs.Accepted.{Accepted}
-use Rattle.paper.specs.Calls.{workAfter, checkOf, storedKeys, countOf, lookUpOf, lookUpTextOf, nextKeyOf, withG, mends, mendOf}
-
--- two images answer alike, whatever they are asked that does not write them, and they list the same keys
-pub record SameAnswers (l m : List ℕ) : Type 0 where
-  pub checks : (work : List ℕ) → checkOf l work ≡ checkOf m work
-  pub counts : (work : List ℕ) → countOf l work ≡ countOf m work
-  pub looks : (key : List ℕ) → lookUpOf l key ≡ lookUpOf m key
-  pub texts : (text : List ℕ) → lookUpTextOf l text ≡ lookUpTextOf m text
-  pub nexts : (work key : List ℕ) (after : Bool) (buffer : List ℕ) → nextKeyOf l work key after buffer ≡ nextKeyOf m work key after buffer
-  pub lists : storedKeys l ≡ storedKeys m
+use Rattle.paper.specs.Calls.{workAfter, checkOf, withG, mends, mendOf}
+use Rattle.seen.specs.Seen.{SameAnswers}
 
 -- mending an image answers 0 and leaves an accepted one that answers as another does
 pub record MendsTo (l work m : List ℕ) : Type 0 where

@@ -224,7 +224,7 @@ module _ {l : List ℕ} (a : Accepted l) where
 
 -- ---- the part for the key, where G alone changed and the alphabet did not
 
-keying-total : (h : Head) (g : ℕ) (alphabet : List ℕ) (given : Given) → keyingBy (withTotal h g) alphabet given ≡ keyingBy h alphabet given
+pub keying-total : (h : Head) (g : ℕ) (alphabet : List ℕ) (given : Given) → keyingBy (withTotal h g) alphabet given ≡ keyingBy h alphabet given
 unfolding keyingBy byLetters byText row9 row10
 keying-total h g alphabet (asLetters key) = refl
 keying-total h g alphabet (asText text) = refl
@@ -366,7 +366,7 @@ module _ (l work : List ℕ) (given : Given) (value : ℕ) where
       (after8 .0, after10 .0, after10 .1)
 
   -- a store that passes every row is granted
-  granted : first (storing l work given value) ≡ none → Granted l key value
+  pub granted : first (storing l work given value) ≡ none → Granted l key value
   unfolding adding
   granted e =
       let h : Head = headOf l in

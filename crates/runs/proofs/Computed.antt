@@ -6,9 +6,10 @@ use mathlib.Core.List.{List, [], _∷_, map}
 use lib.IntN.{pos}
 use lib.ListN.{replicate}
 use Rattle.paper.specs.Rows.{row1, row2, row3, row4, row6, row7, row8, row9, row10, row10text, row11, row12, row13, row6path}
+use Rattle.paper.specs.Given.{asLetters, asText}
 use Rattle.paper.specs.Calls.{freshHead, freshImage, lookUpOf}
 use Rattle.paper.specs.Cases.{file}
-use Rattle.runs.specs.Runs.{Entry, lastOf, Call, lookUp, lookUpText, store, storeText, storeWrites, storeTextWrites, mend, Run, ran, startOf}
+use Rattle.runs.specs.Runs.{Entry, lastOf, Call, lookUp, store, storeWrites, mend, Run, ran, startOf}
 
 abbrev alphabet : List ℕ
 alphabet = 0x41 ∷ 0x42 ∷ 0x43 ∷ []
@@ -26,18 +27,18 @@ entry k v = record { key = k; value = v }
 -- text and D = 1 by text, and two mendings, one lent a working number too few
 abbrev calls : List Call
 calls =
-    store work (1 ∷ 0 ∷ []) 9
-    ∷ store work (1 ∷ []) 5
-    ∷ store work (1 ∷ 0 ∷ []) 256
-    ∷ lookUp (1 ∷ 0 ∷ [])
-    ∷ storeText work (0x43 ∷ []) 7
-    ∷ storeText work (0x44 ∷ []) 1
-    ∷ storeText work (0x42 ∷ []) 6
-    ∷ lookUpText (0x42 ∷ [])
-    ∷ store work (1 ∷ 0 ∷ []) 0
-    ∷ storeWrites work (2 ∷ 0 ∷ []) 3 list
-    ∷ storeTextWrites work (0x43 ∷ []) 8 list
-    ∷ storeTextWrites work (0x44 ∷ []) 1 list
+    store work (asLetters (1 ∷ 0 ∷ [])) 9
+    ∷ store work (asLetters (1 ∷ [])) 5
+    ∷ store work (asLetters (1 ∷ 0 ∷ [])) 256
+    ∷ lookUp (asLetters (1 ∷ 0 ∷ []))
+    ∷ store work (asText (0x43 ∷ [])) 7
+    ∷ store work (asText (0x44 ∷ [])) 1
+    ∷ store work (asText (0x42 ∷ [])) 6
+    ∷ lookUp (asText (0x42 ∷ []))
+    ∷ store work (asLetters (1 ∷ 0 ∷ [])) 0
+    ∷ storeWrites work (asLetters (2 ∷ 0 ∷ [])) 3 list
+    ∷ storeWrites work (asText (0x43 ∷ [])) 8 list
+    ∷ storeWrites work (asText (0x44 ∷ [])) 1 list
     ∷ mend work
     ∷ mend (replicate 4 7)
     ∷ []
@@ -66,7 +67,7 @@ abbrev keys : List (List ℕ)
 keys = (1 ∷ 0 ∷ []) ∷ (1 ∷ []) ∷ (2 ∷ []) ∷ (2 ∷ 0 ∷ []) ∷ (0 ∷ []) ∷ []
 
 pub computed : (end ≡ expected)
-    × (map (λ (k : List ℕ). lookUpOf (end .image) k .numbers .value) keys ≡ 0 ∷ 6 ∷ 8 ∷ 3 ∷ 0 ∷ [])
+    × (map (λ (k : List ℕ). lookUpOf (end .image) (asLetters k) .numbers .value) keys ≡ 0 ∷ 6 ∷ 8 ∷ 3 ∷ 0 ∷ [])
     × (map (lastOf (end .plain)) keys ≡ 0 ∷ 6 ∷ 8 ∷ 3 ∷ 0 ∷ [])
 unfolding row1 row2 row3 row4 row6 row7 row8 row9 row10 row10text row11 row12 row13 row6path freshHead freshImage lastOf ran startOf
 computed = (refl, refl, refl)

@@ -2,10 +2,10 @@
 -- both: it holds of a fresh image, every call keeps it, and what is asked of a run is read off it. Every beginning of a run is a run, so
 -- that a call in the middle is answered by the same laws.
 use Prim.Native.Nat.{ℕ, _+_, _-_, _≤_}
-use mathlib.Core.Path.{_≡_, refl, sym, _∙_, ap}
+use mathlib.Core.Path.{_≡_, refl, sym, _∙_, ap, ap₂}
 use mathlib.Core.Bool.{Bool, true, false, true≢false, _&&_}
 use mathlib.Core.Logic.{_≢_}
-use mathlib.Core.Option.{Option, none, some, Option·some-ne-none}
+use mathlib.Core.Option.{none, some, Option·some-ne-none}
 use mathlib.Core.List.{List, [], _∷_, _++_}
 use native.Mathlib.Omega.{arith}
 use lib.Dec.{eqb}
@@ -18,24 +18,22 @@ use Rattle.trie.specs.Storing.{stored, changeOf}
 use Rattle.trie.proofs.Storing.{stored-answer, stored-answer-other}
 use Rattle.head.specs.declared.Head.{Head}
 use Rattle.head.specs.Fields.{headOf}
-use Rattle.alphabet.specs.Letters.{letters, lettersIn, keyOfText}
+use Rattle.alphabet.specs.Letters.{lettersIn}
 use Rattle.node.specs.Writes.{Write}
 use Rattle.node.proofs.Heads.{withTotal}
 use Rattle.paper.specs.Hearing.{Said, Row, Outcome, outcome, first, heard, refusedNumbers, doneNumbers}
-use Rattle.paper.specs.Rows.{row9, row10, row10text}
-use Rattle.paper.specs.Orders.{alphabetIn, newOf, checking, byLetters, byText, lookingUp, storing, nexting}
-use Rattle.paper.specs.Calls.{tableIn, workAfter, freshHead, freshImage, makeOf, storedKeys, countOf, lookUpBy, lookUpOf, namedIn, lookUpTextOf, writesIn, storedImage, storeBy, storeOf, storeTextOf, withList, checkOf, withG, isAccepted, mends, nextIn}
+use Rattle.paper.specs.Given.{Given, alphabetIn, meantBy, meantIn, keyIn}
+use Rattle.paper.specs.Orders.{newOf, checking, keyingBy, keying, lookingUp, storing, nexting}
+use Rattle.paper.specs.Calls.{tableIn, workAfter, freshHead, freshImage, makeOf, storedKeys, countOf, lookUpOf, writesIn, storedImage, storeOf, withList, checkOf, withG, isAccepted, mends, nextIn}
 use Rattle.paper.specs.Accepted.{Accepted}
 use Rattle.paper.specs.Granted.{Fit, Granted}
 use Rattle.paper.proofs.Hearing.{heard-done, heard-alike}
-use Rattle.paper.proofs.Numbers.{AllSay}
-use Rattle.paper.proofs.Keying.{keyNumbers, letters-fit, letters-say, text-says}
 use Rattle.paper.proofs.Checking.{accepted-opens, accepted-checks, check-exactly, accepted-linked}
-use Rattle.paper.proofs.Looking.{named-fit}
-use Rattle.paper.proofs.Storing.{accepted-again, stored-head, stored-alphabet, stored-table, stored-change, looks-up-accepted, granted, store-passed}
+use Rattle.paper.proofs.Looking.{given-fit}
+use Rattle.paper.proofs.Storing.{accepted-again, stored-head, stored-alphabet, stored-table, stored-change, telling, looks-up-accepted, keying-total, granted, store-passed}
 use Rattle.paper.proofs.Mending.{mend-kept, eight}
 use Rattle.paper.proofs.Fresh.{Made, make-done, fresh-head, fresh-alphabet, fresh-accepted, fresh-answers, fresh-keys}
-use Rattle.runs.specs.Runs.{sameKey, lastOf, Call, check, count, lookUp, lookUpText, store, storeText, storeWrites, storeTextWrites, mend, nextKey, firstLeft, notedBy, Run, after, ran, startOf, ranFrom, telling}
+use Rattle.runs.specs.Runs.{sameKey, lastOf, Call, check, count, lookUp, store, storeWrites, mend, nextKey, firstLeft, notedBy, Run, after, ran, startOf, ranFrom}
 
 -- ---- the plain list
 
@@ -87,29 +85,13 @@ data Ended (l key : List ℕ) (value : ℕ) : Outcome → Type 0 where
       → Ended l key value (outcome (doneNumbers writes (changeOf (answer (tableIn l) key) value) 0) (storedImage l key value ∷ others))
   was-refused : (s : Said) {others : List (List ℕ)} → s .number ≢ 0 → Ended l key value (outcome (refusedNumbers s) (l ∷ others))
 
-ended : (l work : List ℕ) (keyed : List Row) (key : List ℕ) (value : ℕ) → AllSay keyNumbers keyed → (first keyed ≡ none → Fit (headOf l) key)
-    → Ended l key value (storeBy l work keyed key value)
-unfolding storeBy heard refusedNumbers
-ended l work keyed key value says fits = go (first (storing l work keyed key value)) refl
+ended : (l work : List ℕ) (given : Given) (value : ℕ) → Ended l (keyIn l given) value (storeOf l work given value)
+unfolding storeOf heard refusedNumbers
+ended l work given value = go (first (storing l work given value)) refl
   where
-    go : (row : Row) → first (storing l work keyed key value) ≡ row → Ended l key value (storeBy l work keyed key value)
-    go none e = rw e (was-done 0 (granted l work keyed key value e fits))
-    go (some s) e = rw e (was-refused s (λ z. Option·some-ne-none s (sym e ∙ store-passed l work keyed key value says (rw e z))))
-
--- by letters, and by text
-ended-letters : (l work key : List ℕ) (value : ℕ) → Ended l key value (storeOf l work key value)
-unfolding storeOf
-ended-letters l work key value =
-    let h : Head = headOf l in
-    ended l work (byLetters h key) key value (letters-say h key) (letters-fit h key)
-
-ended-text : {l : List ℕ} → Accepted l → (work text : List ℕ) (value : ℕ)
-    → Ended l (lettersIn (namedIn l text)) value (storeTextOf l work text value)
-unfolding storeTextOf
-ended-text {l} a work text value =
-    let h : Head = headOf l in
-    let named : Option (List ℕ) = namedIn l text in
-    ended l work (byText h named) (lettersIn named) value (text-says h named) (named-fit l text (accepted-opens a))
+    go : (row : Row) → first (storing l work given value) ≡ row → Ended l (keyIn l given) value (storeOf l work given value)
+    go none e = rw e (was-done 0 (granted l work given value e))
+    go (some s) e = rw e (was-refused s (λ z. Option·some-ne-none s (sym e ∙ store-passed l work given value (rw e z))))
 
 -- the list of its writes is one buffer more, and changes neither the number nor the change
 ended-listed : {l key : List ℕ} {value : ℕ} (ws : List Write) (list : List ℕ) {o : Outcome} → Ended l key value o
@@ -196,17 +178,10 @@ module _ {h : Head} {alphabet : List ℕ} where
   unfolding after doneNumbers
   step r (check work) i = unchanged i (no-change (first (checking (r .image) work)) _ _ refl)
   step r (count work) i = unchanged i (no-change (first (checking (r .image) work)) _ _ refl)
-  step r (lookUp key) i = unchanged i (no-change (first (lookingUp (r .image) (byLetters (headOf (r .image)) key) key)) _ _ refl)
-  step r (lookUpText text) i =
-      let named : Option (List ℕ) = namedIn (r .image) text in
-      unchanged i (no-change (first (lookingUp (r .image) (byText (headOf (r .image)) named) (lettersIn named))) _ _ refl)
-  step r (store work key value) i = step-store i (ended-letters (r .image) work key value)
-  step r (storeText work text value) i = step-store i (ended-text (i .accepted) work text value)
-  step r (storeWrites work key value list) i =
-      step-store i (ended-listed (writesIn (r .image) key value) list (ended-letters (r .image) work key value))
-  step r (storeTextWrites work text value list) i =
-      step-store i
-      (ended-listed (writesIn (r .image) (lettersIn (namedIn (r .image) text)) value) list (ended-text (i .accepted) work text value))
+  step r (lookUp given) i = unchanged i (no-change (first (lookingUp (r .image) given)) _ _ refl)
+  step r (store work given value) i = step-store i (ended (r .image) work given value)
+  step r (storeWrites work given value list) i =
+      step-store i (ended-listed (writesIn (r .image) (keyIn (r .image) given) value) list (ended (r .image) work given value))
   step r (mend work) i =
       rw (mend-kept (r .image) work (not-mended (i .accepted) work))
       (unchanged i (no-change (first (checking (r .image) work)) _ _ refl))
@@ -240,42 +215,29 @@ module _ (image : List ℕ) (n a d : ℕ) (alphabet : List ℕ) (least most : �
   pub run-accepted : Accepted (r .image)
   run-accepted = at-end .accepted
 
-  -- 9 and 10 ask what they asked at the start
-  letters-same : (k : List ℕ) → byLetters (headOf (r .image)) k ≡ byLetters h k
-  unfolding byLetters row9 row10
-  letters-same k = ap (λ (j : Head). byLetters j k) (at-end .same-head)
-
-  text-same : (named : Option (List ℕ)) → byText (headOf (r .image)) named ≡ byText h named
-  unfolding byText row9 row10text
-  text-same named = ap (λ (j : Head). byText j named) (at-end .same-head)
-
-  named-same : (text : List ℕ) → namedIn (r .image) text ≡ keyOfText (letters alphabet) text
-  unfolding namedIn
-  named-same text = ap (λ (b : List ℕ). keyOfText (letters b) text) (at-end .same-alphabet)
-
   fit-same : {k : List ℕ} → Fit (headOf (r .image)) k → Fit h k
   fit-same f = record { allowed = rw (at-end .same-head) at (f .allowed); below = rw (at-end .same-head) at (f .below) }
 
-  -- whatever the part for the key is, if a key that passes it is fit
-  looked : (keyed : List Row) (k : List ℕ) → (first keyed ≡ none → Fit (headOf (r .image)) k)
-      → lookUpBy (r .image) keyed k ≡ heard (first keyed) [] (telling (lastOf (r .plain) k))
-  looked keyed k fits =
-      looks-up-accepted run-accepted keyed k
-      ∙ heard-alike (first keyed) [] (λ e. ap telling (at-end .answers k (fit-same (fits e))))
+  -- 9 and 10 ask what they asked at the start, and the key that is meant is the same
+  keyed-same : (given : Given) → keying (r .image) given ≡ keyingBy h alphabet given
+  unfolding keying
+  keyed-same given =
+      ap₂ (λ (j : Head) (b : List ℕ). keyingBy j b given) (at-end .same-head) (at-end .same-alphabet)
+      ∙ keying-total h (headOf (r .image) .g) alphabet given
+
+  meant-same : (given : Given) → keyIn (r .image) given ≡ lettersIn (meantBy alphabet given)
+  unfolding keyIn meantIn
+  meant-same given = ap (λ (b : List ℕ). lettersIn (meantBy b given)) (at-end .same-alphabet)
 
   -- "answers as a plain list of last values": 9 or 10 for a key that no image with this head has, the last value for any other
-  pub run-answers : (k : List ℕ) → lookUpOf (r .image) k ≡ heard (first (byLetters h k)) [] (telling (lastOf (r .plain) k))
-  unfolding lookUpOf
-  run-answers k = rw (← letters-same k) (looked (byLetters (headOf (r .image)) k) k (letters-fit (headOf (r .image)) k))
-
-  pub run-answers-text : (text : List ℕ) → lookUpTextOf (r .image) text
-      ≡ heard (first (byText h (keyOfText (letters alphabet) text))) []
-      (telling (lastOf (r .plain) (lettersIn (keyOfText (letters alphabet) text))))
-  unfolding lookUpTextOf
-  run-answers-text text =
-      let named : Option (List ℕ) = namedIn (r .image) text in
-      rw (← named-same text, ← text-same named)
-      (looked (byText (headOf (r .image)) named) (lettersIn named) (named-fit (r .image) text (accepted-opens run-accepted)))
+  pub run-answers : (given : Given) → lookUpOf (r .image) given
+      ≡ heard (first (keyingBy h alphabet given)) [] (telling (lastOf (r .plain) (lettersIn (meantBy alphabet given))))
+  run-answers given =
+      let fit : first (keying (r .image) given) ≡ none → Fit h (keyIn (r .image) given) =
+      λ e. fit-same (given-fit (r .image) given (accepted-opens run-accepted) e) in
+      looks-up-accepted run-accepted given
+      ∙ heard-alike (first (keying (r .image) given)) [] (λ e. ap telling (at-end .answers (keyIn (r .image) given) (fit e)))
+      ∙ ap₂ (λ (rows : List Row) (k : List ℕ). heard (first rows) [] (telling (lastOf (r .plain) k))) (keyed-same given) (meant-same given)
 
   -- "The sum of these from a fresh image equals the number of keys stored now", and that is the number that is told
   pub run-sums : r .sum ≡ pos (length (storedKeys (r .image)))

@@ -7,9 +7,9 @@ use mathlib.Core.List.{List, [], _∷_}
 use lib.Dec.{eqb}
 use lib.IntN.{ℤ, pos, _+ℤ_}
 use Rattle.head.specs.declared.Head.{Head}
-use Rattle.alphabet.specs.Letters.{lettersIn}
-use Rattle.paper.specs.Hearing.{Outcome, outcome, doneNumbers}
-use Rattle.paper.specs.Calls.{freshImage, checkOf, countOf, lookUpOf, lookUpTextOf, namedIn, storeOf, storeTextOf, storeWritesOf, storeTextWritesOf, mendOf, nextKeyOf}
+use Rattle.paper.specs.Hearing.{Outcome}
+use Rattle.paper.specs.Given.{Given, keyIn}
+use Rattle.paper.specs.Calls.{freshImage, checkOf, countOf, lookUpOf, storeOf, storeWritesOf, mendOf, nextKeyOf}
 
 -- ---- the plain list
 
@@ -35,26 +35,20 @@ lastOf (e ∷ plain) k = cond (sameKey (e .key) k) (e .value) (lastOf plain k)
 pub data Call : Type 0 where
   check : (work : List ℕ) → Call
   count : (work : List ℕ) → Call
-  lookUp : (key : List ℕ) → Call
-  lookUpText : (text : List ℕ) → Call
-  store : (work key : List ℕ) (value : ℕ) → Call
-  storeText : (work text : List ℕ) (value : ℕ) → Call
-  storeWrites : (work key : List ℕ) (value : ℕ) (list : List ℕ) → Call
-  storeTextWrites : (work text : List ℕ) (value : ℕ) (list : List ℕ) → Call
+  lookUp : (given : Given) → Call
+  store : (work : List ℕ) (given : Given) (value : ℕ) → Call
+  storeWrites : (work : List ℕ) (given : Given) (value : ℕ) (list : List ℕ) → Call
   mend : (work : List ℕ) → Call
   nextKey : (work key : List ℕ) (after : Bool) (buffer : List ℕ) → Call
 
 -- what it answers and leaves, in this image
 unfoldable pub heardOf : List ℕ → Call → Outcome
-unfolding checkOf countOf lookUpOf lookUpTextOf storeOf storeTextOf storeWritesOf storeTextWritesOf mendOf nextKeyOf
+unfolding checkOf countOf lookUpOf storeOf storeWritesOf mendOf nextKeyOf
 heardOf l (check work) = checkOf l work
 heardOf l (count work) = countOf l work
-heardOf l (lookUp key) = lookUpOf l key
-heardOf l (lookUpText text) = lookUpTextOf l text
-heardOf l (store work key value) = storeOf l work key value
-heardOf l (storeText work text value) = storeTextOf l work text value
-heardOf l (storeWrites work key value list) = storeWritesOf l work key value list
-heardOf l (storeTextWrites work text value list) = storeTextWritesOf l work text value list
+heardOf l (lookUp given) = lookUpOf l given
+heardOf l (store work given value) = storeOf l work given value
+heardOf l (storeWrites work given value list) = storeWritesOf l work given value list
 heardOf l (mend work) = mendOf l work
 heardOf l (nextKey work key after buffer) = nextKeyOf l work key after buffer
 
@@ -66,15 +60,12 @@ firstLeft (l ∷ rest) = l
 -- the image after a call: only a store and a mending are lent it to write
 unfoldable pub imageAfter : List ℕ → Call → List ℕ
 unfolding firstLeft heardOf
-imageAfter l (store work key value) = firstLeft (heardOf l (store work key value) .lent)
-imageAfter l (storeText work text value) = firstLeft (heardOf l (storeText work text value) .lent)
-imageAfter l (storeWrites work key value list) = firstLeft (heardOf l (storeWrites work key value list) .lent)
-imageAfter l (storeTextWrites work text value list) = firstLeft (heardOf l (storeTextWrites work text value list) .lent)
+imageAfter l (store work given value) = firstLeft (heardOf l (store work given value) .lent)
+imageAfter l (storeWrites work given value list) = firstLeft (heardOf l (storeWrites work given value list) .lent)
 imageAfter l (mend work) = firstLeft (heardOf l (mend work) .lent)
 imageAfter l (check work) = l
 imageAfter l (count work) = l
-imageAfter l (lookUp key) = l
-imageAfter l (lookUpText text) = l
+imageAfter l (lookUp given) = l
 imageAfter l (nextKey work key after buffer) = l
 
 -- the plain list after a store that left this outcome: one that answers number 0 is noted
@@ -83,18 +74,14 @@ notedBy o key value plain = cond (eqb (o .numbers .number) 0) (record { key = ke
 
 -- and after any call on this image
 unfoldable pub noted : List ℕ → Call → List Entry → List Entry
-unfolding notedBy heardOf namedIn lettersIn
-noted l (store work key value) plain = notedBy (heardOf l (store work key value)) key value plain
-noted l (storeText work text value) plain =
-    notedBy (heardOf l (storeText work text value)) (lettersIn (namedIn l text)) value plain
-noted l (storeWrites work key value list) plain = notedBy (heardOf l (storeWrites work key value list)) key value plain
-noted l (storeTextWrites work text value list) plain =
-    notedBy (heardOf l (storeTextWrites work text value list)) (lettersIn (namedIn l text)) value plain
+unfolding notedBy heardOf keyIn
+noted l (store work given value) plain = notedBy (heardOf l (store work given value)) (keyIn l given) value plain
+noted l (storeWrites work given value list) plain =
+    notedBy (heardOf l (storeWrites work given value list)) (keyIn l given) value plain
 noted l (mend work) plain = plain
 noted l (check work) plain = plain
 noted l (count work) plain = plain
-noted l (lookUp key) plain = plain
-noted l (lookUpText text) plain = plain
+noted l (lookUp given) plain = plain
 noted l (nextKey work key after buffer) plain = plain
 
 -- ---- a run
@@ -126,7 +113,3 @@ startOf l = record { image = l; plain = []; sum = pos 0 }
 -- from the fresh image of a head and an alphabet, which is what a make leaves that is done
 abbrev pub ranFrom : Head → List ℕ → List ℕ → List Call → Run
 ranFrom h alphabet image cs = ran (startOf (freshImage h alphabet image)) cs
-
--- what a look up leaves that tells a value
-abbrev pub telling : ℕ → Outcome
-telling v = outcome (doneNumbers 0 (pos 0) v) []

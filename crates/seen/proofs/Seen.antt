@@ -1,5 +1,5 @@
--- What the calls that do not write see of an image: its head, its table, its alphabet and its length, and nothing else. So images that
--- look the same answer alike. Bytes from U on are not seen, and of the first four only the number in them.
+-- Images that look the same answer alike, since every outcome is a function of what is seen. Bytes from U on are not seen, and of the
+-- first four only the number in them.
 use Prim.Native.Nat.{ℕ, _+_, _≤_, _<_}
 use mathlib.Core.Path.{_≡_, sym, ap, ap₂, subst, _∙_}
 use mathlib.Core.Bool.{true}
@@ -16,24 +16,16 @@ use Rattle.head.specs.declared.Head.{Head}
 use Rattle.head.specs.Fields.{shortestImage, longestImage, fieldsLen, headOf, permitted, usedLen}
 use Rattle.head.proofs.Fields.{head-same}
 use Rattle.head.proofs.Places.{used-le, place-least}
-use Rattle.alphabet.specs.Letters.{goodAlphabet, letters, lettersIn, keyOfText}
+use Rattle.alphabet.specs.Letters.{goodAlphabet, lettersIn}
 use Rattle.node.specs.Image.{tableOf}
 use Rattle.node.proofs.Tables.{table-bytes}
 use Rattle.paper.specs.Hearing.{Row, Outcome, outcome, doneNumbers, first, heard}
+use Rattle.paper.specs.Given.{Given, alphabetIn, meantBy, meantIn, keyIn}
 use Rattle.paper.specs.Rows.{row5, row6path, row14, row15}
-use Rattle.paper.specs.Orders.{alphabetIn, opening, openingOf, linking, checking, byLetters, byText, byNext, lookingUp, nexting}
-use Rattle.paper.specs.Calls.{tableIn, clearedBy, workAfter, checkOf, storedKeys, countOf, lookUpBy, lookUpOf, namedIn, lookUpTextOf, nextIn, foundIn, nextKeyOf}
+use Rattle.paper.specs.Orders.{opening, openingOf, linking, checking, keyingBy, keying, byNext, lookingUp, nexting}
+use Rattle.paper.specs.Calls.{tableIn, clearedBy, workAfter, checkOf, storedKeys, countOf, lookUpOf, nextIn, foundIn, nextKeyOf}
 use Rattle.paper.specs.Accepted.{Accepted}
-use Rattle.cuts.specs.Answers.{SameAnswers}
-
-pub record Seen : Type 0 where
-  pub head : Head
-  pub table : Table
-  pub alphabet : List ℕ
-  pub len : ℕ
-
-abbrev pub seenIn : List ℕ → Seen
-seenIn l = record { head = headOf l; table = tableIn l; alphabet = alphabetIn (headOf l) l; len = length l }
+use Rattle.seen.specs.Seen.{Seen, seenIn, SameAnswers}
 
 seen-eq : (s t : Seen) → s .head ≡ t .head → s .table ≡ t .table → s .alphabet ≡ t .alphabet → s .len ≡ t .len → s ≡ t
 seen-eq s t h u a n i = record { head = h i; table = u i; alphabet = a i; len = n i }
@@ -94,13 +86,13 @@ clears s work = clearedBy (first (opens s ++ (row5 (s .head) (length work) ∷ [
 abbrev lists : Seen → List (List ℕ)
 lists s = listing (s .table) (s .head .n) (s .head .min) (s .head .max)
 
-abbrev names : Seen → List ℕ → Option (List ℕ)
-names s text = keyOfText (letters (s .alphabet)) text
+abbrev means : Seen → Given → List ℕ
+means s given = lettersIn (meantBy (s .alphabet) given)
 
-abbrev looks : Seen → List Row → List ℕ → Outcome
-looks s keyed key =
-    heard (first (opens s ++ (keyed ++ (row6path (s .head) (s .table) key ∷ [])))) []
-    (outcome (doneNumbers 0 (pos 0) (answer (s .table) key)) [])
+abbrev looks : Seen → Given → Outcome
+looks s given =
+    heard (first (opens s ++ (keyingBy (s .head) (s .alphabet) given ++ (row6path (s .head) (s .table) (means s given) ∷ [])))) []
+    (outcome (doneNumbers 0 (pos 0) (answer (s .table) (means s given))) [])
 
 abbrev nexts : Seen → List ℕ → List ℕ → List ℕ → Option (List ℕ) → Outcome
 nexts s work key buffer found =
@@ -111,13 +103,12 @@ nexts s work key buffer found =
 
 module _ {a b : List ℕ} (e : seenIn a ≡ seenIn b) where
   pub same-answers : SameAnswers a b
-  unfolding openingOf checking lookingUp nexting tableIn workAfter checkOf storedKeys countOf lookUpBy lookUpOf namedIn lookUpTextOf nextIn foundIn nextKeyOf
+  unfolding openingOf checking keying meantIn keyIn lookingUp nexting tableIn workAfter checkOf storedKeys countOf lookUpOf nextIn foundIn nextKeyOf
   same-answers =
       record {
         checks = λ work. ap (λ (s : Seen). heard (first (checks s work)) (clears s work ∷ []) (outcome (doneNumbers 0 (pos 0) 0) (clears s work ∷ []))) e;
         counts = λ work. ap (λ (s : Seen). heard (first (checks s work)) (clears s work ∷ []) (outcome (doneNumbers 0 (pos 0) (length (lists s))) (clears s work ∷ []))) e;
-        looks = λ key. ap (λ (s : Seen). looks s (byLetters (s .head) key) key) e;
-        texts = λ text. ap (λ (s : Seen). looks s (byText (s .head) (names s text)) (lettersIn (names s text))) e;
+        looks = λ given. ap (λ (s : Seen). looks s given) e;
         nexts = λ work key after buffer. ap (λ (s : Seen). nexts s work key buffer (firstMeeting (meets after key) (lists s))) e;
         lists = ap lists e;
       }
