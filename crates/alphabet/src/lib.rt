@@ -4,13 +4,15 @@ ghost use mathlib.Core.Path.{_≡_};
 ghost use mathlib.Core.Bool.{false};
 ghost use Prim.Native.Nat.{_≤_};
 ghost use lib.ListN.{length, take};
+ghost use Rattle.head.specs.Fields.{mostLinks};
 ghost use Rattle.alphabet.specs.Letters.{among, letterOf};
 ghost use Rattle.alphabet.specs.Judged.{Judged};
+use head::Head;
 
 // Are these bytes exactly n well-formed characters, all different? Then the first n of the lent codes are the characters in order; what the
 // codes hold otherwise is left open. As a slice the array tells its length.
-pub fn judge(bytes: &[u8], n: usize, codes: &mut [u32; 256]) -> bool
-    requires { ⌜ n ≤ 256 ⌝ }
+pub fn judge(bytes: &[u8], n: usize, codes: &mut [u32; Head::N_MOST as usize]) -> bool
+    requires { ⌜ n ≤ mostLinks ⌝ }
     ensures { λ r. ⌜ Judged n (now (bytes .entry)) r (now (codes .exit)) ⌝ }
 {
     let all: &mut [u32] = codes;

@@ -13,7 +13,7 @@ use paper::Refusal;
 use paper::Verdict;
 
 // 1 to 8 of an image, with what opening it tells.
-pub fn check(image: &[u8], work: &mut [u32], codes: &mut [u32; 256]) -> Opened
+pub fn check(image: &[u8], work: &mut [u32], codes: &mut [u32; Head::N_MOST as usize]) -> Opened
     ensures { λ r. ⌜ Checked (now (image .entry)) (now (work .entry)) r (now (work .exit)) (now (codes .exit)) ⌝ }
 {
     let opened = opening::open(image, codes);

@@ -3,7 +3,7 @@
 use mathlib.Core.Path.{_≡_, refl, sym, ap, ap₂, _∙_}
 use mathlib.Core.Logic.{_⊎_, inl, inr, ⊎-elim}
 use Prim.Native.Nat.{ℕ, zero, suc, _+_, _-_, _*_, _/_, _%_, _^_, _≤_, _<_}
-use native.Mathlib.Nat.{add-zero, add-suc, zero-add, add-assoc, add-mul, mul-assoc, pow-suc, pow-le-pow-right, one-le-pow, mod-one, mod-eq-of-lt, lt-of-lt-of-le, not-suc-le-zero}
+use native.Mathlib.Nat.{add-zero, add-suc, zero-add, add-assoc, add-mul, mul-assoc, pow-suc, one-le-pow, mod-one, mod-eq-of-lt, not-suc-le-zero}
 use native.Mathlib.Omega.{arith}
 use native.Mathlib.Decide.{ℕ-discrete}
 use borrow.Author.Count.{below-more}
@@ -27,10 +27,6 @@ pub field-bound : (l : List ℕ) (at w : ℕ) → Bytes l → fieldAt l at w < 2
 unfolding fieldAt
 field-bound l at zero p = omega arith
 field-bound l at (suc w) p = rw (pow-suc 256 w) (digits-lt (field-bound l at w p) (p (at + w)))
-
--- a narrower field is below the bound of a wider one
-pub field-fits : (l : List ℕ) (at w n : ℕ) → Bytes l → w ≤ n → fieldAt l at w < 256 ^ n
-field-fits l at w n p h = lt-of-lt-of-le (field-bound l at w p) (pow-le-pow-right (omega arith) h)
 
 -- a field of one byte, and of one byte more
 pub field-one : (l : List ℕ) (at : ℕ) → fieldAt l at 1 ≡ getD l at 0
@@ -147,12 +143,7 @@ digits-field l at (suc w) p h =
     rw (digits-div f (p (at + w)), digits-mod f (p (at + w)), digits-field l at w p (omega arith), ← getD-drop at l w 0)
     (sym (take-suc (drop at l) w 0 (simp length-drop (omega arith))))
 
--- no two numbers that fit have the same bytes
-pub digits-injective : (w v u : ℕ) → v < 256 ^ w → u < 256 ^ w → digits w v ≡ digits w u → v ≡ u
-digits-injective w v u hv hu e =
-    sym (field-digits w v ∙ mod-eq-of-lt hv) ∙ ap (λ (d : List ℕ). fieldAt d 0 w) e ∙ field-digits w u ∙ mod-eq-of-lt hu
-
--- and no two runs of bytes the same number
+-- no two runs of bytes have the same number
 pub same-bytes : (l m : List ℕ) (at bt w : ℕ) → Bytes l → Bytes m → fieldAt l at w ≡ fieldAt m bt w → (k : ℕ) → k < w → getD l (at + k) 0 ≡ getD m (bt + k) 0
 unfolding fieldAt
 same-bytes l m at bt zero p q e k h = absurd (not-suc-le-zero h)

@@ -1,7 +1,7 @@
--- What the loops keep. Reading, the number so far is that of the bytes so far. Laying from the front, a turn's store is one more element of
--- the list (`sets-append`). Writing from the last byte, the rest of the number is still to be written in the width that is left (`put-last`).
+-- What the loops keep. Laying from the front, a turn's store is one more element of the list (`sets-append`). Writing from the last byte, the
+-- rest of the number is still to be written in the width that is left (`put-last`).
 use mathlib.Core.Path.{_≡_, refl, sym, ap, ap₂, _∙_, subst}
-use Prim.Native.Nat.{ℕ, zero, suc, _+_, _-_, _*_, _/_, _%_, _^_, _≤_, _<_}
+use Prim.Native.Nat.{ℕ, zero, suc, _+_, _-_, _*_, _/_, _%_, _≤_, _<_}
 use native.Mathlib.Nat.{add-zero, not-suc-le-zero}
 use native.Mathlib.Numerals.{add-one, sub-one}
 use native.Mathlib.Omega.{arith}
@@ -9,31 +9,9 @@ use native.Mathlib.Decide.{decLt}
 use mathlib.Core.List.{List, [], _∷_}
 use lib.ListN.{length, getD, set, take, length-set}
 use lib.Seq.{sets, take-all, take-suc, length-take-le}
-use Rattle.field.specs.Field.{Bytes, Zeros, fieldAt, digits, putField}
+use Rattle.field.specs.Field.{Zeros, fieldAt, digits, putField}
 use Rattle.field.proofs.Laid.{sets-append}
-use Rattle.field.proofs.Fields.{field-fits, field-more, field-zero, put-last}
-
--- v is the number in the first i bytes of the field
-pub record Reading (l : List ℕ) (at w v i : ℕ) : Type 0 where
-  pub within : i ≤ w
-  pub read : v ≡ fieldAt l at i
-
-pub reading-none : (l : List ℕ) (at w : ℕ) → Reading l at w 0 0
-unfolding fieldAt
-reading-none l at w = record { within = omega arith; read = refl }
-
-pub reading-more : {l : List ℕ} {at w v i b : ℕ} → Reading l at w v i → i < w → b ≡ getD l (at + i) 0 → Reading l at w (v * 256 + b) (i + 1)
-unfolding fieldAt
-reading-more {l} {at} {i} p h e = record { within = omega arith; read = rw (add-one i) (field-more l at i (p .read) e) }
-
-pub reading-all : {l : List ℕ} {at w v i : ℕ} → Reading l at w v i → w ≤ i → v ≡ fieldAt l at w
-reading-all {l} {at} {w} {i} p h =
-    let e : i ≡ w = omega arith in
-    p .read ∙ ap (λ (k : ℕ). fieldAt l at k) e
-
--- one byte more fits what holds w bytes
-pub reading-room : {l : List ℕ} {at w v i : ℕ} (n : ℕ) → Bytes l → Reading l at w v i → i < w → w ≤ suc n → v < 256 ^ n
-reading-room {l} {at} {i} n b p h k = rw (p .read) (field-fits l at i n b (omega arith))
+use Rattle.field.proofs.Fields.{field-zero, put-last}
 
 -- s is l with the first i of vs laid at `at`
 pub record Laying (l : List ℕ) (at : ℕ) (vs s : List ℕ) (i : ℕ) : Type 0 where

@@ -7,20 +7,6 @@ ghost use lib.ListN.{length};
 ghost use lib.Seq.{sets};
 ghost use Rattle.field.specs.Field.{fieldAt, putField, cleared, Zeros};
 
-// The number in the w bytes from `at` on.
-pub fn read(s: &[u8], at: usize, w: usize) -> u64
-    requires { ⌜ (w ≤ 8) × (at + w ≤ length (now s)) ⌝ }
-    ensures { λ r. ⌜ r ≡ fieldAt (now (s .entry)) at w ⌝ }
-{
-    let mut v: u64 = 0;
-    let mut i: usize = 0;
-    while i < w {
-        v = v * 256 + wide(s[at + i]);
-        i += 1;
-    }
-    v
-}
-
 // The number in four bytes. Written straight, since the compiler makes one load of it; the head's fields are read so.
 pub fn read4(s: &[u8], at: usize) -> u32
     requires { ⌜ at + 4 ≤ length (now s) ⌝ }

@@ -7,12 +7,12 @@ use native.Mathlib.Nat.{zero-add, mod-eq-of-lt}
 use native.Mathlib.Omega.{arith}
 use mathlib.Core.List.{List, _++_}
 use lib.ListN.{length, getD}
-use lib.Seq.{sets}
-use Rattle.field.specs.Field.{fieldAt, digits, putField}
+use lib.Seq.{sets, length-sets}
+use Rattle.field.specs.Field.{Bytes, fieldAt, digits, putField}
 use Rattle.field.proofs.Laid.{getD-outside, getD-inside, sets-append}
-use Rattle.field.proofs.Fields.{field-same, field-outside, field-digits, length-digits, read-written-fits}
+use Rattle.field.proofs.Fields.{field-same, field-outside, field-digits, length-digits, read-written-fits, written-back}
 use Rattle.head.specs.declared.Head.{Head}
-use Rattle.head.specs.Fields.{headOf, headBytes, fieldsLen}
+use Rattle.head.specs.Fields.{headOf, headBytes, fieldsLen, totalAt, totalLen, putTotal}
 use Rattle.head.proofs.Permitted.{Bounds}
 
 -- heads with equal fields are equal
@@ -79,17 +79,32 @@ head-begun l h rest b e =
     ∙ head-outside (sets l 0 (headBytes h)) rest (0 + length (headBytes h)) (omega (arith, length-head h))
     ∙ head-written l h b e
 
--- "G becomes G+k": the first field alone changes
-pub head-total : (l : List ℕ) (g : ℕ) → 4 ≤ length l → g < 2 ^ 32
-    → headOf (sets l 0 (digits 4 g))
+-- ---- after G was set
+
+pub length-total : (l : List ℕ) (g : ℕ) → length (putTotal l g) ≡ length l
+length-total l g = length-sets l totalAt (digits totalLen g)
+
+-- no byte outside G changes
+pub total-outside : (l : List ℕ) (g p : ℕ) → totalAt + totalLen ≤ p → getD (putTotal l g) p 0 ≡ getD l p 0
+total-outside l g p b = getD-outside l (digits totalLen g) totalAt p 0 (inr (omega (arith, length-digits totalLen g)))
+
+-- the head has that G, and its other fields
+pub head-total : (l : List ℕ) (g : ℕ) → totalAt + totalLen ≤ length l → g < 2 ^ 32
+    → headOf (putTotal l g)
     ≡ record { g = g; n = headOf l .n; a = headOf l .a; d = headOf l .d; f = headOf l .f; min = headOf l .min; max = headOf l .max }
 unfolding headOf
 head-total l g e b =
-    let kept : (at : ℕ) → 4 ≤ at → fieldAt (sets l 0 (digits 4 g)) at 4 ≡ fieldAt l at 4 = λ at c. field-outside l (digits 4 g) 0 at 4 (inr (omega (arith, length-digits 4 g))) in
-    head-eq (headOf (sets l 0 (digits 4 g))) _
-    (read-written-fits l 0 4 g e b)
+    let kept : (at : ℕ) → totalAt + totalLen ≤ at → fieldAt (putTotal l g) at 4 ≡ fieldAt l at 4 =
+    λ at c. field-outside l (digits totalLen g) totalAt at 4 (inr (omega (arith, length-digits totalLen g))) in
+    head-eq (headOf (putTotal l g)) _
+    (read-written-fits l totalAt totalLen g e b)
     (kept 4 (omega arith)) (kept 8 (omega arith)) (kept 12 (omega arith))
     (kept 16 (omega arith)) (kept 20 (omega arith)) (kept 24 (omega arith))
+
+-- the old G, set again, leaves the image as it was
+pub total-back : (l : List ℕ) (g : ℕ) → Bytes l → totalAt + totalLen ≤ length l → putTotal (putTotal l g) (headOf l .g) ≡ l
+unfolding headOf
+total-back l g p e = written-back l totalAt totalLen g p e
 
 -- how the fields are written: one after the other
 pub head-writes : (l : List ℕ) (h : Head) {s t u v w x y : List ℕ}

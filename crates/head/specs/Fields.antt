@@ -3,7 +3,7 @@
 use Prim.Native.Nat.{ℕ, _+_, _*_}
 use mathlib.Core.Bool.{Bool, _&&_}
 use mathlib.Core.List.{List, _++_}
-use Rattle.field.specs.Field.{fieldAt, digits}
+use Rattle.field.specs.Field.{fieldAt, digits, putField}
 use Rattle.field.specs.Range.{between}
 use Rattle.head.specs.declared.Head.{Head}
 
@@ -23,13 +23,31 @@ mostAlphabet = 1024
 abbrev pub mostLetters : ℕ
 mostLetters = 64
 
+-- what follows from them: the most nodes on a key's path, the root among them; the most writes of a store, a new node for each letter, G
+-- and a link; and the numbers in the list of so many writes, two for each
+abbrev pub mostPath : ℕ
+mostPath = mostLetters + 1
+
+abbrev pub mostWrites : ℕ
+mostWrites = mostLetters + 2
+
+abbrev pub mostListed : ℕ
+mostListed = 2 * mostWrites
+
 -- the bytes of the seven fields
 abbrev pub fieldsLen : ℕ
 fieldsLen = 28
 
+-- where G stands among them, and how many bytes it takes
+abbrev pub totalAt : ℕ
+totalAt = 0
+
+abbrev pub totalLen : ℕ
+totalLen = 4
+
 -- how short and how long an image may be
 abbrev pub shortestImage : ℕ
-shortestImage = 28
+shortestImage = fieldsLen
 
 abbrev pub longestImage : ℕ
 longestImage = 16777216
@@ -38,7 +56,7 @@ unfoldable pub headOf : List ℕ → Head
 unfolding fieldAt
 headOf l =
     record {
-      g = fieldAt l 0 4;
+      g = fieldAt l totalAt totalLen;
       n = fieldAt l 4 4;
       a = fieldAt l 8 4;
       d = fieldAt l 12 4;
@@ -52,6 +70,10 @@ unfoldable pub headBytes : Head → List ℕ
 unfolding digits
 headBytes h =
     digits 4 (h .g) ++ (digits 4 (h .n) ++ (digits 4 (h .a) ++ (digits 4 (h .d) ++ (digits 4 (h .f) ++ (digits 4 (h .min) ++ digits 4 (h .max))))))
+
+-- "the image with G set to" g
+abbrev pub putTotal : List ℕ → ℕ → List ℕ
+putTotal l g = putField l totalAt totalLen g
 
 -- the column "Permitted"
 unfoldable pub permitted : Head → Bool

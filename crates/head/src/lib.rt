@@ -2,12 +2,12 @@
 // U is a 64-bit number: (G+1)*W is below 2^43, and a great G must not wrap into range.
 ghost use mathlib.Core.Path.{_≡_};
 ghost use mathlib.Core.Bool.{true};
-ghost use Prim.Native.Nat.{_≤_, _^_};
+ghost use Prim.Native.Nat.{_+_, _≤_, _^_};
 ghost use lib.Dec.{leb};
 ghost use lib.ListN.{length};
 ghost use lib.Seq.{sets};
 ghost use Rattle.field.specs.Range.{between};
-ghost use Rattle.head.specs.Fields.{shortestImage, longestImage, headOf, headBytes, permitted, nodeWidth, nodePlace, usedLen};
+ghost use Rattle.head.specs.Fields.{shortestImage, longestImage, fieldsLen, totalAt, totalLen, headOf, headBytes, putTotal, permitted, nodeWidth, nodePlace, usedLen};
 
 pub struct Head {
     pub g: u32,
@@ -23,7 +23,7 @@ pub struct Head {
 pub fn length_allowed(len: usize) -> bool
     ensures { λ r. ⌜ r ≡ between len shortestImage longestImage ⌝ }
 {
-    (28 <= len) & (len <= 16777216)
+    (Head::IMAGE_LEAST <= len) & (len <= Head::IMAGE_MOST)
 }
 
 impl Head {
@@ -38,9 +38,29 @@ impl Head {
 
     pub const MAX_MOST: u32 = 64;
 
+    // What follows from them: the greatest number of nodes on a key's path, of writes of a store, and of numbers in the list of these.
+    pub const PATH_MOST: u32 = Head::MAX_MOST + 1;
+
+    pub const WRITES_MOST: u32 = Head::MAX_MOST + 2;
+
+    pub const LISTED_MOST: u32 = 2 * Head::WRITES_MOST;
+
+    // The bytes of the seven fields, behind which the alphabet begins.
+    pub const FIELDS_LEN: usize = 28;
+
+    // Where G stands among them, and how many bytes it takes.
+    pub const TOTAL_AT: u32 = 0;
+
+    pub const TOTAL_LEN: u32 = 4;
+
+    // How short and how long an image may be.
+    pub const IMAGE_LEAST: usize = Head::FIELDS_LEN;
+
+    pub const IMAGE_MOST: usize = 16777216;
+
     // The seven fields at the front of an image.
     pub fn read(image: &[u8]) -> Head
-        requires { ⌜ 28 ≤ length (now image) ⌝ }
+        requires { ⌜ fieldsLen ≤ length (now image) ⌝ }
         ensures { λ r. ⌜ r ≡ headOf (now (image .entry)) ⌝ }
     {
         Head {
@@ -56,7 +76,7 @@ impl Head {
 
     // Puts the seven fields at the front of an image.
     pub fn write(self, image: &mut [u8])
-        requires { ⌜ 28 ≤ length (now image) ⌝ }
+        requires { ⌜ fieldsLen ≤ length (now image) ⌝ }
         ensures { λ _. ⌜ now (image .exit) ≡ sets (now (image .entry)) 0 (headBytes self) ⌝ }
     {
         field::write(image, 0, 4, self.g as u64);
@@ -66,6 +86,27 @@ impl Head {
         field::write(image, 16, 4, self.f as u64);
         field::write(image, 20, 4, self.min as u64);
         field::write(image, 24, 4, self.max as u64);
+    }
+
+    // G alone.
+    pub fn total(image: &[u8]) -> u32
+        requires { ⌜ totalAt + totalLen ≤ length (now image) ⌝ }
+        ensures { λ r. ⌜ r ≡ headOf (now (image .entry)) .g ⌝ }
+    {
+        field::read4(image, Head::TOTAL_AT as usize)
+    }
+
+    // Sets G.
+    pub fn set_total(image: &mut [u8], g: u32)
+        requires { ⌜ totalAt + totalLen ≤ length (now image) ⌝ }
+        ensures { λ _. ⌜ now (image .exit) ≡ putTotal (now (image .entry)) g ⌝ }
+    {
+        field::write(
+            image,
+            Head::TOTAL_AT as usize,
+            Head::TOTAL_LEN as usize,
+            g as u64,
+        );
     }
 
     // Is every field as 01's table permits?
@@ -96,7 +137,7 @@ impl Head {
         requires { ⌜ permitted self ≡ true ⌝ ∗ ⌜ q ≤ 2 ^ 32 ⌝ }
         ensures { λ r. ⌜ r ≡ nodePlace self q ⌝ }
     {
-        28 + (self.f as u64) + q * self.node_width()
+        (Head::FIELDS_LEN as u64) + (self.f as u64) + q * self.node_width()
     }
 
     // U, the bytes that the head, the alphabet and the nodes 0 to G take.

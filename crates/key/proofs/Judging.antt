@@ -1,4 +1,4 @@
--- 9 and 10, row by row, of a key in hand: a key whose length is allowed is at most max, which is at most 64 letters, so all of it is held.
+-- 9 and 10, row by row, of a key in hand: a key whose length is allowed is at most max, and no max is above what is held, so all of it is held.
 -- What neither refuses is ready for a walk: its letters are those of the array, and all below N.
 use Prim.Native.Nat.{ℕ, zero, suc, _≤_, _<_}
 use mathlib.Core.Path.{_≡_, refl, sym, _∙_, ap}

@@ -1,4 +1,4 @@
--- A text typed letter by letter: the letters so far are those of the characters passed, and the array holds the first 64 of them.
+-- A text typed letter by letter: the letters so far are those of the characters passed, and the array holds as many of them as it can.
 use Prim.Native.Nat.{ℕ, _+_, _≤_, _<_}
 use mathlib.Core.Path.{_≡_, refl, sym, _∙_, ap}
 use mathlib.Core.Logic.{_≢_}

@@ -18,7 +18,7 @@ padded zero k = []
 padded (suc w) [] = 0 ∷ padded w []
 padded (suc w) (x ∷ k) = x ∷ padded w k
 
--- the key in hand with these letters: the first 64 of them, and how many there are
+-- the key in hand with these letters: as many of them as are held, and how many there are
 unfoldable pub inHand : List ℕ → Key
 unfolding padded
 inHand k = record { letters = padded mostLetters k; len = length k }

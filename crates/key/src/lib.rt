@@ -7,7 +7,7 @@ ghost use mathlib.Core.List.{List};
 ghost use Prim.Native.Nat.{ℕ, _≤_};
 ghost use lib.ListN.{take};
 ghost use Rattle.field.specs.Range.{between};
-ghost use Rattle.head.specs.Fields.{permitted};
+ghost use Rattle.head.specs.Fields.{mostLinks, mostLetters, permitted};
 ghost use Rattle.alphabet.specs.Letters.{keyOfText};
 ghost use Rattle.paper.specs.Hearing.{first};
 ghost use Rattle.paper.specs.Answers.{rowOf};
@@ -18,9 +18,12 @@ use head::Head;
 use paper::Refusal;
 use paper::Verdict;
 
-// Letters past `len` are never judged; a `len` above 64 is longer than any key may be.
+// How many letters a key in hand holds: as many as any max allows.
+const HELD: usize = Head::MAX_MOST as usize;
+
+// Letters past `len` are never judged; a `len` above what is held is longer than any key may be.
 pub struct Key {
-    pub letters: [u8; 64],
+    pub letters: [u8; HELD],
     pub len: usize,
 }
 
@@ -35,12 +38,12 @@ impl Key {
     pub fn of(letters: &[u8]) -> Key
         ensures { λ r. ⌜ r ≡ inHand (now (letters .entry)) ⌝ }
     {
-        let most = if letters.len() < 64 {
+        let most = if letters.len() < HELD {
             letters.len()
         } else {
-            64
+            HELD
         };
-        let mut kept = [0u8; 64];
+        let mut kept = [0u8; HELD];
         let mut i: usize = 0;
         while i < most {
             kept[i] = letters[i];
@@ -77,7 +80,7 @@ impl Key {
 
     // 10, of a key that is not too long.
     fn spelled(self, h: Head) -> Verdict
-        requires { ⌜ self .len ≤ 64 ⌝ }
+        requires { ⌜ self .len ≤ mostLetters ⌝ }
         ensures { λ r. ⌜ ((k : List ℕ) → Holds self k → rowOf r ≡ row10 h k) ⌝ }
     {
         let letters = self.letters;
@@ -90,12 +93,12 @@ impl Key {
 
 impl Typed {
     // The key that a text names, by an alphabet whose letters are the first n codes.
-    pub fn of(text: &[u8], codes: &[u32; 256], n: usize) -> Typed
-        requires { ⌜ n ≤ 256 ⌝ }
+    pub fn of(text: &[u8], codes: &[u32; Head::N_MOST as usize], n: usize) -> Typed
+        requires { ⌜ n ≤ mostLinks ⌝ }
         ensures { λ r. ⌜ r ≡ typedAs (keyOfText (take n (now (codes .entry))) (now (text .entry))) ⌝ }
     {
         let letters: &[u32] = codes;
-        let mut kept = [0u8; 64];
+        let mut kept = [0u8; HELD];
         let mut len: usize = 0;
         let mut at: usize = 0;
         while at < text.len() {
@@ -107,7 +110,7 @@ impl Typed {
             if n <= x {
                 return nameless();
             }
-            if len < 64 {
+            if len < HELD {
                 kept[len] = x as u8;
             }
             len += 1;
@@ -144,8 +147,8 @@ fn length_allowed(len: usize, h: Head) -> bool
 }
 
 // Are the first `len` letters letter numbers below n?
-fn all_below(letters: [u8; 64], len: usize, n: u32) -> bool
-    requires { ⌜ len ≤ 64 ⌝ }
+fn all_below(letters: [u8; HELD], len: usize, n: u32) -> bool
+    requires { ⌜ len ≤ mostLetters ⌝ }
     ensures { λ r. ⌜ r ≡ allBelow n (take len letters) ⌝ }
 {
     let mut i: usize = 0;
@@ -165,7 +168,7 @@ fn nameless() -> Typed
     Typed {
         named: false,
         key: Key {
-            letters: [0u8; 64],
+            letters: [0u8; HELD],
             len: 0,
         },
     }

@@ -8,7 +8,7 @@ use mathlib.Core.List.{List, [], _∷_, _++_, append-assoc, append-nil}
 use lib.ListN.{length, getD, take, drop, length-append, length-take}
 use Rattle.field.specs.Field.{Bytes}
 use Rattle.field.proofs.Bytes.{bytes-take}
-use Rattle.lines.specs.Lines.{decimal, dotted, keyText, entryLine, entriesLine, refusedLine, Laid}
+use Rattle.lines.specs.Lines.{decimal, dotted, keyText, entryLine, entriesLine, refusedLine, entryRoom, entriesRoom, refusedRoom, Laid}
 use Rattle.lines.proofs.Digits.{decimal-long, letter-long}
 
 -- ---- a key is its first letter and the dotted others, and one more of these is a dot and that letter more
@@ -48,7 +48,7 @@ key-long (x ∷ k) b = omega (arith, dotted-long (x ∷ k) b)
 pub letters-long : (path : List ℕ) (len : ℕ) → Bytes path → length (keyText (take len path)) ≤ len * 4 + 1
 letters-long path len b = omega (arith, length-take len path, key-long (take len path) (bytes-take len path b))
 
-pub entry-long : (path : List ℕ) (len v : ℕ) → Bytes path → length (entryLine (take len path) v) ≤ len * 4 + 32
+pub entry-long : (path : List ℕ) (len v : ℕ) → Bytes path → length (entryLine (take len path) v) ≤ entryRoom len
 unfolding entryLine
 entry-long path len v b =
     omega (
@@ -59,11 +59,11 @@ entry-long path len v b =
       decimal-long v,
     )
 
-pub entries-long : (n : ℕ) → length (entriesLine n) ≤ 32
+pub entries-long : (n : ℕ) → length (entriesLine n) ≤ entriesRoom
 unfolding entriesLine
 entries-long n = omega (arith, length-append (decimal n) (10 ∷ []), decimal-long n)
 
-pub refused-long : (n place : ℕ) → length (refusedLine n place) ≤ 64
+pub refused-long : (n place : ℕ) → length (refusedLine n place) ≤ refusedRoom
 unfolding refusedLine
 refused-long n place =
     let rest : List ℕ = decimal place ++ (10 ∷ []) in

@@ -1,6 +1,6 @@
 -- 01, "The listing program": its lines, as text in ASCII. "Letter numbers are joined by dots; the empty key is `-`." "A refused image
 -- writes one line".
-use Prim.Native.Nat.{ℕ, zero, suc, _+_, _/_, _%_}
+use Prim.Native.Nat.{ℕ, zero, suc, _+_, _*_, _/_, _%_}
 use mathlib.Core.Path.{_≡_}
 use mathlib.Core.Bool.{cond}
 use mathlib.Core.List.{List, [], _∷_, _++_}
@@ -44,6 +44,16 @@ unfoldable pub refusedLine : ℕ → ℕ → List ℕ
 unfolding decimal
 refusedLine n place =
     (114 ∷ 101 ∷ 102 ∷ 117 ∷ 115 ∷ 101 ∷ 100 ∷ 32 ∷ []) ++ (decimal n ++ ((32 ∷ 97 ∷ 116 ∷ 32 ∷ []) ++ (decimal place ++ (10 ∷ []))))
+
+-- the room for each that a caller has: numbers have twenty digits at most, letter numbers three and a dot
+abbrev pub entryRoom : ℕ → ℕ
+entryRoom len = len * 4 + 32
+
+abbrev pub entriesRoom : ℕ
+entriesRoom = 32
+
+abbrev pub refusedRoom : ℕ
+refusedRoom = 64
 
 -- a text laid at a place, all else kept, and where it ends
 pub record Laid (out : List ℕ) (at : ℕ) (text : List ℕ) (end : ℕ) (out′ : List ℕ) : Type 0 where

@@ -2,11 +2,19 @@
 ghost use mathlib.Core.Path.{_≡_};
 ghost use Prim.Native.Nat.{_+_, _*_, _≤_};
 ghost use lib.ListN.{length, take};
-ghost use Rattle.lines.specs.Lines.{Laid, decimal, entriesLine, entryLine, refusedLine, keyText};
+ghost use Rattle.lines.specs.Lines.{Laid, decimal, entriesLine, entryLine, refusedLine, keyText, entryRoom, entriesRoom, refusedRoom};
+
+// The room for "refused N at P".
+pub const REFUSED_ROOM: usize = 64;
+
+// The room for a stored key of so many letters and its value: for each letter, and for all else.
+pub const LETTER_ROOM: usize = 4;
+
+pub const VALUE_ROOM: usize = 32;
 
 // "entries N"
 pub fn entries(out: &mut [u8], at: usize, n: u32) -> usize
-    requires { ⌜ at + 32 ≤ length (now out) ⌝ }
+    requires { ⌜ at + entriesRoom ≤ length (now out) ⌝ }
     ensures { λ r. ⌜ Laid (now (out .entry)) at (entriesLine n) r (now (out .exit)) ⌝ }
 {
     let mut end = word(out, at, b"entries ");
@@ -16,7 +24,7 @@ pub fn entries(out: &mut [u8], at: usize, n: u32) -> usize
 
 // "refused N at P"
 pub fn refused(out: &mut [u8], at: usize, n: u32, place: u32) -> usize
-    requires { ⌜ at + 64 ≤ length (now out) ⌝ }
+    requires { ⌜ at + refusedRoom ≤ length (now out) ⌝ }
     ensures { λ r. ⌜ Laid (now (out .entry)) at (refusedLine n place) r (now (out .exit)) ⌝ }
 {
     let mut end = word(out, at, b"refused ");
@@ -29,9 +37,9 @@ pub fn refused(out: &mut [u8], at: usize, n: u32, place: u32) -> usize
 // A stored key, the first `len` letters of the path, and its value.
 pub fn entry(out: &mut [u8], at: usize, path: &[u8], len: usize, value: u64) -> usize
     requires { ⌜ len ≤ length (now path) ⌝ }
-    requires { ⌜ at + (len * 4 + 32) ≤ length (now out) ⌝ }
+    requires { ⌜ at + entryRoom len ≤ length (now out) ⌝ }
     ensures { λ r. ⌜ Laid (now (out .entry)) at (entryLine (take len (now (path .entry))) value) r (now (out .exit)) ⌝ }
-    ensures { λ r. ⌜ r ≤ at + (len * 4 + 32) ⌝ }
+    ensures { λ r. ⌜ r ≤ at + entryRoom len ⌝ }
 {
     let mut end = letters(out, at, path, len);
     out[end] = 32;

@@ -3,25 +3,34 @@
 ghost use mathlib.Core.Path.{_≡_};
 ghost use Prim.Native.Nat.{_+_, _≤_};
 ghost use lib.ListN.{length};
-ghost use Rattle.head.specs.Fields.{headOf};
+ghost use Rattle.head.specs.Fields.{mostLetters, headOf};
 ghost use Rattle.paper.specs.Accepted.{Accepted};
+ghost use Rattle.lines.specs.Lines.{entryRoom};
 use head::Head;
 use libc::STDIN_FILENO;
 use libc::STDOUT_FILENO;
 use order::Search;
 use paper::Verdict;
 
+// The longest image that is read, and the lines that are written at a time.
+const IMAGE: usize = 65536;
+
+const OUT: usize = 65536;
+
+// Where the last of them begins at the latest, so that the longest line fits behind it.
+const LAST: usize = OUT - (Head::MAX_MOST as usize) * lines::LETTER_ROOM - lines::VALUE_ROOM;
+
 // One byte more is asked for than an image may have, to see whether there is one.
 fn main() {
-    let mut space = [0u8; 65537];
+    let mut space = [0u8; IMAGE + 1];
     let len = io::read_full(STDIN_FILENO, &mut space);
-    if 65536 < len {
+    if IMAGE < len {
         refuse(1, 0);
         return;
     }
     let image = &space[..len];
     let mut work = [0u32; 16384];
-    let mut codes = [0u32; 256];
+    let mut codes = [0u32; Head::N_MOST as usize];
     let checked = audit::check(image, &mut work, &mut codes);
     let verdict = checked.verdict;
     match verdict {
@@ -32,7 +41,7 @@ fn main() {
 
 // The one line of a refusal.
 fn refuse(number: u32, place: u32) {
-    let mut out = [0u8; 64];
+    let mut out = [0u8; lines::REFUSED_ROOM];
     let end = lines::refused(&mut out, 0, number, place);
     io::write_all(STDOUT_FILENO, &out[..end]);
 }
@@ -42,9 +51,9 @@ fn list(image: &[u8], h: Head)
     requires { ⌜ Accepted (now image) ⌝ }
     requires { ⌜ h ≡ headOf (now image) ⌝ }
 {
-    let mut out = [0u8; 65536];
-    let mut path = [0u8; 64];
-    let mut nodes = [0u32; 65];
+    let mut out = [0u8; OUT];
+    let mut path = [0u8; Head::MAX_MOST as usize];
+    let mut nodes = [0u32; Head::PATH_MOST as usize];
     let mut left = order::count(image, h);
     let head = lines::entries(&mut out, 0, left);
     let root = order::start(image, h, &mut nodes);
@@ -65,8 +74,8 @@ fn list(image: &[u8], h: Head)
 
 // The line of the root's own key, where there is one.
 fn root_line(out: &mut [u8], at: usize, value: u64) -> usize
-    requires { ⌜ at + 32 ≤ length (now out) ⌝ }
-    ensures { λ r. ⌜ r ≤ at + 32 ⌝ }
+    requires { ⌜ at + entryRoom 0 ≤ length (now out) ⌝ }
+    ensures { λ r. ⌜ r ≤ at + entryRoom 0 ⌝ }
 {
     if value == 0 {
         return at;
@@ -74,13 +83,12 @@ fn root_line(out: &mut [u8], at: usize, value: u64) -> usize
     lines::entry(out, at, b"", 0, value)
 }
 
-// Where the next line goes: behind the last one or, if it might not fit there, at the front, when the lines so far have been written. No line
-// is longer than 288 bytes.
+// Where the next line goes: behind the last one or, if it might not fit there, at the front, when the lines so far have been written.
 fn room(out: &[u8], end: usize) -> usize
     requires { ⌜ end ≤ length (now out) ⌝ }
-    ensures { λ r. ⌜ r ≤ 65248 ⌝ }
+    ensures { λ r. ⌜ r + entryRoom mostLetters ≤ 65536 ⌝ }
 {
-    if end <= 65248 {
+    if end <= LAST {
         return end;
     }
     io::write_all(STDOUT_FILENO, &out[..end]);

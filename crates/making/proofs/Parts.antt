@@ -6,11 +6,11 @@ use lib.ListN.{length}
 use lib.Seq.{sets}
 use Rattle.field.specs.Field.{cleared}
 use Rattle.head.specs.declared.Head.{Head}
-use Rattle.head.specs.Fields.{headBytes, nodeWidth}
+use Rattle.head.specs.Fields.{fieldsLen, headBytes, nodeWidth}
 use Rattle.paper.specs.Calls.{freshImage}
 use Rattle.paper.proofs.Fresh.{parts}
 
 -- the image after the head, after the alphabet and after the root
 pub written : (h : Head) (alphabet image : List ℕ) {headed lettered rooted : List ℕ} {w : ℕ} → headed ≡ sets image 0 (headBytes h)
-    → lettered ≡ sets headed 28 alphabet → w ≡ nodeWidth h → rooted ≡ cleared lettered (28 + length alphabet) w → rooted ≡ freshImage h alphabet image
+    → lettered ≡ sets headed fieldsLen alphabet → w ≡ nodeWidth h → rooted ≡ cleared lettered (fieldsLen + length alphabet) w → rooted ≡ freshImage h alphabet image
 written h alphabet image p q r s = s ∙ rw (q, p, r) (parts h alphabet image)

@@ -16,7 +16,7 @@ use Rattle.field.proofs.Fields.{length-digits}
 use Rattle.trie.specs.Table.{Descent, Letters, complete, stopped, missing}
 use Rattle.trie.specs.Storing.{added}
 use Rattle.head.specs.declared.Head.{Head}
-use Rattle.head.specs.Fields.{fieldsLen, nodeWidth, nodePlace, usedLen}
+use Rattle.head.specs.Fields.{fieldsLen, totalAt, totalLen, putTotal, nodeWidth, nodePlace, usedLen}
 use Rattle.head.proofs.Places.{place-add, place-least, used-le}
 use Rattle.node.specs.Image.{linkPlace, dataPlace}
 use Rattle.node.specs.Writes.{carriedOut, pathNode, newNodes, totalWrite, linkWrite, dataWrite, storeWrites}
@@ -77,13 +77,13 @@ frame h l (stopped q x xs) (suc v) p s miss =
     let m : List ℕ = carriedOut l (newNodes h (suc (h .g)) xs (suc v)) in
     let g : ℕ = h .g + suc (length xs) in
     ap (λ (r : List ℕ). getD r p 0) (carried-append l (newNodes h (suc (h .g)) xs (suc v)) _)
-    ∙ beside (sets m 0 (digits 4 g)) (digits (h .a) (suc (h .g))) (linkPlace h q x) p (h .a) (length-digits (h .a) (suc (h .g)))
+    ∙ beside (putTotal m g) (digits (h .a) (suc (h .g))) (linkPlace h q x) p (h .a) (length-digits (h .a) (suc (h .g)))
     (λ b. miss (one-link b))
-    ∙ beside m (digits 4 g) 0 p 4 (length-digits 4 g) (λ b. miss (node-total b))
+    ∙ beside m (digits totalLen g) totalAt p totalLen (length-digits totalLen g) (λ b. miss (node-total b))
     ∙ beside-nodes h p l (suc (h .g)) xs (suc v) (s .1 .1) (rw (← add-one (h .g)) (λ b. miss (new-nodes b)))
 
 -- the bytes between G and the nodes are none of those touched: the other fields of the head, and the alphabet
-pub none-before : {h : Head} {d : Descent} {v p : ℕ} → 4 ≤ p → p < fieldsLen + h .f → ¬ Touched h d v p
+pub none-before : {h : Head} {d : Descent} {v p : ℕ} → totalAt + totalLen ≤ p → p < fieldsLen + h .f → ¬ Touched h d v p
 none-before {h} low high (data-of-key {q} b) = omega (arith, inside-least (data-inside h q))
 none-before {h} low high (node-total b) = omega arith
 none-before {h} low high (one-link {q} {x} b) = omega (arith, link-from h q x, place-least h q)

@@ -1,16 +1,16 @@
 -- Whole nodes. A node whose bytes are all 0 has no link and no data, so a table with one such node more is the same table. The bytes of a
 -- new node are zeros with one number among them: they are laid as well by clearing the node and writing the number.
-use mathlib.Core.Path.{_≡_, refl, sym, ap, _∙_, subst}
+use mathlib.Core.Path.{_≡_, sym, ap, _∙_, subst}
 use mathlib.Core.Logic.{inl}
 use Prim.Native.Nat.{ℕ, suc, _+_, _-_, _*_, _≤_, _<_}
-use native.Mathlib.Nat.{add-zero, add-mul, suc-mul, suc-ne-zero}
+use native.Mathlib.Nat.{add-zero, add-mul, suc-mul}
 use native.Mathlib.Decide.{ℕ-discrete, decLe, decLt}
 use native.Mathlib.Omega.{arith}
-use mathlib.Core.List.{List, [], _∷_, _++_, append-nil}
-use lib.ListN.{length, getD, set, replicate, length-append, length-replicate, getD-replicate, replicate-append-replicate}
-use lib.Seq.{sets, set-set}
+use mathlib.Core.List.{List, _++_, append-nil}
+use lib.ListN.{length, getD, replicate, length-append, length-replicate, getD-replicate, replicate-append-replicate}
+use lib.Seq.{sets}
 use Rattle.field.specs.Field.{Zeros, digits, putField, cleared}
-use Rattle.field.proofs.Laid.{getD-inside, set-sets, sets-append, sets-comm}
+use Rattle.field.proofs.Laid.{getD-inside, sets-append, sets-comm, sets-over}
 use Rattle.field.proofs.Fields.{field-blank, length-digits}
 use Rattle.head.specs.declared.Head.{Head}
 use Rattle.head.specs.Fields.{nodeWidth, nodePlace}
@@ -79,16 +79,6 @@ table-blank h l g z =
     value p (no e) (no b) = framed more l .no-data p (omega arith) ∙ sym (framed less l .no-data p (omega arith))
 
 -- ---- the bytes of a new node
-
--- what was laid before at the same place is gone
-sets-over : (l us vs : List ℕ) (at : ℕ) → length us ≡ length vs → sets (sets l at us) at vs ≡ sets l at vs
-sets-over l [] [] at e = refl
-sets-over l [] (v ∷ vs) at e = absurd (suc-ne-zero (length vs) (sym e))
-sets-over l (u ∷ us) [] at e = absurd (suc-ne-zero (length us) e)
-sets-over l (u ∷ us) (v ∷ vs) at e =
-    ap (λ (r : List ℕ). sets r (suc at) vs) (sym (set-sets (set l at u) us (suc at) at v (inl (omega arith))))
-    ∙ sets-over (set (set l at u) at v) us vs (suc at) (omega arith)
-    ∙ ap (λ (r : List ℕ). sets r (suc at) vs) (set-set l at u v)
 
 -- a part laid over the part that was laid there
 sets-among : (l a b c d : List ℕ) (at : ℕ) → length b ≡ length d → sets l at (a ++ (d ++ c)) ≡ sets (sets l at (a ++ (b ++ c))) (at + length a) d

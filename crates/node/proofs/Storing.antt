@@ -1,7 +1,7 @@
 -- A store's writes on the table. A new node is one more node of zeros with a link or the data written into it, so the new nodes are a path
 -- that hangs on nothing yet; the last write links it, and is on the table as if it had come first.
 use mathlib.Core.Path.{_≡_, refl, sym, ap, _∙_}
-use mathlib.Core.Logic.{inl, inr, _≢_}
+use mathlib.Core.Logic.{inr, _≢_}
 use mathlib.Core.Bool.{Bool, true, false, _&&_, cond}
 use Prim.Native.Nat.{ℕ, suc, _+_, _^_, _≤_, _<_}
 use native.Mathlib.Numerals.{add-one}
@@ -12,19 +12,18 @@ use lib.Dec.{eqb}
 use lib.ListN.{length, replicate}
 use lib.Seq.{sets, length-sets}
 use Rattle.field.specs.Field.{digits, cleared}
-use Rattle.field.proofs.Fields.{length-digits}
 use Rattle.field.proofs.Range.{both}
 use Rattle.trie.specs.Table.{Table, Letters, complete, stopped}
 use Rattle.trie.specs.Storing.{put, grow, growPath, storedBy}
 use Rattle.head.specs.declared.Head.{Head}
-use Rattle.head.specs.Fields.{headOf, nodeWidth, nodePlace, usedLen}
+use Rattle.head.specs.Fields.{totalAt, totalLen, headOf, putTotal, nodeWidth, nodePlace, usedLen}
 use Rattle.head.proofs.Places.{place-add, place-le, place-least}
-use Rattle.head.proofs.Fields.{head-outside, head-total}
+use Rattle.head.proofs.Fields.{head-outside, length-total, head-total}
 use Rattle.node.specs.Image.{linkPlace, dataPlace, tableOf}
 use Rattle.node.specs.Writes.{Write, carriedOut, lastNode, pathNode, newNodes, totalWrite, linkWrite, dataWrite, storeWrites}
 use Rattle.node.proofs.Places.{link-from}
 use Rattle.node.proofs.Tables.{table-eq}
-use Rattle.node.proofs.Writes.{table-outside, table-link, table-data}
+use Rattle.node.proofs.Writes.{table-outside, table-total, table-link, table-data}
 use Rattle.node.proofs.Heads.{withTotal, used-total}
 use Rattle.node.proofs.Nodes.{blank-cleared, table-blank, path-node, last-node}
 
@@ -133,8 +132,8 @@ pub store-new : (h : Head) (l : List ℕ) (q x : ℕ) (xs : List ℕ) (v : ℕ) 
 unfolding storeWrites storedBy carriedOut totalWrite linkWrite put grow
 store-new h l q x xs v s =
     ap (tableOf k) (carried-append l (newNodes h (suc g) xs (suc v)) (totalWrite m ∷ linkWrite h q x (suc g) ∷ []))
-    ∙ table-link k (sets n 0 (digits 4 m)) (rw long (s .room)) q x (suc g) (omega (arith, s .node)) (s .letters .0) (omega (arith, s .addresses))
-    ∙ ap (λ (t : Table). grow t q x (suc g)) (table-outside k n (digits 4 m) 0 (inl (omega (arith, length-digits 4 m))))
+    ∙ table-link k (putTotal n m) (rw long (s .room)) q x (suc g) (omega (arith, s .node)) (s .letters .0) (omega (arith, s .addresses))
+    ∙ ap (λ (t : Table). grow t q x (suc g)) (table-total k n m)
     ∙ ap (λ (t : Table). grow t q x (suc g)) (new-nodes h (suc v) (s .value) l g xs (s .letters .1) (s .addresses) (rw (used-total h m) at (s .room)))
     ∙ ap (λ (t : Table). put t m (suc v)) (grow-before (tableOf h l) q x (suc g) (suc g) xs (omega (arith, s .node)) ∙ sym (grow-from (tableOf h l) q x (suc g) xs))
   where
@@ -150,8 +149,8 @@ store-new h l q x xs v s =
     n : List ℕ
     n = carriedOut l (newNodes h (suc g) xs (suc v))
 
-    long : length (sets n 0 (digits 4 m)) ≡ length l
-    long = length-sets n 0 (digits 4 m) ∙ length-carried l (newNodes h (suc g) xs (suc v))
+    long : length (putTotal n m) ≡ length l
+    long = length-total n m ∙ length-carried l (newNodes h (suc g) xs (suc v))
 
 -- a complete path: the data alone
 pub store-over : (h : Head) (l : List ℕ) (q v : ℕ) → usedLen h ≤ length l → q ≤ h .g → v < 256 ^ h .d
@@ -167,12 +166,12 @@ new-head h l q (y ∷ ys) v =
     new-head h (sets l (nodePlace h q) (pathNode h y (suc q))) (suc q) ys v
     ∙ head-outside l (pathNode h y (suc q)) (nodePlace h q) (omega (arith, place-least h q))
 
-pub store-head : (h : Head) (l : List ℕ) (q x : ℕ) (xs : List ℕ) (v : ℕ) → 4 ≤ length l → h .g + suc (length xs) < 2 ^ 32
+pub store-head : (h : Head) (l : List ℕ) (q x : ℕ) (xs : List ℕ) (v : ℕ) → totalAt + totalLen ≤ length l → h .g + suc (length xs) < 2 ^ 32
     → headOf (carriedOut l (storeWrites h (stopped q x xs) (suc v))) ≡ withTotal (headOf l) (h .g + suc (length xs))
 unfolding storeWrites carriedOut totalWrite linkWrite
 store-head h l q x xs v r f =
     ap headOf (carried-append l (newNodes h (suc (h .g)) xs (suc v)) (totalWrite m ∷ linkWrite h q x (suc (h .g)) ∷ []))
-    ∙ head-outside (sets n 0 (digits 4 m)) (digits (h .a) (suc (h .g))) (linkPlace h q x) (omega (arith, place-least h q, link-from h q x))
+    ∙ head-outside (putTotal n m) (digits (h .a) (suc (h .g))) (linkPlace h q x) (omega (arith, place-least h q, link-from h q x))
     ∙ head-total n m (omega (arith, length-carried l (newNodes h (suc (h .g)) xs (suc v)))) f
     ∙ ap (λ (k : Head). withTotal k m) (new-head h l (suc (h .g)) xs (suc v))
   where

@@ -15,7 +15,7 @@ use Rattle.trie.specs.Storing.{put, grow}
 use Rattle.trie.proofs.Grow.{grow-child, grow-child-other}
 use Rattle.trie.proofs.Put.{put-value, put-value-other}
 use Rattle.head.specs.declared.Head.{Head}
-use Rattle.head.specs.Fields.{fieldsLen, usedLen}
+use Rattle.head.specs.Fields.{fieldsLen, totalAt, totalLen, putTotal, usedLen}
 use Rattle.node.specs.Image.{linkPlace, dataPlace, tableOf}
 use Rattle.node.proofs.Places.{inside-least, inside-used, link-inside, data-inside, Apart, links-apart, link-data-apart, data-apart}
 use Rattle.node.proofs.Tables.{table-eq, child-in, value-in, child-same, value-same, table-same}
@@ -25,6 +25,10 @@ pub table-outside : (h : Head) (l vs : List ℕ) (at : ℕ) → (at + length vs 
 table-outside h l vs at e =
     table-same h (sets l at vs) l
     (λ q bt u b s. field-outside l vs at bt u (⊎-elim (λ x. inr (omega (arith, inside-least s))) (λ x. inl (omega (arith, inside-used s b))) e))
+
+-- so that of G: a table is seen by a head that is given
+pub table-total : (h : Head) (l : List ℕ) (g : ℕ) → tableOf h (putTotal l g) ≡ tableOf h l
+table-total h l g = table-outside h l (digits totalLen g) totalAt (inl (omega (arith, length-digits totalLen g)))
 
 -- a number written leaves a field that is apart
 kept : (l : List ℕ) (at w v bt u : ℕ) → Apart at w bt u → fieldAt (putField l at w v) bt u ≡ fieldAt l bt u

@@ -6,7 +6,7 @@ use mathlib.Core.List.{List}
 use lib.ListN.{length}
 use Rattle.trie.specs.Table.{Descent, complete, stopped}
 use Rattle.head.specs.declared.Head.{Head}
-use Rattle.head.specs.Fields.{nodeWidth, usedLen}
+use Rattle.head.specs.Fields.{totalAt, totalLen, nodeWidth, usedLen}
 use Rattle.node.specs.Image.{linkPlace, dataPlace}
 
 -- byte p is one of the n bytes from a place on
@@ -16,7 +16,7 @@ Among place n p = (place ≤ p) × (p < place + n)
 -- the bytes that a store of a value may change, where the key's walk ended so
 pub data Touched (h : Head) : Descent → ℕ → ℕ → Type 0 where
   data-of-key : {q v p : ℕ} → Among (dataPlace h q) (h .d) p → Touched h (complete q) v p
-  node-total : {q x : ℕ} {xs : List ℕ} {v p : ℕ} → Among 0 4 p → Touched h (stopped q x xs) (suc v) p
+  node-total : {q x : ℕ} {xs : List ℕ} {v p : ℕ} → Among totalAt totalLen p → Touched h (stopped q x xs) (suc v) p
   one-link : {q x : ℕ} {xs : List ℕ} {v p : ℕ} → Among (linkPlace h q x) (h .a) p → Touched h (stopped q x xs) (suc v) p
   new-nodes : {q x : ℕ} {xs : List ℕ} {v p : ℕ} → Among (usedLen h) (suc (length xs) * nodeWidth h) p
       → Touched h (stopped q x xs) (suc v) p

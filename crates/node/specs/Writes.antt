@@ -8,7 +8,7 @@ use lib.Seq.{sets}
 use Rattle.field.specs.Field.{digits}
 use Rattle.trie.specs.Table.{Descent, complete, stopped}
 use Rattle.head.specs.declared.Head.{Head}
-use Rattle.head.specs.Fields.{nodePlace}
+use Rattle.head.specs.Fields.{totalAt, totalLen, nodePlace}
 use Rattle.node.specs.Image.{linkPlace, dataPlace}
 
 -- a place and the bytes that go there
@@ -53,7 +53,7 @@ newNodes h q (y ∷ ys) v = pathWrite h q y (suc q) ∷ newNodes h (suc q) ys v
 -- "G becomes G+k"
 unfoldable pub totalWrite : ℕ → Write
 unfolding digits
-totalWrite g = record { place = 0; bytes = digits 4 g }
+totalWrite g = record { place = totalAt; bytes = digits totalLen g }
 
 -- the link for letter x of node q
 unfoldable pub linkWrite : Head → ℕ → ℕ → ℕ → Write

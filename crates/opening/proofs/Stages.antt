@@ -10,7 +10,7 @@ use lib.ListN.{length, take, drop, length-drop}
 use lib.Seq.{take-all}
 use borrow.Author.Tests.{lt-ltb, eq-eqb, leb-true, leb-false}
 use Rattle.head.specs.declared.Head.{Head}
-use Rattle.head.specs.Fields.{headOf}
+use Rattle.head.specs.Fields.{mostLinks, fieldsLen, headOf}
 use Rattle.alphabet.specs.Letters.{goodAlphabet, letters}
 use Rattle.paper.specs.declared.Refusal.{Refusal}
 use Rattle.paper.specs.Hearing.{first}
@@ -32,7 +32,7 @@ module _ (h : Head) (alphabet : List ℕ) (len : ℕ) where
         decoded = λ n _. let z : _≡_ {A = ℕ} 0 1 = cc in absurd (omega arith);
       }
 
-  pub judged-room : {count : ℕ} {r : Opened} {codes : List ℕ} → RoomOf h len count r → first (opening h alphabet len) ≡ row4 h len → count ≤ 256
+  pub judged-room : {count : ℕ} {r : Opened} {codes : List ℕ} → RoomOf h len count r → first (opening h alphabet len) ≡ row4 h len → count ≤ mostLinks
       → (length alphabet ≡ h .f → take count codes ≡ letters alphabet) → Judged h alphabet len r codes
   judged-room o e b d =
       record {
@@ -67,24 +67,24 @@ opens-refused l {h} {why} {r} o e =
     }
 
 -- the part of the image that was judged is its alphabet, as much of it as is there
-part : (l : List ℕ) (f end : ℕ) → 28 ≤ length l → end ≡ min (28 + f) (length l) → take (end - 28) (drop 28 l) ≡ take f (drop 28 l)
-part l f end h e = go (leb (28 + f) (length l)) refl
+part : (l : List ℕ) (f end : ℕ) → fieldsLen ≤ length l → end ≡ min (fieldsLen + f) (length l) → take (end - fieldsLen) (drop fieldsLen l) ≡ take f (drop fieldsLen l)
+part l f end h e = go (leb (fieldsLen + f) (length l)) refl
   where
-    go : (b : Bool) → leb (28 + f) (length l) ≡ b → take (end - 28) (drop 28 l) ≡ take f (drop 28 l)
+    go : (b : Bool) → leb (fieldsLen + f) (length l) ≡ b → take (end - fieldsLen) (drop fieldsLen l) ≡ take f (drop fieldsLen l)
     go true b =
-        let k : 28 + f ≤ length l = leb-true _ _ b in
-        let so : end - 28 ≡ f = omega arith in
-        ap (λ (j : ℕ). take j (drop 28 l)) so
+        let k : fieldsLen + f ≤ length l = leb-true _ _ b in
+        let so : end - fieldsLen ≡ f = omega arith in
+        ap (λ (j : ℕ). take j (drop fieldsLen l)) so
     go false b =
-        let k : length l < 28 + f = leb-false _ _ b in
-        take-all (end - 28) (drop 28 l) (omega (arith, length-drop 28 l)) ∙ sym (take-all f (drop 28 l) (omega (arith, length-drop 28 l)))
+        let k : length l < fieldsLen + f = leb-false _ _ b in
+        take-all (end - fieldsLen) (drop fieldsLen l) (omega (arith, length-drop fieldsLen l)) ∙ sym (take-all f (drop fieldsLen l) (omega (arith, length-drop fieldsLen l)))
 
-pub opens-judged : (l : List ℕ) {h : Head} {end : ℕ} {r : Opened} {codes : List ℕ} → h ≡ headOf l → end ≡ min (28 + h .f) (length l) → 28 ≤ length l
-    → Judged h (take (end - 28) (drop 28 l)) (length l) r codes → Opens l r codes
+pub opens-judged : (l : List ℕ) {h : Head} {end : ℕ} {r : Opened} {codes : List ℕ} → h ≡ headOf l → end ≡ min (fieldsLen + h .f) (length l) → fieldsLen ≤ length l
+    → Judged h (take (end - fieldsLen) (drop fieldsLen l)) (length l) r codes → Opens l r codes
 unfolding openingOf alphabetIn
 opens-judged l {h} {end} {r} {codes} e b k j =
-    let alphabet : List ℕ = take (headOf l .f) (drop 28 l) in
-    let same : take (end - 28) (drop 28 l) ≡ alphabet = part l (h .f) end k b ∙ ap (λ (g : Head). take (g .f) (drop 28 l)) e in
+    let alphabet : List ℕ = take (headOf l .f) (drop fieldsLen l) in
+    let same : take (end - fieldsLen) (drop fieldsLen l) ≡ alphabet = part l (h .f) end k b ∙ ap (λ (g : Head). take (g .f) (drop fieldsLen l)) e in
     let o : Judged (headOf l) alphabet (length l) r codes = rw (e, same) at j in
     record {
       verdict = o .verdict;

@@ -6,7 +6,7 @@ use mathlib.Core.Option.{none}
 use mathlib.Core.List.{List}
 use lib.ListN.{length, take}
 use Rattle.head.specs.declared.Head.{Head}
-use Rattle.head.specs.Fields.{headOf}
+use Rattle.head.specs.Fields.{mostLinks, headOf}
 use Rattle.alphabet.specs.Letters.{letters}
 use Rattle.paper.specs.declared.Refusal.{Refusal}
 use Rattle.paper.specs.declared.Verdict.{Verdict}
@@ -18,7 +18,7 @@ use Rattle.opening.specs.declared.Opened.{Opened}
 
 -- the letters of an alphabet are the first of the lent codes, as many as are counted
 pub record Decoded (alphabet : List ℕ) (r : Opened) (decoded : List ℕ) : Type 0 where
-  pub count : r .count ≤ 256
+  pub count : r .count ≤ mostLinks
   pub codes : take (r .count) decoded ≡ letters alphabet
 
 -- 1 to 4 of a head, an alphabet and the length of an image

@@ -3,7 +3,7 @@
 ghost use mathlib.Core.Path.{_≡_};
 ghost use mathlib.Core.Bool.{true};
 ghost use Prim.Native.Nat.{_+_, min};
-ghost use Rattle.head.specs.Fields.{permitted};
+ghost use Rattle.head.specs.Fields.{fieldsLen, permitted};
 ghost use Rattle.opening.specs.Opened.{Judged, Opens, RoomOf, RefusedOf};
 use head::Head;
 use paper::Refusal;
@@ -18,7 +18,7 @@ pub struct Opened {
 }
 
 // 1 to 4 of an image.
-pub fn open(image: &[u8], codes: &mut [u32; 256]) -> Opened
+pub fn open(image: &[u8], codes: &mut [u32; Head::N_MOST as usize]) -> Opened
     ensures { λ r. ⌜ Opens (now (image .entry)) r (now (codes .exit)) ⌝ }
 {
     let len = image.len();
@@ -38,11 +38,16 @@ pub fn open(image: &[u8], codes: &mut [u32; 256]) -> Opened
     }
     let h = Head::read(image);
     let end = alphabet_end(h, len);
-    judge(h, &image[28..end], len, codes)
+    judge(h, &image[Head::FIELDS_LEN..end], len, codes)
 }
 
 // 1 to 4 of a head, its alphabet and the length of the image.
-pub fn judge(h: Head, alphabet: &[u8], len: usize, codes: &mut [u32; 256]) -> Opened
+pub fn judge(
+    h: Head,
+    alphabet: &[u8],
+    len: usize,
+    codes: &mut [u32; Head::N_MOST as usize],
+) -> Opened
     ensures { λ r. ⌜ Judged h (now (alphabet .entry)) len r (now (codes .exit)) ⌝ }
 {
     if !head::length_allowed(len) {
@@ -95,8 +100,8 @@ fn refused(h: Head, why: Refusal) -> Opened
 
 // Where the alphabet ends in an image of so many bytes: after its F bytes, or where the image ends before that.
 fn alphabet_end(h: Head, len: usize) -> usize
-    ensures { λ r. ⌜ r ≡ min (28 + h .f) len ⌝ }
+    ensures { λ r. ⌜ r ≡ min (fieldsLen + h .f) len ⌝ }
 {
-    let end = 28 + (h.f as usize);
+    let end = Head::FIELDS_LEN + (h.f as usize);
     if end < len { end } else { len }
 }

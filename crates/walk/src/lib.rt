@@ -2,6 +2,7 @@
 // never checked, so that each link is judged where it is met; the first bad one ends the walk, with the node that holds it.
 ghost use mathlib.Core.Path.{_≡_};
 ghost use Prim.Native.Nat.{_≤_, _<_};
+ghost use Rattle.head.specs.Fields.{mostLetters};
 ghost use Rattle.node.specs.Image.{Open, Masks, tableOf};
 ghost use Rattle.key.specs.Hand.{Ready, lettersOf};
 ghost use Rattle.walk.specs.Descent.{stepOf, walkedFrom, atRoot, lookedIn};
@@ -31,7 +32,7 @@ pub enum Walked {
 
 impl Position {
     pub fn step(self, image: &[u8], h: Head, mask: u32, letter: u8) -> Step
-        requires { ⌜ Open h (now image) ⌝ ∗ ⌜ Masks h mask ⌝ ∗ ⌜ self .node ≤ h .g ⌝ ∗ ⌜ letter < h .n ⌝ ∗ ⌜ self .depth < 64 ⌝ }
+        requires { ⌜ Open h (now image) ⌝ ∗ ⌜ Masks h mask ⌝ ∗ ⌜ self .node ≤ h .g ⌝ ∗ ⌜ letter < h .n ⌝ ∗ ⌜ self .depth < mostLetters ⌝ }
         ensures { λ r. ⌜ r ≡ stepOf (h .g) (tableOf h (now (image .entry))) self letter ⌝ }
     {
         let node = self.node;

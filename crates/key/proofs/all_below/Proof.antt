@@ -7,6 +7,7 @@ use native.Mathlib.Numerals.{add-one}
 use native.Mathlib.Omega.{arith}
 use borrow.Author.Needs.{needs}
 use lib.ListN.{length, take}
+use Rattle.head.specs.Fields.{mostLetters}
 use Rattle.paper.specs.Rows.{allBelow}
 use Rattle.key.proofs.Judging.{below-none, below-more, below-not}
 use Rattle.key.proofs.all_below.Statement.{statement}
@@ -18,8 +19,8 @@ Inv-loop len n letters i₀ i = (i ≤ len) × (allBelow n (take i letters) ≡ 
 abbrev μ-loop : tie.MeasureT-loop
 μ-loop len n letters i₀ i = len - i
 
--- the array has 64 letters
-whole : (c : tie.Start Inv-loop μ-loop) → length (c .args .t1) ≡ 64
+-- the array has as many letters as a key may
+whole : (c : tie.Start Inv-loop μ-loop) → length (c .args .t1) ≡ mostLetters
 whole c = search needs
 
 loop-holds : tie.Need-loop-holds Inv-loop μ-loop

@@ -1,5 +1,5 @@
--- `list::list` meets its contract. Each key that is found leaves its path, from which the next one is sought; a line takes 288 bytes at most
--- and begins at 65,248 or before. The measure is how many keys are left. Assumes nothing.
+-- `list::list` meets its contract. Each key that is found leaves its path, from which the next one is sought; a line begins where the longest
+-- fits behind it. The measure is how many keys are left. Assumes nothing.
 use mathlib.Core.Path.{_≡_, sym}
 use Prim.Native.Nat.{_≤_}
 use native.Mathlib.Omega.{arith}

@@ -4,14 +4,14 @@ use Prim.Native.Nat.{_+_, _≤_}
 use native.Mathlib.Omega.{arith}
 use borrow.Author.Needs.{needs}
 use lib.ListN.{length}
-use Rattle.head.specs.Fields.{nodeWidth}
+use Rattle.head.specs.Fields.{fieldsLen, nodeWidth}
 use Rattle.paper.proofs.Fresh.{whole}
 use Rattle.making.proofs.Parts.{written}
 use Rattle.making.proofs.fresh.Statement.{statement}
 use Rattle.making.proofs.fresh.Tie as tie
 
 -- head, alphabet and root lie inside the image
-inside : (c : tie.Start) → 28 + length (c .args .alphabet .now) + nodeWidth (c .args .h) ≤ length (c .args .image .now)
+inside : (c : tie.Start) → fieldsLen + length (c .args .alphabet .now) + nodeWidth (c .args .h) ≤ length (c .args .image .now)
 inside c = whole (c .args .h) (c .args .alphabet .now) (c .args .image .now) (c .pre .1 .0) (c .pre .1 .1 .0) (c .pre .1 .1 .1)
 
 write-requires : tie.Need-write-requires

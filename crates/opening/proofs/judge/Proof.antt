@@ -7,7 +7,7 @@ use native.Mathlib.Omega.{arith}
 use borrow.Author.Needs.{needs}
 use borrow.Author.Tests.{not-true, not-false}
 use Rattle.field.specs.Range.{between}
-use Rattle.head.specs.Fields.{shortestImage, longestImage, permitted}
+use Rattle.head.specs.Fields.{mostLinks, shortestImage, longestImage, permitted}
 use Rattle.head.proofs.Permitted.{bounds}
 use Rattle.alphabet.proofs.Alphabets.{no-letters}
 use Rattle.paper.proofs.Opening.{heard-1, heard-2, heard-3, left-4}
@@ -22,7 +22,7 @@ allowed c = sym (c .before .length-allowed .ensures) ∙ not-false _ (c .if1 .le
 good-head : (c : tie.Else2) → permitted (c .before .before .before .before .before .args .h) ≡ true
 good-head c = sym (c .before .permitted .ensures) ∙ not-false _ (c .if2 .left)
 
-few : (c : tie.Else2) → c .before .before .before .before .before .args .h .n ≤ 256
+few : (c : tie.Else2) → c .before .before .before .before .before .args .h .n ≤ mostLinks
 few c = bounds _ (good-head c) .n-most
 
 length-allowed-requires : tie.Need-length-allowed-requires

@@ -7,6 +7,7 @@ use borrow.Author.Needs.{needs}
 use borrow.Author.Tests.{not-true, not-false}
 use lib.ListN.{length}
 use Rattle.field.proofs.Range.{between-true}
+use Rattle.head.specs.Fields.{fieldsLen}
 use Rattle.paper.specs.Orders.{openingOf}
 use Rattle.paper.proofs.Opening.{heard-1}
 use Rattle.opening.proofs.Stages.{opens-refused, opens-judged}
@@ -14,7 +15,7 @@ use Rattle.opening.proofs.open.Statement.{statement}
 use Rattle.opening.proofs.open.Tie as tie
 
 -- past the first test the seven fields are there
-fields : (c : tie.Else1) → 28 ≤ length (c .before .before .before .args .image .now)
+fields : (c : tie.Else1) → fieldsLen ≤ length (c .before .before .before .args .image .now)
 fields c = between-true _ _ _ (sym (c .before .length-allowed .ensures) ∙ not-false _ (c .if1 .left)) .0
 
 length-allowed-requires : tie.Need-length-allowed-requires

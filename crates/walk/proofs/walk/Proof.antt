@@ -9,6 +9,7 @@ use borrow.Author.Needs.{needs}
 use denote.Enum.Declared.{tagOf}
 use types.Run.{OneOf}
 use lib.ListN.{length, getD, drop}
+use Rattle.head.specs.Fields.{mostLetters}
 use Rattle.node.specs.Image.{tableOf}
 use Rattle.key.specs.Hand.{lettersOf}
 use Rattle.key.proofs.Hand.{letters-count, letters-from, letter-below}
@@ -30,8 +31,8 @@ is-empty (Step.At p) a b = ⊎-elim (λ e. absurd (omega arith)) (λ e. absurd (
 is-empty Step.Empty a b = refl
 is-empty (Step.Bad q) a b = ⊎-elim (λ e. absurd (omega arith)) (λ e. absurd (omega arith)) b
 
--- the array has 64 letters
-whole : (c : tie.Start Inv-loop μ-loop) → length (c .args .key .letters) ≡ 64
+-- the array has as many letters as a key may
+whole : (c : tie.Start Inv-loop μ-loop) → length (c .args .key .letters) ≡ mostLetters
 whole c = search needs
 
 -- the letters left before the key's end

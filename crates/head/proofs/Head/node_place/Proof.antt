@@ -3,7 +3,7 @@
 use native.Mathlib.Omega.{arith}
 use mathlib.Core.Path.{ap}
 use Prim.Native.Nat.{ℕ, _+_, _*_, _^_, _<_}
-use Rattle.head.specs.Fields.{nodePlace}
+use Rattle.head.specs.Fields.{fieldsLen, nodePlace}
 use Rattle.head.proofs.Permitted.{bounds}
 use Rattle.head.proofs.Places.{place-most}
 use borrow.Author.Needs.{needs}
@@ -19,7 +19,7 @@ add-result c = search needs
 node-width-requires : tie.Need-node-width-requires
 node-width-requires c κs = search needs
 
-small : (c : tie.After-node-width) → 28 + c .before .before .args .self .f + c .before .before .args .q * c .node-width .result < 2 ^ 43
+small : (c : tie.After-node-width) → fieldsLen + c .before .before .args .self .f + c .before .before .args .q * c .node-width .result < 2 ^ 43
 unfolding nodePlace
 small c = rw (c .node-width .ensures) (place-most (c .before .before .args .q) (bounds _ (c .before .before .pre .0)) (c .before .before .pre .1))
 
@@ -31,7 +31,7 @@ add-result-2 c = omega (arith, small c)
 
 returns : tie.Need-returns
 unfolding nodePlace
-returns c = ap (λ (w : ℕ). 28 + c .before .before .args .self .f + c .before .before .args .q * w) (c .node-width .ensures)
+returns c = ap (λ (w : ℕ). fieldsLen + c .before .before .args .self .f + c .before .before .args .q * w) (c .node-width .ensures)
 
 pub node-place-spec : {M : Type 1} → statement M
 node-place-spec =

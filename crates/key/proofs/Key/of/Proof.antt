@@ -5,13 +5,14 @@ use mathlib.Core.Logic.{⊎-elim}
 use mathlib.Core.Path.{_≡_, refl, _∙_}
 use native.Mathlib.Omega.{arith}
 use lib.ListN.{length, take}
+use Rattle.head.specs.Fields.{mostLetters}
 use Rattle.key.specs.Hand.{padded, inHand}
 use Rattle.key.proofs.Hand.{copy-more, copy-all}
 use Rattle.key.proofs.Key.of.Statement.{statement}
 use Rattle.key.proofs.Key.of.Tie as tie
 
 abbrev Inv-loop : tie.InvT-loop
-Inv-loop letters most kept₀ i₀ kept i = (i ≤ most) × (most ≡ min (length letters) 64) × (kept ≡ padded 64 (take i letters))
+Inv-loop letters most kept₀ i₀ kept i = (i ≤ most) × (most ≡ min (length letters) mostLetters) × (kept ≡ padded mostLetters (take i letters))
 
 abbrev μ-loop : tie.MeasureT-loop
 μ-loop letters most kept₀ i₀ kept i = most - i
@@ -34,14 +35,14 @@ loop-less c = omega arith
 
 loop-again : tie.Need-loop-again Inv-loop μ-loop
 loop-again c =
-    (omega arith, c .before .before .loop .inv .1, copy-more 64 _ _ _ (omega arith) (omega arith) (c .before .before .loop .inv .2))
+    (omega arith, c .before .before .loop .inv .1, copy-more mostLetters _ _ _ (omega arith) (omega arith) (c .before .before .loop .inv .2))
 
 returns : tie.Need-returns Inv-loop μ-loop
 unfolding inHand
 returns c =
     let at = c .before in
     let letters = at .before .before .args .letters .now in
-    let all : at .loop .kept ≡ padded 64 letters = at .loop .inv .2 ∙ copy-all 64 letters (at .loop .i) (omega arith) in
+    let all : at .loop .kept ≡ padded mostLetters letters = at .loop .inv .2 ∙ copy-all mostLetters letters (at .loop .i) (omega arith) in
     λ j. record { letters = all j; len = length letters }
 
 pub of-spec : {M : Type 1} → statement M
