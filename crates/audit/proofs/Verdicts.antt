@@ -21,7 +21,8 @@ use Rattle.paper.specs.declared.Verdict.{Verdict}
 use Rattle.paper.specs.Hearing.{Row, first}
 use Rattle.paper.specs.Answers.{said, rowOf}
 use Rattle.paper.specs.Rows.{givenLowest, row5, row6, row7, row8, times}
-use Rattle.paper.specs.Orders.{alphabetIn, openingOf, linking, checking}
+use Rattle.paper.specs.Given.{alphabetIn}
+use Rattle.paper.specs.Orders.{openingOf, linking, checking}
 use Rattle.paper.specs.Calls.{clearedBy, workAfter}
 use Rattle.paper.specs.Accepted.{Accepted}
 use Rattle.paper.proofs.Hearing.{is-given, not-given, first-nil, first-some, first-none, first-part, second-part, told-refused, told-passed}

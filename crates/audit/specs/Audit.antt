@@ -14,7 +14,8 @@ use Rattle.node.specs.Image.{tableOf}
 use Rattle.paper.specs.declared.Verdict.{Verdict}
 use Rattle.paper.specs.Hearing.{first}
 use Rattle.paper.specs.Answers.{rowOf}
-use Rattle.paper.specs.Orders.{alphabetIn, linking, checking}
+use Rattle.paper.specs.Given.{alphabetIn}
+use Rattle.paper.specs.Orders.{linking, checking}
 use Rattle.paper.specs.Rows.{row5, holdsBad, timesIn, times}
 use Rattle.paper.specs.Calls.{clearedBy, workAfter}
 use Rattle.opening.specs.declared.Opened.{Opened}

@@ -12,7 +12,8 @@ use Rattle.node.specs.Image.{Open}
 use Rattle.paper.specs.declared.Verdict.{Verdict}
 use Rattle.paper.specs.Hearing.{Row, first}
 use Rattle.paper.specs.Answers.{rowOf}
-use Rattle.paper.specs.Orders.{alphabetIn, openingOf, byLetters, byText}
+use Rattle.paper.specs.Given.{alphabetIn}
+use Rattle.paper.specs.Orders.{openingOf, byLetters, byText}
 use Rattle.paper.specs.Calls.{namedIn}
 use Rattle.paper.proofs.Hearing.{told-passed}
 use Rattle.paper.proofs.Checking.{accepted-opens, head-open}

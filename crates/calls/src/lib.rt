@@ -161,7 +161,7 @@ pub fn store_writes(
     let verdict = asked.verdict;
     match verdict {
         Verdict::Refused(why) => Listed::Refused(why),
-        Verdict::Passed => storing::store_listed(
+        Verdict::Passed => noting::store_listed(
             image,
             asked.head,
             asked.key,
@@ -185,7 +185,7 @@ pub fn store_text_writes(
     let verdict = asked.verdict;
     match verdict {
         Verdict::Refused(why) => Listed::Refused(why),
-        Verdict::Passed => storing::store_listed(
+        Verdict::Passed => noting::store_listed(
             image,
             asked.head,
             asked.key,

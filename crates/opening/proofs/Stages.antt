@@ -16,7 +16,8 @@ use Rattle.paper.specs.declared.Refusal.{Refusal}
 use Rattle.paper.specs.Hearing.{first}
 use Rattle.paper.specs.Answers.{saidOf, rowOf}
 use Rattle.paper.specs.Rows.{row4}
-use Rattle.paper.specs.Orders.{alphabetIn, opening, openingOf}
+use Rattle.paper.specs.Given.{alphabetIn}
+use Rattle.paper.specs.Orders.{opening, openingOf}
 use Rattle.paper.proofs.Opening.{spoilt, passed, good-unspoilt, alphabet-whole}
 use Rattle.opening.specs.declared.Opened.{Opened}
 use Rattle.opening.specs.Opened.{Judged, Opens, RoomOf, RefusedOf}

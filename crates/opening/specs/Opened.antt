@@ -12,7 +12,8 @@ use Rattle.paper.specs.declared.Refusal.{Refusal}
 use Rattle.paper.specs.declared.Verdict.{Verdict}
 use Rattle.paper.specs.Hearing.{first}
 use Rattle.paper.specs.Answers.{rowOf}
-use Rattle.paper.specs.Orders.{alphabetIn, opening, openingOf}
+use Rattle.paper.specs.Given.{alphabetIn}
+use Rattle.paper.specs.Orders.{opening, openingOf}
 use Rattle.paper.specs.Rows.{row4}
 use Rattle.opening.specs.declared.Opened.{Opened}
 
