@@ -14,7 +14,7 @@ use Rattle.trie.specs.Table.{Descent, complete, stopped, descend, answer}
 use Rattle.trie.specs.Storing.{changeOf}
 use Rattle.trie.proofs.Walk.{where-stopped}
 use Rattle.head.specs.declared.Head.{Head}
-use Rattle.head.specs.Fields.{headOf}
+use Rattle.head.specs.Fields.{mostWrites, mostListed, headOf}
 use Rattle.head.proofs.Permitted.{bounds}
 use Rattle.node.specs.Writes.{Write, listed, totalWrite, linkWrite, storeWrites}
 use Rattle.node.proofs.Nodes.{nodes-count}
@@ -38,7 +38,7 @@ long-writes h key (stopped q x xs) (suc v) few =
     let two : List Write = totalWrite (h .g + suc (length xs)) ∷ linkWrite h q x (suc (h .g)) ∷ [] in
     omega (arith, few q x xs refl, nodes-count h (suc (h .g)) xs (suc v) two)
 
-pub few-writes : {l key : List ℕ} {value : ℕ} → Granted l key value → length (writesIn l key value) ≤ 66
+pub few-writes : {l key : List ℕ} {value : ℕ} → Granted l key value → length (writesIn l key value) ≤ mostWrites
 few-writes {l} {key} {value} s =
     let short = between-true (length key) (headOf l .min) (headOf l .max) (s .fit .allowed) .1 in
     let most = bounds (headOf l) (s .accepted .head-permitted) .max-most in
@@ -60,7 +60,7 @@ front : (list vs : List ℕ) → length vs ≤ length list → take (length vs) 
 front list vs b = ap (take (length vs)) (sets-eq vs list 0 (omega arith)) ∙ take-append-seam vs (drop (0 + length vs) list)
 
 -- the writes that the first entries of the array and the image after the call tell are those of the store
-pub had-writes : {l key : List ℕ} {value : ℕ} → Granted l key value → (list : List ℕ) → 132 ≤ length list
+pub had-writes : {l key : List ℕ} {value : ℕ} → Granted l key value → (list : List ℕ) → mostListed ≤ length list
     → readBack (storedImage l key value) (take (2 * length (writesIn l key value)) (sets list 0 (listed (writesIn l key value)))) ≡ writesIn l key value
 had-writes {l} {key} {value} s list b =
     let ws : List Write = writesIn l key value in
@@ -98,6 +98,6 @@ module _ (l work : List ℕ) (given : Given) (value : ℕ) (list : List ℕ) whe
   unfolding storeWritesOf withList doneNumbers
   store-writes-leaves z = ap (withList (writesIn l key value) list) (store-leaves l work given value z)
 
-  pub store-writes-told : storeOf l work given value .numbers .number ≡ 0 → 132 ≤ length list
+  pub store-writes-told : storeOf l work given value .numbers .number ≡ 0 → mostListed ≤ length list
       → readBack (storedImage l key value) (take (2 * length (writesIn l key value)) (sets list 0 (listed (writesIn l key value)))) ≡ writesIn l key value
   store-writes-told z b = had-writes (store-granted l work given value z) list b

@@ -21,8 +21,8 @@ use Rattle.trie.specs.Table.{Table, Descent, complete, stopped, descend}
 use Rattle.trie.specs.Storing.{grow}
 use Rattle.trie.proofs.Walk.{complete-within, where-stopped}
 use Rattle.head.specs.declared.Head.{Head}
-use Rattle.head.specs.Fields.{fieldsLen, headOf, nodePlace, usedLen}
-use Rattle.head.proofs.Fields.{head-outside, head-total}
+use Rattle.head.specs.Fields.{fieldsLen, headOf, nodePlace, usedLen, putTotal, totalAt, totalLen}
+use Rattle.head.proofs.Fields.{head-outside, length-total, total-outside, head-total}
 use Rattle.head.proofs.Permitted.{bounds, addresses-fit}
 use Rattle.head.proofs.Places.{place-le, place-least}
 use Rattle.node.specs.Image.{linkPlace, dataPlace, tableOf}
@@ -36,7 +36,7 @@ use Rattle.paper.specs.Hearing.{Numbers, Outcome, outcome, first, refusedNumber
 use Rattle.paper.specs.Answers.{said}
 use Rattle.paper.specs.Orders.{openingOf, checking}
 use Rattle.paper.specs.Given.{Given, keyIn}
-use Rattle.paper.specs.Calls.{tableIn, workAfter, checkOf, writesIn, storedImage, storeOf, withG, isAccepted, mends}
+use Rattle.paper.specs.Calls.{tableIn, workAfter, checkOf, writesIn, storedImage, storeOf, isAccepted, mends}
 use Rattle.paper.specs.Accepted.{Accepted}
 use Rattle.paper.specs.Granted.{Granted}
 use Rattle.paper.proofs.Hearing.{heard-done}
@@ -73,9 +73,9 @@ module _ (a work m : List ℕ) (same : seenIn a ≡ seenIn m) (accepted : Accept
 
 -- ---- where G is lowered
 
-lowers : (l : List ℕ) (m : Numbers) {g : ℕ} → m .number ≡ 8 → m .place - 1 ≡ g → isAccepted (withG l g) ≡ true → mends l m ≡ true
+lowers : (l : List ℕ) (m : Numbers) {g : ℕ} → m .number ≡ 8 → m .place - 1 ≡ g → isAccepted (putTotal l g) ≡ true → mends l m ≡ true
 unfolding mends
-lowers l m n p e = ap₂ _&&_ (eq-eqb (m .number) 8 n) (ap (λ (g : ℕ). isAccepted (withG l g)) p ∙ e)
+lowers l m n p e = ap₂ _&&_ (eq-eqb (m .number) 8 n) (ap (λ (g : ℕ). isAccepted (putTotal l g)) p ∙ e)
 
 -- ---- a write that was hit, and was none to spare bytes
 
@@ -114,7 +114,7 @@ module _ {l key : List ℕ} {v : ℕ} (s : Granted l key (suc v)) {q x : ℕ} {x
   begun = carriedOut l nodes
 
   abbrev counted : List ℕ
-  counted = sets begun 0 (digits 4 total)
+  counted = putTotal begun total
 
   enough : Storable (headOf l) l q x xs (suc v)
   enough = able s e
@@ -127,24 +127,23 @@ module _ {l key : List ℕ} {v : ℕ} (s : Granted l key (suc v)) {q x : ℕ} {x
   spare p b = from-before (suc p) (nodePlace h (suc g)) nodes (omega (arith, ap (nodePlace h) (add-one g))) (nodes-from h (suc g) xs (suc v))
 
   long : length counted ≡ length l
-  long = length-sets begun 0 (digits 4 total) ∙ length-carried l nodes
+  long = length-total begun total ∙ length-carried l nodes
 
   heads : headOf counted ≡ withTotal h total
   heads =
       head-total begun total (omega (arith, length-carried l nodes, s .accepted .long-enough)) fits
       ∙ ap (λ (k : Head). withTotal k total) (new-head h l (suc g) xs (suc v))
 
-  after-g : (p : ℕ) → 4 ≤ p → p < usedLen h → getD counted p 0 ≡ getD l p 0
-  after-g p a b = getD-outside begun (digits 4 total) 0 p 0 (inr (omega (arith, length-digits 4 total))) ∙ carried-before p l nodes (spare p b)
+  after-g : (p : ℕ) → totalAt + totalLen ≤ p → p < usedLen h → getD counted p 0 ≡ getD l p 0
+  after-g p a b = total-outside begun total p a ∙ carried-before p l nodes (spare p b)
 
   -- with G lowered again it looks as the image did
-  lowered : seenIn (withG counted g) ≡ seenIn l
-  unfolding withG
+  lowered : seenIn (putTotal counted g) ≡ seenIn l
   lowered =
-      seen-same (withG counted g) l
+      seen-same (putTotal counted g) l
       (head-total counted g (omega (arith, long, s .accepted .long-enough)) (omega (arith, fits)) ∙ ap (λ (k : Head). withTotal k g) heads)
-      (length-sets counted 0 (digits 4 g) ∙ long)
-      (λ p a b. getD-outside counted (digits 4 g) 0 p 0 (inr (omega (arith, length-digits 4 g))) ∙ after-g p a b)
+      (length-total counted g ∙ long)
+      (λ p a b. total-outside counted g p a ∙ after-g p a b)
 
   -- ---- the last write: the link
 
@@ -208,14 +207,14 @@ module _ {l key : List ℕ} {v : ℕ} (s : Granted l key (suc v)) {q x : ℕ} {x
   unfolding refusedNumbers
   mends-lowered work lent =
       let numbers : Numbers = checkOf counted work .numbers in
-      let again : Accepted (withG counted g) = same-accepted lowered (s .accepted) in
+      let again : Accepted (putTotal counted g) = same-accepted lowered (s .accepted) in
       let number : numbers .number ≡ 8 = ap (λ (n : Numbers). n .number) (eight work lent) in
       let place : numbers .place - 1 ≡ g = ap (λ (n : Numbers). n .place - 1) (eight work lent) ∙ omega arith in
       record {
-        image = withG counted g;
+        image = putTotal counted g;
         heard =
-            mend-lowered counted work (lowers counted numbers number place (accepted-exactly (withG counted g) .1 again))
-            ∙ ap (λ (p : ℕ). outcome (doneNumbers 0 (pos 0) 0) (withG counted p ∷ workAfter counted work ∷ [])) place;
+            mend-lowered counted work (lowers counted numbers number place (accepted-exactly (putTotal counted g) .1 again))
+            ∙ ap (λ (p : ℕ). outcome (doneNumbers 0 (pos 0) 0) (putTotal counted p ∷ workAfter counted work ∷ [])) place;
         accepted = again;
         answers = same-answers lowered;
       }

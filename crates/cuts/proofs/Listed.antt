@@ -12,7 +12,7 @@ use Rattle.field.proofs.Fields.{length-digits}
 use Rattle.trie.specs.Table.{Descent, Letters, complete, stopped, descend}
 use Rattle.trie.proofs.Walk.{complete-within}
 use Rattle.head.specs.declared.Head.{Head}
-use Rattle.head.specs.Fields.{headOf, nodeWidth, nodePlace}
+use Rattle.head.specs.Fields.{headOf, nodeWidth, nodePlace, totalLen}
 use Rattle.head.proofs.Places.{place-add, place-le, place-least}
 use Rattle.node.specs.Image.{linkPlace}
 use Rattle.node.specs.Writes.{Write, carriedOut, listed, pathNode, lastNode, newNodes, totalWrite, linkWrite, dataWrite, storeWrites}
@@ -81,7 +81,7 @@ store-laid {l} (stopped q x xs) (suc v) e s =
     let g : ℕ = h .g in
     let total : ℕ = g + suc (length xs) in
     let a = able s e in
-    let four = length-digits 4 total in
+    let four = length-digits totalLen total in
     let wide = length-digits (h .a) (suc g) in
     let least = place-least h (suc g) in
     let far = place-least h q in

@@ -3,25 +3,23 @@
 use Prim.Native.Nat.{ℕ, _+_, _-_, _*_, _^_, _≤_, _<_}
 use mathlib.Core.Path.{_≡_, refl, sym, ap, ap₂, subst, _∙_}
 use mathlib.Core.Bool.{Bool, true, false, cond}
-use mathlib.Core.Logic.{inl, inr}
+use mathlib.Core.Logic.{inl}
 use mathlib.Core.List.{List, [], _∷_}
 use native.Mathlib.Nat.{mul-le-mul, le-refl}
 use native.Mathlib.Omega.{arith}
 use lib.Dec.{eqb}
 use lib.ListN.{length, getD}
-use lib.Seq.{length-sets}
 use lib.IntN.{pos}
 use borrow.Author.Tests.{eqb-true}
 use Rattle.field.specs.Field.{digits}
 use Rattle.field.proofs.Range.{both, between-true}
-use Rattle.field.proofs.Laid.{getD-outside}
 use Rattle.field.proofs.Fields.{length-digits}
 use Rattle.trie.specs.Table.{Table, answer}
 use Rattle.trie.specs.Rules.{Within}
 use Rattle.trie.proofs.Lowered.{Agree, answer-alike, fault-alike}
 use Rattle.head.specs.declared.Head.{Head}
-use Rattle.head.specs.Fields.{shortestImage, longestImage, headOf, nodeWidth}
-use Rattle.head.proofs.Fields.{head-total}
+use Rattle.head.specs.Fields.{shortestImage, longestImage, headOf, nodeWidth, putTotal, totalAt, totalLen}
+use Rattle.head.proofs.Fields.{length-total, total-outside, head-total}
 use Rattle.head.proofs.Permitted.{bounds}
 use Rattle.head.proofs.Places.{width-least, used}
 use Rattle.node.specs.Image.{tableOf}
@@ -31,7 +29,7 @@ use Rattle.paper.specs.Hearing.{Row, Numbers, Outcome, outcome, first, heard, d
 use Rattle.paper.specs.Given.{Given, alphabetIn, keyIn}
 use Rattle.paper.specs.Rows.{badLink}
 use Rattle.paper.specs.Orders.{openingOf, keying}
-use Rattle.paper.specs.Calls.{tableIn, workAfter, checkOf, lookUpOf, withG, isAccepted, mends, mendOf}
+use Rattle.paper.specs.Calls.{tableIn, workAfter, checkOf, lookUpOf, isAccepted, mends, mendOf}
 use Rattle.paper.specs.Accepted.{Accepted}
 use Rattle.paper.proofs.Opening.{Passed, passed}
 use Rattle.paper.proofs.Linking.{milder}
@@ -44,9 +42,9 @@ use Rattle.cuts.specs.Answers.{mendedImage}
 -- ---- either way
 
 -- "if the check answers 8 at p, and the image with G set to p-1 is accepted"
-lowers-tell : (l : List ℕ) (m : Numbers) → mends l m ≡ true → (m .number ≡ 8) × (isAccepted (withG l (m .place - 1)) ≡ true)
+lowers-tell : (l : List ℕ) (m : Numbers) → mends l m ≡ true → (m .number ≡ 8) × (isAccepted (putTotal l (m .place - 1)) ≡ true)
 unfolding mends
-lowers-tell l m e = let b = both (eqb (m .number) 8) (isAccepted (withG l (m .place - 1))) e in (eqb-true (m .number) 8 (b .0), b .1)
+lowers-tell l m e = let b = both (eqb (m .number) 8) (isAccepted (putTotal l (m .place - 1))) e in (eqb-true (m .number) 8 (b .0), b .1)
 
 module _ (l work : List ℕ) where
   abbrev numbers : Numbers
@@ -54,13 +52,13 @@ module _ (l work : List ℕ) where
 
   mended-kept : mends l numbers ≡ false → mendedImage l work ≡ l
   unfolding mendedImage
-  mended-kept e = ap (λ (b : Bool). cond b (withG l (numbers .place - 1)) l) e
+  mended-kept e = ap (λ (b : Bool). cond b (putTotal l (numbers .place - 1)) l) e
 
-  mended-lowered : mends l numbers ≡ true → mendedImage l work ≡ withG l (numbers .place - 1)
+  mended-lowered : mends l numbers ≡ true → mendedImage l work ≡ putTotal l (numbers .place - 1)
   unfolding mendedImage
-  mended-lowered e = ap (λ (b : Bool). cond b (withG l (numbers .place - 1)) l) e
+  mended-lowered e = ap (λ (b : Bool). cond b (putTotal l (numbers .place - 1)) l) e
 
-  either : (P : List ℕ → Type 0) → P l → (mends l numbers ≡ true → P (withG l (numbers .place - 1))) → P (mendedImage l work)
+  either : (P : List ℕ → Type 0) → P l → (mends l numbers ≡ true → P (putTotal l (numbers .place - 1))) → P (mendedImage l work)
   either P kept lowered = go (mends l numbers) refl
     where
       go : (b : Bool) → mends l (checkOf l work .numbers) ≡ b → P (mendedImage l work)
@@ -79,14 +77,10 @@ module _ (l work : List ℕ) where
 
   -- the image is as long as it was, and of its bytes only the four of G change
   pub mend-length : length (mendedImage l work) ≡ length l
-  unfolding withG
-  mend-length = either (λ (r : List ℕ). length r ≡ length l) refl (λ _. length-sets l 0 (digits 4 (numbers .place - 1)))
+  mend-length = either (λ (r : List ℕ). length r ≡ length l) refl (λ _. length-total l (numbers .place - 1))
 
-  pub mend-four : (p : ℕ) → 4 ≤ p → getD (mendedImage l work) p 0 ≡ getD l p 0
-  unfolding withG
-  mend-four p b =
-      let g : ℕ = numbers .place - 1 in
-      either (λ (r : List ℕ). getD r p 0 ≡ getD l p 0) refl (λ _. getD-outside l (digits 4 g) 0 p 0 (inr (omega (arith, length-digits 4 g))))
+  pub mend-four : (p : ℕ) → totalAt + totalLen ≤ p → getD (mendedImage l work) p 0 ≡ getD l p 0
+  mend-four p b = either (λ (r : List ℕ). getD r p 0 ≡ getD l p 0) refl (λ _. total-outside l (numbers .place - 1) p b)
 
   -- an accepted image is left as it is, with whatever working numbers
   pub mend-accepted : Accepted l → mendedImage l work ≡ l
@@ -106,7 +100,7 @@ module _ (l work : List ℕ) (e : mends l (checkOf l work .numbers) ≡ true) wh
   low = checkOf l work .numbers .place - 1
 
   abbrev m : List ℕ
-  m = withG l low
+  m = putTotal l low
 
   told : Eight l work
   told = eight l work (lowers-tell l (checkOf l work .numbers) e .0)
@@ -129,14 +123,13 @@ module _ (l work : List ℕ) (e : mends l (checkOf l work .numbers) ≡ true) wh
       omega (arith, below, used h, opened .room)
 
   heads : headOf m ≡ withTotal h low
-  unfolding withG
   heads = let long = between-true (length l) shortestImage longestImage (opened .allowed) in head-total l low (omega arith) fits
 
   tables : tableIn m ≡ tableOf (withTotal h low) l
-  unfolding tableIn withG
+  unfolding tableIn
   tables =
       ap (λ (k : Head). tableOf k m) heads
-      ∙ table-outside (withTotal h low) l (digits 4 low) 0 (inl (omega (arith, length-digits 4 low)))
+      ∙ table-outside (withTotal h low) l (digits totalLen low) totalAt (inl (omega (arith, length-digits totalLen low)))
 
   agree : Agree (tableIn m) (tableIn l) low
   unfolding tableIn
@@ -154,10 +147,10 @@ module _ (l work : List ℕ) (e : mends l (checkOf l work .numbers) ≡ true) wh
   milder-here q c f = let g : headOf m .g ≡ low = ap (λ (k : Head). k .g) heads in milder (headOf m .g) (h .g) q c (omega (arith, below)) f
 
   same-letters : alphabetIn (headOf m) m ≡ alphabetIn h l
-  unfolding alphabetIn withG
+  unfolding alphabetIn
   same-letters =
       ap (λ (k : Head). alphabetIn k m) heads
-      ∙ same-alphabet h m l (length-sets l 0 (digits 4 low)) (λ p b _. getD-outside l (digits 4 low) 0 p 0 (inr (omega (arith, length-digits 4 low))))
+      ∙ same-alphabet h m l (length-total l low) (λ p b _. total-outside l low p b)
 
   looks-alike : (given : Given) → lookUpOf m given ≡ lookUpOf l given
   looks-alike given =

@@ -6,9 +6,10 @@ use mathlib.Core.List.{List, [], _∷_}
 use lib.ListN.{take, drop}
 use lib.IntN.{pos}
 use Rattle.node.specs.Writes.{Write}
+use Rattle.head.specs.Fields.{putTotal}
 use Rattle.paper.specs.Hearing.{outcome, doneNumbers}
 use Rattle.paper.specs.Accepted.{Accepted}
-use Rattle.paper.specs.Calls.{workAfter, checkOf, withG, mends, mendOf}
+use Rattle.paper.specs.Calls.{workAfter, checkOf, mends, mendOf}
 use Rattle.seen.specs.Seen.{SameAnswers}
 
 -- mending an image answers 0 and leaves an accepted one that answers as another does
@@ -20,8 +21,8 @@ pub record MendsTo (l work m : List ℕ) : Type 0 where
 
 -- the image that mending leaves, whatever it answers
 unfoldable pub mendedImage : List ℕ → List ℕ → List ℕ
-unfolding mends checkOf withG
-mendedImage l work = cond (mends l (checkOf l work .numbers)) (withG l (checkOf l work .numbers .place - 1)) l
+unfolding mends checkOf
+mendedImage l work = cond (mends l (checkOf l work .numbers)) (putTotal l (checkOf l work .numbers .place - 1)) l
 
 -- "The bytes of a write are those of the image after the call": the writes that a caller has from the list and the image
 unfoldable pub readBack : List ℕ → List ℕ → List Write

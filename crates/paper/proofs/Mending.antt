@@ -14,7 +14,7 @@ use borrow.Author.Tests.{eqb-true, eq-eqb, le-ltb, ltb-false}
 use Rattle.field.proofs.Range.{between-true}
 use Rattle.trie.specs.Table.{Table}
 use Rattle.head.specs.declared.Head.{Head}
-use Rattle.head.specs.Fields.{shortestImage, longestImage, headOf}
+use Rattle.head.specs.Fields.{shortestImage, longestImage, headOf, putTotal, totalAt, totalLen}
 use Rattle.head.proofs.Fields.{head-total}
 use Rattle.alphabet.specs.Letters.{among}
 use Rattle.node.specs.Image.{tableOf}
@@ -22,7 +22,7 @@ use Rattle.paper.specs.Hearing.{Said, Row, Outcome, outcome, first, hear
 use Rattle.paper.specs.Rows.{row5}
 use Rattle.paper.specs.Given.{alphabetIn}
 use Rattle.paper.specs.Orders.{openingOf, linking, checking}
-use Rattle.paper.specs.Calls.{clearedBy, workAfter, checkOf, withG, isAccepted, mends, mendBy, mendOf}
+use Rattle.paper.specs.Calls.{clearedBy, workAfter, checkOf, isAccepted, mends, mendBy, mendOf}
 use Rattle.paper.specs.Accepted.{Accepted}
 use Rattle.paper.proofs.Hearing.{was-false, first-nil, no-row, second-part}
 use Rattle.paper.proofs.Numbers.{given-says, pass-row, pass-part}
@@ -53,11 +53,11 @@ module _ (l work : List ℕ) where
   mend-kept e = rw e (ap (λ (ls : List (List ℕ)). outcome (checkOf l work .numbers) (l ∷ ls)) check-lent)
 
   pub mend-lowered : mends l (checkOf l work .numbers) ≡ true
-      → mendOf l work ≡ outcome (doneNumbers 0 (pos 0) 0) (withG l (checkOf l work .numbers .place - 1) ∷ workAfter l work ∷ [])
+      → mendOf l work ≡ outcome (doneNumbers 0 (pos 0) 0) (putTotal l (checkOf l work .numbers .place - 1) ∷ workAfter l work ∷ [])
   unfolding mendOf mendBy
   mend-lowered e =
       rw e
-      (ap (λ (ls : List (List ℕ)). outcome (doneNumbers 0 (pos 0) 0) (withG l (checkOf l work .numbers .place - 1) ∷ ls)) check-lent)
+      (ap (λ (ls : List (List ℕ)). outcome (doneNumbers 0 (pos 0) 0) (putTotal l (checkOf l work .numbers .place - 1) ∷ ls)) check-lent)
 
 -- ---- what an 8 tells
 
@@ -117,7 +117,7 @@ module _ (l work : List ℕ) (e : checkOf l work .numbers .number ≡ 8) where
   lower = place l work - 1
 
   -- the check came past 1
-  pub eight-long : 4 ≤ length l
+  pub eight-long : totalAt + totalLen ≤ length l
   unfolding openingOf
   eight-long =
       let p = passed (headOf l) (alphabetIn (headOf l) l) (length l) (eight l work e .opened) in
@@ -131,27 +131,26 @@ module _ (l work : List ℕ) (e : checkOf l work .numbers .number ≡ 8) where
       (second-part (openingOf l) (row5 (headOf l) (length work) ∷ []) (g .opened) ∙ no-row 5 0 [] (le-ltb (length work) (headOf l .g + 1) (g .lent)) ∙ first-nil)
 
   -- a trial that passed is one of an accepted image
-  pub trial-mends : (w : List ℕ) → first (checking (withG l lower) w) ≡ none → mends l (checkOf l work .numbers) ≡ true
+  pub trial-mends : (w : List ℕ) → first (checking (putTotal l lower) w) ≡ none → mends l (checkOf l work .numbers) ≡ true
   unfolding mends
-  trial-mends w f = rw (eq-eqb _ 8 e, accepted-exactly (withG l lower) .1 (check-accepts (withG l lower) w f))
+  trial-mends w f = rw (eq-eqb _ 8 e, accepted-exactly (putTotal l lower) .1 (check-accepts (putTotal l lower) w f))
 
   module _ (narrow : lower < 2 ^ 32) where
-    trial-total : headOf (withG l lower) .g ≡ lower
-    unfolding withG
+    trial-total : headOf (putTotal l lower) .g ≡ lower
     trial-total = ap (λ (h : Head). h .g) (head-total l lower eight-long narrow)
 
     -- the trial leaves the working numbers as the check left them
-    pub trial-work : workAfter (withG l lower) (workAfter l work) ≡ workAfter l work
+    pub trial-work : workAfter (putTotal l lower) (workAfter l work) ≡ workAfter l work
     unfolding workAfter
     trial-work =
         let g = eight l work e in
         rw eight-work
-        (cleared-kept (first (openingOf (withG l lower) ++ (row5 (headOf (withG l lower)) _ ∷ []))) (headOf (withG l lower) .g + 1) (headOf l .g + 1)
+        (cleared-kept (first (openingOf (putTotal l lower) ++ (row5 (headOf (putTotal l lower)) _ ∷ []))) (headOf (putTotal l lower) .g + 1) (headOf l .g + 1)
         (drop (headOf l .g + 1) work)
         (omega (arith, trial-total, g .least, g .most)))
 
     -- they are enough for it
-    trial-lent : headOf (withG l lower) .g + 1 ≤ length (workAfter l work)
+    trial-lent : headOf (putTotal l lower) .g + 1 ≤ length (workAfter l work)
     trial-lent =
         let g = eight l work e in
         let n : length (replicate {A = ℕ} (headOf l .g + 1) 0 ++ drop (headOf l .g + 1) work) ≡ length work =
@@ -159,12 +158,12 @@ module _ (l work : List ℕ) (e : checkOf l work .numbers .number ≡ 8) where
         omega (arith, trial-total, g .least, g .most, g .lent, ap length eight-work ∙ n)
 
     -- so a trial that was refused is not one of an accepted image
-    pub trial-keeps : {s : Said} → first (checking (withG l lower) (workAfter l work)) ≡ some s → mends l (checkOf l work .numbers) ≡ false
+    pub trial-keeps : {s : Said} → first (checking (putTotal l lower) (workAfter l work)) ≡ some s → mends l (checkOf l work .numbers) ≡ false
     unfolding mends
-    trial-keeps {s} f = go (isAccepted (withG l lower)) refl
+    trial-keeps {s} f = go (isAccepted (putTotal l lower)) refl
       where
-        go : (b : Bool) → isAccepted (withG l lower) ≡ b → (eqb (checkOf l work .numbers .number) 8 && isAccepted (withG l lower)) ≡ false
+        go : (b : Bool) → isAccepted (putTotal l lower) ≡ b → (eqb (checkOf l work .numbers .number) 8 && isAccepted (putTotal l lower)) ≡ false
         go false g = rw g (and-false (eqb (checkOf l work .numbers .number) 8))
         go true g =
-            let a = accepted-exactly (withG l lower) .0 g in
-            absurd (Option·some-ne-none s (sym f ∙ accepted-checks (withG l lower) (workAfter l work) a trial-lent))
+            let a = accepted-exactly (putTotal l lower) .0 g in
+            absurd (Option·some-ne-none s (sym f ∙ accepted-checks (putTotal l lower) (workAfter l work) a trial-lent))

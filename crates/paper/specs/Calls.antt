@@ -8,12 +8,12 @@ use lib.ListN.{length, drop, replicate}
 use lib.Seq.{sets}
 use lib.Dec.{eqb}
 use lib.IntN.{pos}
-use Rattle.field.specs.Field.{digits, putField}
+use Rattle.field.specs.Field.{digits}
 use Rattle.trie.specs.Table.{Table, descend, answer}
 use Rattle.trie.specs.Keys.{listing, meets, firstMeeting}
 use Rattle.trie.specs.Storing.{changeOf}
 use Rattle.head.specs.declared.Head.{Head}
-use Rattle.head.specs.Fields.{headOf, headBytes, nodeWidth}
+use Rattle.head.specs.Fields.{headOf, headBytes, putTotal, nodeWidth}
 use Rattle.alphabet.specs.Letters.{lettersIn}
 use Rattle.node.specs.Image.{tableOf}
 use Rattle.node.specs.Writes.{Write, carriedOut, listed, storeWrites}
@@ -115,11 +115,6 @@ storeWritesOf l work given value list = withList (writesIn l (keyIn l given) val
 
 -- mend
 
--- "the image with G set to" g
-unfoldable pub withG : List ℕ → ℕ → List ℕ
-unfolding digits
-withG l g = putField l 0 4 g
-
 -- "An image is called accepted if the check, lent G+1 working numbers or more, answers 0."
 unfoldable pub isAccepted : List ℕ → Bool
 unfolding checkOf headOf
@@ -127,13 +122,13 @@ isAccepted l = eqb (checkOf l (replicate (headOf l .g + 1) 0) .numbers .number) 
 
 -- "if the check answers 8 at p, and the image with G set to p-1 is accepted"
 unfoldable pub mends : List ℕ → Numbers → Bool
-unfolding isAccepted withG
-mends l m = eqb (m .number) 8 && isAccepted (withG l (m .place - 1))
+unfolding isAccepted digits
+mends l m = eqb (m .number) 8 && isAccepted (putTotal l (m .place - 1))
 
 -- "G becomes p-1 and the answer is 0; otherwise nothing changes and the check's answer is returned"
 unfoldable pub mendBy : Bool → List ℕ → Outcome → Outcome
-unfolding withG doneNumbers
-mendBy true l o = outcome (doneNumbers 0 (pos 0) 0) (withG l (o .numbers .place - 1) ∷ o .lent)
+unfolding digits doneNumbers
+mendBy true l o = outcome (doneNumbers 0 (pos 0) 0) (putTotal l (o .numbers .place - 1) ∷ o .lent)
 mendBy false l o = outcome (o .numbers) (l ∷ o .lent)
 
 unfoldable pub mendOf : List ℕ → List ℕ → Outcome

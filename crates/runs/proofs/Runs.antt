@@ -17,14 +17,14 @@ use Rattle.trie.specs.Table.{Table, answer}
 use Rattle.trie.specs.Storing.{stored, changeOf}
 use Rattle.trie.proofs.Storing.{stored-answer, stored-answer-other}
 use Rattle.head.specs.declared.Head.{Head}
-use Rattle.head.specs.Fields.{headOf}
+use Rattle.head.specs.Fields.{headOf, putTotal}
 use Rattle.alphabet.specs.Letters.{lettersIn}
 use Rattle.node.specs.Writes.{Write}
 use Rattle.node.proofs.Heads.{withTotal}
 use Rattle.paper.specs.Hearing.{Said, Row, Outcome, outcome, first, heard, refusedNumbers, doneNumbers}
 use Rattle.paper.specs.Given.{Given, alphabetIn, meantBy, meantIn, keyIn}
 use Rattle.paper.specs.Orders.{newOf, checking, keyingBy, keying, lookingUp, storing, nexting}
-use Rattle.paper.specs.Calls.{tableIn, workAfter, freshHead, freshImage, makeOf, storedKeys, countOf, lookUpOf, writesIn, storedImage, storeOf, withList, checkOf, withG, isAccepted, mends, nextIn}
+use Rattle.paper.specs.Calls.{tableIn, workAfter, freshHead, freshImage, makeOf, storedKeys, countOf, lookUpOf, writesIn, storedImage, storeOf, withList, checkOf, isAccepted, mends, nextIn}
 use Rattle.paper.specs.Accepted.{Accepted}
 use Rattle.paper.specs.Granted.{Fit, Granted}
 use Rattle.paper.proofs.Hearing.{heard-done, heard-alike}
@@ -158,7 +158,7 @@ unfolding mends
 not-mended {l} a work = go (eqb (checkOf l work .numbers .number) 8) refl
   where
     go : (b : Bool) → eqb (checkOf l work .numbers .number) 8 ≡ b
-        → (eqb (checkOf l work .numbers .number) 8 && isAccepted (withG l (checkOf l work .numbers .place - 1))) ≡ false
+        → (eqb (checkOf l work .numbers .number) 8 && isAccepted (putTotal l (checkOf l work .numbers .place - 1))) ≡ false
     go false e = rw e
     go true e =
         let at8 = eqb-true (checkOf l work .numbers .number) 8 e in

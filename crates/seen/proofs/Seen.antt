@@ -13,7 +13,7 @@ use Rattle.trie.specs.Table.{Table, answer}
 use Rattle.trie.specs.Keys.{listing, meets, firstMeeting}
 use Rattle.trie.specs.Rules.{LinkRules}
 use Rattle.head.specs.declared.Head.{Head}
-use Rattle.head.specs.Fields.{shortestImage, longestImage, fieldsLen, headOf, permitted, usedLen}
+use Rattle.head.specs.Fields.{shortestImage, longestImage, fieldsLen, totalAt, totalLen, headOf, permitted, usedLen}
 use Rattle.head.proofs.Fields.{head-same}
 use Rattle.head.proofs.Places.{used-le, place-least}
 use Rattle.alphabet.specs.Letters.{goodAlphabet, lettersIn}
@@ -38,7 +38,7 @@ before-used h = omega (arith, place-least h 0, used-le h 0 (omega arith))
 
 -- two images have the same bytes from G's end up to a place
 abbrev pub SameUpTo : ℕ → List ℕ → List ℕ → Type 0
-SameUpTo to a b = (p : ℕ) → 4 ≤ p → p < to → getD a p 0 ≡ getD b p 0
+SameUpTo to a b = (p : ℕ) → totalAt + totalLen ≤ p → p < to → getD a p 0 ≡ getD b p 0
 
 pub same-alphabet : (h : Head) (a b : List ℕ) → length a ≡ length b → SameUpTo (fieldsLen + h .f) a b → alphabetIn h a ≡ alphabetIn h b
 unfolding alphabetIn
