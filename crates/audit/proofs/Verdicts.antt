@@ -15,18 +15,16 @@ use Rattle.trie.specs.Lowest.{lowest}
 use Rattle.trie.proofs.Lowest.{lowest-none}
 use Rattle.head.specs.declared.Head.{Head}
 use Rattle.head.specs.Fields.{headOf}
-use Rattle.node.specs.Image.{Open, tableOf}
+use Rattle.node.specs.Image.{tableOf}
 use Rattle.paper.specs.declared.Refusal.{Refusal}
 use Rattle.paper.specs.declared.Verdict.{Verdict}
 use Rattle.paper.specs.Hearing.{Row, first}
 use Rattle.paper.specs.Answers.{said, rowOf}
 use Rattle.paper.specs.Rows.{givenLowest, row5, row6, row7, row8, times}
-use Rattle.paper.specs.Given.{alphabetIn}
 use Rattle.paper.specs.Orders.{openingOf, linking, checking}
 use Rattle.paper.specs.Calls.{clearedBy, workAfter}
 use Rattle.paper.specs.Accepted.{Accepted}
 use Rattle.paper.proofs.Hearing.{is-given, not-given, first-nil, first-some, first-none, first-part, second-part, told-refused, told-passed}
-use Rattle.paper.proofs.Opening.{passed}
 use Rattle.paper.proofs.Checking.{check-accepts}
 use Rattle.opening.specs.declared.Opened.{Opened}
 use Rattle.opening.specs.Opened.{Opens}
@@ -166,12 +164,6 @@ module _ {l : List ℕ} {r : Opened} {codes : List ℕ} (o : Opens l r codes) wh
   module _ (e : r .verdict ≡ Verdict.Passed) where
     none-given : rowOf (r .verdict) ≡ none
     none-given = told-passed refl e
-
-    pub opened-open : Open (r .head) l
-    unfolding openingOf
-    opened-open =
-        let p = passed (headOf l) (alphabetIn (headOf l) l) (length l) (told-passed (o .verdict) e) in
-        rw (o .head none-given) (record { head-permitted = p .head-permitted; room = p .room })
 
     pub checked-audited : {work work′ : List ℕ} {v : Verdict} → Audited (r .head) l work v work′
         → Checked l work (record { verdict = v; head = r .head; count = r .count }) work′ codes

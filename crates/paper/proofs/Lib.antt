@@ -2,6 +2,7 @@ pub mod Checking
 pub mod Fresh
 pub mod Hearing
 pub mod Keying
+pub mod Known
 pub mod Linking
 pub mod Looking
 pub mod Mending

@@ -1,6 +1,7 @@
 -- `audit::check` meets its contract: what opening tells stands where it refuses, and else 5 to 8 follow it. Assumes nothing.
 use borrow.Author.Needs.{needs}
-use Rattle.audit.proofs.Verdicts.{checked-refused, opened-open, checked-audited}
+use Rattle.opening.proofs.Known.{known-opened}
+use Rattle.audit.proofs.Verdicts.{checked-refused, checked-audited}
 use Rattle.audit.proofs.check.Statement.{statement}
 use Rattle.audit.proofs.check.Tie as tie
 
@@ -14,7 +15,7 @@ enum-told-2 : tie.Need-enum-told-2
 enum-told-2 c = search needs
 
 audit-requires : tie.Need-audit-requires
-audit-requires c κs = opened-open (c .before .before .before .before .«open» .ensures) (c .before .before .enum-told2 .given .1)
+audit-requires c κs = known-opened (c .before .before .before .before .«open» .ensures) (c .before .before .enum-told2 .given .1) .image
 
 returns : tie.Need-returns
 returns c = checked-refused (c .before .before .«open» .ensures) _ (c .enum-told .given .1)

@@ -1,6 +1,6 @@
--- `trieff::trieff_make` meets its contract: `calls::make` does, and its answer is listed in numbers. Assumes nothing.
+-- `trieff::trieff_make` meets its contract: `images::make` does, and its answer is listed in numbers. Assumes nothing.
 use borrow.Author.Needs.{needs}
-use Rattle.trieff.proofs.Face.{by-numbers}
+use Rattle.face.proofs.Face.{by-numbers}
 use Rattle.trieff.proofs.trieff_make.Statement.{statement}
 use Rattle.trieff.proofs.trieff_make.Tie as tie
 

@@ -1,6 +1,6 @@
--- `trieff::trieff_mend` meets its contract: `calls::mend` does, and its answer is listed in numbers. Assumes nothing.
+-- `trieff::trieff_mend` meets its contract: `images::mend` does, and its answer is listed in numbers. Assumes nothing.
 use borrow.Author.Needs.{needs}
-use Rattle.trieff.proofs.Face.{by-numbers}
+use Rattle.face.proofs.Face.{by-numbers}
 use Rattle.trieff.proofs.trieff_mend.Statement.{statement}
 use Rattle.trieff.proofs.trieff_mend.Tie as tie
 

@@ -1,6 +1,6 @@
--- `trieff::trieff_next_key` meets its contract: `calls::next_key` does, and its answer is listed in numbers. Assumes nothing.
+-- `trieff::trieff_next_key` meets its contract: `checks::next_key` does, and its answer is listed in numbers. Assumes nothing.
 use borrow.Author.Needs.{needs}
-use Rattle.trieff.proofs.Face.{by-numbers}
+use Rattle.face.proofs.Face.{by-numbers}
 use Rattle.trieff.proofs.trieff_next_key.Statement.{statement}
 use Rattle.trieff.proofs.trieff_next_key.Tie as tie
 

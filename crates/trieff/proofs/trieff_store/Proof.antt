@@ -1,6 +1,6 @@
--- `trieff::trieff_store` meets its contract: `calls::store` does, and its answer is listed in numbers. Assumes nothing.
+-- `trieff::trieff_store` meets its contract: `stores::store` does, and its answer is listed in numbers. Assumes nothing.
 use borrow.Author.Needs.{needs}
-use Rattle.trieff.proofs.Face.{by-numbers}
+use Rattle.face.proofs.Face.{by-numbers}
 use Rattle.trieff.proofs.trieff_store.Statement.{statement}
 use Rattle.trieff.proofs.trieff_store.Tie as tie
 

@@ -1,6 +1,6 @@
--- `trieff::trieff_store_text` meets its contract: `calls::store_text` does, and its answer is listed in numbers. Assumes nothing.
+-- `trieff::trieff_store_text` meets its contract: `stores::store_text` does, and its answer is listed in numbers. Assumes nothing.
 use borrow.Author.Needs.{needs}
-use Rattle.trieff.proofs.Face.{by-numbers}
+use Rattle.face.proofs.Face.{by-numbers}
 use Rattle.trieff.proofs.trieff_store_text.Statement.{statement}
 use Rattle.trieff.proofs.trieff_store_text.Tie as tie
 

@@ -1,6 +1,6 @@
--- `trieff::trieff_store_writes` meets its contract: `calls::store_writes` does, and its answer is listed in numbers. Assumes nothing.
+-- `trieff::trieff_store_writes` meets its contract: `stores::store_writes` does, and its answer is listed in numbers. Assumes nothing.
 use borrow.Author.Needs.{needs}
-use Rattle.trieff.proofs.Face.{by-numbers}
+use Rattle.face.proofs.Face.{by-numbers}
 use Rattle.trieff.proofs.trieff_store_writes.Statement.{statement}
 use Rattle.trieff.proofs.trieff_store_writes.Tie as tie
 

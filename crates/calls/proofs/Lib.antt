@@ -1,7 +1,0 @@
-mod Asking
-mod Checking
-mod Keyed
-mod Making
-mod Mending
-mod Reading
-mod Storing

@@ -1,0 +1,47 @@
+-- `checks::count` meets its contract: 1 to 8 by the audit, and in an image that passed them as many keys as there are nodes at most.
+-- Assumes nothing.
+use borrow.Author.Needs.{needs}
+use Rattle.checks.proofs.Checking.{checked-walkable, counts-refused, counts-done}
+use Rattle.checks.proofs.count.Statement.{statement}
+use Rattle.checks.proofs.count.Tie as tie
+
+check-requires : tie.Need-check-requires
+check-requires c κs = search needs
+
+enum-known-verdict : tie.Need-enum-known-verdict
+enum-known-verdict c = search needs
+
+enum-told : tie.Need-enum-told
+enum-told c = search needs
+
+count-requires : tie.Need-count-requires
+count-requires c κs =
+    let w = checked-walkable (c .before .before .before .before .check .ensures) (c .enum-told .given .1) in
+    (w .opened, (w .within, w .few))
+
+same-length : tie.Need-same-length
+same-length c = search needs
+
+returns : tie.Need-returns
+returns c = counts-refused (c .before .before .before .before .before .check .ensures) (c .before .verdict .given .1)
+
+same-length-2 : tie.Need-same-length-2
+same-length-2 c = search needs
+
+returns-2 : tie.Need-returns-2
+returns-2 c =
+    let told = c .before in
+    counts-done (told .before .before .before .before .check .ensures) (told .enum-told .given .1) (c .count .ensures)
+
+pub count-spec : {M : Type 1} → statement M
+count-spec =
+    tie.close
+    (tie.spec
+    check-requires
+    enum-known-verdict
+    enum-told
+    count-requires
+    same-length
+    returns
+    same-length-2
+    returns-2)

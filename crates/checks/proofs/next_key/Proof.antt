@@ -1,0 +1,53 @@
+-- `checks::next_key` meets its contract: 1 to 8 by the audit, and the rest by what stands behind it. Assumes nothing.
+use borrow.Author.Needs.{needs}
+use Rattle.audit.proofs.Verdicts.{checked-accepted, checked-head}
+use Rattle.checks.proofs.Checking.{nexts-refused, nexts-sought}
+use Rattle.checks.proofs.next_key.Statement.{statement}
+use Rattle.checks.proofs.next_key.Tie as tie
+
+check-requires : tie.Need-check-requires
+check-requires c κs = search needs
+
+enum-known-verdict : tie.Need-enum-known-verdict
+enum-known-verdict c = search needs
+
+enum-told : tie.Need-enum-told
+enum-told c = search needs
+
+sought-requires : tie.Need-sought-requires
+sought-requires c κs =
+    let told = c .before in
+    let o = told .before .before .before .before .check .ensures in
+    (checked-accepted o (told .enum-told .given .1), checked-head o (told .enum-told .given .1))
+
+same-length : tie.Need-same-length
+same-length c = search needs
+
+returns : tie.Need-returns
+returns c = nexts-refused (c .before .before .before .before .before .check .ensures) _ _ _ (c .before .verdict .given .1)
+
+same-length-2 : tie.Need-same-length-2
+same-length-2 c = search needs
+
+same-length-3 : tie.Need-same-length-3
+same-length-3 c = search needs
+
+returns-2 : tie.Need-returns-2
+returns-2 c =
+    let sought = c .before .before in
+    let told = sought .before .before in
+    nexts-sought (told .before .before .before .before .check .ensures) _ _ _ _ (told .enum-told .given .1) (sought .sought .ensures)
+
+pub next-key-spec : {M : Type 1} → statement M
+next-key-spec =
+    tie.close
+    (tie.spec
+    check-requires
+    enum-known-verdict
+    enum-told
+    sought-requires
+    same-length
+    returns
+    same-length-2
+    same-length-3
+    returns-2)

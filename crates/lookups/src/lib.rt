@@ -1,0 +1,51 @@
+// The look ups. Neither has a `requires`: any bytes, key or text may be handed over. Each promises one line, that the numbers of its answer
+// are the outcome that document 01 states (crate `paper`).
+ghost use Rattle.paper.specs.Answers.{lookedOf};
+ghost use Rattle.paper.specs.Promises.{LooksUp, LooksUpText};
+use key::Key;
+use key::Typed;
+use paper::Looked;
+use paper::Verdict;
+
+// The value that is stored under a key given by its letters, 0 for none. It does not check the image: 6 is a bad link on the key's own path.
+// Refusals: 1 to 4, 9, 10, 6.
+pub fn look_up(image: &[u8], letters: &[u8]) -> Looked
+    ensures { λ r. ⌜ LooksUp (now (image .entry)) (now (letters .entry)) (lookedOf r) ⌝ }
+{
+    let mut codes = [0u32; 256];
+    let opened = opening::open(image, &mut codes);
+    let verdict = opened.verdict;
+    match verdict {
+        Verdict::Refused(why) => Looked::Refused(why),
+        Verdict::Passed => {
+            let h = opened.head;
+            let key = Key::of(letters);
+            let judged = key.judge(h);
+            match judged {
+                Verdict::Refused(at_key) => Looked::Refused(at_key),
+                Verdict::Passed => walk::look(image, h, key),
+            }
+        }
+    }
+}
+
+// The same for a key given by its text. Refusals: 1 to 4, 10, 9, 6.
+pub fn look_up_text(image: &[u8], text: &[u8]) -> Looked
+    ensures { λ r. ⌜ LooksUpText (now (image .entry)) (now (text .entry)) (lookedOf r) ⌝ }
+{
+    let mut codes = [0u32; 256];
+    let opened = opening::open(image, &mut codes);
+    let verdict = opened.verdict;
+    match verdict {
+        Verdict::Refused(why) => Looked::Refused(why),
+        Verdict::Passed => {
+            let h = opened.head;
+            let typed = Typed::of(text, &codes, opened.count);
+            let judged = typed.judge(h);
+            match judged {
+                Verdict::Refused(at_text) => Looked::Refused(at_text),
+                Verdict::Passed => walk::look(image, h, typed.key),
+            }
+        }
+    }
+}

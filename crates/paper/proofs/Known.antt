@@ -1,0 +1,23 @@
+-- What a call knows once 1 to 4 have passed: the head in hand is the image's own, and the nodes lie inside the image.
+use Prim.Native.Nat.{ℕ}
+use mathlib.Core.Path.{_≡_}
+use mathlib.Core.Option.{none}
+use mathlib.Core.List.{List}
+use lib.ListN.{length}
+use Rattle.head.specs.declared.Head.{Head}
+use Rattle.head.specs.Fields.{headOf}
+use Rattle.node.specs.Image.{Open}
+use Rattle.paper.specs.Hearing.{first}
+use Rattle.paper.specs.Orders.{alphabetIn, openingOf}
+use Rattle.paper.proofs.Opening.{passed}
+
+pub record Known (l : List ℕ) (h : Head) : Type 0 where
+  pub opened : first (openingOf l) ≡ none
+  pub own : h ≡ headOf l
+  pub image : Open h l
+
+pub known : {l : List ℕ} {h : Head} → first (openingOf l) ≡ none → h ≡ headOf l → Known l h
+unfolding openingOf
+known {l} opened own =
+    let p = passed (headOf l) (alphabetIn (headOf l) l) (length l) opened in
+    record { opened = opened; own = own; image = rw own (record { head-permitted = p .head-permitted; room = p .room }) }

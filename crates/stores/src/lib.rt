@@ -1,0 +1,136 @@
+// The stores. None has a `requires`: any bytes, key, text or value may be handed over. Each promises one line, that the numbers of its answer
+// and every lent buffer's last content are the outcome that document 01 states (crate `paper`).
+ghost use Rattle.head.specs.Fields.{headOf};
+ghost use Rattle.alphabet.specs.Letters.{lettersIn};
+ghost use Rattle.paper.specs.Answers.{storedOf, listedOf};
+ghost use Rattle.paper.specs.Orders.{byLetters, byText};
+ghost use Rattle.paper.specs.Calls.{namedIn};
+ghost use Rattle.paper.specs.Promises.{Stores, StoresText, StoresWrites, StoresTextWrites};
+ghost use Rattle.stores.specs.Asked.{Asks};
+use head::Head;
+use key::Key;
+use key::Typed;
+use paper::Listed;
+use paper::Stored;
+use paper::Verdict;
+
+// Stores a value under a key given by its letters, 0 to delete it; the answer is the change in the number of stored keys. Refusals: 1 to 8,
+// 9, 10, 11, 12, 13.
+pub fn store(image: &mut [u8], work: &mut [u32], letters: &[u8], value: u32) -> Stored
+    ensures { λ r. ⌜ Stores (now (image .entry)) (now (work .entry)) (now (letters .entry)) value (storedOf r) (now (image .exit)) (now (work .exit)) ⌝ }
+{
+    let asked = ask(image, work, letters);
+    let verdict = asked.verdict;
+    let head = asked.head;
+    match verdict {
+        Verdict::Refused(why) => Stored::Refused(why),
+        Verdict::Passed => storing::store(image, head, asked.key, value as u64),
+    }
+}
+
+// The same for a key given by its text. Refusals: 1 to 8, 10, 9, 11, 12, 13.
+pub fn store_text(image: &mut [u8], work: &mut [u32], text: &[u8], value: u32) -> Stored
+    ensures { λ r. ⌜ StoresText (now (image .entry)) (now (work .entry)) (now (text .entry)) value (storedOf r) (now (image .exit)) (now (work .exit)) ⌝ }
+{
+    let named = ask_text(image, work, text);
+    let verdict = named.verdict;
+    let head = named.head;
+    match verdict {
+        Verdict::Refused(at_text) => Stored::Refused(at_text),
+        Verdict::Passed => storing::store(image, head, named.key, value as u64),
+    }
+}
+
+// As store, and besides lists what it wrote: a place and a length for each write in order. The bytes of a write are those of the image
+// after the call. Refusals: as store.
+pub fn store_writes(
+    image: &mut [u8],
+    work: &mut [u32],
+    letters: &[u8],
+    value: u32,
+    writes: &mut [u32; 132],
+) -> Listed
+    ensures { λ r. ⌜ StoresWrites (now (image .entry)) (now (work .entry)) (now (letters .entry)) value (now (writes .entry)) (listedOf r) (now (image .exit)) (now (work .exit)) (now (writes .exit)) ⌝ }
+{
+    let asked = ask(image, work, letters);
+    let verdict = asked.verdict;
+    let head = asked.head;
+    match verdict {
+        Verdict::Refused(why) => Listed::Refused(why),
+        Verdict::Passed => storing::store_listed(image, head, asked.key, value as u64, writes),
+    }
+}
+
+// The same for a key given by its text. Refusals: as store_text.
+pub fn store_text_writes(
+    image: &mut [u8],
+    work: &mut [u32],
+    text: &[u8],
+    value: u32,
+    writes: &mut [u32; 132],
+) -> Listed
+    ensures { λ r. ⌜ StoresTextWrites (now (image .entry)) (now (work .entry)) (now (text .entry)) value (now (writes .entry)) (listedOf r) (now (image .exit)) (now (work .exit)) (now (writes .exit)) ⌝ }
+{
+    let named = ask_text(image, work, text);
+    let verdict = named.verdict;
+    let head = named.head;
+    match verdict {
+        Verdict::Refused(at_text) => Listed::Refused(at_text),
+        Verdict::Passed => storing::store_listed(image, head, named.key, value as u64, writes),
+    }
+}
+
+// What stands in front of every store: 1 to 8, then the key in hand.
+struct Asked {
+    verdict: Verdict,
+    head: Head,
+    key: Key,
+}
+
+// 1 to 8, then 9 and 10 of a key given by its letters.
+fn ask(image: &[u8], work: &mut [u32], letters: &[u8]) -> Asked
+    ensures { λ r. ⌜ Asks (now (image .entry)) (now (work .entry)) (byLetters (headOf (now (image .entry))) (now (letters .entry))) (now (letters .entry)) r (now (work .exit)) ⌝ }
+{
+    let mut codes = [0u32; 256];
+    let checked = audit::check(image, work, &mut codes);
+    let verdict = checked.verdict;
+    let head = checked.head;
+    let key = Key::of(letters);
+    match verdict {
+        Verdict::Refused(_) => Asked { verdict, head, key },
+        Verdict::Passed => Asked {
+            verdict: key.judge(head),
+            head,
+            key,
+        },
+    }
+}
+
+// 1 to 8, then 10 and 9 of a key given by its text.
+fn ask_text(image: &[u8], work: &mut [u32], text: &[u8]) -> Asked
+    ensures { λ r. ⌜ Asks (now (image .entry)) (now (work .entry)) (byText (headOf (now (image .entry))) (namedIn (now (image .entry)) (now (text .entry)))) (lettersIn (namedIn (now (image .entry)) (now (text .entry)))) r (now (work .exit)) ⌝ }
+{
+    let mut codes = [0u32; 256];
+    let checked = audit::check(image, work, &mut codes);
+    let verdict = checked.verdict;
+    let head = checked.head;
+    match verdict {
+        Verdict::Refused(_) => Asked {
+            verdict,
+            head,
+            key: Key {
+                letters: [0u8; 64],
+                len: 0,
+            },
+        },
+        Verdict::Passed => {
+            let typed = Typed::of(text, &codes, checked.count);
+            let key = typed.key;
+            Asked {
+                verdict: typed.judge(head),
+                head,
+                key,
+            }
+        }
+    }
+}
