@@ -121,7 +121,7 @@ fn tally(image: &[u8], h: Head, mask: u32, q: u32, work: &mut [u32]) -> bool
     true
 }
 
-// Are the working numbers of the addresses from 1 on, below `nodes`, all 1? Then neither 7 nor 8 is to be sought. The loop has no early
+// Are the working numbers of the addresses from 1 on, below `nodes`, all 1? Then neither 7 nor 8 can apply. The loop has no early
 // exit, so that it runs over several numbers at once; "no" promises nothing.
 fn all_once(work: &[u32], nodes: usize) -> bool
     requires { ⌜ nodes ≤ length (now work) ⌝ }

@@ -49,7 +49,7 @@ pub fn tail(s: &[u8], end: usize, mask: u32) -> u32
 }
 
 // Are the bytes from `from` up to `to` all 0? The first sixteen and the last are looked at, then what is between, sixteen a turn. What is
-// shorter than eight bytes is never said to be blank: a caller then reads it. All are held against the first eight and only these against
+// shorter than eight bytes is answered false: a caller then reads it. All are held against the first eight and only these against
 // 0, since the compiler makes one comparison of that.
 pub fn blank(s: &[u8], from: usize, to: usize) -> bool
     requires { ⌜ (from ≤ to) × (to ≤ length (now s)) ⌝ }
@@ -97,7 +97,7 @@ fn short_blank(s: &[u8], from: usize, to: usize) -> bool
 }
 
 // Eight bytes as one number, the last of them highest. It is the sum of two numbers of four bytes, since the compiler then makes one load
-// of each. Only what 0 means is told.
+// of each. The contract covers only the result 0.
 fn eight(s: &[u8], at: usize) -> u64
     requires { ⌜ at + 8 ≤ length (now s) ⌝ }
     ensures { λ r. ⌜ (r ≡ 0 → fieldAt (now (s .entry)) at 8 ≡ 0) ⌝ }

@@ -5,7 +5,7 @@ use Prim.Native.Nat.{ℕ, _+_, _*_, _^_, _≤_, _<_}
 use native.Mathlib.Nat.{add-mul, suc-mul, one-le-mul, mul-le-mul, mul-le-mul-right}
 use native.Mathlib.Omega.{arith}
 use Rattle.head.specs.declared.Head.{Head}
-use Rattle.head.specs.Fields.{nodeWidth, nodePlace, usedLen, fieldsLen}
+use Rattle.head.specs.Fields.{mostLinks, mostLinkBytes, mostDataBytes, fieldsLen, nodeWidth, nodePlace, usedLen}
 use Rattle.head.proofs.Permitted.{Bounds}
 
 -- a row of w ends before a later one begins
@@ -22,7 +22,7 @@ pub width-least : {h : Head} → Bounds h → 1 < nodeWidth h
 unfolding nodeWidth
 width-least b = omega (arith, one-le-mul (b .n-least) (b .a-least))
 
-pub width-most : {h : Head} → Bounds h → nodeWidth h ≤ 1028
+pub width-most : {h : Head} → Bounds h → nodeWidth h ≤ mostLinks * mostLinkBytes + mostDataBytes
 unfolding nodeWidth
 width-most b = omega (arith, mul-le-mul (b .n-most) (b .a-most))
 

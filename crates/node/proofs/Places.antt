@@ -9,7 +9,7 @@ use native.Mathlib.Omega.{arith}
 use mathlib.Core.List.{List}
 use lib.ListN.{length}
 use Rattle.head.specs.declared.Head.{Head}
-use Rattle.head.specs.Fields.{fieldsLen, nodePlace, usedLen}
+use Rattle.head.specs.Fields.{mostLinks, mostLinkBytes, fieldsLen, nodePlace, usedLen}
 use Rattle.head.proofs.Permitted.{Bounds}
 use Rattle.head.proofs.Places.{row, place-add, place-le, place-least, used-le}
 use Rattle.node.specs.Image.{Open, linkPlace, dataPlace}
@@ -60,8 +60,8 @@ inside-used {h} {q} s b = omega (arith, used-le h (q + 1) (omega arith))
 pub inside-room : {h : Head} {q at w : ℕ} {l : List ℕ} → Inside h q at w → Open h l → q ≤ h .g → at + w ≤ length l
 inside-room s o b = omega (arith, inside-used s b)
 
--- the links of a node take 1024 bytes at most
-pub links-most : {h : Head} {i : ℕ} → Bounds h → i ≤ h .n → i * h .a ≤ 1024
+-- what the links of a node take at most
+pub links-most : {h : Head} {i : ℕ} → Bounds h → i ≤ h .n → i * h .a ≤ mostLinks * mostLinkBytes
 links-most b l = let m = b .n-most in omega (arith, mul-le-mul (le-trans l m) (b .a-most))
 
 -- ---- no two overlap

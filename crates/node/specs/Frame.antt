@@ -13,7 +13,7 @@ use Rattle.node.specs.Image.{linkPlace, dataPlace}
 abbrev pub Among : ℕ → ℕ → ℕ → Type 0
 Among place n p = (place ≤ p) × (p < place + n)
 
--- the bytes that a store of a value may change, where the key's walk ended so
+-- the bytes that a store of a value may change, given how the key's walk ended
 pub data Touched (h : Head) : Descent → ℕ → ℕ → Type 0 where
   data-of-key : {q v p : ℕ} → Among (dataPlace h q) (h .d) p → Touched h (complete q) v p
   node-total : {q x : ℕ} {xs : List ℕ} {v p : ℕ} → Among totalAt totalLen p → Touched h (stopped q x xs) (suc v) p

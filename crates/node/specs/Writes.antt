@@ -65,7 +65,7 @@ unfoldable pub dataWrite : Head → ℕ → ℕ → Write
 unfolding digits dataPlace
 dataWrite h q v = record { place = dataPlace h q; bytes = digits (h .d) v }
 
--- a store of a value where the key's walk ended so
+-- a store of a value, given how the key's walk ended
 unfoldable pub storeWrites : Head → Descent → ℕ → List Write
 unfolding newNodes totalWrite linkWrite dataWrite
 storeWrites h (complete q) v = dataWrite h q v ∷ []

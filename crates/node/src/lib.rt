@@ -36,7 +36,7 @@ pub fn link(image: &[u8], h: Head, mask: u32, q: u32, i: u32) -> u32
     field::tail(image, link_place(h, q, i) + (h.a as usize), mask)
 }
 
-// Has node q no links but empty ones? Links that take less than eight bytes are never said to be empty: a caller then reads them.
+// Has node q no links but empty ones? Links that take less than eight bytes are answered false: a caller then reads them.
 pub fn childless(image: &[u8], h: Head, q: u32) -> bool
     requires { ⌜ Open h (now image) ⌝ ∗ ⌜ q ≤ h .g ⌝ }
     ensures { λ r. ⌜ (r ≡ true → (i : ℕ) → tableOf h (now (image .entry)) .child q i ≡ 0) ⌝ }
