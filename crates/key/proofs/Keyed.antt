@@ -1,5 +1,5 @@
 -- A key in hand, judged against the head of an image that 1 to 4 have passed: what its verdict says of the rows for the key, and what the key
--- is where it passed them. It is said once for the letters and once for the text, for every call that takes a key.
+-- is where it passed them, for every call that takes a key. The letters and the text differ in how the key in hand was made.
 use Prim.Native.Nat.{ℕ, _≤_}
 use mathlib.Core.Path.{_≡_, refl, sym, ap}
 use mathlib.Core.Option.{Option, some}
@@ -9,10 +9,10 @@ use Rattle.head.specs.declared.Head.{Head}
 use Rattle.head.specs.Fields.{headOf}
 use Rattle.alphabet.specs.Letters.{letters, lettersIn, keyOfText}
 use Rattle.paper.specs.declared.Verdict.{Verdict}
-use Rattle.paper.specs.Hearing.{Row, first}
+use Rattle.paper.specs.Hearing.{first}
 use Rattle.paper.specs.Answers.{rowOf}
-use Rattle.paper.specs.Orders.{alphabetIn, byLetters, byText}
-use Rattle.paper.specs.Calls.{namedIn}
+use Rattle.paper.specs.Given.{Given, asLetters, asText, alphabetIn, meantBy, meantIn, keyIn}
+use Rattle.paper.specs.Orders.{byLetters, byText, keyingBy, keying}
 use Rattle.paper.proofs.Hearing.{told-passed}
 use Rattle.paper.proofs.Known.{Known}
 use Rattle.paper.proofs.Looking.{alphabet-most}
@@ -23,10 +23,10 @@ use Rattle.key.proofs.Hand.{hand-holds}
 use Rattle.key.proofs.Judging.{letters-ready, typed-ready}
 
 -- The verdict on a key's rows and, where it passed them, the key in hand.
-pub record Keyed (h : Head) (keyed : List Row) (key : List ℕ) (hand : Key) (v : Verdict) : Type 0 where
-  pub told : rowOf v ≡ first keyed
+pub record Keyed (l : List ℕ) (h : Head) (given : Given) (hand : Key) (v : Verdict) : Type 0 where
+  pub told : rowOf v ≡ first (keying l given)
   pub ready : v ≡ Verdict.Passed → Ready h hand
-  pub same : v ≡ Verdict.Passed → lettersOf hand ≡ key
+  pub same : v ≡ Verdict.Passed → lettersOf hand ≡ keyIn l given
 
 module _ {l : List ℕ} {h : Head} (b : Known l h) where
   module _ (key : List ℕ) {hand : Key} (v : Verdict) (made : hand ≡ inHand key)
@@ -37,23 +37,25 @@ module _ {l : List ℕ} {h : Head} (b : Known l h) where
     hand-ready : v ≡ Verdict.Passed → Ready h hand × (lettersOf hand ≡ key)
     hand-ready f = letters-ready h (b .image .head-permitted) holds (told-passed (told key holds) f)
 
-    pub by-letters : Keyed h (byLetters (headOf l) key) key hand v
+    pub by-letters : Keyed l h (asLetters key) hand v
+    unfolding keying keyingBy keyIn meantIn meantBy lettersIn
     by-letters = record { told = rw (b .own) at (told key holds); ready = λ f. hand-ready f .0; same = λ f. hand-ready f .1 }
 
   -- with the alphabet's letters decoded
   module _ {codes : List ℕ} (decoded : codes ≡ letters (alphabetIn (headOf l) l)) (text : List ℕ) {t : Typed} (v : Verdict)
       (made : t ≡ typedAs (keyOfText codes text)) (told : (named : Option (List ℕ)) → t ≡ typedAs named → rowOf v ≡ first (byText h named)) where
-    names : t ≡ typedAs (namedIn l text)
-    unfolding namedIn
+    abbrev named : Option (List ℕ)
+    named = keyOfText (letters (alphabetIn (headOf l) l)) text
+
+    names : t ≡ typedAs named
     names = rw decoded at made
 
-    text-ready : v ≡ Verdict.Passed → Ready h (t .key) × (namedIn l text ≡ some (lettersOf (t .key)))
-    unfolding namedIn
+    text-ready : v ≡ Verdict.Passed → Ready h (t .key) × (named ≡ some (lettersOf (t .key)))
     text-ready f =
         let few : length (letters (alphabetIn (headOf l) l)) ≤ h .n = rw (b .own) (alphabet-most l (b .opened)) in
         typed-ready h t _ text (b .image .head-permitted) names refl few (told-passed (told _ names) f)
 
-    pub by-text : Keyed h (byText (headOf l) (namedIn l text)) (lettersIn (namedIn l text)) (t .key) v
-    unfolding lettersIn
+    pub by-text : Keyed l h (asText text) (t .key) v
+    unfolding keying keyingBy keyIn meantIn meantBy lettersIn
     by-text =
         record { told = rw (b .own) at (told _ names); ready = λ f. text-ready f .0; same = λ f. ap lettersIn (sym (text-ready f .1)) }

@@ -8,7 +8,8 @@ use Rattle.head.specs.declared.Head.{Head}
 use Rattle.head.specs.Fields.{headOf}
 use Rattle.node.specs.Image.{Open}
 use Rattle.paper.specs.Hearing.{first}
-use Rattle.paper.specs.Orders.{alphabetIn, openingOf}
+use Rattle.paper.specs.Given.{alphabetIn}
+use Rattle.paper.specs.Orders.{openingOf}
 use Rattle.paper.proofs.Opening.{passed}
 
 pub record Known (l : List ℕ) (h : Head) : Type 0 where

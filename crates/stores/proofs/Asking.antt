@@ -1,5 +1,5 @@
--- What stands in front of every store, at each way out: 1 to 8 refused, or the key judged. It is said once for any rows of the key, and the
--- letters and the text given differ in those alone.
+-- What stands in front of every store, at each way out: 1 to 8 refused, or the key judged. It is said once for a key given by letters or by
+-- text.
 use Prim.Native.Nat.{ℕ}
 use mathlib.Core.Path.{_≡_, refl, sym, _∙_}
 use mathlib.Core.Option.{none}
@@ -8,9 +8,9 @@ use native.Mathlib.Omega.{arith}
 use Rattle.head.specs.Fields.{headOf}
 use Rattle.paper.specs.declared.Refusal.{Refusal}
 use Rattle.paper.specs.declared.Verdict.{Verdict}
-use Rattle.paper.specs.Hearing.{Row}
 use Rattle.paper.specs.Answers.{rowOf}
-use Rattle.paper.specs.Orders.{checking}
+use Rattle.paper.specs.Given.{Given}
+use Rattle.paper.specs.Orders.{checking, keying}
 use Rattle.paper.specs.Accepted.{Accepted}
 use Rattle.paper.proofs.Hearing.{first-part, second-part, told-refused, told-passed}
 use Rattle.paper.proofs.Known.{Known, known}
@@ -37,12 +37,12 @@ row-refused v e f = let z : _≡_ {A = ℕ} 0 1 = go in omega arith
     go = let g = sym e ∙ row-passed v f in cc
 
 module _ {l work : List ℕ} {r : Opened} {work′ codes : List ℕ} (o : Checked l work r work′ codes) where
-  pub asks-unchecked : (keyed : List Row) (key : List ℕ) (hand : Key) {why : Refusal} → r .verdict ≡ Verdict.Refused why
-      → Asks l work keyed key (record { verdict = r .verdict; head = r .head; key = hand }) work′
-  asks-unchecked keyed key hand e =
+  pub asks-unchecked : (given : Given) (hand : Key) {why : Refusal} → r .verdict ≡ Verdict.Refused why
+      → Asks l work given (record { verdict = r .verdict; head = r .head; key = hand }) work′
+  asks-unchecked given hand e =
       let refused = told-refused (o .verdict) e in
       record {
-        verdict = o .verdict ∙ refused ∙ sym (first-part (checking l work) keyed refused);
+        verdict = o .verdict ∙ refused ∙ sym (first-part (checking l work) (keying l given) refused);
         numbers = o .numbers;
         allowed = λ f. absurd (row-refused (r .verdict) e f);
       }
@@ -50,11 +50,11 @@ module _ {l work : List ℕ} {r : Opened} {work′ codes : List ℕ} (o : Checke
   pub known-checked : r .verdict ≡ Verdict.Passed → Known l (r .head)
   known-checked e = known (accepted-opens (checked-accepted o e)) (checked-head o e)
 
-  pub asks-judged : r .verdict ≡ Verdict.Passed → {keyed : List Row} {key : List ℕ} {hand : Key} {v : Verdict} → Keyed (r .head) keyed key hand v
-      → Asks l work keyed key (record { verdict = v; head = r .head; key = hand }) work′
-  asks-judged e {keyed} {v = v} j =
+  pub asks-judged : r .verdict ≡ Verdict.Passed → {given : Given} {hand : Key} {v : Verdict} → Keyed l (r .head) given hand v
+      → Asks l work given (record { verdict = v; head = r .head; key = hand }) work′
+  asks-judged e {given} {v = v} j =
       record {
-        verdict = j .told ∙ sym (second-part (checking l work) keyed (told-passed (o .verdict) e));
+        verdict = j .told ∙ sym (second-part (checking l work) (keying l given) (told-passed (o .verdict) e));
         numbers = o .numbers;
         allowed = λ f.
             let p = row-passed v f in
@@ -62,6 +62,6 @@ module _ {l work : List ℕ} {r : Opened} {work′ codes : List ℕ} (o : Checke
       }
 
 -- what a store asks for
-pub store-asks : {l work : List ℕ} {keyed : List Row} {key : List ℕ} {r : Asked} {work′ : List ℕ} → Asks l work keyed key r work′
+pub store-asks : {l work : List ℕ} {given : Given} {r : Asked} {work′ : List ℕ} → Asks l work given r work′
     → r .verdict ≡ Verdict.Passed → Accepted l × ((r .head ≡ headOf l) × Ready (r .head) (r .key))
 store-asks a e = let b = a .allowed (told-passed refl e) in (b .accepted, (b .head, b .ready))

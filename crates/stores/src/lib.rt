@@ -1,11 +1,8 @@
 // The stores. None has a `requires`: any bytes, key, text or value may be handed over. Each promises one line, that the numbers of its answer
 // and every lent buffer's last content are the outcome that document 01 states (crate `paper`).
-ghost use Rattle.head.specs.Fields.{headOf};
-ghost use Rattle.alphabet.specs.Letters.{lettersIn};
 ghost use Rattle.paper.specs.Answers.{storedOf, listedOf};
-ghost use Rattle.paper.specs.Orders.{byLetters, byText};
-ghost use Rattle.paper.specs.Calls.{namedIn};
-ghost use Rattle.paper.specs.Promises.{Stores, StoresText, StoresWrites, StoresTextWrites};
+ghost use Rattle.paper.specs.Given.{asLetters, asText};
+ghost use Rattle.paper.specs.Promises.{Stores, StoresWrites};
 ghost use Rattle.stores.specs.Asked.{Asks};
 use head::Head;
 use key::Key;
@@ -17,7 +14,7 @@ use paper::Verdict;
 // Stores a value under a key given by its letters, 0 to delete it; the answer is the change in the number of stored keys. Refusals: 1 to 8,
 // 9, 10, 11, 12, 13.
 pub fn store(image: &mut [u8], work: &mut [u32], letters: &[u8], value: u32) -> Stored
-    ensures { λ r. ⌜ Stores (now (image .entry)) (now (work .entry)) (now (letters .entry)) value (storedOf r) (now (image .exit)) (now (work .exit)) ⌝ }
+    ensures { λ r. ⌜ Stores (now (image .entry)) (now (work .entry)) (asLetters (now (letters .entry))) value (storedOf r) (now (image .exit)) (now (work .exit)) ⌝ }
 {
     let asked = ask(image, work, letters);
     let verdict = asked.verdict;
@@ -30,7 +27,7 @@ pub fn store(image: &mut [u8], work: &mut [u32], letters: &[u8], value: u32) -> 
 
 // The same for a key given by its text. Refusals: 1 to 8, 10, 9, 11, 12, 13.
 pub fn store_text(image: &mut [u8], work: &mut [u32], text: &[u8], value: u32) -> Stored
-    ensures { λ r. ⌜ StoresText (now (image .entry)) (now (work .entry)) (now (text .entry)) value (storedOf r) (now (image .exit)) (now (work .exit)) ⌝ }
+    ensures { λ r. ⌜ Stores (now (image .entry)) (now (work .entry)) (asText (now (text .entry))) value (storedOf r) (now (image .exit)) (now (work .exit)) ⌝ }
 {
     let named = ask_text(image, work, text);
     let verdict = named.verdict;
@@ -50,7 +47,7 @@ pub fn store_writes(
     value: u32,
     writes: &mut [u32; 132],
 ) -> Listed
-    ensures { λ r. ⌜ StoresWrites (now (image .entry)) (now (work .entry)) (now (letters .entry)) value (now (writes .entry)) (listedOf r) (now (image .exit)) (now (work .exit)) (now (writes .exit)) ⌝ }
+    ensures { λ r. ⌜ StoresWrites (now (image .entry)) (now (work .entry)) (asLetters (now (letters .entry))) value (now (writes .entry)) (listedOf r) (now (image .exit)) (now (work .exit)) (now (writes .exit)) ⌝ }
 {
     let asked = ask(image, work, letters);
     let verdict = asked.verdict;
@@ -69,7 +66,7 @@ pub fn store_text_writes(
     value: u32,
     writes: &mut [u32; 132],
 ) -> Listed
-    ensures { λ r. ⌜ StoresTextWrites (now (image .entry)) (now (work .entry)) (now (text .entry)) value (now (writes .entry)) (listedOf r) (now (image .exit)) (now (work .exit)) (now (writes .exit)) ⌝ }
+    ensures { λ r. ⌜ StoresWrites (now (image .entry)) (now (work .entry)) (asText (now (text .entry))) value (now (writes .entry)) (listedOf r) (now (image .exit)) (now (work .exit)) (now (writes .exit)) ⌝ }
 {
     let named = ask_text(image, work, text);
     let verdict = named.verdict;
@@ -89,7 +86,7 @@ struct Asked {
 
 // 1 to 8, then 9 and 10 of a key given by its letters.
 fn ask(image: &[u8], work: &mut [u32], letters: &[u8]) -> Asked
-    ensures { λ r. ⌜ Asks (now (image .entry)) (now (work .entry)) (byLetters (headOf (now (image .entry))) (now (letters .entry))) (now (letters .entry)) r (now (work .exit)) ⌝ }
+    ensures { λ r. ⌜ Asks (now (image .entry)) (now (work .entry)) (asLetters (now (letters .entry))) r (now (work .exit)) ⌝ }
 {
     let mut codes = [0u32; 256];
     let checked = audit::check(image, work, &mut codes);
@@ -108,7 +105,7 @@ fn ask(image: &[u8], work: &mut [u32], letters: &[u8]) -> Asked
 
 // 1 to 8, then 10 and 9 of a key given by its text.
 fn ask_text(image: &[u8], work: &mut [u32], text: &[u8]) -> Asked
-    ensures { λ r. ⌜ Asks (now (image .entry)) (now (work .entry)) (byText (headOf (now (image .entry))) (namedIn (now (image .entry)) (now (text .entry)))) (lettersIn (namedIn (now (image .entry)) (now (text .entry)))) r (now (work .exit)) ⌝ }
+    ensures { λ r. ⌜ Asks (now (image .entry)) (now (work .entry)) (asText (now (text .entry))) r (now (work .exit)) ⌝ }
 {
     let mut codes = [0u32; 256];
     let checked = audit::check(image, work, &mut codes);

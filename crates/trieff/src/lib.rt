@@ -1,6 +1,7 @@
 // The C face: what a bench links. Each function calls one public call of the library and lists the numbers of its answer; its promise is
 // that call's own. A slice comes as a pointer and a length. include/trieff.h declares all of it for C.
-ghost use Rattle.paper.specs.Promises.{Makes, Checks, Counts, LooksUp, LooksUpText, Stores, StoresText, StoresWrites, StoresTextWrites, Mends, Nexts};
+ghost use Rattle.paper.specs.Given.{asLetters, asText};
+ghost use Rattle.paper.specs.Promises.{Makes, Checks, Counts, LooksUp, Stores, StoresWrites, Mends, Nexts};
 ghost use Rattle.face.specs.Face.{numbersOf};
 use face::TrieffAnswer;
 
@@ -38,7 +39,7 @@ pub extern "C" fn trieff_count(image: &[u8], work: &mut [u32]) -> TrieffAnswer
 
 #[no_mangle]
 pub extern "C" fn trieff_look_up(image: &[u8], letters: &[u8]) -> TrieffAnswer
-    ensures { λ r. ⌜ LooksUp (now (image .entry)) (now (letters .entry)) (numbersOf r) ⌝ }
+    ensures { λ r. ⌜ LooksUp (now (image .entry)) (asLetters (now (letters .entry))) (numbersOf r) ⌝ }
 {
     let answer = lookups::look_up(image, letters);
     face::looked(answer)
@@ -46,7 +47,7 @@ pub extern "C" fn trieff_look_up(image: &[u8], letters: &[u8]) -> TrieffAnswer
 
 #[no_mangle]
 pub extern "C" fn trieff_look_up_text(image: &[u8], text: &[u8]) -> TrieffAnswer
-    ensures { λ r. ⌜ LooksUpText (now (image .entry)) (now (text .entry)) (numbersOf r) ⌝ }
+    ensures { λ r. ⌜ LooksUp (now (image .entry)) (asText (now (text .entry))) (numbersOf r) ⌝ }
 {
     let answer = lookups::look_up_text(image, text);
     face::looked(answer)
@@ -59,7 +60,7 @@ pub extern "C" fn trieff_store(
     letters: &[u8],
     value: u32,
 ) -> TrieffAnswer
-    ensures { λ r. ⌜ Stores (now (image .entry)) (now (work .entry)) (now (letters .entry)) value (numbersOf r) (now (image .exit)) (now (work .exit)) ⌝ }
+    ensures { λ r. ⌜ Stores (now (image .entry)) (now (work .entry)) (asLetters (now (letters .entry))) value (numbersOf r) (now (image .exit)) (now (work .exit)) ⌝ }
 {
     let answer = stores::store(image, work, letters, value);
     face::stored(answer)
@@ -72,7 +73,7 @@ pub extern "C" fn trieff_store_text(
     text: &[u8],
     value: u32,
 ) -> TrieffAnswer
-    ensures { λ r. ⌜ StoresText (now (image .entry)) (now (work .entry)) (now (text .entry)) value (numbersOf r) (now (image .exit)) (now (work .exit)) ⌝ }
+    ensures { λ r. ⌜ Stores (now (image .entry)) (now (work .entry)) (asText (now (text .entry))) value (numbersOf r) (now (image .exit)) (now (work .exit)) ⌝ }
 {
     let answer = stores::store_text(image, work, text, value);
     face::stored(answer)
@@ -86,7 +87,7 @@ pub extern "C" fn trieff_store_writes(
     value: u32,
     writes: &mut [u32; 132],
 ) -> TrieffAnswer
-    ensures { λ r. ⌜ StoresWrites (now (image .entry)) (now (work .entry)) (now (letters .entry)) value (now (writes .entry)) (numbersOf r) (now (image .exit)) (now (work .exit)) (now (writes .exit)) ⌝ }
+    ensures { λ r. ⌜ StoresWrites (now (image .entry)) (now (work .entry)) (asLetters (now (letters .entry))) value (now (writes .entry)) (numbersOf r) (now (image .exit)) (now (work .exit)) (now (writes .exit)) ⌝ }
 {
     let answer = stores::store_writes(image, work, letters, value, writes);
     face::listed(answer)
@@ -100,7 +101,7 @@ pub extern "C" fn trieff_store_text_writes(
     value: u32,
     writes: &mut [u32; 132],
 ) -> TrieffAnswer
-    ensures { λ r. ⌜ StoresTextWrites (now (image .entry)) (now (work .entry)) (now (text .entry)) value (now (writes .entry)) (numbersOf r) (now (image .exit)) (now (work .exit)) (now (writes .exit)) ⌝ }
+    ensures { λ r. ⌜ StoresWrites (now (image .entry)) (now (work .entry)) (asText (now (text .entry))) value (now (writes .entry)) (numbersOf r) (now (image .exit)) (now (work .exit)) (now (writes .exit)) ⌝ }
 {
     let answer = stores::store_text_writes(image, work, text, value, writes);
     face::listed(answer)

@@ -5,7 +5,7 @@ use borrow.Author.Needs.{needs}
 use Rattle.paper.proofs.Hearing.{told-passed}
 use Rattle.key.proofs.Keyed.{by-text}
 use Rattle.opening.proofs.Known.{known-opened}
-use Rattle.lookups.proofs.Reading.{looks-up-text-unopened, looks-up-text-unkeyed, looks-up-text-found}
+use Rattle.lookups.proofs.Reading.{looks-up-unopened, looks-up-unkeyed, looks-up-found}
 use Rattle.lookups.proofs.look_up_text.Statement.{statement}
 use Rattle.lookups.proofs.look_up_text.Tie as tie
 
@@ -44,7 +44,7 @@ look-requires c κs =
     (b .image, by-text b (o .decoded (told-passed refl e) .codes) _ _ (judge .before .of .ensures) (judge .judge .ensures) .ready (c .enum-told2 .given .1))
 
 returns : tie.Need-returns
-returns c = looks-up-text-unopened (c .before .before .before .«open» .ensures) _ (c .before .verdict .given .1)
+returns c = looks-up-unopened (c .before .before .before .«open» .ensures) _ (c .before .verdict .given .1)
 
 returns-2 : tie.Need-returns-2
 returns-2 c =
@@ -53,7 +53,7 @@ returns-2 c =
     let o = told .before .before .«open» .ensures in
     let e = told .enum-told .given .1 in
     let b = known-opened o e in
-    looks-up-text-unkeyed b _ (by-text b (o .decoded (told-passed refl e) .codes) _ _ (judge .before .of .ensures) (judge .judge .ensures)) (c .before .judged .given .1)
+    looks-up-unkeyed b (by-text b (o .decoded (told-passed refl e) .codes) _ _ (judge .before .of .ensures) (judge .judge .ensures)) (c .before .judged .given .1)
 
 returns-3 : tie.Need-returns-3
 returns-3 c =
@@ -62,7 +62,7 @@ returns-3 c =
     let o = told .before .before .«open» .ensures in
     let e = told .enum-told .given .1 in
     let b = known-opened o e in
-    looks-up-text-found b _ (by-text b (o .decoded (told-passed refl e) .codes) _ _ (judge .before .of .ensures) (judge .judge .ensures)) (c .before .enum-told2 .given .1) (c .look .ensures)
+    looks-up-found b (by-text b (o .decoded (told-passed refl e) .codes) _ _ (judge .before .of .ensures) (judge .judge .ensures)) (c .before .enum-told2 .given .1) (c .look .ensures)
 
 pub look-up-text-spec : {M : Type 1} → statement M
 look-up-text-spec =

@@ -2,7 +2,7 @@
 -- Assumes nothing.
 use borrow.Author.Needs.{needs}
 use Rattle.stores.proofs.Asking.{store-asks}
-use Rattle.stores.proofs.Storing.{stores-text-refused, stores-text-passed}
+use Rattle.stores.proofs.Storing.{stores-refused, stores-passed}
 use Rattle.stores.proofs.store_text.Statement.{statement}
 use Rattle.stores.proofs.store_text.Tie as tie
 
@@ -27,7 +27,7 @@ same-length-2 : tie.Need-same-length-2
 same-length-2 c = search needs
 
 returns : tie.Need-returns
-returns c = stores-text-refused _ (c .before .before .before .before .before .before .ask-text .ensures) _ (c .before .verdict .given .1)
+returns c = stores-refused (c .before .before .before .before .before .before .ask-text .ensures) _ (c .before .verdict .given .1)
 
 same-length-3 : tie.Need-same-length-3
 same-length-3 c = search needs
@@ -39,7 +39,7 @@ returns-2 : tie.Need-returns-2
 returns-2 c =
     let stored = c .before .before in
     let told = stored .before .before in
-    stores-text-passed _ (told .before .before .before .before .before .ask-text .ensures) _ (told .enum-told .given .1) _ (stored .store .ensures)
+    stores-passed (told .before .before .before .before .before .ask-text .ensures) _ (told .enum-told .given .1) _ (stored .store .ensures)
 
 pub store-text-spec : {M : Type 1} → statement M
 store-text-spec =
