@@ -210,7 +210,7 @@ fn characters() {
 // Run: A = 1 and G = 255. The paths of five keys, N = 2, use every address and 796 bytes; 800 have room for a node more.
 fn full() {
     let mut space = [0xAAu8; 800];
-    calls::make(&mut space, 2, 1, 1, b"", 0, 64);
+    images::make(&mut space, 2, 1, 1, b"", 0, 64);
     let mut key = [0u8; 64];
     let mut image = wide(b"64 new nodes", space, 800, &key, 1);
     key[0] = 1;
@@ -379,14 +379,14 @@ fn make(
     min: u32,
     max: u32,
 ) {
-    let answer = calls::make(image, n, a, d, alphabet, min, max);
+    let answer = images::make(image, n, a, d, alphabet, min, max);
     plain(b"", label, answer);
     bytes(image);
     line_end();
 }
 
 fn check(label: &[u8], image: &[u8], work: &mut [u32]) {
-    let answer = calls::check(image, work);
+    let answer = checks::check(image, work);
     plain(b"check, ", label, answer);
     numbers(work);
     line_end();
@@ -402,7 +402,7 @@ fn plain(call: &[u8], label: &[u8], answer: Done) {
 }
 
 fn count(label: &[u8], image: &[u8], work: &mut [u32]) {
-    let answer = calls::count(image, work);
+    let answer = checks::count(image, work);
     named(b"number of keys, ", label);
     match answer {
         Counted::Keys(n) => done(0, n as u64),
@@ -413,12 +413,12 @@ fn count(label: &[u8], image: &[u8], work: &mut [u32]) {
 }
 
 fn look_up(label: &[u8], image: &[u8], key: &[u8]) {
-    let answer = calls::look_up(image, key);
+    let answer = lookups::look_up(image, key);
     looked(b"look up letters, ", label, answer);
 }
 
 fn look_up_text(label: &[u8], image: &[u8], name: &[u8]) {
-    let answer = calls::look_up_text(image, name);
+    let answer = lookups::look_up_text(image, name);
     looked(b"look up text, ", label, answer);
 }
 
@@ -432,13 +432,13 @@ fn looked(call: &[u8], label: &[u8], answer: Looked) {
 }
 
 fn store(label: &[u8], image: &mut [u8], work: &mut [u32], key: &[u8], value: u32) {
-    let answer = calls::store(image, work, key, value);
+    let answer = stores::store(image, work, key, value);
     stored(b"store letters, ", label, answer);
     left(image, work);
 }
 
 fn store_text(label: &[u8], image: &mut [u8], work: &mut [u32], name: &[u8], value: u32) {
-    let answer = calls::store_text(image, work, name, value);
+    let answer = stores::store_text(image, work, name, value);
     stored(b"store text, ", label, answer);
     left(image, work);
 }
@@ -449,7 +449,7 @@ fn store_writes(label: &[u8], image: &mut [u8], key: &[u8], value: u32, shown: u
 {
     let mut work = [7u32; 6];
     let mut list = [7u32; 132];
-    let answer = calls::store_writes(image, &mut work, key, value, &mut list);
+    let answer = stores::store_writes(image, &mut work, key, value, &mut list);
     listed(b"store letters, ", label, answer);
     front(list, shown);
     left(image, &work);
@@ -460,14 +460,14 @@ fn store_text_writes(label: &[u8], image: &mut [u8], name: &[u8], value: u32, sh
 {
     let mut work = [7u32; 6];
     let mut list = [7u32; 132];
-    let answer = calls::store_text_writes(image, &mut work, name, value, &mut list);
+    let answer = stores::store_text_writes(image, &mut work, name, value, &mut list);
     listed(b"store text, ", label, answer);
     front(list, shown);
     left(image, &work);
 }
 
 fn mend(label: &[u8], image: &mut [u8], work: &mut [u32]) {
-    let answer = calls::mend(image, work);
+    let answer = images::mend(image, work);
     plain(b"mend, ", label, answer);
     left(image, work);
 }
@@ -479,7 +479,7 @@ fn wide(label: &[u8], image: [u8; 800], room: usize, key: &[u8], value: u32) -> 
 {
     let mut after = image;
     let mut work = [7u32; 260];
-    let answer = calls::store(&mut after[..room], &mut work, key, value);
+    let answer = stores::store(&mut after[..room], &mut work, key, value);
     stored(b"store letters, ", label, answer);
     differ(&image, &after);
     numbers(&work[252..]);
@@ -535,7 +535,7 @@ fn next_key(label: &[u8], image: &[u8], key: &[u8], after: bool, room: usize)
     let mut work = [7u32; 6];
     let mut space = [0xAAu8; 8];
     let buffer = &mut space[..room];
-    let answer = calls::next_key(image, &mut work, key, after, buffer);
+    let answer = checks::next_key(image, &mut work, key, after, buffer);
     named(b"next key, ", label);
     match answer {
         Found::Key { length, value } => done(length, value),

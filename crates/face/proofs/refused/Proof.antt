@@ -13,7 +13,7 @@ place-requires c κs = search needs
 
 returns : tie.Need-returns
 unfolding refusalNumbers refusedNumbers
-returns c = cc
+returns c = rw (c .before .number .ensures, c .place .ensures)
 
 pub refused-spec : {M : Type 1} → statement M
 refused-spec = tie.close (tie.spec number-requires place-requires returns)
