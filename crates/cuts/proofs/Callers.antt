@@ -17,7 +17,8 @@ use Rattle.head.specs.declared.Head.{Head}
 use Rattle.head.specs.Fields.{headOf}
 use Rattle.head.proofs.Permitted.{bounds}
 use Rattle.alphabet.specs.Letters.{lettersIn}
-use Rattle.node.specs.Writes.{Write, listed, newNodes, totalWrite, linkWrite, storeWrites}
+use Rattle.node.specs.Writes.{Write, listed, totalWrite, linkWrite, storeWrites}
+use Rattle.node.proofs.Nodes.{nodes-count}
 use Rattle.paper.specs.Hearing.{Outcome, outcome, doneNumbers}
 use Rattle.paper.specs.Calls.{tableIn, workAfter, namedIn, writesIn, storedImage, storeOf, storeTextOf, withList, storeWritesOf, storeTextWritesOf}
 use Rattle.paper.specs.Granted.{Granted}
@@ -27,11 +28,6 @@ use Rattle.cuts.proofs.Listed.{read-back}
 
 -- ---- how many they are
 
-long-nodes : (h : Head) (q : ℕ) (ys : List ℕ) (v : ℕ) → length (newNodes h q ys v) ≡ suc (length ys)
-unfolding newNodes
-long-nodes h q [] v = refl
-long-nodes h q (y ∷ ys) v = ap suc (long-nodes h (suc q) ys v)
-
 -- a node for each letter of the key at most, the node total and the link
 long-writes : (h : Head) (key : List ℕ) (d : Descent) (v : ℕ) → ((q x : ℕ) (xs : List ℕ) → d ≡ stopped q x xs → suc (length xs) ≤ length key)
     → length (storeWrites h d v) ≤ length key + 2
@@ -39,9 +35,8 @@ unfolding storeWrites
 long-writes h key (complete q) v few = omega arith
 long-writes h key (stopped q x xs) zero few = omega arith
 long-writes h key (stopped q x xs) (suc v) few =
-    let nodes : List Write = newNodes h (suc (h .g)) xs (suc v) in
     let two : List Write = totalWrite (h .g + suc (length xs)) ∷ linkWrite h q x (suc (h .g)) ∷ [] in
-    omega (arith, few q x xs refl, length-append nodes two, long-nodes h (suc (h .g)) xs (suc v))
+    omega (arith, few q x xs refl, nodes-count h (suc (h .g)) xs (suc v) two)
 
 pub few-writes : {l key : List ℕ} {value : ℕ} → Granted l key value → length (writesIn l key value) ≤ 66
 few-writes {l} {key} {value} s =

@@ -16,7 +16,7 @@ use Rattle.head.specs.declared.Head.{Head}
 use Rattle.head.specs.Fields.{nodeWidth, nodePlace}
 use Rattle.head.proofs.Places.{place-add}
 use Rattle.node.specs.Image.{linkPlace, dataPlace, tableOf}
-use Rattle.node.specs.Writes.{lastNode, pathNode}
+use Rattle.node.specs.Writes.{Write, lastNode, pathNode, newNodes}
 use Rattle.node.proofs.Places.{link-from, link-to, data-from, data-inside}
 use Rattle.node.proofs.Tables.{table-eq, child-in, value-in, framed}
 use Rattle.node.proofs.Heads.{withTotal, child-kept, value-kept}
@@ -147,3 +147,9 @@ length-path h y c b =
 pub length-last : (h : Head) (v : ℕ) → length (lastNode h v) ≡ nodeWidth h
 unfolding lastNode nodeWidth
 length-last h v = simp (length-append, length-replicate, length-digits)
+
+-- a new node for each letter, and one more; further writes follow them
+pub nodes-count : (h : Head) (q : ℕ) (ys : List ℕ) (v : ℕ) (ws : List Write) → length (newNodes h q ys v ++ ws) ≡ suc (length ys) + length ws
+unfolding newNodes
+nodes-count h q [] v ws = omega arith
+nodes-count h q (y ∷ ys) v ws = omega (arith, nodes-count h (suc q) ys v ws)

@@ -4,8 +4,11 @@
 -- for every form of answer: a Rattle enum, a C struct.
 use Prim.Native.Nat.{ℕ, zero, suc}
 use mathlib.Core.Path.{_≡_, refl, sym, _∙_, ap}
-use mathlib.Core.Bool.{Bool}
+use mathlib.Core.Bool.{Bool, true, false}
 use mathlib.Core.List.{List, [], _∷_}
+use native.Mathlib.Nat.{suc-ne-zero}
+use borrow.Author.Tests.{ne-eqb}
+use lib.Dec.{eqb}
 use lib.ListN.{getD}
 use Rattle.paper.specs.declared.Refusal.{Refusal}
 use Rattle.paper.specs.declared.Refusal.the-variants.{ImageLength, HeadField, Alphabet, ImageRoom, TooFewNumbers, Link, LinkedTwice, NotLinked, KeyLength, Letter, ValueTooGreat, NoAddress, NoRoom, ShortBuffer, NoKey}
@@ -16,7 +19,7 @@ use Rattle.paper.specs.declared.Stored.{Stored}
 use Rattle.paper.specs.declared.Listed.{Listed}
 use Rattle.paper.specs.declared.Found.{Found}
 use Rattle.paper.specs.Hearing.{Numbers, Outcome, outcome, refusedNumbers, doneNumbers}
-use Rattle.paper.specs.Answers.{refusalNumbers, doneOf, countedOf, lookedOf, storedOf, listedOf, foundOf}
+use Rattle.paper.specs.Answers.{saidOf, refusalNumbers, doneOf, countedOf, lookedOf, storedOf, listedOf, foundOf}
 use Rattle.paper.specs.Promises.{Makes, Checks, Counts, LooksUp, LooksUpText, Stores, StoresText, StoresWrites, StoresTextWrites, Mends, Nexts}
 
 -- ---- an answer, from its numbers
@@ -68,6 +71,15 @@ by-refusal done refused NoAddress = refl
 by-refusal done refused NoRoom = refl
 by-refusal done refused ShortBuffer = refl
 by-refusal done refused NoKey = refl
+
+-- so no refusal's number is 0
+pub refusal-said : (r : Refusal) → eqb (saidOf r .number) 0 ≡ false
+unfolding byNumber refusalNumbers refusedNumbers
+refusal-said r = by-test (saidOf r .number) ∙ by-refusal true false r
+  where
+    by-test : (n : ℕ) → eqb n 0 ≡ byNumber n true false
+    by-test zero = refl
+    by-test (suc n) = ne-eqb (suc n) 0 (suc-ne-zero n)
 
 -- an answer type is known from its numbers
 pub record Told (R : Type 0) (numbersOf : R → Numbers) : Type 0 where
