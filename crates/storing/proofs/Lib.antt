@@ -1,4 +1,3 @@
 pub mod Adding
 pub mod Building
-pub mod Listing
 pub mod Stores

@@ -4,19 +4,17 @@ use Prim.Native.Nat.{ℕ, suc, _+_, _^_, _≤_, _<_}
 use mathlib.Core.Path.{_≡_}
 use mathlib.Core.List.{List, [], _∷_, _++_}
 use lib.ListN.{length, drop}
-use lib.Seq.{sets}
 use Rattle.trie.specs.Table.{Descent, complete, stopped, descend, valueAt, missing}
 use Rattle.trie.specs.Storing.{added, changeOf}
 use Rattle.head.specs.declared.Head.{Head}
 use Rattle.head.specs.Fields.{headOf, nodePlace}
 use Rattle.node.specs.Image.{tableOf}
-use Rattle.node.specs.Writes.{carriedOut, listed, newNodes, totalWrite, linkWrite, storeWrites}
+use Rattle.node.specs.Writes.{carriedOut, newNodes, totalWrite, linkWrite, storeWrites}
 use Rattle.paper.specs.declared.Stored.{Stored}
-use Rattle.paper.specs.declared.Listed.{Listed}
 use Rattle.paper.specs.Hearing.{Outcome, outcome, doneNumbers, first, heard}
-use Rattle.paper.specs.Answers.{storedOf, listedOf}
+use Rattle.paper.specs.Answers.{storedOf}
 use Rattle.paper.specs.Orders.{adding}
-use Rattle.paper.specs.Calls.{tableIn, writesIn, withList}
+use Rattle.paper.specs.Calls.{tableIn}
 use Rattle.key.specs.declared.Key.{Key}
 use Rattle.walk.specs.declared.Position.{Position}
 use Rattle.walk.specs.declared.Walked.{Walked}
@@ -31,11 +29,6 @@ storeAt h l d value =
 -- the walk is the key's own
 abbrev pub StoresIn : List ℕ → List ℕ → ℕ → Stored → List ℕ → Type 0
 StoresIn l key value r l′ = outcome (storedOf r) (l′ ∷ []) ≡ storeAt (headOf l) l (descend (tableIn l) 0 key) value
-
--- and the list of the writes
-abbrev pub ListsIn : List ℕ → List ℕ → ℕ → List ℕ → Listed → List ℕ → List ℕ → Type 0
-ListsIn l key value list r l′ list′ =
-    outcome (listedOf r) (l′ ∷ list′ ∷ []) ≡ withList (writesIn l key value) list (storeAt (headOf l) l (descend (tableIn l) 0 key) value)
 
 -- ---- the parts of it
 
@@ -76,8 +69,3 @@ abbrev pub Builds : Head → List ℕ → ℕ → List ℕ → ℕ → ℕ → L
 Builds h l q left total value l′ =
     (x : ℕ) (xs : List ℕ) → left ≡ x ∷ xs
     → l′ ≡ carriedOut l (newNodes h (suc (h .g)) xs value ++ (totalWrite total ∷ linkWrite h q x (suc (h .g)) ∷ []))
-
--- what a store wrote where the key's walk ended so, listed from the front of the lent numbers on, and how many writes it is
-pub record Lists (h : Head) (d : Descent) (value : ℕ) (list : List ℕ) (r : ℕ) (list′ : List ℕ) : Type 0 where
-  pub count : r ≡ length (storeWrites h d value)
-  pub entries : list′ ≡ sets list 0 (listed (storeWrites h d value))

@@ -1,9 +1,9 @@
--- `storing::note` meets its contract: two numbers are set, one behind the other. Assumes nothing.
+-- `noting::note` meets its contract: two numbers are set, one behind the other. Assumes nothing.
 use Prim.Native.Nat.{_*_}
 use native.Mathlib.Numerals.{add-one}
 use borrow.Author.Needs.{needs}
-use Rattle.storing.proofs.note.Statement.{statement}
-use Rattle.storing.proofs.note.Tie as tie
+use Rattle.noting.proofs.note.Statement.{statement}
+use Rattle.noting.proofs.note.Tie as tie
 
 mul-writes : tie.Need-mul-writes
 mul-writes c = search needs

@@ -17,10 +17,11 @@ use Rattle.head.specs.Fields.{nodeWidth, nodePlace, usedLen}
 use Rattle.head.proofs.Places.{row, place-add}
 use Rattle.node.specs.Image.{linkPlace, dataPlace}
 use Rattle.node.specs.Writes.{Write, listed, newNodes, totalWrite, linkWrite, dataWrite, storeWrites}
-use Rattle.node.proofs.Nodes.{length-path, length-last}
+use Rattle.node.proofs.Nodes.{length-path, length-last, nodes-count}
 use Rattle.walk.specs.declared.Position.{Position}
 use Rattle.walk.specs.declared.Walked.{Walked}
-use Rattle.storing.specs.Storing.{endOf, stoppedAt, Lists}
+use Rattle.storing.specs.Storing.{endOf, stoppedAt}
+use Rattle.noting.specs.Noting.{Lists}
 
 -- ---- the writes of a new path
 
@@ -38,11 +39,6 @@ module _ (h : Head) (v : ℕ) (ws : List Write) where
       let next : nodePlace h (suc q) ≡ nodePlace h q + nodeWidth h = ap (nodePlace h) (sym (add-one q)) ∙ omega (arith, place-add h q 1) in
       rw (length-path h y (suc q) (s .0), nodes-listed (suc q) ys (s .1), next)
 
-  nodes-count : (q : ℕ) (ys : List ℕ) → length (newNodes h q ys v ++ ws) ≡ suc (length ys) + length ws
-  unfolding newNodes
-  nodes-count q [] = omega arith
-  nodes-count q (y ∷ ys) = omega (arith, nodes-count (suc q) ys)
-
 -- by the letters left, which are as many as the nodes missing; behind the nodes stand the node total and the link
 pub lists-path : (h : Head) (q x : ℕ) (xs list : List ℕ) {left list′ : List ℕ} {r nodes from width place : ℕ} → left ≡ x ∷ xs
     → Letters (h .n) left → nodes ≡ length left → from ≡ usedLen h → width ≡ nodeWidth h → place ≡ linkPlace h q x → r ≡ nodes + 2
@@ -56,7 +52,7 @@ lists-path h q x xs list {nodes = nodes} e s n used wide place r w v =
     let k : nodes ≡ suc (length xs) = rw e at n in
     rw e
     (record {
-      count = omega (arith, nodes-count h (suc v) ws (suc (h .g)) xs);
+      count = omega (arith, nodes-count h (suc (h .g)) xs (suc v) ws);
       entries =
           w
           ∙ rw (

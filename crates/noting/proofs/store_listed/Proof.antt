@@ -1,4 +1,4 @@
--- `storing::store_listed` meets its contract: as `store`, and a store that was done had the room that its list is told from. Assumes
+-- `noting::store_listed` meets its contract: as `store`, and a store that was done had the room that its list is told from. Assumes
 -- nothing.
 use mathlib.Core.Path.{_≡_}
 use mir.Syntax.{w32}
@@ -7,9 +7,10 @@ use borrow.Author.Needs.{needs, sfits-of}
 use lib.ListN.{length}
 use Rattle.paper.proofs.Checking.{head-open}
 use Rattle.key.specs.Hand.{lettersOf}
-use Rattle.storing.proofs.Stores.{ends, lists-refused, lists-room, lists-done}
-use Rattle.storing.proofs.store_listed.Statement.{statement}
-use Rattle.storing.proofs.store_listed.Tie as tie
+use Rattle.storing.proofs.Stores.{ends}
+use Rattle.noting.proofs.Noting.{lists-refused, lists-room, lists-done}
+use Rattle.noting.proofs.store_listed.Statement.{statement}
+use Rattle.noting.proofs.store_listed.Tie as tie
 
 -- the array has 64 letters
 whole : (c : tie.Start) → length (c .args .key .letters) ≡ 64

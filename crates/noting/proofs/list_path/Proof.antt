@@ -1,4 +1,4 @@
--- `storing::list_path` meets its contract: before each turn, what is still to be listed leaves what all of it would have left.
+-- `noting::list_path` meets its contract: before each turn, what is still to be listed leaves what all of it would have left.
 -- Assumes nothing.
 use Prim.Native.Nat.{_+_, _-_, _*_, _≤_, _<_}
 use mathlib.Core.Path.{_≡_, refl}
@@ -12,9 +12,9 @@ use Rattle.head.proofs.Places.{width-most}
 use Rattle.node.proofs.Places.{link-inside, inside-used}
 use Rattle.key.specs.Hand.{lettersOf}
 use Rattle.key.proofs.Hand.{letters-count, letters-from, letter-below}
-use Rattle.storing.proofs.Listing.{Noting, noting-start, noting-room, noting-on, noting-end, lists-path}
-use Rattle.storing.proofs.list_path.Statement.{statement}
-use Rattle.storing.proofs.list_path.Tie as tie
+use Rattle.noting.proofs.Listing.{Noting, noting-start, noting-room, noting-on, noting-end, lists-path}
+use Rattle.noting.proofs.list_path.Statement.{statement}
+use Rattle.noting.proofs.list_path.Tie as tie
 
 abbrev Inv-loop : tie.InvT-loop
 Inv-loop writes₀ h depth nodes width link i₀ place₀ writes i place = Noting nodes width place₀ writes₀ writes i place

@@ -1,4 +1,4 @@
--- `storing::list` meets its contract: each end of the walk has its own list. Assumes nothing.
+-- `noting::list` meets its contract: each end of the walk has its own list. Assumes nothing.
 use Prim.Native.Nat.{_-_}
 use mathlib.Core.Path.{_≡_, subst, _∙_, ap}
 use native.Mathlib.Omega.{arith}
@@ -7,10 +7,10 @@ use lib.ListN.{length, drop, length-drop}
 use Rattle.node.proofs.Places.{data-inside, inside-used}
 use Rattle.key.specs.Hand.{lettersOf}
 use Rattle.key.proofs.Hand.{letters-count, letters-from}
 use Rattle.storing.specs.Storing.{Ends}
-use Rattle.storing.proofs.Listing.{missing-left, lists-data, lists-none, lists-value}
-use Rattle.storing.proofs.list.Statement.{statement}
-use Rattle.storing.proofs.list.Tie as tie
+use Rattle.noting.proofs.Listing.{missing-left, lists-data, lists-none, lists-value}
+use Rattle.noting.proofs.list.Statement.{statement}
+use Rattle.noting.proofs.list.Tie as tie
 
 -- the array has 64 letters
 whole : (c : tie.Start) → length (c .args .key .letters) ≡ 64
