@@ -23,10 +23,11 @@ use Rattle.paper.specs.Orders.{checking, newOf, storing, byLetters, byText}
 use Rattle.paper.specs.Calls.{tableIn, namedIn, workAfter, writesIn, storedImage, storeBy, storeOf, storeTextOf, withList, storeWritesOf, storeTextWritesOf}
 use Rattle.paper.specs.Promises.{Stores, StoresText, StoresWrites, StoresTextWrites}
 use Rattle.paper.proofs.Storing.{valued}
+use Rattle.paper.proofs.Unique.{refusal-said}
 use Rattle.paper.proofs.Hearing.{first-part, second-part, heard-refused, told-refused, told-passed}
 use Rattle.key.specs.Hand.{lettersOf}
-use Rattle.storing.specs.Storing.{storeAt, StoresIn, ListsIn}
-use Rattle.storing.proofs.Stores.{refusal-said}
+use Rattle.storing.specs.Storing.{storeAt, StoresIn}
+use Rattle.noting.specs.Noting.{ListsIn}
 use Rattle.calls.specs.declared.Asked.{Asked}
 use Rattle.calls.specs.Asked.{Asks}
 

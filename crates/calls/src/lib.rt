@@ -161,13 +161,7 @@ pub fn store_writes(
     let verdict = asked.verdict;
     match verdict {
         Verdict::Refused(why) => Listed::Refused(why),
-        Verdict::Passed => storing::store_listed(
-            image,
-            asked.head,
-            asked.key,
-            value as u64,
-            writes,
-        ),
+        Verdict::Passed => noting::store_listed(image, asked.head, asked.key, value as u64, writes),
     }
 }
 
@@ -185,13 +179,7 @@ pub fn store_text_writes(
     let verdict = asked.verdict;
     match verdict {
         Verdict::Refused(why) => Listed::Refused(why),
-        Verdict::Passed => storing::store_listed(
-            image,
-            asked.head,
-            asked.key,
-            value as u64,
-            writes,
-        ),
+        Verdict::Passed => noting::store_listed(image, asked.head, asked.key, value as u64, writes),
     }
 }
 
