@@ -74,7 +74,7 @@ pub fn count(image: &[u8], work: &mut [u32]) -> Counted
     let verdict = checked.verdict;
     match verdict {
         Verdict::Refused(why) => Counted::Refused(why),
-        Verdict::Passed => Counted::Keys(order::count(image, checked.head)),
+        Verdict::Passed => Counted::Keys(counting::count(image, checked.head)),
     }
 }
 

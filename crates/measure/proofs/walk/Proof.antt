@@ -3,7 +3,8 @@
 use Prim.Native.Nat.{_≤_}
 use native.Mathlib.Omega.{arith}
 use borrow.Author.Needs.{needs}
-use Rattle.order.proofs.Walkable.{walkable, met, Walking, walks-on}
+use Rattle.bearing.proofs.Walkable.{walkable}
+use Rattle.order.proofs.Walking.{met, Walking, walks-on}
 use Rattle.measure.proofs.walk.Statement.{statement}
 use Rattle.measure.proofs.walk.Tie as tie
 
