@@ -51,10 +51,10 @@ fn list(image: &[u8], h: Head)
     requires { ⌜ Accepted (now image) ⌝ }
     requires { ⌜ h ≡ headOf (now image) ⌝ }
 {
-    let mut out = [0u8; OUT];
-    let mut path = [0u8; Head::MAX_MOST as usize];
-    let mut nodes = [0u32; Head::PATH_MOST as usize];
-    let mut left = order::count(image, h);
+    let mut out = [0u8; 65536];
+    let mut path = [0u8; 64];
+    let mut nodes = [0u32; 65];
+    let mut left = counting::count(image, h);
     let head = lines::entries(&mut out, 0, left);
     let root = order::start(image, h, &mut nodes);
     let mut end = root_line(&mut out, head, root);

@@ -1,15 +1,21 @@
-// A door for bench/: what the walk of a listing takes, without its lines, on an image of any length. It promises nothing of its own; what it
-// calls is proved.
+// An entry point for bench/: what the walk of a listing takes, without its lines, on an image of any length. It answers how many keys the
+// walk met.
 ghost use mathlib.Core.Path.{_≡_};
 ghost use Rattle.head.specs.Fields.{headOf};
 ghost use Rattle.paper.specs.Accepted.{Accepted};
+ghost use Rattle.paper.specs.Calls.{workAfter};
+ghost use Rattle.measure.specs.Walk.{walked, checkedWalk};
 use head::Head;
 use order::Search;
 use paper::Verdict;
 
-// A check, then the walk of a listing, without its lines: how many keys it meets besides the root's.
+// A check, then the walk of a listing, without its lines: how many stored keys it meets besides the root's, 0 for an image that is refused.
+// The working numbers are left as by every call that checks.
 #[no_mangle]
-pub extern "C" fn measure_walk(image: &[u8], work: &mut [u32]) -> u64 {
+pub extern "C" fn measure_walk(image: &[u8], work: &mut [u32]) -> u64
+    ensures { λ r. ⌜ r ≡ checkedWalk (now (image .entry)) (now (work .entry)) ⌝ }
+    ensures { λ _. ⌜ now (work .exit) ≡ workAfter (now (image .entry)) (now (work .entry)) ⌝ }
+{
     let mut codes = [0u32; 256];
     let checked = audit::check(image, work, &mut codes);
     let verdict = checked.verdict;
@@ -19,22 +25,23 @@ pub extern "C" fn measure_walk(image: &[u8], work: &mut [u32]) -> u64 {
     }
 }
 
+// From the root on, each key leaves the path from which the next one is sought.
 fn walk(image: &[u8], h: Head) -> u64
     requires { ⌜ Accepted (now image) ⌝ }
     requires { ⌜ h ≡ headOf (now image) ⌝ }
+    ensures { λ r. ⌜ r ≡ walked (now (image .entry)) ⌝ }
 {
     let mut path = [0u8; 64];
     let mut nodes = [0u32; 65];
     order::start(image, h, &mut nodes);
-    let mut left = h.g;
+    let mut met: u64 = 0;
     let mut len: usize = 0;
-    while 0 < left {
+    loop {
         let found = order::onward(image, h, len, &mut path, &mut nodes);
         let Search::Found { length, .. } = found else {
-            return (h.g - left) as u64;
+            return met;
         };
+        met += 1;
         len = length;
-        left -= 1;
     }
-    h.g as u64
 }

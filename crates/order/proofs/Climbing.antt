@@ -16,8 +16,9 @@ use Rattle.trie.proofs.Beyond.{beyond-nil, beyond-up, beyond-found}
 use Rattle.head.specs.declared.Head.{Head}
 use Rattle.node.specs.Image.{tableOf}
 use Rattle.order.specs.declared.Search.{Search}
-use Rattle.order.specs.Search.{Bearing, ahead, coming, Room, Along, Kept, Told}
-use Rattle.order.proofs.Links.{from}
+use Rattle.bearing.specs.Bearing.{Bearing}
+use Rattle.order.specs.Search.{ahead, coming, Room, Along, Kept, Told}
+use Rattle.bearing.proofs.Links.{from}
 use Rattle.order.proofs.Paths.{room-kept, kept-all, kept-front, kept-letter, along-root, along-kept, along-less, along-last}
 use Rattle.order.proofs.Searching.{first-none, was-missing, was-found, told-same, ahead-fruitless}
 

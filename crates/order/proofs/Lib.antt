@@ -1,8 +1,6 @@
-pub mod Links
-pub mod Counting
 pub mod Paths
 pub mod Searching
 pub mod Following
 pub mod Climbing
 pub mod Requests
-pub mod Walkable
+pub mod Walking

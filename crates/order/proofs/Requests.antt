@@ -15,8 +15,9 @@ use Rattle.trie.proofs.Beyond.{meets-after-path, meets-at-none, meets-at-own, m
 use Rattle.head.specs.declared.Head.{Head}
 use Rattle.node.specs.Image.{tableOf}
 use Rattle.order.specs.declared.Search.{Search}
-use Rattle.order.specs.Search.{ownValue, coming, Room, Along, Followed, sought, Told}
-use Rattle.order.proofs.Links.{own-empty, own-long, own-data}
+use Rattle.bearing.specs.Bearing.{ownValue}
+use Rattle.order.specs.Search.{coming, Room, Along, Followed, sought, Told}
+use Rattle.bearing.proofs.Links.{own-empty, own-long, own-data}
 use Rattle.order.proofs.Searching.{told-same, told-here}
 
 -- at the end of a path

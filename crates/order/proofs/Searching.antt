@@ -17,8 +17,9 @@ use Rattle.trie.proofs.Walk.{answer-complete}
 use Rattle.head.specs.declared.Head.{Head}
 use Rattle.node.specs.Image.{tableOf}
 use Rattle.order.specs.declared.Search.{Search}
-use Rattle.order.specs.Search.{ownValue, Bearing, ahead, Room, Along, Kept, Reached, toldOf, Told}
-use Rattle.order.proofs.Links.{own-data, own-long, own-empty, own-full, from, from-link}
+use Rattle.bearing.specs.Bearing.{ownValue, Bearing}
+use Rattle.order.specs.Search.{ahead, Room, Along, Kept, Reached, toldOf, Told}
+use Rattle.bearing.proofs.Links.{own-data, own-long, own-empty, own-full, from, from-link}
 use Rattle.order.proofs.Paths.{room-kept, kept-all, kept-set, kept-below, kept-end, along-kept, along-more}
 
 -- ---- the first of a list of keys

@@ -2,21 +2,16 @@
 -- path that it leaves: the key's letters, and the nodes on its way, the root first.
 use Prim.Native.Nat.{ℕ, suc, _-_, _≤_, _<_}
 use mathlib.Core.Path.{_≡_}
-use mathlib.Core.Bool.{Bool, true, false, cond}
+use mathlib.Core.Bool.{Bool}
 use mathlib.Core.Option.{Option, none, some}
-use mathlib.Core.List.{List, [], _++_, map}
+use mathlib.Core.List.{List, _++_, map}
 use lib.ListN.{length, getD, take}
-use lib.Dec.{ltb}
 use Rattle.trie.specs.Table.{Table, complete, descend, answer, Letters}
 use Rattle.trie.specs.Keys.{listing, meets, firstMeeting}
 use Rattle.trie.specs.Beyond.{keysFrom, beyond}
 use Rattle.head.specs.declared.Head.{Head}
 use Rattle.node.specs.Image.{tableOf}
 use Rattle.order.specs.declared.Search.{Search}
-
--- the data of a node at a depth, where a key of so many letters is long enough to be stored
-unfoldable pub ownValue : Head → Table → ℕ → ℕ → ℕ
-ownValue h t q depth = cond (ltb depth (h .min)) 0 (t .value q)
 
 -- room for the longest key and for the nodes on its way
 pub record Room (h : Head) (path nodes : List ℕ) : Type 0 where
@@ -49,11 +44,6 @@ pub record Told (h : Head) (l : List ℕ) (sought : Option (List ℕ)) (r : Sear
   pub reached : (k : List ℕ) → sought ≡ some k → Reached h l k path nodes
 
 -- What the searches inside are told by.
-
--- whether a node at a depth is fruitless: then no key lies below it, from any letter on; else a letter may follow there
-pub record Bearing (h : Head) (t : Table) (q depth : ℕ) (fruitless : Bool) : Type 0 where
-  pub nothing : fruitless ≡ true → (x : ℕ) → keysFrom t (h .n) (h .min - depth) (h .max - depth) q x ≡ []
-  pub deep : fruitless ≡ false → depth < h .max
 
 -- the stored keys below a node at a depth from a letter on, the letters of the path in front
 unfoldable pub ahead : Head → List ℕ → List ℕ → ℕ → ℕ → ℕ → List (List ℕ)

@@ -1,17 +1,17 @@
-// The stored keys of an image in order: how many there are, and the first at or after a key. A caller has checked the image once; from
-// then on every function here walks without a second check. The search remembers the path of the key that it found, letters and nodes, so
+// The stored keys of an image in order: the first at or after a key, and the one after that. A caller has checked the image once; from then
+// on every function here walks without a second check. The search remembers the path of the key that it found, letters and nodes, so
 // that the key after it is found from there and a whole listing is one walk through the image.
 ghost use mathlib.Core.Path.{_≡_};
 ghost use mathlib.Core.Bool.{true};
 ghost use mathlib.Core.List.{List};
-ghost use Prim.Native.Nat.{ℕ, _+_, _-_, _^_, _≤_, _<_};
+ghost use Prim.Native.Nat.{ℕ, _≤_, _<_};
 ghost use lib.ListN.{length, getD, take};
 ghost use Rattle.trie.specs.Rules.{Within};
-ghost use Rattle.trie.specs.Keys.{listing};
-ghost use Rattle.trie.specs.Beyond.{keysFrom, firstOf};
+ghost use Rattle.trie.specs.Beyond.{firstOf};
 ghost use Rattle.node.specs.Image.{Open, Masks, tableOf};
 ghost use Rattle.key.specs.Hand.{Ready, lettersOf};
-ghost use Rattle.order.specs.Search.{ownValue, Bearing, ahead, coming, Room, Along, Kept, Followed, sought, Told};
+ghost use Rattle.bearing.specs.Bearing.{ownValue};
+ghost use Rattle.order.specs.Search.{ahead, coming, Room, Along, Kept, Followed, sought, Told};
 use head::Head;
 use key::Key;
 
@@ -19,44 +19,6 @@ use key::Key;
 pub enum Search {
     Found { length: usize, value: u64 },
     Missing,
-}
-
-// The number of stored keys.
-pub fn count(image: &[u8], h: Head) -> u32
-    requires { ⌜ Open h (now image) ⌝ ∗ ⌜ Within (tableOf h (now image)) (h .g) ⌝ }
-    requires { ⌜ length (listing (tableOf h (now image)) (h .n) (h .min) (h .max)) < 2 ^ 32 ⌝ }
-    ensures { λ r. ⌜ r ≡ length (listing (tableOf h (now (image .entry))) (h .n) (h .min) (h .max)) ⌝ }
-{
-    let own = if own_value(image, h, 0, 0) == 0 { 0 } else { 1 };
-    if fruitless(image, h, 0, 0) {
-        return own;
-    }
-    counted(image, h, node::mask(h), 0, 0, own)
-}
-
-// The stored keys below a node at a depth, its own left out, counted onto those counted before. It calls itself on each child; the depth
-// left to max falls.
-fn counted(image: &[u8], h: Head, mask: u32, node: u32, depth: usize, before: u32) -> u32
-    requires { ⌜ Open h (now image) ⌝ ∗ ⌜ Within (tableOf h (now image)) (h .g) ⌝ ∗ ⌜ Masks h mask ⌝ }
-    requires { ⌜ node ≤ h .g ⌝ ∗ ⌜ depth < h .max ⌝ }
-    requires { ⌜ before + length (keysFrom (tableOf h (now image)) (h .n) (h .min - depth) (h .max - depth) node 0) < 2 ^ 32 ⌝ }
-    ensures { λ r. ⌜ r ≡ before + length (keysFrom (tableOf h (now (image .entry))) (h .n) (h .min - depth) (h .max - depth) node 0) ⌝ }
-{
-    let mut sum = before;
-    for i in 0..h.n {
-        let c = node::link(image, h, mask, node, i);
-        if c == 0 {
-            continue;
-        }
-        if own_value(image, h, c, depth + 1) != 0 {
-            sum += 1;
-        }
-        if fruitless(image, h, c, depth + 1) {
-            continue;
-        }
-        sum = counted(image, h, mask, c, depth + 1, sum);
-    }
-    sum
 }
 
 // The first stored key at or after the key in hand, or after it. Its letters are at the front of the path then, and the nodes are those
@@ -89,7 +51,7 @@ pub fn next(
         );
     }
     if !after {
-        let value = own_value(image, h, nodes[depth], depth);
+        let value = bearing::own_value(image, h, nodes[depth], depth);
         if value != 0 {
             return Search::Found {
                 length: depth,
@@ -118,7 +80,7 @@ pub fn start(image: &[u8], h: Head, nodes: &mut [u32]) -> u64
     ensures { λ r. ⌜ ((path : List ℕ) → Along h (now (image .entry)) 0 path (now (nodes .exit))) ⌝ }
 {
     nodes[0] = 0;
-    own_value(image, h, 0, 0)
+    bearing::own_value(image, h, 0, 0)
 }
 
 // Follows a key as far as its links go, and answers how far that is.
@@ -166,7 +128,7 @@ fn climb(
     let mut from = first;
     loop {
         let barren = if from == 0 {
-            fruitless(image, h, nodes[depth], depth)
+            bearing::fruitless(image, h, nodes[depth], depth)
         } else {
             false
         };
@@ -209,14 +171,14 @@ fn below(
         }
         path[depth] = i as u8;
         nodes[depth + 1] = c;
-        let value = own_value(image, h, c, depth + 1);
+        let value = bearing::own_value(image, h, c, depth + 1);
         if value != 0 {
             return Search::Found {
                 length: depth + 1,
                 value,
             };
         }
-        if fruitless(image, h, c, depth + 1) {
+        if bearing::fruitless(image, h, c, depth + 1) {
             continue;
         }
         let deeper = below(image, h, mask, c, depth + 1, 0, path, nodes);
@@ -225,27 +187,4 @@ fn below(
         }
     }
     Search::Missing
-}
-
-// The data of a node at a depth, 0 where keys of that length are too short to be stored.
-fn own_value(image: &[u8], h: Head, node: u32, depth: usize) -> u64
-    requires { ⌜ Open h (now image) ⌝ ∗ ⌜ node ≤ h .g ⌝ }
-    ensures { λ r. ⌜ r ≡ ownValue h (tableOf h (now (image .entry))) node depth ⌝ }
-{
-    if depth < (h.min as usize) {
-        return 0;
-    }
-    node::data(image, h, node)
-}
-
-// Whether no key lies below a node at a depth: no letter may follow, or all its links are empty. Asked of each child before a search goes
-// there, it spares a call where a key ends, as most do at a node without links.
-fn fruitless(image: &[u8], h: Head, node: u32, depth: usize) -> bool
-    requires { ⌜ Open h (now image) ⌝ ∗ ⌜ node ≤ h .g ⌝ }
-    ensures { λ r. ⌜ Bearing h (tableOf h (now (image .entry))) node depth r ⌝ }
-{
-    if (h.max as usize) <= depth {
-        return true;
-    }
-    node::childless(image, h, node)
 }

@@ -32,7 +32,8 @@ use Rattle.key.proofs.Judging.{next-ready}
 use Rattle.order.specs.declared.Search.{Search}
 use Rattle.order.specs.Search.{sought, toldOf, Room, Told}
 use Rattle.order.proofs.Searching.{was-missing, was-found}
-use Rattle.order.proofs.Walkable.{Walkable, walkable, met}
+use Rattle.bearing.proofs.Walkable.{Walkable, walkable}
+use Rattle.order.proofs.Walking.{met}
 use Rattle.seeking.specs.Seeking.{Sought}
 
 -- ---- over the rows

@@ -54,7 +54,7 @@ pub fn store_writes(
     let head = asked.head;
     match verdict {
         Verdict::Refused(why) => Listed::Refused(why),
-        Verdict::Passed => storing::store_listed(image, head, asked.key, value as u64, writes),
+        Verdict::Passed => noting::store_listed(image, head, asked.key, value as u64, writes),
     }
 }
 
@@ -73,7 +73,7 @@ pub fn store_text_writes(
     let head = named.head;
     match verdict {
         Verdict::Refused(at_text) => Listed::Refused(at_text),
-        Verdict::Passed => storing::store_listed(image, head, named.key, value as u64, writes),
+        Verdict::Passed => noting::store_listed(image, head, named.key, value as u64, writes),
     }
 }
 

@@ -1,7 +1,9 @@
--- `measure::measure_walk` meets its contract: an image that the check has passed is accepted, and its head is the one that was read.
+-- `measure::measure_walk` meets its contract: an image that the check has passed is accepted, and its head is the one that was read; the walk
+-- answers for it, and 0 for an image that was refused.
 -- Assumes nothing.
 use borrow.Author.Needs.{needs}
 use Rattle.audit.proofs.Verdicts.{checked-accepted, checked-head}
+use Rattle.measure.proofs.Meeting.{walk-refused, walk-passed}
 use Rattle.measure.proofs.measure_walk.Statement.{statement}
 use Rattle.measure.proofs.measure_walk.Tie as tie
 
@@ -23,13 +25,17 @@ same-length : tie.Need-same-length
 same-length c = search needs
 
 returns : tie.Need-returns
-returns c = search needs
+returns c =
+    let o = c .before .before .before .before .check .ensures in
+    (walk-refused o (c .enum-told .given .1), o .numbers)
 
 same-length-2 : tie.Need-same-length-2
 same-length-2 c = search needs
 
 returns-2 : tie.Need-returns-2
-returns-2 c = search needs
+returns-2 c =
+    let o = c .before .before .before .before .before .check .ensures in
+    (walk-passed o (c .before .enum-told2 .given .1) (c .walk .ensures), o .numbers)
 
 pub measure-walk-spec : {M : Type 1} → statement M
 measure-walk-spec =

@@ -15,8 +15,8 @@ use Rattle.order.proofs.below.Reads as below
 use Rattle.order.proofs.below.Kinds as below-kinds
 use Rattle.order.proofs.+below.Lts-below as lts
 use Rattle.node.proofs.link.Reads as link-reads
-use Rattle.order.proofs.fruitless.Reads as fruitless-reads
-use Rattle.order.proofs.own_value.Reads as own-value-reads
+use Rattle.bearing.proofs.fruitless.Reads as fruitless-reads
+use Rattle.bearing.proofs.own_value.Reads as own-value-reads
 use Rattle.order.proofs.+below.{statement}
 use Rattle.order.proofs.+below.Tie.{close}
 

@@ -9,15 +9,15 @@ use borrow.Fn.Kinds.{In}
 use borrow.Fn.PlainCycle.{Measures, is, falls, and}
 use Rattle.head.proofs.Permitted.{bounds}
 use Rattle.node.specs.Image.{tableOf}
-use Rattle.order.proofs.Counting.{left, owned, owned-none, owned-one, left-fruitless, left-none, left-empty, left-link}
-use Rattle.order.proofs.counted.Reads as counted
-use Rattle.order.proofs.counted.Kinds as counted-kinds
-use Rattle.order.proofs.+counted.Lts-counted as lts
+use Rattle.counting.proofs.Counting.{left, owned, owned-none, owned-one, left-fruitless, left-none, left-empty, left-link}
+use Rattle.counting.proofs.counted.Reads as counted
+use Rattle.counting.proofs.counted.Kinds as counted-kinds
+use Rattle.counting.proofs.+counted.Lts-counted as lts
 use Rattle.node.proofs.link.Reads as link-reads
-use Rattle.order.proofs.fruitless.Reads as fruitless-reads
-use Rattle.order.proofs.own_value.Reads as own-value-reads
-use Rattle.order.proofs.+counted.{statement}
-use Rattle.order.proofs.+counted.Tie.{close}
+use Rattle.bearing.proofs.fruitless.Reads as fruitless-reads
+use Rattle.bearing.proofs.own_value.Reads as own-value-reads
+use Rattle.counting.proofs.+counted.{statement}
+use Rattle.counting.proofs.+counted.Tie.{close}
 
 abbrev μ-counted : Measures 1 counted-kinds.ps ℕ
 μ-counted κs a = a .1 .0 .max - a .1 .1 .1 .1 .0

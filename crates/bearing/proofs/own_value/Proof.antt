@@ -1,10 +1,10 @@
--- `order::own_value` meets its contract: below min no key ends, from there on a node's data is its own. Assumes nothing.
+-- `bearing::own_value` meets its contract: below min no key ends, from there on a node's data is its own. Assumes nothing.
 use mathlib.Core.Path.{sym, _∙_}
 use borrow.Author.Needs.{needs}
 use Rattle.node.specs.Image.{tableOf}
-use Rattle.order.proofs.Links.{own-below, own-data}
-use Rattle.order.proofs.own_value.Statement.{statement}
-use Rattle.order.proofs.own_value.Tie as tie
+use Rattle.bearing.proofs.Links.{own-below, own-data}
+use Rattle.bearing.proofs.own_value.Statement.{statement}
+use Rattle.bearing.proofs.own_value.Tie as tie
 
 cast-if1 : tie.Need-cast-if1
 cast-if1 c = search needs

@@ -1,12 +1,12 @@
--- `order::count` meets its contract: a listing is the root's own key and those below the root. Assumes nothing.
+-- `counting::count` meets its contract: a listing is the root's own key and those below the root. Assumes nothing.
 use mathlib.Core.Path.{_≡_}
 use mathlib.Core.Logic.{⊎-elim}
 use native.Mathlib.Omega.{arith}
 use borrow.Author.Needs.{needs}
 use Rattle.node.specs.Image.{tableOf}
-use Rattle.order.proofs.Counting.{owned, owned-none, owned-one, listed, left-fruitless}
-use Rattle.order.proofs.count.Statement.{statement}
-use Rattle.order.proofs.count.Tie as tie
+use Rattle.counting.proofs.Counting.{owned, owned-none, owned-one, listed, left-fruitless}
+use Rattle.counting.proofs.count.Statement.{statement}
+use Rattle.counting.proofs.count.Tie as tie
 
 own-value-requires : tie.Need-own-value-requires
 own-value-requires c κs = search needs

@@ -1,9 +1,9 @@
--- `order::fruitless` meets its contract: nothing lies below a node where no letter may follow, nor where all links are empty. Assumes nothing.
+-- `bearing::fruitless` meets its contract: nothing lies below a node where no letter may follow, nor where all links are empty. Assumes nothing.
 use borrow.Author.Needs.{needs}
 use Rattle.node.specs.Image.{tableOf}
-use Rattle.order.proofs.Links.{bearing-full, bearing-asked}
-use Rattle.order.proofs.fruitless.Statement.{statement}
-use Rattle.order.proofs.fruitless.Tie as tie
+use Rattle.bearing.proofs.Links.{bearing-full, bearing-asked}
+use Rattle.bearing.proofs.fruitless.Statement.{statement}
+use Rattle.bearing.proofs.fruitless.Tie as tie
 
 cast-if1 : tie.Need-cast-if1
 cast-if1 c = search needs

@@ -1,0 +1,19 @@
+-- 01, "Walking, storing, listing": "A stored key is one with length in min..max whose data is not 0". What that makes of a node at a depth,
+-- the length of the key that ends there.
+use Prim.Native.Nat.{ℕ, _-_, _<_}
+use mathlib.Core.Path.{_≡_}
+use mathlib.Core.Bool.{Bool, true, false, cond}
+use mathlib.Core.List.{[]}
+use lib.Dec.{ltb}
+use Rattle.trie.specs.Table.{Table}
+use Rattle.trie.specs.Beyond.{keysFrom}
+use Rattle.head.specs.declared.Head.{Head}
+
+-- the data of a node at a depth, where a key of so many letters is long enough to be stored
+unfoldable pub ownValue : Head → Table → ℕ → ℕ → ℕ
+ownValue h t q depth = cond (ltb depth (h .min)) 0 (t .value q)
+
+-- whether a node at a depth is fruitless: then no key lies below it, from any letter on; else a letter may follow there
+pub record Bearing (h : Head) (t : Table) (q depth : ℕ) (fruitless : Bool) : Type 0 where
+  pub nothing : fruitless ≡ true → (x : ℕ) → keysFrom t (h .n) (h .min - depth) (h .max - depth) q x ≡ []
+  pub deep : fruitless ≡ false → depth < h .max

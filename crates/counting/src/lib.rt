@@ -1,0 +1,51 @@
+// The number of stored keys of an image that has been checked.
+ghost use mathlib.Core.Path.{_≡_};
+ghost use Prim.Native.Nat.{_+_, _-_, _^_, _≤_, _<_};
+ghost use lib.ListN.{length};
+ghost use Rattle.trie.specs.Rules.{Within};
+ghost use Rattle.trie.specs.Keys.{listing};
+ghost use Rattle.trie.specs.Beyond.{keysFrom};
+ghost use Rattle.node.specs.Image.{Open, Masks, tableOf};
+use head::Head;
+
+// The number of stored keys.
+pub fn count(image: &[u8], h: Head) -> u32
+    requires { ⌜ Open h (now image) ⌝ ∗ ⌜ Within (tableOf h (now image)) (h .g) ⌝ }
+    requires { ⌜ length (listing (tableOf h (now image)) (h .n) (h .min) (h .max)) < 2 ^ 32 ⌝ }
+    ensures { λ r. ⌜ r ≡ length (listing (tableOf h (now (image .entry))) (h .n) (h .min) (h .max)) ⌝ }
+{
+    let own = if bearing::own_value(image, h, 0, 0) == 0 {
+        0
+    } else {
+        1
+    };
+    if bearing::fruitless(image, h, 0, 0) {
+        return own;
+    }
+    counted(image, h, node::mask(h), 0, 0, own)
+}
+
+// The stored keys below a node at a depth, its own left out, counted onto those counted before. It calls itself on each child; the depth
+// left to max falls.
+fn counted(image: &[u8], h: Head, mask: u32, node: u32, depth: usize, before: u32) -> u32
+    requires { ⌜ Open h (now image) ⌝ ∗ ⌜ Within (tableOf h (now image)) (h .g) ⌝ ∗ ⌜ Masks h mask ⌝ }
+    requires { ⌜ node ≤ h .g ⌝ ∗ ⌜ depth < h .max ⌝ }
+    requires { ⌜ before + length (keysFrom (tableOf h (now image)) (h .n) (h .min - depth) (h .max - depth) node 0) < 2 ^ 32 ⌝ }
+    ensures { λ r. ⌜ r ≡ before + length (keysFrom (tableOf h (now (image .entry))) (h .n) (h .min - depth) (h .max - depth) node 0) ⌝ }
+{
+    let mut sum = before;
+    for i in 0..h.n {
+        let c = node::link(image, h, mask, node, i);
+        if c == 0 {
+            continue;
+        }
+        if bearing::own_value(image, h, c, depth + 1) != 0 {
+            sum += 1;
+        }
+        if bearing::fruitless(image, h, c, depth + 1) {
+            continue;
+        }
+        sum = counted(image, h, mask, c, depth + 1, sum);
+    }
+    sum
+}
