@@ -3,6 +3,7 @@
 // document 01 states (crate `paper`).
 ghost use Rattle.paper.specs.Answers.{doneOf, countedOf, foundOf};
 ghost use Rattle.paper.specs.Promises.{Checks, Counts, Nexts};
+use head::Head;
 use paper::Counted;
 use paper::Done;
 use paper::Found;
@@ -12,7 +13,7 @@ use paper::Verdict;
 pub fn check(image: &[u8], work: &mut [u32]) -> Done
     ensures { λ r. ⌜ Checks (now (image .entry)) (now (work .entry)) (doneOf r) (now (work .exit)) ⌝ }
 {
-    let mut codes = [0u32; 256];
+    let mut codes = [0u32; Head::N_MOST as usize];
     let checked = audit::check(image, work, &mut codes);
     let verdict = checked.verdict;
     match verdict {
@@ -25,12 +26,12 @@ pub fn check(image: &[u8], work: &mut [u32]) -> Done
 pub fn count(image: &[u8], work: &mut [u32]) -> Counted
     ensures { λ r. ⌜ Counts (now (image .entry)) (now (work .entry)) (countedOf r) (now (work .exit)) ⌝ }
 {
-    let mut codes = [0u32; 256];
+    let mut codes = [0u32; Head::N_MOST as usize];
     let checked = audit::check(image, work, &mut codes);
     let verdict = checked.verdict;
     match verdict {
         Verdict::Refused(why) => Counted::Refused(why),
-        Verdict::Passed => Counted::Keys(order::count(image, checked.head)),
+        Verdict::Passed => Counted::Keys(counting::count(image, checked.head)),
     }
 }
 
@@ -45,7 +46,7 @@ pub fn next_key(
 ) -> Found
     ensures { λ r. ⌜ Nexts (now (image .entry)) (now (work .entry)) (now (letters .entry)) after (now (buffer .entry)) (foundOf r) (now (work .exit)) (now (buffer .exit)) ⌝ }
 {
-    let mut codes = [0u32; 256];
+    let mut codes = [0u32; Head::N_MOST as usize];
     let checked = audit::check(image, work, &mut codes);
     let verdict = checked.verdict;
     match verdict {

@@ -28,7 +28,7 @@ pub fn make(image: &mut [u8], n: u32, a: u32, d: u32, alphabet: &[u8], min: u32,
         min,
         max,
     };
-    let mut codes = [0u32; 256];
+    let mut codes = [0u32; Head::N_MOST as usize];
     let opened = opening::judge(h, alphabet, len, &mut codes);
     let verdict = opened.verdict;
     match verdict {
@@ -45,7 +45,7 @@ pub fn make(image: &mut [u8], n: u32, a: u32, d: u32, alphabet: &[u8], min: u32,
 pub fn mend(image: &mut [u8], work: &mut [u32]) -> Done
     ensures { λ r. ⌜ Mends (now (image .entry)) (now (work .entry)) (doneOf r) (now (image .exit)) (now (work .exit)) ⌝ }
 {
-    let mut codes = [0u32; 256];
+    let mut codes = [0u32; Head::N_MOST as usize];
     let checked = audit::check(image, work, &mut codes);
     let verdict = checked.verdict;
     match verdict {

@@ -52,8 +52,8 @@ fn list(image: &[u8], h: Head)
     requires { ⌜ h ≡ headOf (now image) ⌝ }
 {
     let mut out = [0u8; 65536];
-    let mut path = [0u8; 64];
-    let mut nodes = [0u32; 65];
+    let mut path = [0u8; Head::MAX_MOST as usize];
+    let mut nodes = [0u32; Head::PATH_MOST as usize];
     let mut left = counting::count(image, h);
     let head = lines::entries(&mut out, 0, left);
     let root = order::start(image, h, &mut nodes);

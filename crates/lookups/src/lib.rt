@@ -3,6 +3,7 @@
 ghost use Rattle.paper.specs.Answers.{lookedOf};
 ghost use Rattle.paper.specs.Given.{asLetters, asText};
 ghost use Rattle.paper.specs.Promises.{LooksUp};
+use head::Head;
 use key::Key;
 use key::Typed;
 use paper::Looked;
@@ -13,7 +14,7 @@ use paper::Verdict;
 pub fn look_up(image: &[u8], letters: &[u8]) -> Looked
     ensures { λ r. ⌜ LooksUp (now (image .entry)) (asLetters (now (letters .entry))) (lookedOf r) ⌝ }
 {
-    let mut codes = [0u32; 256];
+    let mut codes = [0u32; Head::N_MOST as usize];
     let opened = opening::open(image, &mut codes);
     let verdict = opened.verdict;
     match verdict {
@@ -34,7 +35,7 @@ pub fn look_up(image: &[u8], letters: &[u8]) -> Looked
 pub fn look_up_text(image: &[u8], text: &[u8]) -> Looked
     ensures { λ r. ⌜ LooksUp (now (image .entry)) (asText (now (text .entry))) (lookedOf r) ⌝ }
 {
-    let mut codes = [0u32; 256];
+    let mut codes = [0u32; Head::N_MOST as usize];
     let opened = opening::open(image, &mut codes);
     let verdict = opened.verdict;
     match verdict {

@@ -89,7 +89,7 @@ module _ {h : Head} {l path nodes : List ℕ} {n count : ℕ} (w : Meeting h l p
       meeting-on p q =
           record { walking = record { letters = p; ends = q; key = met told e }; all = omega (arith, w .all, fewer) }
 
--- ---- behind the check
+-- ---- after the check
 
 module _ {l work : List ℕ} {r : Opened} {work′ codes : List ℕ} (o : Checked l work r work′ codes) where
   pub walk-refused : {why : Refusal} → r .verdict ≡ Verdict.Refused why → 0 ≡ checkedWalk l work

@@ -16,7 +16,7 @@ pub extern "C" fn measure_walk(image: &[u8], work: &mut [u32]) -> u64
     ensures { λ r. ⌜ r ≡ checkedWalk (now (image .entry)) (now (work .entry)) ⌝ }
     ensures { λ _. ⌜ now (work .exit) ≡ workAfter (now (image .entry)) (now (work .entry)) ⌝ }
 {
-    let mut codes = [0u32; 256];
+    let mut codes = [0u32; Head::N_MOST as usize];
     let checked = audit::check(image, work, &mut codes);
     let verdict = checked.verdict;
     match verdict {
@@ -31,8 +31,8 @@ fn walk(image: &[u8], h: Head) -> u64
     requires { ⌜ h ≡ headOf (now image) ⌝ }
     ensures { λ r. ⌜ r ≡ walked (now (image .entry)) ⌝ }
 {
-    let mut path = [0u8; 64];
-    let mut nodes = [0u32; 65];
+    let mut path = [0u8; Head::MAX_MOST as usize];
+    let mut nodes = [0u32; Head::PATH_MOST as usize];
     order::start(image, h, &mut nodes);
     let mut met: u64 = 0;
     let mut len: usize = 0;

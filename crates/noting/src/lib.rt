@@ -8,7 +8,7 @@ ghost use lib.ListN.{drop};
 ghost use lib.Seq.{sets};
 ghost use Rattle.trie.specs.Table.{missing};
 ghost use Rattle.trie.specs.Storing.{added};
-ghost use Rattle.head.specs.Fields.{headOf, longestImage, permitted, nodeWidth, usedLen};
+ghost use Rattle.head.specs.Fields.{mostWrites, headOf, longestImage, permitted, nodeWidth, usedLen};
 ghost use Rattle.paper.specs.Accepted.{Accepted};
 ghost use Rattle.key.specs.Hand.{Ready, lettersOf};
 ghost use Rattle.storing.specs.Storing.{Stop, endOf, stoppedAt, Ends};
@@ -26,7 +26,7 @@ pub fn store_listed(
     h: Head,
     key: Key,
     value: u64,
-    writes: &mut [u32; 132],
+    writes: &mut [u32; Head::LISTED_MOST as usize],
 ) -> Listed
     requires { ⌜ Accepted (now image) ⌝ ∗ ⌜ h ≡ headOf (now image) ⌝ ∗ ⌜ Ready h key ⌝ }
     ensures { λ r. ⌜ ListsIn (now (image .entry)) (lettersOf key) value (now (writes .entry)) r (now (image .exit)) (now (writes .exit)) ⌝ }
@@ -43,7 +43,7 @@ pub fn store_listed(
 }
 
 // Lists what a store wrote, given how the key's walk ended, and tells how many writes it is. The places fit, since the new nodes did.
-fn list(writes: &mut [u32; 132], h: Head, key: Key, walked: Walked, value: u64) -> u32
+fn list(writes: &mut [u32; Head::LISTED_MOST as usize], h: Head, key: Key, walked: Walked, value: u64) -> u32
     requires { ⌜ permitted h ≡ true ⌝ ∗ ⌜ Ready h key ⌝ ∗ ⌜ Ends h key walked ⌝ ∗ ⌜ usedLen h + added (missing (endOf (lettersOf key) walked)) value * nodeWidth h ≤ longestImage ⌝ }
     ensures { λ r. ⌜ Lists h (endOf (lettersOf key) walked) value (now (writes .entry)) r (now (writes .exit)) ⌝ }
 {
@@ -63,7 +63,7 @@ fn list(writes: &mut [u32; 132], h: Head, key: Key, walked: Walked, value: u64) 
 }
 
 // A new path: the new nodes by rising address, the node total, the link.
-fn list_path(writes: &mut [u32; 132], h: Head, key: Key, at: Position) -> u32
+fn list_path(writes: &mut [u32; Head::LISTED_MOST as usize], h: Head, key: Key, at: Position) -> u32
     requires { ⌜ permitted h ≡ true ⌝ ∗ ⌜ Ready h key ⌝ ∗ ⌜ Stop h key at ⌝ ∗ ⌜ usedLen h + (key .len - at .depth) * nodeWidth h ≤ longestImage ⌝ }
     ensures { λ r. ⌜ ((v : ℕ) → Lists h (stoppedAt (at .node) (drop (at .depth) (lettersOf key))) (suc v) (now (writes .entry)) r (now (writes .exit))) ⌝ }
 {
@@ -79,14 +79,14 @@ fn list_path(writes: &mut [u32; 132], h: Head, key: Key, at: Position) -> u32
         place += width;
         i += 1;
     }
-    note(writes, nodes, 0, 4);
+    note(writes, nodes, Head::TOTAL_AT, Head::TOTAL_LEN);
     note(writes, nodes + 1, link, h.a);
     (nodes + 2) as u32
 }
 
 // Write number i of a list.
-fn note(writes: &mut [u32; 132], i: usize, place: u32, len: u32)
-    requires { ⌜ i < 66 ⌝ }
+fn note(writes: &mut [u32; Head::LISTED_MOST as usize], i: usize, place: u32, len: u32)
+    requires { ⌜ i < mostWrites ⌝ }
     ensures { λ _. ⌜ now (writes .exit) ≡ sets (now (writes .entry)) (2 * i) (place ∷ len ∷ []) ⌝ }
 {
     writes[2 * i] = place;

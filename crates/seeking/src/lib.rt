@@ -25,8 +25,8 @@ pub fn sought(image: &[u8], h: Head, letters: &[u8], after: bool, buffer: &mut [
             if buffer.len() < (h.max as usize) {
                 return Found::Refused(Refusal::ShortBuffer);
             }
-            let mut path = [0u8; 64];
-            let mut nodes = [0u32; 65];
+            let mut path = [0u8; Head::MAX_MOST as usize];
+            let mut nodes = [0u32; Head::PATH_MOST as usize];
             let found = order::next(image, h, key, after, &mut path, &mut nodes);
             match found {
                 Search::Missing => Found::Refused(Refusal::NoKey),

@@ -45,7 +45,7 @@ pub fn store_writes(
     work: &mut [u32],
     letters: &[u8],
     value: u32,
-    writes: &mut [u32; 132],
+    writes: &mut [u32; Head::LISTED_MOST as usize],
 ) -> Listed
     ensures { λ r. ⌜ StoresWrites (now (image .entry)) (now (work .entry)) (asLetters (now (letters .entry))) value (now (writes .entry)) (listedOf r) (now (image .exit)) (now (work .exit)) (now (writes .exit)) ⌝ }
 {
@@ -64,7 +64,7 @@ pub fn store_text_writes(
     work: &mut [u32],
     text: &[u8],
     value: u32,
-    writes: &mut [u32; 132],
+    writes: &mut [u32; Head::LISTED_MOST as usize],
 ) -> Listed
     ensures { λ r. ⌜ StoresWrites (now (image .entry)) (now (work .entry)) (asText (now (text .entry))) value (now (writes .entry)) (listedOf r) (now (image .exit)) (now (work .exit)) (now (writes .exit)) ⌝ }
 {
@@ -88,7 +88,7 @@ struct Asked {
 fn ask(image: &[u8], work: &mut [u32], letters: &[u8]) -> Asked
     ensures { λ r. ⌜ Asks (now (image .entry)) (now (work .entry)) (asLetters (now (letters .entry))) r (now (work .exit)) ⌝ }
 {
-    let mut codes = [0u32; 256];
+    let mut codes = [0u32; Head::N_MOST as usize];
     let checked = audit::check(image, work, &mut codes);
     let verdict = checked.verdict;
     let head = checked.head;
@@ -107,7 +107,7 @@ fn ask(image: &[u8], work: &mut [u32], letters: &[u8]) -> Asked
 fn ask_text(image: &[u8], work: &mut [u32], text: &[u8]) -> Asked
     ensures { λ r. ⌜ Asks (now (image .entry)) (now (work .entry)) (asText (now (text .entry))) r (now (work .exit)) ⌝ }
 {
-    let mut codes = [0u32; 256];
+    let mut codes = [0u32; Head::N_MOST as usize];
     let checked = audit::check(image, work, &mut codes);
     let verdict = checked.verdict;
     let head = checked.head;
@@ -116,7 +116,7 @@ fn ask_text(image: &[u8], work: &mut [u32], text: &[u8]) -> Asked
             verdict,
             head,
             key: Key {
-                letters: [0u8; 64],
+                letters: [0u8; Head::MAX_MOST as usize],
                 len: 0,
             },
         },

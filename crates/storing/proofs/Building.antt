@@ -5,9 +5,8 @@ use mathlib.Core.List.{List, [], _∷_}
 use native.Mathlib.Omega.{arith}
 use lib.ListN.{length, drop}
 use lib.Seq.{drop-length}
-use Rattle.field.specs.Field.{putField}
 use Rattle.head.specs.declared.Head.{Head}
-use Rattle.head.specs.Fields.{nodeWidth, nodePlace, usedLen}
+use Rattle.head.specs.Fields.{putTotal, nodeWidth, nodePlace, usedLen}
 use Rattle.head.proofs.Places.{place-le}
 use Rattle.node.specs.Writes.{carriedOut, pathWrite, lastWrite, newNodes, totalWrite, linkWrite}
 use Rattle.node.proofs.Heads.{withTotal}
@@ -74,7 +73,7 @@ module _ {h : Head} {k : List ℕ} {from value : ℕ} {l₀ : List ℕ} where
 -- ---- and the two writes behind them
 
 pub built : (h : Head) (q x total value : ℕ) (ys l : List ℕ) {left l₁ l₂ l₃ : List ℕ} → left ≡ x ∷ ys
-    → l₁ ≡ carriedOut l (newNodes h (suc (h .g)) ys value) → l₂ ≡ putField l₁ 0 4 total
+    → l₁ ≡ carriedOut l (newNodes h (suc (h .g)) ys value) → l₂ ≡ putTotal l₁ total
     → l₃ ≡ carriedOut l₂ (linkWrite h q x (h .g + 1) ∷ []) → Builds h l q left total value l₃
 unfolding carriedOut totalWrite
 built h q x total value ys l e nodes g link y zs f =

@@ -109,7 +109,7 @@ fn build(image: &mut [u8], h: Head, key: Key, at: Position, total: u32, value: u
     let depth = at.depth;
     let letters = key.letters;
     new_nodes(image, h, key, depth + 1, value);
-    field::write(image, 0, 4, total as u64);
+    Head::set_total(image, total);
     node::set_link(image, h, at.node, letters[depth] as u32, h.g + 1);
 }
 

@@ -3,6 +3,7 @@
 ghost use Rattle.paper.specs.Given.{asLetters, asText};
 ghost use Rattle.paper.specs.Promises.{Makes, Checks, Counts, LooksUp, Stores, StoresWrites, Mends, Nexts};
 ghost use Rattle.face.specs.Face.{numbersOf};
+use head::Head;
 use face::TrieffAnswer;
 
 #[no_mangle]
@@ -85,7 +86,7 @@ pub extern "C" fn trieff_store_writes(
     work: &mut [u32],
     letters: &[u8],
     value: u32,
-    writes: &mut [u32; 132],
+    writes: &mut [u32; Head::LISTED_MOST as usize],
 ) -> TrieffAnswer
     ensures { λ r. ⌜ StoresWrites (now (image .entry)) (now (work .entry)) (asLetters (now (letters .entry))) value (now (writes .entry)) (numbersOf r) (now (image .exit)) (now (work .exit)) (now (writes .exit)) ⌝ }
 {
@@ -99,7 +100,7 @@ pub extern "C" fn trieff_store_text_writes(
     work: &mut [u32],
     text: &[u8],
     value: u32,
-    writes: &mut [u32; 132],
+    writes: &mut [u32; Head::LISTED_MOST as usize],
 ) -> TrieffAnswer
     ensures { λ r. ⌜ StoresWrites (now (image .entry)) (now (work .entry)) (asText (now (text .entry))) value (now (writes .entry)) (numbersOf r) (now (image .exit)) (now (work .exit)) (now (writes .exit)) ⌝ }
 {

@@ -4,17 +4,14 @@ use Rattle.mending.proofs.Trial.{trial-passed, trial-refused}
 use Rattle.mending.proofs.lower.Statement.{statement}
 use Rattle.mending.proofs.lower.Tie as tie
 
-read4-requires : tie.Need-read4-requires
-read4-requires c κs = search needs
+total-requires : tie.Need-total-requires
+total-requires c κs = search needs
 
-sub-write : tie.Need-sub-write
-sub-write c = search needs
+sub-set-total : tie.Need-sub-set-total
+sub-set-total c = search needs
 
-cast-write : tie.Need-cast-write
-cast-write c = search needs
-
-write-requires : tie.Need-write-requires
-write-requires c κs = search needs
+set-total-requires : tie.Need-set-total-requires
+set-total-requires c κs = search needs
 
 check-requires : tie.Need-check-requires
 check-requires c κs = search needs
@@ -25,11 +22,8 @@ enum-told c = search needs
 enum-told-2 : tie.Need-enum-told-2
 enum-told-2 c = search needs
 
-cast-write-2 : tie.Need-cast-write-2
-cast-write-2 c = search needs
-
-write-requires-2 : tie.Need-write-requires-2
-write-requires-2 c κs = search needs
+set-total-requires-2 : tie.Need-set-total-requires-2
+set-total-requires-2 c κs = search needs
 
 same-length : tie.Need-same-length
 same-length c = search needs
@@ -41,7 +35,7 @@ returns : tie.Need-returns
 returns c =
     let checked = c .before .before .before .before in
     let wrote = checked .before .before .before .before .before .before in
-    trial-passed (wrote .write .ensures) (checked .check .ensures) (c .enum-told .given .1)
+    trial-passed (wrote .set-total .ensures) (checked .check .ensures) (c .enum-told .given .1)
 
 same-length-3 : tie.Need-same-length-3
 same-length-3 c = search needs
@@ -56,22 +50,20 @@ returns-2 c =
     let wrote = checked .before .before .before .before .before .before in
     let read = wrote .before .before in
     let start = read .before .before .before .before in
-    trial-refused (wrote .write .ensures) (checked .check .ensures) (told .enum-told2 .given .1) (λ k. read .before .before .before .slice-known .given k .fits)
-    (start .pre .1) (read .read4 .ensures) (c .before .before .write2 .ensures)
+    trial-refused (wrote .set-total .ensures) (checked .check .ensures) (told .enum-told2 .given .1)
+    (λ k. read .before .before .before .slice-known .given k .fits) (start .pre .1) (read .total .ensures) (c .before .before .set-total2 .ensures)
 
 pub lower-spec : {M : Type 1} → statement M
 lower-spec =
     tie.close
     (tie.spec
-    read4-requires
-    sub-write
-    cast-write
-    write-requires
+    total-requires
+    sub-set-total
+    set-total-requires
     check-requires
     enum-told
     enum-told-2
-    cast-write-2
-    write-requires-2
+    set-total-requires-2
     same-length
     same-length-2
     returns

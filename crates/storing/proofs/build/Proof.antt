@@ -6,8 +6,8 @@ use mathlib.Core.List.{_∷_}
 use native.Mathlib.Omega.{arith}
 use borrow.Author.Needs.{needs}
 use lib.ListN.{length, getD, drop}
-use lib.Seq.{length-sets}
-use Rattle.field.specs.Field.{digits}
+use Rattle.head.specs.Fields.{mostLetters}
+use Rattle.head.proofs.Fields.{length-total}
 use Rattle.head.proofs.Permitted.{bounds}
 use Rattle.head.proofs.Places.{place-least}
 use Rattle.node.proofs.Storing.{length-carried}
@@ -17,8 +17,8 @@ use Rattle.storing.proofs.Building.{built}
 use Rattle.storing.proofs.build.Statement.{statement}
 use Rattle.storing.proofs.build.Tie as tie
 
--- the array has 64 letters
-whole : (c : tie.Start) → length (c .args .key .letters) ≡ 64
+-- the array's length
+whole : (c : tie.Start) → length (c .args .key .letters) ≡ mostLetters
 whole c = search needs
 
 -- the letter that stopped the walk, and those after it
@@ -38,8 +38,9 @@ below c =
 long-nodes : (c : tie.After-new-nodes) → length (c .new-nodes .last .0) ≡ length (c .before .before .before .before .args .image .now)
 long-nodes c = ap length (c .new-nodes .ensures) ∙ length-carried _ _
 
-long : (c : tie.After-write) → length (c .write .last .0) ≡ length (c .before .before .before .before .before .before .before .before .args .image .now)
-long c = ap length (c .write .ensures) ∙ length-sets (c .before .before .before .before .new-nodes .last .0) 0 (digits 4 (c .before .before .before .before .before .before .before .before .args .total)) ∙ long-nodes (c .before .before .before .before)
+long : (c : tie.After-set-total) → length (c .set-total .last .0) ≡ length (c .before .before .before .before .before .before .before .before .args .image .now)
+long c =
+    ap length (c .set-total .ensures) ∙ length-total (c .before .before .before .before .new-nodes .last .0) _ ∙ long-nodes (c .before .before .before .before)
 
 add-new-nodes : tie.Need-add-new-nodes
 add-new-nodes c = search needs
@@ -52,8 +53,8 @@ new-nodes-requires c κs =
     let e : a .h .g + suc (a .key .len - (a .at .depth + 1)) ≡ a .total = omega (arith, p .1 .1 .1 .0, p .1 .1 .0 .depth) in
     (p .0 .head-permitted, (p .1 .0, (omega (arith, p .1 .1 .0 .depth), rw e (p .1 .1 .1 .1))))
 
-write-requires : tie.Need-write-requires
-write-requires c κs =
+set-total-requires : tie.Need-set-total-requires
+set-total-requires c κs =
     let start = c .before .before .before .before .before .before .before in
     omega (arith, long-nodes (c .before .before .before), start .pre .1 .1 .1 .1 .room, place-least (start .args .h) (start .args .total + 1))
 
@@ -87,7 +88,7 @@ returns c =
     let laid = wrote .before .before .before .before in
     let start = laid .before .before .before .before in
     let a = start .args in
-    built (a .h) (a .at .node) _ (a .total) (a .value) _ (a .image .now) (left start) (laid .new-nodes .ensures) (wrote .write .ensures)
+    built (a .h) (a .at .node) _ (a .total) (a .value) _ (a .image .now) (left start) (laid .new-nodes .ensures) (wrote .set-total .ensures)
     (linked .set-link .ensures .0)
 
 pub build-spec : {M : Type 1} → statement M
@@ -96,7 +97,7 @@ build-spec =
     (tie.spec
     add-new-nodes
     new-nodes-requires
-    write-requires
+    set-total-requires
     array-read-set-link
     cast-set-link
     add-set-link
