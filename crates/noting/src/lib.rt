@@ -43,7 +43,13 @@ pub fn store_listed(
 }
 
 // Lists what a store wrote, given how the key's walk ended, and tells how many writes it is. The places fit, since the new nodes did.
-fn list(writes: &mut [u32; Head::LISTED_MOST as usize], h: Head, key: Key, walked: Walked, value: u64) -> u32
+fn list(
+    writes: &mut [u32; Head::LISTED_MOST as usize],
+    h: Head,
+    key: Key,
+    walked: Walked,
+    value: u64,
+) -> u32
     requires { ⌜ permitted h ≡ true ⌝ ∗ ⌜ Ready h key ⌝ ∗ ⌜ Ends h key walked ⌝ ∗ ⌜ usedLen h + added (missing (endOf (lettersOf key) walked)) value * nodeWidth h ≤ longestImage ⌝ }
     ensures { λ r. ⌜ Lists h (endOf (lettersOf key) walked) value (now (writes .entry)) r (now (writes .exit)) ⌝ }
 {

@@ -28,8 +28,8 @@ use Rattle.paper.proofs.Hearing.{first-part, second-part, heard-refused, told-r
 use Rattle.key.specs.Hand.{lettersOf}
 use Rattle.storing.specs.Storing.{storeAt, StoresIn}
 use Rattle.noting.specs.Noting.{ListsIn}
-use Rattle.stores.specs.declared.Asked.{Asked}
-use Rattle.stores.specs.Asked.{Asks}
+use Rattle.asking.specs.declared.Asked.{Asked}
+use Rattle.asking.specs.Asked.{Asks}
 
 -- ---- one buffer more
 

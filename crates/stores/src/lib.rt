@@ -3,10 +3,7 @@
 ghost use Rattle.paper.specs.Answers.{storedOf, listedOf};
 ghost use Rattle.paper.specs.Given.{asLetters, asText};
 ghost use Rattle.paper.specs.Promises.{Stores, StoresWrites};
-ghost use Rattle.stores.specs.Asked.{Asks};
 use head::Head;
-use key::Key;
-use key::Typed;
 use paper::Listed;
 use paper::Stored;
 use paper::Verdict;
@@ -16,7 +13,7 @@ use paper::Verdict;
 pub fn store(image: &mut [u8], work: &mut [u32], letters: &[u8], value: u32) -> Stored
     ensures { λ r. ⌜ Stores (now (image .entry)) (now (work .entry)) (asLetters (now (letters .entry))) value (storedOf r) (now (image .exit)) (now (work .exit)) ⌝ }
 {
-    let asked = ask(image, work, letters);
+    let asked = asking::ask(image, work, letters);
     let verdict = asked.verdict;
     let head = asked.head;
     match verdict {
@@ -29,7 +26,7 @@ pub fn store(image: &mut [u8], work: &mut [u32], letters: &[u8], value: u32) -> 
 pub fn store_text(image: &mut [u8], work: &mut [u32], text: &[u8], value: u32) -> Stored
     ensures { λ r. ⌜ Stores (now (image .entry)) (now (work .entry)) (asText (now (text .entry))) value (storedOf r) (now (image .exit)) (now (work .exit)) ⌝ }
 {
-    let named = ask_text(image, work, text);
+    let named = asking::ask_text(image, work, text);
     let verdict = named.verdict;
     let head = named.head;
     match verdict {
@@ -49,7 +46,7 @@ pub fn store_writes(
 ) -> Listed
     ensures { λ r. ⌜ StoresWrites (now (image .entry)) (now (work .entry)) (asLetters (now (letters .entry))) value (now (writes .entry)) (listedOf r) (now (image .exit)) (now (work .exit)) (now (writes .exit)) ⌝ }
 {
-    let asked = ask(image, work, letters);
+    let asked = asking::ask(image, work, letters);
     let verdict = asked.verdict;
     let head = asked.head;
     match verdict {
@@ -68,66 +65,11 @@ pub fn store_text_writes(
 ) -> Listed
     ensures { λ r. ⌜ StoresWrites (now (image .entry)) (now (work .entry)) (asText (now (text .entry))) value (now (writes .entry)) (listedOf r) (now (image .exit)) (now (work .exit)) (now (writes .exit)) ⌝ }
 {
-    let named = ask_text(image, work, text);
+    let named = asking::ask_text(image, work, text);
     let verdict = named.verdict;
     let head = named.head;
     match verdict {
         Verdict::Refused(at_text) => Listed::Refused(at_text),
         Verdict::Passed => noting::store_listed(image, head, named.key, value as u64, writes),
-    }
-}
-
-// What stands in front of every store: 1 to 8, then the key in hand.
-struct Asked {
-    verdict: Verdict,
-    head: Head,
-    key: Key,
-}
-
-// 1 to 8, then 9 and 10 of a key given by its letters.
-fn ask(image: &[u8], work: &mut [u32], letters: &[u8]) -> Asked
-    ensures { λ r. ⌜ Asks (now (image .entry)) (now (work .entry)) (asLetters (now (letters .entry))) r (now (work .exit)) ⌝ }
-{
-    let mut codes = [0u32; Head::N_MOST as usize];
-    let checked = audit::check(image, work, &mut codes);
-    let verdict = checked.verdict;
-    let head = checked.head;
-    let key = Key::of(letters);
-    match verdict {
-        Verdict::Refused(_) => Asked { verdict, head, key },
-        Verdict::Passed => Asked {
-            verdict: key.judge(head),
-            head,
-            key,
-        },
-    }
-}
-
-// 1 to 8, then 10 and 9 of a key given by its text.
-fn ask_text(image: &[u8], work: &mut [u32], text: &[u8]) -> Asked
-    ensures { λ r. ⌜ Asks (now (image .entry)) (now (work .entry)) (asText (now (text .entry))) r (now (work .exit)) ⌝ }
-{
-    let mut codes = [0u32; Head::N_MOST as usize];
-    let checked = audit::check(image, work, &mut codes);
-    let verdict = checked.verdict;
-    let head = checked.head;
-    match verdict {
-        Verdict::Refused(_) => Asked {
-            verdict,
-            head,
-            key: Key {
-                letters: [0u8; Head::MAX_MOST as usize],
-                len: 0,
-            },
-        },
-        Verdict::Passed => {
-            let typed = Typed::of(text, &codes, checked.count);
-            let key = typed.key;
-            Asked {
-                verdict: typed.judge(head),
-                head,
-                key,
-            }
-        }
     }
 }

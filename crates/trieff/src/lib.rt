@@ -3,8 +3,8 @@
 ghost use Rattle.paper.specs.Given.{asLetters, asText};
 ghost use Rattle.paper.specs.Promises.{Makes, Checks, Counts, LooksUp, Stores, StoresWrites, Mends, Nexts};
 ghost use Rattle.face.specs.Face.{numbersOf};
-use head::Head;
 use face::TrieffAnswer;
+use head::Head;
 
 #[no_mangle]
 pub extern "C" fn trieff_make(

@@ -21,8 +21,8 @@ use Rattle.key.proofs.Keyed.{Keyed}
 use Rattle.opening.specs.declared.Opened.{Opened}
 use Rattle.audit.specs.Audit.{Checked}
 use Rattle.audit.proofs.Verdicts.{checked-accepted, checked-head}
-use Rattle.stores.specs.declared.Asked.{Asked}
-use Rattle.stores.specs.Asked.{Asks}
+use Rattle.asking.specs.declared.Asked.{Asked}
+use Rattle.asking.specs.Asked.{Asks}
 
 -- a verdict that tells of no row
 row-passed : (v : Verdict) → rowOf v ≡ none → v ≡ Verdict.Passed

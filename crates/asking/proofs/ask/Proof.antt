@@ -1,9 +1,9 @@
--- `stores::ask` meets its contract: 1 to 8 by the audit, 9 and 10 by the key in hand. Assumes nothing.
+-- `asking::ask` meets its contract: 1 to 8 by the audit, 9 and 10 by the key in hand. Assumes nothing.
 use borrow.Author.Needs.{needs}
 use Rattle.key.proofs.Keyed.{by-letters}
-use Rattle.stores.proofs.Asking.{asks-unchecked, known-checked, asks-judged}
-use Rattle.stores.proofs.ask.Statement.{statement}
-use Rattle.stores.proofs.ask.Tie as tie
+use Rattle.asking.proofs.Asking.{asks-unchecked, known-checked, asks-judged}
+use Rattle.asking.proofs.ask.Statement.{statement}
+use Rattle.asking.proofs.ask.Tie as tie
 
 check-requires : tie.Need-check-requires
 check-requires c κs = search needs

@@ -1,11 +1,11 @@
--- `stores::ask_text` meets its contract: 1 to 8 by the audit, 10 and 9 by what the text names. Assumes nothing.
+-- `asking::ask_text` meets its contract: 1 to 8 by the audit, 10 and 9 by what the text names. Assumes nothing.
 use mathlib.Core.Path.{refl}
 use borrow.Author.Needs.{needs}
 use Rattle.paper.proofs.Hearing.{told-passed}
 use Rattle.key.proofs.Keyed.{by-text}
-use Rattle.stores.proofs.Asking.{asks-unchecked, known-checked, asks-judged}
-use Rattle.stores.proofs.ask_text.Statement.{statement}
-use Rattle.stores.proofs.ask_text.Tie as tie
+use Rattle.asking.proofs.Asking.{asks-unchecked, known-checked, asks-judged}
+use Rattle.asking.proofs.ask_text.Statement.{statement}
+use Rattle.asking.proofs.ask_text.Tie as tie
 
 check-requires : tie.Need-check-requires
 check-requires c κs = search needs

@@ -12,7 +12,7 @@ use Rattle.paper.specs.Orders.{checking, keying}
 use Rattle.paper.specs.Calls.{workAfter}
 use Rattle.paper.specs.Accepted.{Accepted}
 use Rattle.key.specs.Hand.{lettersOf, Ready}
-use Rattle.stores.specs.declared.Asked.{Asked}
+use Rattle.asking.specs.declared.Asked.{Asked}
 
 -- what a store may count on once 10 has passed
 pub record Allowed (l key : List ℕ) (r : Asked) : Type 0 where
