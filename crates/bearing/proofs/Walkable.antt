@@ -8,7 +8,7 @@ use lib.ListN.{length}
 use Rattle.trie.specs.Rules.{Within}
 use Rattle.trie.specs.Keys.{listing}
 use Rattle.head.specs.declared.Head.{Head}
-use Rattle.head.specs.Fields.{headOf}
+use Rattle.head.specs.Fields.{mostLetters, headOf}
 use Rattle.head.proofs.Permitted.{bounds}
 use Rattle.node.specs.Image.{Open, tableOf}
 use Rattle.paper.specs.Calls.{tableIn, storedKeys}
@@ -27,5 +27,5 @@ unfolding tableIn storedKeys
 walkable {h} {l} a e =
     subst (λ (k : Head). Walkable k l) (sym e) (record { opened = accepted-open a; within = accepted-linked a .within; few = counted-fits a })
 
-pub short : {h : Head} {l : List ℕ} → Walkable h l → h .max ≤ 64
+pub short : {h : Head} {l : List ℕ} → Walkable h l → h .max ≤ mostLetters
 short {h} w = omega (arith, bounds h (w .opened .head-permitted))

@@ -13,7 +13,7 @@ use Rattle.trie.proofs.Listing.{keysUnder-ascending}
 use Rattle.trie.proofs.Sift.{first-sift, sift-length}
 use Rattle.trie.proofs.InTurn.{sift-next}
 use Rattle.head.specs.declared.Head.{Head}
-use Rattle.head.specs.Fields.{headOf}
+use Rattle.head.specs.Fields.{mostLetters, mostPath, headOf}
 use Rattle.node.specs.Image.{tableOf}
 use Rattle.paper.specs.declared.Refusal.{Refusal}
 use Rattle.paper.specs.declared.Verdict.{Verdict}
@@ -85,7 +85,7 @@ module _ {h : Head} {l path nodes : List ℕ} {n count : ℕ} (w : Meeting h l p
       pub meeting-less : toCome h l (take m path₁) < toCome h l (take n path)
       meeting-less = omega (arith, fewer)
 
-      pub meeting-on : length path₁ ≡ 64 → length nodes₁ ≡ 65 → Meeting h l path₁ nodes₁ m (count + 1)
+      pub meeting-on : length path₁ ≡ mostLetters → length nodes₁ ≡ mostPath → Meeting h l path₁ nodes₁ m (count + 1)
       meeting-on p q =
           record { walking = record { letters = p; ends = q; key = met told e }; all = omega (arith, w .all, fewer) }
 

@@ -7,6 +7,7 @@ use mathlib.Core.List.{List}
 use mathlib.Core.Option.{Option}
 use lib.ListN.{length}
 use Rattle.trie.specs.Rules.{Within}
+use Rattle.head.specs.Fields.{mostLetters, mostPath}
 use Rattle.head.specs.declared.Head.{Head}
 use Rattle.node.specs.Image.{Open, tableOf}
 use Rattle.bearing.proofs.Walkable.{Walkable, short}
@@ -28,12 +29,12 @@ met {h} {l} told e =
 
 -- what a walk keeps from key to key: letters and nodes enough for every key, and the last key on the path
 pub record Walking (h : Head) (l path nodes : List ℕ) (n : ℕ) : Type 0 where
-  pub letters : length path ≡ 64
-  pub ends : length nodes ≡ 65
+  pub letters : length path ≡ mostLetters
+  pub ends : length nodes ≡ mostPath
   pub key : Met h l path nodes n
 
 module _ {h : Head} {l path nodes : List ℕ} (w : Walkable h l) where
-  pub has-room : length path ≡ 64 → length nodes ≡ 65 → Room h path nodes
+  pub has-room : length path ≡ mostLetters → length nodes ≡ mostPath → Room h path nodes
   has-room p n = record { letters = omega (arith, short w); ends = omega (arith, short w) }
 
   -- what the search for the key after the last one asks for

@@ -43,7 +43,7 @@ module _ (h : Head) (l k : List ℕ) (value : ℕ) {o : Walked} where
 -- ---- the walk's end is the key's descent
 
 -- a walk stops before the key's end
-stops-before : (key : Key) → length (key .letters) ≡ 64 → key .len ≤ 64 → {g : ℕ} {t : Table} {p : Position} → Halted g t (lettersOf key) p
+stops-before : (key : Key) → length (key .letters) ≡ mostLetters → key .len ≤ mostLetters → {g : ℕ} {t : Table} {p : Position} → Halted g t (lettersOf key) p
     → p .depth < key .len
 stops-before key whole short {p = p} s =
     omega (arith, length-drop (p .depth) (lettersOf key), ap length (s .left), letters-count key whole short)
@@ -56,7 +56,7 @@ module _ {l : List ℕ} {h : Head} (a : Accepted l) (same : h ≡ headOf l) wher
       let z : _≡_ {A = ℕ} 0 1 = cc in
       omega arith
 
-  pub ends : (key : Key) → length (key .letters) ≡ 64 → key .len ≤ mostLetters
+  pub ends : (key : Key) → length (key .letters) ≡ mostLetters → key .len ≤ mostLetters
       → (o : Walked) → o ≡ walkedFrom (h .g) (tableOf h l) atRoot (lettersOf key) → Ends h key o
   ends key whole short (Walked.Complete q) walked = walked-complete _ _ (lettersOf key) walked refl .within
   ends key whole short (Walked.Stopped p) walked =

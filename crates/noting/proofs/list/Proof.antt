@@ -4,6 +4,7 @@ use mathlib.Core.Path.{_≡_, subst, _∙_, ap}
 use native.Mathlib.Omega.{arith}
 use borrow.Author.Needs.{needs}
 use lib.ListN.{length, drop, length-drop}
+use Rattle.head.specs.Fields.{mostLetters}
 use Rattle.node.proofs.Places.{data-inside, inside-used}
 use Rattle.key.specs.Hand.{lettersOf}
 use Rattle.key.proofs.Hand.{letters-count, letters-from}
@@ -12,8 +13,8 @@ use Rattle.noting.proofs.Listing.{missing-left, lists-data, lists-none,
 use Rattle.noting.proofs.list.Statement.{statement}
 use Rattle.noting.proofs.list.Tie as tie
 
--- the array has 64 letters
-whole : (c : tie.Start) → length (c .args .key .letters) ≡ 64
+-- the array's length
+whole : (c : tie.Start) → length (c .args .key .letters) ≡ mostLetters
 whole c = search needs
 
 enum-known-walked : tie.Need-enum-known-walked

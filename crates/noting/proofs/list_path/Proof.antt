@@ -6,7 +6,7 @@ use native.Mathlib.Omega.{arith}
 use borrow.Author.Needs.{needs}
 use lib.ListN.{length, getD, take, drop, length-drop, take-append-drop}
 use Rattle.trie.proofs.Letters.{letters-after}
-use Rattle.head.specs.Fields.{longestImage}
+use Rattle.head.specs.Fields.{mostLetters, longestImage}
 use Rattle.head.proofs.Permitted.{bounds}
 use Rattle.head.proofs.Places.{width-most}
 use Rattle.node.proofs.Places.{link-inside, inside-used}
@@ -22,8 +22,8 @@ Inv-loop writes₀ h depth nodes width link i₀ place₀ writes i place = Notin
 abbrev μ-loop : tie.MeasureT-loop
 μ-loop writes₀ h depth nodes width link i₀ place₀ writes i place = nodes - i
 
--- the array has 64 letters
-whole : (c : tie.Start Inv-loop μ-loop) → length (c .args .key .letters) ≡ 64
+-- the array's length
+whole : (c : tie.Start Inv-loop μ-loop) → length (c .args .key .letters) ≡ mostLetters
 whole c = search needs
 
 -- the letter that stopped the walk is one of the N

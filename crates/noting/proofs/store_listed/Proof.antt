@@ -5,6 +5,7 @@ use mir.Syntax.{w32}
 use mir.Facts.{toZ-ofZ}
 use borrow.Author.Needs.{needs, sfits-of}
 use lib.ListN.{length}
+use Rattle.head.specs.Fields.{mostLetters}
 use Rattle.paper.proofs.Checking.{head-open}
 use Rattle.key.specs.Hand.{lettersOf}
 use Rattle.storing.proofs.Stores.{ends}
@@ -12,8 +13,8 @@ use Rattle.noting.proofs.Noting.{lists-refused, lists-room, lists-done}
 use Rattle.noting.proofs.store_listed.Statement.{statement}
 use Rattle.noting.proofs.store_listed.Tie as tie
 
--- the array has 64 letters
-whole : (c : tie.Start) → length (c .args .key .letters) ≡ 64
+-- the array's length
+whole : (c : tie.Start) → length (c .args .key .letters) ≡ mostLetters
 whole c = search needs
 
 walk-requires : tie.Need-walk-requires

@@ -6,6 +6,7 @@ use native.Mathlib.Omega.{arith}
 use borrow.Author.Needs.{needs}
 use lib.ListN.{length, getD, take, length-set}
 use lib.Seq.{getD-take}
+use Rattle.head.specs.Fields.{mostLetters}
 use Rattle.head.proofs.Permitted.{bounds}
 use Rattle.key.specs.Hand.{lettersOf}
 use Rattle.key.proofs.Hand.{letters-count, letter-below}
@@ -20,8 +21,8 @@ Inv-loop image h mask path₀ nodes₀ letters len node₀ depth₀ path nodes n
 abbrev μ-loop : tie.MeasureT-loop
 μ-loop image h mask path₀ nodes₀ letters len node₀ depth₀ path nodes node depth = len - depth
 
--- the array has 64 letters
-whole : (c : tie.Start Inv-loop μ-loop) → length (c .args .key .letters) ≡ 64
+-- the array's length
+whole : (c : tie.Start Inv-loop μ-loop) → length (c .args .key .letters) ≡ mostLetters
 whole c = search needs
 
 -- so many of them are the key's

@@ -10,6 +10,7 @@ use lib.Seq.{getD-take}
 use borrow.Author.Tests.{not-true, not-false}
 use borrow.Author.Needs.{needs}
 use Rattle.trie.specs.Beyond.{firstOf}
+use Rattle.head.specs.Fields.{mostLetters}
 use Rattle.head.proofs.Permitted.{bounds}
 use Rattle.key.specs.Hand.{lettersOf}
 use Rattle.key.proofs.Hand.{letters-count, letter-below}
@@ -20,8 +21,8 @@ use Rattle.order.proofs.Requests.{stopped-key, after-key, at-key-none, 
 use Rattle.order.proofs.next.Statement.{statement}
 use Rattle.order.proofs.next.Tie as tie
 
--- the array has 64 letters
-whole : (c : tie.Start) → length (c .args .key .letters) ≡ 64
+-- the array's length
+whole : (c : tie.Start) → length (c .args .key .letters) ≡ mostLetters
 whole c = search needs
 
 -- so many of them are the key's

@@ -5,7 +5,7 @@ use native.Mathlib.Omega.{arith}
 use borrow.Author.Needs.{needs}
 use borrow.Author.Tests.{leb-true, leb-false, not-true, not-false}
 use lib.ListN.{length, drop, length-drop}
-use Rattle.head.specs.Fields.{permitted}
+use Rattle.head.specs.Fields.{mostLetters, permitted}
 use Rattle.key.specs.Hand.{lettersOf}
 use Rattle.key.proofs.Hand.{letters-count}
 use Rattle.storing.proofs.Adding.{extends-none, extends-no-address, extends-no-room, extends-done}
@@ -13,8 +13,8 @@ use Rattle.storing.proofs.Building.{space}
 use Rattle.storing.proofs.extend.Statement.{statement}
 use Rattle.storing.proofs.extend.Tie as tie
 
--- the array has 64 letters
-whole : (c : tie.Start) → length (c .args .key .letters) ≡ 64
+-- the array's length
+whole : (c : tie.Start) → length (c .args .key .letters) ≡ mostLetters
 whole c = search needs
 
 -- the letters left are those behind the stop

@@ -6,6 +6,7 @@ use mathlib.Core.List.{_∷_}
 use native.Mathlib.Omega.{arith}
 use borrow.Author.Needs.{needs}
 use lib.ListN.{length, getD, drop}
+use Rattle.head.specs.Fields.{mostLetters}
 use Rattle.head.proofs.Permitted.{bounds, addresses-fit}
 use Rattle.key.specs.Hand.{lettersOf}
 use Rattle.key.proofs.Hand.{letters-count, letters-from, letter-below}
@@ -20,8 +21,8 @@ Inv-loop image₀ h key from value letters depth₀ node₀ image depth node = L
 abbrev μ-loop : tie.MeasureT-loop
 μ-loop image₀ h key from value letters depth₀ node₀ image depth node = key .len - depth
 
--- the array has 64 letters
-whole : (c : tie.Start Inv-loop μ-loop) → length (c .args .key .letters) ≡ 64
+-- the array's length
+whole : (c : tie.Start Inv-loop μ-loop) → length (c .args .key .letters) ≡ mostLetters
 whole c = search needs
 
 count : (c : tie.Start Inv-loop μ-loop) → length (lettersOf (c .args .key)) ≡ c .args .key .len

@@ -2,14 +2,15 @@
 use mathlib.Core.Path.{_≡_}
 use borrow.Author.Needs.{needs}
 use lib.ListN.{length}
+use Rattle.head.specs.Fields.{mostLetters}
 use Rattle.paper.proofs.Checking.{head-open}
 use Rattle.key.specs.Hand.{lettersOf}
 use Rattle.storing.proofs.Stores.{ends, stores}
 use Rattle.storing.proofs.store.Statement.{statement}
 use Rattle.storing.proofs.store.Tie as tie
 
--- the array has 64 letters
-whole : (c : tie.Start) → length (c .args .key .letters) ≡ 64
+-- the array's length
+whole : (c : tie.Start) → length (c .args .key .letters) ≡ mostLetters
 whole c = search needs
 
 walk-requires : tie.Need-walk-requires

@@ -6,6 +6,7 @@ use mir.Syntax.{w32}
 use mir.Facts.{toZ-ofZ}
 use borrow.Author.Needs.{needs, sfits-of}
 use lib.ListN.{length}
+use Rattle.head.specs.Fields.{mostLetters}
 use Rattle.key.specs.Hand.{lettersOf}
 use Rattle.key.proofs.Hand.{letters-from}
 use Rattle.storing.specs.Storing.{Ends}
@@ -14,8 +15,8 @@ use Rattle.storing.proofs.Stores.{stores-over, stores-extended}
 use Rattle.storing.proofs.store_at.Statement.{statement}
 use Rattle.storing.proofs.store_at.Tie as tie
 
--- the array has 64 letters
-whole : (c : tie.Start) → length (c .args .key .letters) ≡ 64
+-- the array's length
+whole : (c : tie.Start) → length (c .args .key .letters) ≡ mostLetters
 whole c = search needs
 
 -- 11 is passed
