@@ -1,22 +1,32 @@
--- `cases::bytes` meets its contract, which asks only that it is safe and ends: the place stays within the image.
+-- `cases::bytes` meets its contract, which asks only that it is safe and ends.
 -- Assumes nothing.
-use Prim.Native.Nat.{_-_, _≤_}
-use borrow.Author.Needs.{needs}
+use Prim.Native.Nat.{_+_, _-_, _≤_}
 use lib.ListN.{length}
+use native.Mathlib.Omega.{arith}
+use borrow.Author.Needs.{needs}
 use Rattle.cases.proofs.bytes.Statement.{statement}
 use Rattle.cases.proofs.bytes.Tie as tie
+use Rattle.cases.proofs.say.Reads as say-reads
+use Rattle.field.proofs.wide.Reads as wide-reads
+use Rattle.io.proofs.print_hex.Reads as print-hex-reads
 
 abbrev Inv-loop : tie.InvT-loop
-Inv-loop image i₀ i = i ≤ length image
+Inv-loop image to i₀ t4 i = i ≤ length image
 
 abbrev μ-loop : tie.MeasureT-loop
-μ-loop image i₀ i = length image - i
+μ-loop image to i₀ t4 i = length image - i
 
 loop-holds : tie.Need-loop-holds Inv-loop μ-loop
 loop-holds c = search needs
 
-space-requires : tie.Need-space-requires Inv-loop μ-loop
-space-requires c κs = search needs
+returns : tie.Need-returns Inv-loop μ-loop
+returns c = search needs
+
+slice-aggregate-say : tie.Need-slice-aggregate-say Inv-loop μ-loop
+slice-aggregate-say c = search needs
+
+say-requires : tie.Need-say-requires Inv-loop μ-loop
+say-requires c κs = search needs
 
 shared-slice-read-wide : tie.Need-shared-slice-read-wide Inv-loop μ-loop
 shared-slice-read-wide c = search needs
@@ -36,8 +46,8 @@ loop-less c = search needs
 loop-again : tie.Need-loop-again Inv-loop μ-loop
 loop-again c = search needs
 
-returns : tie.Need-returns Inv-loop μ-loop
-returns c = search needs
+returns-2 : tie.Need-returns-2 Inv-loop μ-loop
+returns-2 c = search needs
 
 pub bytes-spec : {M : Type 1} → statement M
 bytes-spec =
@@ -46,11 +56,13 @@ bytes-spec =
     Inv-loop
     μ-loop
     loop-holds
-    space-requires
+    returns
+    slice-aggregate-say
+    say-requires
     shared-slice-read-wide
     wide-requires
     print-hex-requires
     add-i
     loop-less
     loop-again
-    returns)
+    returns-2)

@@ -1,35 +1,39 @@
--- `cases::decimals` meets its contract, which asks only that it is safe and ends: the place stays within the list.
+-- `cases::decimals` meets its contract, which asks only that it is safe and ends.
 -- Assumes nothing.
-use Prim.Native.Nat.{_-_, _≤_}
+use Prim.Native.Nat.{_+_, _-_, _≤_}
+use lib.ListN.{length}
 use native.Mathlib.Omega.{arith}
 use borrow.Author.Needs.{needs}
-use lib.ListN.{length}
 use Rattle.cases.proofs.decimals.Statement.{statement}
 use Rattle.cases.proofs.decimals.Tie as tie
+use Rattle.cases.proofs.fact.Reads as fact-reads
 
 abbrev Inv-loop : tie.InvT-loop
-Inv-loop list i₀ i = i ≤ length list
+Inv-loop list from to i₀ t5 i = from ≤ i
 
 abbrev μ-loop : tie.MeasureT-loop
-μ-loop list i₀ i = length list - i
+μ-loop list from to i₀ t5 i = length list - i
 
 loop-holds : tie.Need-loop-holds Inv-loop μ-loop
 loop-holds c = search needs
 
-space-requires : tie.Need-space-requires Inv-loop μ-loop
-space-requires c κs = search needs
+returns : tie.Need-returns Inv-loop μ-loop
+returns c = search needs
 
-mul-print-decimal : tie.Need-mul-print-decimal Inv-loop μ-loop
-mul-print-decimal c = search needs
+slice-aggregate-fact : tie.Need-slice-aggregate-fact Inv-loop μ-loop
+slice-aggregate-fact c = search needs
 
-shared-slice-read-print-decimal : tie.Need-shared-slice-read-print-decimal Inv-loop μ-loop
-shared-slice-read-print-decimal c = search needs
+mul-fact : tie.Need-mul-fact Inv-loop μ-loop
+mul-fact c = search needs
 
-cast-print-decimal : tie.Need-cast-print-decimal Inv-loop μ-loop
-cast-print-decimal c = omega (arith, c .shared-slice-known2 .given (c .before .before .before .loop .i))
+shared-slice-read-fact : tie.Need-shared-slice-read-fact Inv-loop μ-loop
+shared-slice-read-fact c = search needs
 
-print-decimal-requires : tie.Need-print-decimal-requires Inv-loop μ-loop
-print-decimal-requires c κs = search needs
+cast-fact : tie.Need-cast-fact Inv-loop μ-loop
+cast-fact c = omega (arith, c .shared-slice-known2 .given (c .before .before .before .before .loop .i))
+
+fact-requires : tie.Need-fact-requires Inv-loop μ-loop
+fact-requires c κs = search needs
 
 add-i : tie.Need-add-i Inv-loop μ-loop
 add-i c = search needs
@@ -40,8 +44,8 @@ loop-less c = search needs
 loop-again : tie.Need-loop-again Inv-loop μ-loop
 loop-again c = search needs
 
-returns : tie.Need-returns Inv-loop μ-loop
-returns c = search needs
+returns-2 : tie.Need-returns-2 Inv-loop μ-loop
+returns-2 c = search needs
 
 pub decimals-spec : {M : Type 1} → statement M
 decimals-spec =
@@ -50,12 +54,13 @@ decimals-spec =
     Inv-loop
     μ-loop
     loop-holds
-    space-requires
-    mul-print-decimal
-    shared-slice-read-print-decimal
-    cast-print-decimal
-    print-decimal-requires
+    returns
+    slice-aggregate-fact
+    mul-fact
+    shared-slice-read-fact
+    cast-fact
+    fact-requires
     add-i
     loop-less
     loop-again
-    returns)
+    returns-2)

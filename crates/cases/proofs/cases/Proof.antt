@@ -1,0 +1,81 @@
+-- `cases::cases` meets its contract, which asks only that it is safe and ends.
+-- Assumes nothing.
+use mathlib.Core.Path.{_≡_}
+use Prim.Native.Nat.{_+_, _-_, _≤_}
+use lib.ListN.{length}
+use native.Mathlib.Omega.{arith}
+use borrow.Author.Needs.{needs}
+use Rattle.cases.proofs.cases.Statement.{statement}
+use Rattle.cases.proofs.cases.Tie as tie
+use Rattle.cases.proofs.case.Reads as case-reads
+use Rattle.cases.proofs.changes.Reads as changes-reads
+use Rattle.cases.proofs.find.Reads as find-reads
+
+abbrev Inv-loop : tie.InvT-loop
+Inv-loop text before₀ image₀ lent₀ at₀ number₀ before image lent at number = (lent ≤ length image) × (number ≤ at + 1) × (length before ≡ length before₀) × (length image ≡ length image₀)
+
+abbrev μ-loop : tie.MeasureT-loop
+μ-loop text before₀ image₀ lent₀ at₀ number₀ before image lent at number = length text - at
+
+loop-holds : tie.Need-loop-holds Inv-loop μ-loop
+loop-holds c = search needs
+
+find-requires : tie.Need-find-requires Inv-loop μ-loop
+find-requires c κs = search needs
+
+changes-requires : tie.Need-changes-requires Inv-loop μ-loop
+changes-requires c κs = search needs
+
+sub-case : tie.Need-sub-case Inv-loop μ-loop
+sub-case c = search needs
+
+part-case-start : tie.Need-part-case-start Inv-loop μ-loop
+part-case-start c = search needs
+
+part-case-end : tie.Need-part-case-end Inv-loop μ-loop
+part-case-end c = search needs
+
+case-requires : tie.Need-case-requires Inv-loop μ-loop
+case-requires c κs = search needs
+
+add-at : tie.Need-add-at Inv-loop μ-loop
+add-at c = search needs
+
+add-number : tie.Need-add-number Inv-loop μ-loop
+add-number c = search needs
+
+loop-less : tie.Need-loop-less Inv-loop μ-loop
+loop-less c = search needs
+
+loop-again : tie.Need-loop-again Inv-loop μ-loop
+loop-again c = search needs
+
+same-length : tie.Need-same-length Inv-loop μ-loop
+same-length c = search needs
+
+same-length-2 : tie.Need-same-length-2 Inv-loop μ-loop
+same-length-2 c = search needs
+
+returns : tie.Need-returns Inv-loop μ-loop
+returns c = search needs
+
+pub cases-spec : {M : Type 1} → statement M
+cases-spec =
+    tie.close
+    (tie.spec
+    Inv-loop
+    μ-loop
+    loop-holds
+    find-requires
+    changes-requires
+    sub-case
+    part-case-start
+    part-case-end
+    case-requires
+    add-at
+    add-number
+    loop-less
+    loop-again
+    same-length
+    same-length-2
+    returns)
