@@ -4,6 +4,7 @@ mod line;
 ghost use mathlib.Core.Path.{_≡_};
 ghost use Prim.Native.Nat.{_≤_};
 ghost use lib.ListN.{length};
+use head::Head;
 use libc::STDIN_FILENO;
 use libc::STDOUT_FILENO;
 use line::Line;
@@ -199,17 +200,17 @@ fn run(call: usize, n: [u32; 6], given: &[u8], before: &mut [u8], image: &mut [u
     let second = n[1];
     match call {
         4 => {
-            plain(calls::make(image, n[0], second, n[2], given, n[3], n[4]));
+            plain(images::make(image, n[0], second, n[2], given, n[3], n[4]));
             bytes(image, image.len());
         }
-        5 => looked(calls::look_up(image, given)),
-        6 => looked(calls::look_up_text(image, given)),
+        5 => looked(lookups::look_up(image, given)),
+        6 => looked(lookups::look_up_text(image, given)),
         7 => {
-            plain(calls::check(image, work));
+            plain(checks::check(image, work));
             numbers(work);
         }
         8 => {
-            counted(calls::count(image, work));
+            counted(checks::count(image, work));
             numbers(work);
         }
         9 => next_key(false, second, given, image, work),
@@ -223,19 +224,19 @@ fn run(call: usize, n: [u32; 6], given: &[u8], before: &mut [u8], image: &mut [u
 }
 
 fn store(call: usize, value: u32, key: &[u8], image: &mut [u8], work: &mut [u32]) {
-    let mut list = [7u32; 132];
+    let mut list = [7u32; Head::LISTED_MOST as usize];
     match call {
-        11 => stored(calls::store(image, work, key, value)),
-        12 => stored(calls::store_text(image, work, key, value)),
+        11 => stored(stores::store(image, work, key, value)),
+        12 => stored(stores::store_text(image, work, key, value)),
         13 => {
-            let answer = calls::store_writes(image, work, key, value, &mut list);
+            let answer = stores::store_writes(image, work, key, value, &mut list);
             listed(answer, &list);
         }
         14 => {
-            let answer = calls::store_text_writes(image, work, key, value, &mut list);
+            let answer = stores::store_text_writes(image, work, key, value, &mut list);
             listed(answer, &list);
         }
-        _ => plain(calls::mend(image, work)),
+        _ => plain(images::mend(image, work)),
     }
 }
 
@@ -243,7 +244,7 @@ fn next_key(after: bool, n: u32, key: &[u8], image: &[u8], work: &mut [u32]) {
     let mut space = [0xAAu8; 300];
     let room = least(n);
     let buffer = &mut space[0..room];
-    let answer = calls::next_key(image, work, key, after, buffer);
+    let answer = checks::next_key(image, work, key, after, buffer);
     match answer {
         Found::Key { length, value } => done(length, value),
         Found::Refused(why) => refused(why),
@@ -295,7 +296,7 @@ fn stored(answer: Stored) {
 }
 
 // The numbers of the list that were written, and two more.
-fn listed(answer: Listed, list: &[u32; 132]) {
+fn listed(answer: Listed, list: &[u32; Head::LISTED_MOST as usize]) {
     match answer {
         Listed::Change { change, writes } => {
             stored(Stored::Change(change));
