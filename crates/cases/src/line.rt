@@ -1,4 +1,5 @@
-// A line, read byte by byte.
+// A line, read byte by byte: its form (the word, an `n` for each number, a `b` for bytes), its numbers, and how many bytes were laid out.
+// Where something is wrong the form is one that no call has.
 
 pub struct Line {
     pub form: [u8; 24],
@@ -11,12 +12,19 @@ pub struct Line {
 }
 
 const WORD: u8 = 0;
+
 const GAP: u8 = 1;
+
 const NUMBER: u8 = 2;
+
 const BYTES: u8 = 3;
+
 const HALF: u8 = 4;
+
 const QUOTED: u8 = 5;
+
 const TIMES: u8 = 6;
+
 const WRONG: u8 = 7;
 
 impl Line {
@@ -45,12 +53,29 @@ impl Line {
     fn step(self, b: u8, out: &mut [u8]) -> Line {
         let mode = self.mode;
         match mode {
-            WORD => self.word(b),
-            GAP => self.gap(b),
+            WORD => {
+                if b == 32 {
+                    self.formed(32, GAP)
+                } else {
+                    self.formed(b, WORD)
+                }
+            }
+            GAP => match b {
+                32 => self,
+                b'x' => self.formed(b'b', BYTES),
+                b'"' => self.formed(b'b', QUOTED),
+                _ => self.number(b),
+            },
             NUMBER => self.number(b),
             BYTES => self.bytes(b),
             HALF => self.half(b, out),
-            QUOTED => self.quoted(b, out),
+            QUOTED => {
+                if b == b'"' {
+                    self.at(BYTES, 0)
+                } else {
+                    self.byte(b, QUOTED, out)
+                }
+            }
             TIMES => self.times(b, out),
             _ => self,
         }
@@ -72,43 +97,25 @@ impl Line {
         self.at(WRONG, 0)
     }
 
-    fn word(self, b: u8) -> Line {
-        if b == 32 {
-            self.formed(32, GAP)
-        } else {
-            self.formed(b, WORD)
-        }
-    }
-
-    fn gap(self, b: u8) -> Line {
-        match b {
-            32 => self,
-            48..=57 => self.at(NUMBER, (b - 48) as u64),
-            b'x' => self.formed(b'b', BYTES),
-            b'"' => self.formed(b'b', QUOTED),
-            _ => self.at(WRONG, 0),
-        }
-    }
-
     fn number(mut self, b: u8) -> Line {
         let value = self.value;
-        let count = self.count;
-        let d = digit(b);
         if 4294967295 < value {
             return self.at(WRONG, 0);
         }
+        let d = digit(b);
         if d < 10 {
             return self.at(NUMBER, value * 10 + d as u64);
         }
         if b != 32 {
             return self.at(WRONG, 0);
         }
-        if count < 6 {
-            self.numbers[count] = value as u32;
-            self.count = count + 1;
-            return self.formed(b'n', GAP);
+        let count = self.count;
+        if 5 < count {
+            return self.at(WRONG, 0);
         }
-        self.at(WRONG, 0)
+        self.numbers[count] = value as u32;
+        self.count = count + 1;
+        self.formed(b'n', GAP)
     }
 
     fn bytes(self, b: u8) -> Line {
@@ -138,14 +145,6 @@ impl Line {
             return self.at(WRONG, 0);
         }
         self.byte(value as u8 * 16 + d, BYTES, out)
-    }
-
-    fn quoted(self, b: u8, out: &mut [u8]) -> Line {
-        if b == b'"' {
-            self.at(BYTES, 0)
-        } else {
-            self.byte(b, QUOTED, out)
-        }
     }
 
     fn byte(mut self, b: u8, mode: u8, out: &mut [u8]) -> Line {

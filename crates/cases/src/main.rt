@@ -1,4 +1,18 @@
-// Cases of the public calls, read from standard input, a line for each: the call, its numbers, its bytes, a bar, and the name of the case.
+// Cases of the public calls, read from standard input, a line for each. A line is a word, its numbers, its bytes, a bar and the name of the
+// case; one without a word is passed over. Numbers are decimal and fit 32 bits. Bytes are hexadecimal digits after an x, among which dots
+// are passed over, or text in quotes, one after the other; *N makes N of the last byte.
+//
+//   image B                 the image is these bytes
+//   put AT B                these bytes are laid into it at a place
+//   lend LEN                so many of its bytes are lent from then on
+//   make N A D MIN MAX B    with the alphabet B
+//   look_up B               by letters; look_up_text by text
+//   check W                 with W working numbers, which hold 7; so count and mend
+//   next_key W ROOM B       at or after B, with so much room for a key; next_key_after after it
+//   store W VALUE B         by letters; store_text by text; store_writes and store_text_writes list their writes
+//
+// What is written for a call is the name, the number and place of the answer, its other numbers where the call has them, and every lent
+// buffer afterwards. A line that is none of these is told by its number. A new call is a row of `FORMS` and an arm of `run`.
 mod line;
 
 ghost use mathlib.Core.Path.{_≡_};
@@ -15,6 +29,9 @@ use paper::Listed;
 use paper::Looked;
 use paper::Refusal;
 use paper::Stored;
+
+// No number of bytes that can be lent.
+const NONE: usize = 4294967295;
 
 // The forms of a line: the call, an `n` for each number, a `b` for bytes.
 const FORMS: [[u8; 24]; 16] = [
@@ -40,21 +57,26 @@ fn main() {
     let mut space = [0u8; 262144];
     let len = io::read_full(STDIN_FILENO, &mut space);
     let mut image = [0u8; 1024];
-    let mut before = [0u8; 1024];
-    cases(&space[0..len], &mut before, &mut image);
+    cases(&space[0..len], &mut image);
     if len == 262144 {
         say(b"too long\n");
     }
 }
 
-fn cases(text: &[u8], before: &mut [u8], image: &mut [u8]) {
+// Every line in turn; the image and how much of it is lent go on from one to the next.
+fn cases(text: &[u8], image: &mut [u8]) {
     let mut lent: usize = 0;
     let mut at: usize = 0;
     let mut number: u64 = 1;
     while at < text.len() {
         let end = find(text, at, 10);
-        changes(before, image);
-        lent = case(&text[at..end], number, before, image, lent);
+        let next = case(&text[at..end], image, lent);
+        if next <= image.len() {
+            lent = next;
+        } else {
+            fact(b"line ", number);
+            say(b": not a case\n");
+        }
         at = end + 1;
         number += 1;
     }
@@ -75,72 +97,52 @@ fn find(text: &[u8], from: usize, byte: u8) -> usize
     i
 }
 
-// Runs a line. The answer is how many bytes of the image are lent from then on.
-fn case(text: &[u8], number: u64, before: &mut [u8], image: &mut [u8], lent: usize) -> usize
+// Runs a line. The answer is how many bytes of the image are lent from then on; more than it has is a line that is no case.
+fn case(text: &[u8], image: &mut [u8], lent: usize) -> usize
     requires { ⌜ lent ≤ length (now image) ⌝ }
-    ensures { λ r. ⌜ r ≤ length (now (image .entry)) ⌝ }
 {
     let bar = find(text, 0, b'|');
     let mut space = [0u8; 2048];
     let bytes: &mut [u8] = &mut space;
     let read = Line::of(&text[0..bar], bytes);
-    let len = read.len;
-    let all = &bytes[..];
-    if all.len() < len {
-        return wrong(number, lent);
-    }
-    let given = &all[0..len];
+    let given = shown(bytes, read.len);
     let numbers = read.numbers;
-    let first = numbers[0] as usize;
     let form = read.form;
     let call = which(form);
     match call {
         0 => lent,
-        1 => put(number, image, 0, given, len, lent),
-        2 => put(number, image, first, given, lent, lent),
-        3 => put(number, image, 0, b"", first, lent),
+        1 => put(image, 0, given, given.len()),
+        2 => put(image, numbers[0] as usize, given, lent),
+        3 => numbers[0] as usize,
         _ => {
             if !fits(call, numbers) {
-                return wrong(number, lent);
+                return NONE;
             }
             name(text, bar);
-            run(call, numbers, given, before, &mut image[0..lent]);
+            run(call, numbers, given, &mut image[0..lent]);
             say(b"\n");
             lent
         }
     }
 }
 
-// A line that is no case.
-fn wrong(number: u64, lent: usize) -> usize
-    ensures { λ r. ⌜ r ≡ lent ⌝ }
-{
-    fact(b"line ", number);
-    say(b": not a case\n");
-    lent
+// The first bytes of a slice.
+fn shown(bytes: &[u8], len: usize) -> &[u8] {
+    if len <= bytes.len() {
+        &bytes[0..len]
+    } else {
+        bytes
+    }
 }
 
-// The bytes laid into the image at a place, and so many bytes lent from then on.
-fn put(
-    number: u64,
-    image: &mut [u8],
-    at: usize,
-    given: &[u8],
-    lend: usize,
-    lent: usize,
-) -> usize
-    requires { ⌜ lent ≤ length (now image) ⌝ }
-    ensures { λ r. ⌜ r ≤ length (now (image .entry)) ⌝ }
-{
+// The bytes laid into the image at a place. So many are lent from then on.
+fn put(image: &mut [u8], at: usize, given: &[u8], lend: usize) -> usize {
     let len = image.len();
-    if len < lend {
-        return wrong(number, lent);
-    }
     if len < at {
-        return wrong(number, lent);
+        return NONE;
     }
     if len - at < given.len() {
-        return wrong(number, lent);
+        return NONE;
     }
     field::lay(image, at, given);
     lend
@@ -193,7 +195,7 @@ fn name(text: &[u8], bar: usize) {
 }
 
 // Runs a call on the lent part of the image and writes what it answers and leaves.
-fn run(call: usize, n: [u32; 6], given: &[u8], before: &mut [u8], image: &mut [u8]) {
+fn run(call: usize, n: [u32; 6], given: &[u8], image: &mut [u8]) {
     let mut space = [7u32; 300];
     let first = least(n[0]);
     let work = &mut space[0..first];
@@ -207,22 +209,24 @@ fn run(call: usize, n: [u32; 6], given: &[u8], before: &mut [u8], image: &mut [u
         6 => looked(lookups::look_up_text(image, given)),
         7 => {
             plain(checks::check(image, work));
-            numbers(work);
+            decimals(b" work", work, 300);
         }
         8 => {
             counted(checks::count(image, work));
-            numbers(work);
+            decimals(b" work", work, 300);
         }
         9 => next_key(false, second, given, image, work),
         10 => next_key(true, second, given, image, work),
         _ => {
+            let mut before = [0u8; 1024];
+            changes(&mut before, image);
             store(call, second, given, image, work);
-            left(before, image);
-            numbers(work);
+            left(changes(&mut before, image), image, work);
         }
     }
 }
 
+// The calls that write the image and are lent working numbers.
 fn store(call: usize, value: u32, key: &[u8], image: &mut [u8], work: &mut [u32]) {
     let mut list = [7u32; Head::LISTED_MOST as usize];
     match call {
@@ -249,10 +253,11 @@ fn next_key(after: bool, n: u32, key: &[u8], image: &[u8], work: &mut [u32]) {
         Found::Key { length, value } => done(length, value),
         Found::Refused(why) => refused(why),
     }
-    numbers(work);
+    decimals(b" work", work, 300);
     bytes(buffer, 300);
 }
 
+// A size that the lent arrays have.
 fn least(n: u32) -> usize
     ensures { λ r. ⌜ r ≤ 300 ⌝ }
 {
@@ -261,7 +266,7 @@ fn least(n: u32) -> usize
 
 fn plain(answer: Done) {
     match answer {
-        Done::Done => said(0, 0),
+        Done::Done => say(b" 0 at 0:"),
         Done::Refused(why) => refused(why),
     }
 }
@@ -282,15 +287,12 @@ fn looked(answer: Looked) {
 
 fn stored(answer: Stored) {
     match answer {
-        Stored::Change(change) => {
-            said(0, 0);
-            match change {
-                -1 => say(b" change -1"),
-                0 => say(b" change 0"),
-                1 => say(b" change 1"),
-                _ => say(b" change ?"),
-            }
-        }
+        Stored::Change(change) => match change {
+            -1 => say(b" 0 at 0: change -1"),
+            0 => say(b" 0 at 0: change 0"),
+            1 => say(b" 0 at 0: change 1"),
+            _ => say(b" 0 at 0: change ?"),
+        },
         Stored::Refused(why) => refused(why),
     }
 }
@@ -301,61 +303,50 @@ fn listed(answer: Listed, list: &[u32; Head::LISTED_MOST as usize]) {
         Listed::Change { change, writes } => {
             stored(Stored::Change(change));
             fact(b" writes ", writes as u64);
-            say(b" list");
-            decimals(list, 0, writes as usize * 2 + 2);
+            decimals(b" list", list, writes as usize * 2 + 2);
         }
         Listed::Refused(why) => {
             refused(why);
-            say(b" list");
-            decimals(list, 0, 2);
+            decimals(b" list", list, 2);
         }
     }
 }
 
 fn refused(why: Refusal) {
-    said(why.number(), why.place());
-}
-
-fn said(number: u32, place: u32) {
-    fact(b" ", number as u64);
-    fact(b" at ", place as u64);
+    fact(b" ", why.number() as u64);
+    fact(b" at ", why.place() as u64);
     say(b":");
 }
 
 // The numbers of an answer that is done: its length, where the call has one, and its value.
 fn done(length: u32, value: u64) {
-    said(0, 0);
-    fact(b" length ", length as u64);
+    fact(b" 0 at 0: length ", length as u64);
     fact(b" value ", value);
 }
 
 // What a store or a mending leaves: the image or, of one that is too long for a line, G and how many bytes changed.
-fn left(before: &mut [u8], image: &[u8]) {
+fn left(changed: u64, image: &[u8], work: &[u32]) {
     if image.len() <= 64 {
         say(b" image");
-        bytes(image, image.len());
+        bytes(image, 64);
     } else {
         say(b" G");
         bytes(image, 4);
-        fact(b" bytes changed ", changes(before, image));
+        fact(b" bytes changed ", changed);
     }
+    decimals(b" work", work, 300);
 }
 
-// The working numbers, of more than 252 those behind them.
-fn numbers(work: &[u32]) {
-    say(b" work");
-    if work.len() <= 252 {
-        decimals(work, 0, 252);
-    } else {
-        decimals(work, 252, 300);
+// The numbers of a list up to a place. Of more than 252 only those behind them.
+fn decimals(words: &[u8], list: &[u32], to: usize) {
+    say(words);
+    let mut i: usize = 0;
+    if 252 < list.len() {
+        i = 252;
     }
-}
-
-fn decimals(list: &[u32], from: usize, to: usize) {
-    let mut i = from;
     while i < list.len() {
         if to <= i {
-            return;
+            break;
         }
         fact(b" ", list[i] as u64);
         i += 1;

@@ -2,29 +2,28 @@
 -- Assumes nothing.
 use mathlib.Core.Path.{_≡_}
 use Prim.Native.Nat.{_+_, _-_, _≤_}
-use lib.ListN.{length}
+use mathlib.Core.Logic.{⊎-elim}
+use lib.ListN.{length, take}
 use native.Mathlib.Omega.{arith}
 use borrow.Author.Needs.{needs}
 use Rattle.cases.proofs.cases.Statement.{statement}
 use Rattle.cases.proofs.cases.Tie as tie
 use Rattle.cases.proofs.case.Reads as case-reads
-use Rattle.cases.proofs.changes.Reads as changes-reads
+use Rattle.cases.proofs.fact.Reads as fact-reads
 use Rattle.cases.proofs.find.Reads as find-reads
+use Rattle.cases.proofs.say.Reads as say-reads
 
 abbrev Inv-loop : tie.InvT-loop
-Inv-loop text before₀ image₀ lent₀ at₀ number₀ before image lent at number = (lent ≤ length image) × (number ≤ at + 1) × (length before ≡ length before₀) × (length image ≡ length image₀)
+Inv-loop text image₀ lent₀ at₀ number₀ t8 t9 image lent at number = (lent ≤ length image) × (number ≤ at + 1) × (length image ≡ length image₀)
 
 abbrev μ-loop : tie.MeasureT-loop
-μ-loop text before₀ image₀ lent₀ at₀ number₀ before image lent at number = length text - at
+μ-loop text image₀ lent₀ at₀ number₀ t8 t9 image lent at number = length text - at
 
 loop-holds : tie.Need-loop-holds Inv-loop μ-loop
 loop-holds c = search needs
 
 find-requires : tie.Need-find-requires Inv-loop μ-loop
 find-requires c κs = search needs
-
-changes-requires : tie.Need-changes-requires Inv-loop μ-loop
-changes-requires c κs = search needs
 
 sub-case : tie.Need-sub-case Inv-loop μ-loop
 sub-case c = search needs
@@ -38,6 +37,18 @@ part-case-end c = search needs
 case-requires : tie.Need-case-requires Inv-loop μ-loop
 case-requires c κs = search needs
 
+slice-aggregate-fact : tie.Need-slice-aggregate-fact Inv-loop μ-loop
+slice-aggregate-fact c = search needs
+
+fact-requires : tie.Need-fact-requires Inv-loop μ-loop
+fact-requires c κs = search needs
+
+slice-aggregate-say : tie.Need-slice-aggregate-say Inv-loop μ-loop
+slice-aggregate-say c = search needs
+
+say-requires : tie.Need-say-requires Inv-loop μ-loop
+say-requires c κs = search needs
+
 add-at : tie.Need-add-at Inv-loop μ-loop
 add-at c = search needs
 
@@ -48,13 +59,10 @@ loop-less : tie.Need-loop-less Inv-loop μ-loop
 loop-less c = search needs
 
 loop-again : tie.Need-loop-again Inv-loop μ-loop
-loop-again c = search needs
+loop-again c = ⊎-elim (λ w. (omega arith, omega arith, search needs)) (λ w. (omega arith, omega arith, search needs)) (c .if1 .came)
 
 same-length : tie.Need-same-length Inv-loop μ-loop
 same-length c = search needs
-
-same-length-2 : tie.Need-same-length-2 Inv-loop μ-loop
-same-length-2 c = search needs
 
 returns : tie.Need-returns Inv-loop μ-loop
 returns c = search needs
@@ -67,15 +75,17 @@ cases-spec =
     μ-loop
     loop-holds
     find-requires
-    changes-requires
     sub-case
     part-case-start
     part-case-end
     case-requires
+    slice-aggregate-fact
+    fact-requires
+    slice-aggregate-say
+    say-requires
     add-at
     add-number
     loop-less
     loop-again
     same-length
-    same-length-2
     returns)

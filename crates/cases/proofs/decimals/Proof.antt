@@ -1,5 +1,6 @@
 -- `cases::decimals` meets its contract, which asks only that it is safe and ends.
 -- Assumes nothing.
+use mathlib.Core.Path.{_≡_}
 use Prim.Native.Nat.{_+_, _-_, _≤_}
 use lib.ListN.{length}
 use native.Mathlib.Omega.{arith}
@@ -7,18 +8,19 @@ use borrow.Author.Needs.{needs}
 use Rattle.cases.proofs.decimals.Statement.{statement}
 use Rattle.cases.proofs.decimals.Tie as tie
 use Rattle.cases.proofs.fact.Reads as fact-reads
+use Rattle.cases.proofs.say.Reads as say-reads
 
 abbrev Inv-loop : tie.InvT-loop
-Inv-loop list from to i₀ t5 i = from ≤ i
+Inv-loop words list to i₀ t5 i = i₀ ≤ i
 
 abbrev μ-loop : tie.MeasureT-loop
-μ-loop list from to i₀ t5 i = length list - i
+μ-loop words list to i₀ t5 i = length list - i
+
+say-requires : tie.Need-say-requires Inv-loop μ-loop
+say-requires c κs = search needs
 
 loop-holds : tie.Need-loop-holds Inv-loop μ-loop
 loop-holds c = search needs
-
-returns : tie.Need-returns Inv-loop μ-loop
-returns c = search needs
 
 slice-aggregate-fact : tie.Need-slice-aggregate-fact Inv-loop μ-loop
 slice-aggregate-fact c = search needs
@@ -30,7 +32,7 @@ shared-slice-read-fact : tie.Need-shared-slice-read-fact Inv-loop μ-loop
 shared-slice-read-fact c = search needs
 
 cast-fact : tie.Need-cast-fact Inv-loop μ-loop
-cast-fact c = omega (arith, c .shared-slice-known2 .given (c .before .before .before .before .loop .i))
+cast-fact c = omega (arith, c .shared-slice-known3 .given (c .before .before .before .before .before .loop .i))
 
 fact-requires : tie.Need-fact-requires Inv-loop μ-loop
 fact-requires c κs = search needs
@@ -44,6 +46,9 @@ loop-less c = search needs
 loop-again : tie.Need-loop-again Inv-loop μ-loop
 loop-again c = search needs
 
+returns : tie.Need-returns Inv-loop μ-loop
+returns c = search needs
+
 returns-2 : tie.Need-returns-2 Inv-loop μ-loop
 returns-2 c = search needs
 
@@ -53,8 +58,8 @@ decimals-spec =
     (tie.spec
     Inv-loop
     μ-loop
+    say-requires
     loop-holds
-    returns
     slice-aggregate-fact
     mul-fact
     shared-slice-read-fact
@@ -63,4 +68,5 @@ decimals-spec =
     add-i
     loop-less
     loop-again
+    returns
     returns-2)
