@@ -1,5 +1,5 @@
 -- The outcome of mend, at each way out: the check passed, it answered another number than 8, or the trial was made and passed or was refused.
-use Prim.Native.Nat.{ℕ, _-_, _^_, _≤_, _<_}
+use Prim.Native.Nat.{ℕ, _+_, _-_, _^_, _≤_, _<_}
 use mathlib.Core.Path.{_≡_, sym, _∙_, ap}
 use mathlib.Core.Bool.{false}
 use mathlib.Core.Logic.{_≢_}
@@ -10,6 +10,7 @@ use denote.Enum.Declared.{tagOf}
 use types.Run.{OneOf, miss}
 use lib.IntN.{pos}
 use lib.ListN.{length}
+use Rattle.head.specs.Fields.{totalAt, totalLen}
 use Rattle.paper.specs.declared.Refusal.{Refusal}
 use Rattle.paper.specs.declared.Verdict.{Verdict}
 use Rattle.paper.specs.declared.Done.{Done}
@@ -79,7 +80,7 @@ module _ {l work : List ℕ} {r : Opened} {work′ codes : List ℕ} (o : Checke
     unfolding refusalNumbers refusedNumbers
     same-place = ap (λ (m : Numbers). m .place) (check-refused e)
 
-    pub lower-asks : (1 ≤ p) × (4 ≤ length l)
+    pub lower-asks : (1 ≤ p) × (totalAt + totalLen ≤ length l)
     lower-asks = (rw same-place at (eight l work is-eight .least), eight-long l work is-eight)
 
     module _ (fits : p < 2 ^ 32) {v : Verdict} {l″ work″ : List ℕ} (t : Lowers l work′ p v l″ work″) where

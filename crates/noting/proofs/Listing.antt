@@ -13,7 +13,7 @@ use Rattle.field.proofs.Fields.{length-digits}
 use Rattle.trie.specs.Table.{Letters, missing}
 use Rattle.trie.specs.Storing.{added}
 use Rattle.head.specs.declared.Head.{Head}
-use Rattle.head.specs.Fields.{nodeWidth, nodePlace, usedLen}
+use Rattle.head.specs.Fields.{totalLen, nodeWidth, nodePlace, usedLen}
 use Rattle.head.proofs.Places.{row, place-add}
 use Rattle.node.specs.Image.{linkPlace, dataPlace}
 use Rattle.node.specs.Writes.{Write, listed, newNodes, totalWrite, linkWrite, dataWrite, storeWrites}
@@ -62,7 +62,7 @@ lists-path h q x xs list {nodes = nodes} e s n used wide place r w v =
             place,
             add-one (h .g),
             nodes-listed h (suc v) ws (suc (h .g)) xs below,
-            length-digits 4 total,
+            length-digits totalLen total,
             length-digits (h .a) (suc (h .g)),
           );
     })

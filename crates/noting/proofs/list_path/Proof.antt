@@ -6,7 +6,7 @@ use native.Mathlib.Omega.{arith}
 use borrow.Author.Needs.{needs}
 use lib.ListN.{length, getD, take, drop, length-drop, take-append-drop}
 use Rattle.trie.proofs.Letters.{letters-after}
-use Rattle.head.specs.Fields.{mostLetters, longestImage}
+use Rattle.head.specs.Fields.{mostLetters, totalAt, totalLen, longestImage}
 use Rattle.head.proofs.Permitted.{bounds}
 use Rattle.head.proofs.Places.{width-most}
 use Rattle.node.proofs.Places.{link-inside, inside-used}
@@ -142,7 +142,7 @@ returns c =
     (letters-after (a .h .n) (take depth k) (drop depth k) (rw (take-append-drop depth k) (start .pre .1 .0 .letters)))
     (omega (arith, length-drop depth k, letters-count (a .key) (whole start) short)) (used .used .ensures) (used .before .before .node-width .ensures)
     (used .before .link-place .ensures) refl
-    (noting-end (at .loop .inv) 0 4 (used .before .link-place .result) (a .h .a) (over .loop-test .left) (noted .note2 .ensures) (c .note3 .ensures))
+    (noting-end (at .loop .inv) totalAt totalLen (used .before .link-place .result) (a .h .a) (over .loop-test .left) (noted .note2 .ensures) (c .note3 .ensures))
 
 pub list-path-spec : {M : Type 1} → statement M
 list-path-spec =
