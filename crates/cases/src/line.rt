@@ -1,16 +1,28 @@
-// A line, read byte by byte: its form (the word, an `n` for each number, a `b` for bytes), its numbers, and how many bytes were laid out.
-// Where something is wrong the form is one that no call has.
+// A line that is read byte by byte: a `Line` is what has been read so far, and `step` takes the next byte. How a line is written stands in
+// main.rt.
 
+// A line: its form, its numbers and its bytes, and where the reading is.
 pub struct Line {
+    // The call, then an `n` for each number and a `b` for bytes; blanks behind them.
     pub form: [u8; 24],
-    pub numbers: [u32; 6],
+    // The numbers, in their order.
+    pub a: u32,
+    pub b: u32,
+    pub c: u32,
+    pub d: u32,
+    pub e: u32,
+    // The bytes, and how many they are.
+    pub bytes: [u8; Line::BYTES],
     pub len: usize,
+    // What is being read, how far the form has come, how many numbers there were, and the digits so far.
     mode: u8,
     end: usize,
-    count: usize,
+    count: u8,
     value: u64,
 }
 
+// What is being read: the call, blanks, a number, bytes, a byte's second digit, a text, how often a byte stands; or nothing, since the line is
+// no case.
 const WORD: u8 = 0;
 
 const GAP: u8 = 1;
@@ -28,10 +40,19 @@ const TIMES: u8 = 6;
 const WRONG: u8 = 7;
 
 impl Line {
-    pub fn of(text: &[u8], out: &mut [u8]) -> Line {
+    // The most bytes that a line gives.
+    pub const BYTES: usize = 2048;
+
+    // Reads a line. One that is no case has a form that is none.
+    pub fn of(text: &[u8]) -> Line {
         let mut l = Line {
             form: [32; 24],
-            numbers: [0; 6],
+            a: 0,
+            b: 0,
+            c: 0,
+            d: 0,
+            e: 0,
+            bytes: [0; Self::BYTES],
             len: 0,
             mode: WORD,
             end: 0,
@@ -40,17 +61,18 @@ impl Line {
         };
         let mut i: usize = 0;
         while i < text.len() {
-            l = l.step(text[i], out);
+            l = l.step(text[i]);
             i += 1;
         }
-        l = l.step(32, out);
+        l = l.step(32);
         if l.mode != GAP {
             l.form = [63; 24];
         }
         l
     }
 
-    fn step(self, b: u8, out: &mut [u8]) -> Line {
+    // The next byte; behind the last one, a blank.
+    fn step(self, b: u8) -> Line {
         let mode = self.mode;
         match mode {
             WORD => {
@@ -68,25 +90,27 @@ impl Line {
             },
             NUMBER => self.number(b),
             BYTES => self.bytes(b),
-            HALF => self.half(b, out),
+            HALF => self.half(b),
             QUOTED => {
                 if b == b'"' {
                     self.at(BYTES, 0)
                 } else {
-                    self.byte(b, QUOTED, out)
+                    self.byte(b, QUOTED)
                 }
             }
-            TIMES => self.times(b, out),
+            TIMES => self.times(b),
             _ => self,
         }
     }
 
+    // What is read next, with the digits so far.
     fn at(mut self, mode: u8, value: u64) -> Line {
         self.mode = mode;
         self.value = value;
         self
     }
 
+    // A byte more of the form.
     fn formed(mut self, b: u8, mode: u8) -> Line {
         let end = self.end;
         if end < 24 {
@@ -97,7 +121,8 @@ impl Line {
         self.at(WRONG, 0)
     }
 
-    fn number(mut self, b: u8) -> Line {
+    // A digit of a number, or the blank behind it.
+    fn number(self, b: u8) -> Line {
         let value = self.value;
         if 4294967295 < value {
             return self.at(WRONG, 0);
@@ -109,15 +134,26 @@ impl Line {
         if b != 32 {
             return self.at(WRONG, 0);
         }
-        let count = self.count;
-        if 5 < count {
-            return self.at(WRONG, 0);
-        }
-        self.numbers[count] = value as u32;
-        self.count = count + 1;
-        self.formed(b'n', GAP)
+        self.kept(value as u32).formed(b'n', GAP)
     }
 
+    // The next number; a sixth has no form.
+    fn kept(mut self, n: u32) -> Line {
+        let count = self.count;
+        match count {
+            0 => self.a = n,
+            1 => self.b = n,
+            2 => self.c = n,
+            3 => self.d = n,
+            _ => self.e = n,
+        }
+        if count < 5 {
+            self.count = count + 1;
+        }
+        self
+    }
+
+    // A digit of the next byte, or what may stand between two.
     fn bytes(self, b: u8) -> Line {
         match b {
             32 => self.at(GAP, 0),
@@ -135,7 +171,8 @@ impl Line {
         }
     }
 
-    fn half(self, b: u8, out: &mut [u8]) -> Line {
+    // The second digit of a byte.
+    fn half(self, b: u8) -> Line {
         let d = digit(b);
         let value = self.value;
         if 15 < d {
@@ -144,32 +181,39 @@ impl Line {
         if 15 < value {
             return self.at(WRONG, 0);
         }
-        self.byte(value as u8 * 16 + d, BYTES, out)
+        self.byte(value as u8 * 16 + d, BYTES)
     }
 
-    fn byte(mut self, b: u8, mode: u8, out: &mut [u8]) -> Line {
+    // A byte more.
+    fn byte(mut self, b: u8, mode: u8) -> Line {
         let len = self.len;
-        if len < out.len() {
-            out[len] = b;
+        if len < Self::BYTES {
+            self.bytes[len] = b;
             self.len = len + 1;
             return self.at(mode, 0);
         }
         self.at(WRONG, 0)
     }
 
-    fn times(self, b: u8, out: &mut [u8]) -> Line {
+    // A digit of how often a byte stands, or what is behind it.
+    fn times(self, b: u8) -> Line {
         let d = digit(b);
         let value = self.value;
-        if 2048 < value {
+        if Self::BYTES < value as usize {
             return self.at(WRONG, 0);
         }
         if d < 10 {
             return self.at(TIMES, value * 10 + d as u64);
         }
-        self.repeated(value, out).bytes(b)
+        let line = self.repeated(value);
+        if line.mode == WRONG {
+            return line;
+        }
+        line.bytes(b)
     }
 
-    fn repeated(self, value: u64, out: &mut [u8]) -> Line {
+    // The last byte once more, until it stands so often.
+    fn repeated(self, value: u64) -> Line {
         let len = self.len;
         if value == 0 {
             return self.at(WRONG, 0);
@@ -177,20 +221,21 @@ impl Line {
         if len == 0 {
             return self.at(WRONG, 0);
         }
-        if out.len() < len {
+        if Self::BYTES < len {
             return self.at(WRONG, 0);
         }
-        let last = out[len - 1];
+        let last = self.bytes[len - 1];
         let mut l = self;
         let mut left = value;
         while 1 < left {
-            l = l.byte(last, BYTES, out);
+            l = l.byte(last, BYTES);
             left -= 1;
         }
         l
     }
 }
 
+// The value of a hexadecimal digit, else 16.
 fn digit(b: u8) -> u8 {
     match b {
         48..=57 => b - 48,

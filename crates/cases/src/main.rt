@@ -1,21 +1,31 @@
-// Cases of the public calls, read from standard input, a line for each. A line is a word, its numbers, its bytes, a bar and the name of the
-// case; one without a word is passed over. Numbers are decimal and fit 32 bits. Bytes are hexadecimal digits after an x, among which dots
-// are passed over, or text in quotes, one after the other; *N makes N of the last byte.
+// The cases of the public calls, read from standard input, a line for each call. What is written of each: the name of the case, the answer's
+// number and place, its length and value or its change where the call has them, and every lent buffer afterwards. What must be written stands
+// in `stdout`. Document 01's cases stand in `stdin`, and those of a cut between two writes.
 //
-//   image B                 the image is these bytes
-//   put AT B                these bytes are laid into it at a place
-//   lend LEN                so many of its bytes are lent from then on
-//   make N A D MIN MAX B    with the alphabet B
-//   look_up B               by letters; look_up_text by text
-//   check W                 with W working numbers, which hold 7; so count and mend
-//   next_key W ROOM B       at or after B, with so much room for a key; next_key_after after it
-//   store W VALUE B         by letters; store_text by text; store_writes and store_text_writes list their writes
+// A line has the call, its numbers, its bytes, a bar and the name of the case, with a blank between each two:
 //
-// What is written for a call is the name, the number and place of the answer, its other numbers where the call has them, and every lent
-// buffer afterwards. A line that is none of these is told by its number. A new call is a row of `FORMS` and an arm of `run`.
+//     store 6 9 x0100 | store letters, P2 BA = 9
+//
+//     image BYTES                              these bytes are the image, and all of it is lent
+//     put AT BYTES                             these bytes stand at a place of the image
+//     lend N                                   so many bytes of the image are lent from here on
+//     make N A D MIN MAX BYTES                 in the lent bytes, with this alphabet
+//     look_up LETTERS                          look_up_text TEXT
+//     check WORK                               with so many working numbers
+//     count WORK                               mend WORK
+//     next_key WORK ROOM LETTERS               next_key_after the same: at or after the key, after it; a buffer of so many letters
+//     store WORK VALUE LETTERS                 store_text WORK VALUE TEXT
+//     store_writes WORK VALUE LETTERS          store_text_writes WORK VALUE TEXT
+//
+// Numbers are decimal. Bytes, letters and text are written alike: x and two hexadecimal digits a byte, or a text in quotes, or both in turn;
+// `.` may stand between two bytes, and `*N` behind one says that it stands N times. So x00*65 is a key of 65 letters, "A"*64"D" a text, and x
+// or "" is nothing. The image is kept from line to line, as the calls leave it. Before each call working numbers and lists of writes hold 7, key
+// buffers AA. A line with nothing before its bar is a remark. Any other line is reported, as in `line 17: not a case`, and the next one is run.
+//
+// For a new call: a row at the end of FORMS, and an arm with its number in `run`, if it is lent no working numbers, else in `work`, or in
+// `change`, if it changes the image.
 mod line;
 
-ghost use mathlib.Core.Path.{_≡_};
 ghost use Prim.Native.Nat.{_≤_};
 ghost use lib.ListN.{length};
 use head::Head;
@@ -30,22 +40,26 @@ use paper::Looked;
 use paper::Refusal;
 use paper::Stored;
 
-// No number of bytes that can be lent.
-const NONE: usize = 4294967295;
+// How many forms of a line there are.
+const CALLS: usize = 16;
 
-// The forms of a line: the call, an `n` for each number, a `b` for bytes.
-const FORMS: [[u8; 24]; 16] = [
+// The forms, by the number of their arm below: the call, an `n` for each number, a `b` for bytes.
+const FORMS: [[u8; 24]; CALLS] = [
+    // 0 to 3: `edit`.
     *b"                        ",
     *b"image b                 ",
     *b"put nb                  ",
     *b"lend n                  ",
+    // 4 to 6: `run`.
     *b"make nnnnnb             ",
     *b"look_up b               ",
     *b"look_up_text b          ",
+    // 7 to 10: `work`.
     *b"check n                 ",
     *b"count n                 ",
     *b"next_key nnb            ",
     *b"next_key_after nnb      ",
+    // 11 to 15: `change`.
     *b"store nnb               ",
     *b"store_text nnb          ",
     *b"store_writes nnb        ",
@@ -53,29 +67,104 @@ const FORMS: [[u8; 24]; 16] = [
     *b"mend n                  ",
 ];
 
+// What is written besides names and numbers, each up to its full stop. The names below are its rows.
+const WORDS: [[u8; 16]; ROWS] = [
+    *b" .              ",
+    *b" at .           ",
+    *b":.              ",
+    *b" length .       ",
+    *b" value .        ",
+    *b" change .       ",
+    *b" change -1.     ",
+    *b" change ?.      ",
+    *b" writes .       ",
+    *b" list.          ",
+    *b" image.         ",
+    *b" G.             ",
+    *b" bytes changed .",
+    *b" work.          ",
+    *b"\n.              ",
+    *b"line .          ",
+    *b": not a case\n.  ",
+    *b"lines too many\n.",
+];
+
+const BLANK: usize = 0;
+
+const AT: usize = 1;
+
+const COLON: usize = 2;
+
+const LENGTH: usize = 3;
+
+const VALUE: usize = 4;
+
+const CHANGE: usize = 5;
+
+const CHANGE_LESS: usize = 6;
+
+const CHANGE_OTHER: usize = 7;
+
+const WRITES: usize = 8;
+
+const LIST: usize = 9;
+
+const IMAGE: usize = 10;
+
+const GREATEST: usize = 11;
+
+const CHANGED: usize = 12;
+
+const WORK: usize = 13;
+
+const END: usize = 14;
+
+const LINE: usize = 15;
+
+const NO_CASE: usize = 16;
+
+const TOO_MANY: usize = 17;
+
+const ROWS: usize = 18;
+
+// The longest text that is read, the longest image, and the most working numbers and letters of a buffer that are lent.
+const TEXT_MOST: usize = 262144;
+
+const IMAGE_MOST: usize = 1024;
+
+const LENT_MOST: usize = 300;
+
+// An image that is longer is shown by its G and the number of bytes that a call changed; of more working numbers, those behind are shown.
+const SHOWN_BYTES: usize = 64;
+
+const SHOWN_NUMBERS: usize = 252;
+
+// More bytes than can be lent: the answer for a line that is no case.
+const NONE: usize = 4294967295;
+
 fn main() {
-    let mut space = [0u8; 262144];
+    let mut space = [0u8; TEXT_MOST];
     let len = io::read_full(STDIN_FILENO, &mut space);
-    let mut image = [0u8; 1024];
+    let mut image = [0u8; IMAGE_MOST];
     cases(&space[0..len], &mut image);
-    if len == 262144 {
-        say(b"too long\n");
+    if len == TEXT_MOST {
+        say(TOO_MANY);
     }
 }
 
-// Every line in turn; the image and how much of it is lent go on from one to the next.
+// Runs line after line.
 fn cases(text: &[u8], image: &mut [u8]) {
     let mut lent: usize = 0;
     let mut at: usize = 0;
     let mut number: u64 = 1;
     while at < text.len() {
-        let end = find(text, at, 10);
+        let end = find(text, at, b'\n');
         let next = case(&text[at..end], image, lent);
         if next <= image.len() {
             lent = next;
         } else {
-            fact(b"line ", number);
-            say(b": not a case\n");
+            fact(LINE, number);
+            say(NO_CASE);
         }
         at = end + 1;
         number += 1;
@@ -97,72 +186,31 @@ fn find(text: &[u8], from: usize, byte: u8) -> usize
     i
 }
 
-// Runs a line. The answer is how many bytes of the image are lent from then on; more than it has is a line that is no case.
+// Runs a line. The answer is how many bytes of the image are lent from then on.
 fn case(text: &[u8], image: &mut [u8], lent: usize) -> usize
     requires { ⌜ lent ≤ length (now image) ⌝ }
 {
     let bar = find(text, 0, b'|');
-    let mut space = [0u8; 2048];
-    let bytes: &mut [u8] = &mut space;
-    let read = Line::of(&text[0..bar], bytes);
-    let given = shown(bytes, read.len);
-    let numbers = read.numbers;
-    let form = read.form;
-    let call = which(form);
-    match call {
-        0 => lent,
-        1 => put(image, 0, given, given.len()),
-        2 => put(image, numbers[0] as usize, given, lent),
-        3 => numbers[0] as usize,
-        _ => {
-            if !fits(call, numbers) {
-                return NONE;
-            }
-            name(text, bar);
-            run(call, numbers, given, &mut image[0..lent]);
-            say(b"\n");
-            lent
-        }
+    let line = Line::of(&text[0..bar]);
+    let call = which(line);
+    if call < 4 {
+        return edit(call, line, image, lent);
     }
-}
-
-// The first bytes of a slice.
-fn shown(bytes: &[u8], len: usize) -> &[u8] {
-    if len <= bytes.len() {
-        &bytes[0..len]
-    } else {
-        bytes
-    }
-}
-
-// The bytes laid into the image at a place. So many are lent from then on.
-fn put(image: &mut [u8], at: usize, given: &[u8], lend: usize) -> usize {
-    let len = image.len();
-    if len < at {
+    if !fits(call, line) {
         return NONE;
     }
-    if len - at < given.len() {
-        return NONE;
-    }
-    field::lay(image, at, given);
-    lend
+    name(text, bar);
+    run(call, line, &mut image[0..lent]);
+    say(END);
+    lent
 }
 
-// Is this a call, and is there room for the sizes that its numbers give?
-fn fits(call: usize, n: [u32; 6]) -> bool {
-    match call {
-        4..=6 => true,
-        7 | 8 | 11..=15 => n[0] <= 300,
-        9 | 10 => (n[0] <= 300) & (n[1] <= 300),
-        _ => false,
-    }
-}
-
-// The row of a form, else 16.
-fn which(form: [u8; 24]) -> usize {
+// The number of a line's form, else that of the forms.
+fn which(line: Line) -> usize {
+    let form = line.form;
     let all = FORMS;
     let mut i: usize = 0;
-    while i < 16 {
+    while i < CALLS {
         if same(form, all[i]) {
             return i;
         }
@@ -182,91 +230,150 @@ fn same(a: [u8; 24], b: [u8; 24]) -> bool {
     true
 }
 
-// What stands after the bar and a space.
+// The lines that make no call: an empty one, `image`, `put` and `lend`.
+fn edit(call: usize, line: Line, image: &mut [u8], lent: usize) -> usize {
+    match call {
+        0 => lent,
+        1 => put(line, image, 0, line.len),
+        2 => put(line, image, line.a as usize, lent),
+        _ => line.a as usize,
+    }
+}
+
+// The bytes laid into the image at a place. So many are lent from then on.
+fn put(line: Line, image: &mut [u8], at: usize, lend: usize) -> usize {
+    let bytes = line.bytes;
+    let given = first(&bytes, line.len);
+    let most = image.len();
+    if most < at {
+        return NONE;
+    }
+    if most - at < given.len() {
+        return NONE;
+    }
+    field::lay(image, at, given);
+    lend
+}
+
+// So many of the bytes.
+fn first(bytes: &[u8; Line::BYTES], len: usize) -> &[u8] {
+    let all: &[u8] = bytes;
+    if len <= all.len() {
+        return &all[0..len];
+    }
+    all
+}
+
+// Is this a call, and is there room for the sizes that its numbers give?
+fn fits(call: usize, line: Line) -> bool {
+    let first = line.a as usize <= LENT_MOST;
+    match call {
+        4..=6 => true,
+        9 | 10 => first & (line.b as usize <= LENT_MOST),
+        _ => first & (call < CALLS),
+    }
+}
+
+// What stands after the bar and a blank.
 fn name(text: &[u8], bar: usize) {
     let len = text.len();
     if bar < len {
         let from = bar + 1;
         if from < len {
             let start = from + 1;
-            say(&text[start..]);
+            io::write_all(STDOUT_FILENO, &text[start..]);
         }
     }
 }
 
 // Runs a call on the lent part of the image and writes what it answers and leaves.
-fn run(call: usize, n: [u32; 6], given: &[u8], image: &mut [u8]) {
-    let mut space = [7u32; 300];
-    let first = least(n[0]);
-    let work = &mut space[0..first];
-    let second = n[1];
+fn run(call: usize, line: Line, image: &mut [u8]) {
+    let bytes = line.bytes;
+    let given = first(&bytes, line.len);
     match call {
-        4 => {
-            plain(images::make(image, n[0], second, n[2], given, n[3], n[4]));
-            bytes(image, image.len());
-        }
+        4 => make(line, given, image),
         5 => looked(lookups::look_up(image, given)),
         6 => looked(lookups::look_up_text(image, given)),
+        _ => lend(call, line, given, image),
+    }
+}
+
+fn make(line: Line, alphabet: &[u8], image: &mut [u8]) {
+    plain(images::make(image, line.a, line.b, line.c, alphabet, line.d, line.e));
+    bytes(image, image.len());
+}
+
+// The other calls are lent working numbers, so many as the first number says.
+fn lend(call: usize, line: Line, given: &[u8], image: &mut [u8]) {
+    let mut space = [7u32; LENT_MOST];
+    let size = least(line.a);
+    work(call, line.b, given, image, &mut space[0..size]);
+}
+
+fn work(call: usize, second: u32, given: &[u8], image: &mut [u8], numbers: &mut [u32]) {
+    match call {
         7 => {
-            plain(checks::check(image, work));
-            decimals(b" work", work, 300);
+            plain(checks::check(image, numbers));
+            decimals(WORK, numbers, LENT_MOST);
         }
         8 => {
-            counted(checks::count(image, work));
-            decimals(b" work", work, 300);
+            counted(checks::count(image, numbers));
+            decimals(WORK, numbers, LENT_MOST);
         }
-        9 => next_key(false, second, given, image, work),
-        10 => next_key(true, second, given, image, work),
-        _ => {
-            let mut before = [0u8; 1024];
-            changes(&mut before, image);
-            store(call, second, given, image, work);
-            left(changes(&mut before, image), image, work);
-        }
+        9 | 10 => next_key(call == 10, second, given, image, numbers),
+        _ => store(call, second, given, image, numbers),
     }
 }
 
-// The calls that write the image and are lent working numbers.
-fn store(call: usize, value: u32, key: &[u8], image: &mut [u8], work: &mut [u32]) {
-    let mut list = [7u32; Head::LISTED_MOST as usize];
-    match call {
-        11 => stored(stores::store(image, work, key, value)),
-        12 => stored(stores::store_text(image, work, key, value)),
-        13 => {
-            let answer = stores::store_writes(image, work, key, value, &mut list);
-            listed(answer, &list);
-        }
-        14 => {
-            let answer = stores::store_text_writes(image, work, key, value, &mut list);
-            listed(answer, &list);
-        }
-        _ => plain(images::mend(image, work)),
-    }
-}
-
-fn next_key(after: bool, n: u32, key: &[u8], image: &[u8], work: &mut [u32]) {
-    let mut space = [0xAAu8; 300];
-    let room = least(n);
-    let buffer = &mut space[0..room];
-    let answer = checks::next_key(image, work, key, after, buffer);
-    match answer {
-        Found::Key { length, value } => done(length, value),
-        Found::Refused(why) => refused(why),
-    }
-    decimals(b" work", work, 300);
-    bytes(buffer, 300);
-}
-
-// A size that the lent arrays have.
+// A size that `fits`, as its bound is needed where it is lent.
 fn least(n: u32) -> usize
     ensures { λ r. ⌜ r ≤ 300 ⌝ }
 {
-    if n <= 300 { n as usize } else { 300 }
+    let size = n as usize;
+    if size <= LENT_MOST { size } else { LENT_MOST }
+}
+
+fn next_key(after: bool, second: u32, key: &[u8], image: &[u8], numbers: &mut [u32]) {
+    let mut space = [0xAAu8; LENT_MOST];
+    let room = least(second);
+    let buffer = &mut space[0..room];
+    found(checks::next_key(image, numbers, key, after, buffer));
+    decimals(WORK, numbers, LENT_MOST);
+    bytes(buffer, LENT_MOST);
+}
+
+// The calls that change an image.
+fn store(call: usize, value: u32, key: &[u8], image: &mut [u8], numbers: &mut [u32]) {
+    let mut before = [0u8; IMAGE_MOST];
+    changes(&mut before, image);
+    change(call, value, key, image, numbers);
+    left(changes(&mut before, image), image);
+    decimals(WORK, numbers, LENT_MOST);
+}
+
+fn change(call: usize, value: u32, key: &[u8], image: &mut [u8], numbers: &mut [u32]) {
+    match call {
+        11 => stored(stores::store(image, numbers, key, value)),
+        12 => stored(stores::store_text(image, numbers, key, value)),
+        13 | 14 => listing(call, value, key, image, numbers),
+        _ => plain(images::mend(image, numbers)),
+    }
+}
+
+fn listing(call: usize, value: u32, key: &[u8], image: &mut [u8], numbers: &mut [u32]) {
+    let mut list = [7u32; Head::LISTED_MOST as usize];
+    if call == 13 {
+        let answer = stores::store_writes(image, numbers, key, value, &mut list);
+        listed(answer, &list);
+    } else {
+        let answer = stores::store_text_writes(image, numbers, key, value, &mut list);
+        listed(answer, &list);
+    }
 }
 
 fn plain(answer: Done) {
     match answer {
-        Done::Done => say(b" 0 at 0:"),
+        Done::Done => said(0, 0),
         Done::Refused(why) => refused(why),
     }
 }
@@ -285,14 +392,24 @@ fn looked(answer: Looked) {
     }
 }
 
+fn found(answer: Found) {
+    match answer {
+        Found::Key { length, value } => done(length, value),
+        Found::Refused(why) => refused(why),
+    }
+}
+
 fn stored(answer: Stored) {
     match answer {
-        Stored::Change(change) => match change {
-            -1 => say(b" 0 at 0: change -1"),
-            0 => say(b" 0 at 0: change 0"),
-            1 => say(b" 0 at 0: change 1"),
-            _ => say(b" 0 at 0: change ?"),
-        },
+        Stored::Change(change) => {
+            said(0, 0);
+            match change {
+                -1 => say(CHANGE_LESS),
+                0 => fact(CHANGE, 0),
+                1 => fact(CHANGE, 1),
+                _ => say(CHANGE_OTHER),
+            }
+        }
         Stored::Refused(why) => refused(why),
     }
 }
@@ -302,66 +419,71 @@ fn listed(answer: Listed, list: &[u32; Head::LISTED_MOST as usize]) {
     match answer {
         Listed::Change { change, writes } => {
             stored(Stored::Change(change));
-            fact(b" writes ", writes as u64);
-            decimals(b" list", list, writes as usize * 2 + 2);
+            fact(WRITES, writes as u64);
+            decimals(LIST, list, writes as usize * 2 + 2);
         }
         Listed::Refused(why) => {
             refused(why);
-            decimals(b" list", list, 2);
+            decimals(LIST, list, 2);
         }
     }
 }
 
 fn refused(why: Refusal) {
-    fact(b" ", why.number() as u64);
-    fact(b" at ", why.place() as u64);
-    say(b":");
+    said(why.number(), why.place());
 }
 
-// The numbers of an answer that is done: its length, where the call has one, and its value.
+// The number of an answer and its place.
+fn said(number: u32, place: u32) {
+    fact(BLANK, number as u64);
+    fact(AT, place as u64);
+    say(COLON);
+}
+
+// An answer that is done: its length, where the call has one, and its value.
 fn done(length: u32, value: u64) {
-    fact(b" 0 at 0: length ", length as u64);
-    fact(b" value ", value);
+    said(0, 0);
+    fact(LENGTH, length as u64);
+    fact(VALUE, value);
 }
 
-// What a store or a mending leaves: the image or, of one that is too long for a line, G and how many bytes changed.
-fn left(changed: u64, image: &[u8], work: &[u32]) {
-    if image.len() <= 64 {
-        say(b" image");
-        bytes(image, 64);
+// The image or, of one that is too long for a line, G and how many bytes changed.
+fn left(changed: u64, image: &[u8]) {
+    if image.len() <= SHOWN_BYTES {
+        say(IMAGE);
+        bytes(image, SHOWN_BYTES);
     } else {
-        say(b" G");
+        say(GREATEST);
         bytes(image, 4);
-        fact(b" bytes changed ", changed);
+        fact(CHANGED, changed);
     }
-    decimals(b" work", work, 300);
 }
 
-// The numbers of a list up to a place. Of more than 252 only those behind them.
-fn decimals(words: &[u8], list: &[u32], to: usize) {
+// Words and the numbers of a list, up to a place.
+fn decimals(words: usize, list: &[u32], to: usize) {
     say(words);
     let mut i: usize = 0;
-    if 252 < list.len() {
-        i = 252;
+    if SHOWN_NUMBERS < list.len() {
+        i = SHOWN_NUMBERS;
     }
     while i < list.len() {
         if to <= i {
             break;
         }
-        fact(b" ", list[i] as u64);
+        fact(BLANK, list[i] as u64);
         i += 1;
     }
 }
 
-// The bytes in hexadecimal, four by four.
+// The bytes in hexadecimal, four by four, up to a place.
 fn bytes(image: &[u8], to: usize) {
     let mut i: usize = 0;
     while i < image.len() {
         if to <= i {
-            return;
+            break;
         }
         if i % 4 == 0 {
-            say(b" ");
+            say(BLANK);
         }
         io::print_hex(STDOUT_FILENO, field::wide(image[i]), 2);
         i += 1;
@@ -385,11 +507,22 @@ fn changes(before: &mut [u8], image: &[u8]) -> u64 {
     n
 }
 
-fn fact(words: &[u8], n: u64) {
+// Words and a number.
+fn fact(words: usize, n: u64) {
     say(words);
     io::print_decimal(STDOUT_FILENO, n);
 }
 
-fn say(words: &[u8]) {
-    io::write_all(STDOUT_FILENO, words);
+fn say(words: usize) {
+    let all = WORDS;
+    if words < ROWS {
+        let row = all[words];
+        write(&row);
+    }
+}
+
+fn write(row: &[u8; 16]) {
+    let text: &[u8] = row;
+    let end = find(text, 0, b'.');
+    io::write_all(STDOUT_FILENO, &text[0..end]);
 }

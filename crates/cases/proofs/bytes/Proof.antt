@@ -1,29 +1,19 @@
--- `cases::bytes` meets its contract, which asks only that it is safe and ends.
+-- `cases::bytes` meets its contract, which asks only that it is safe and ends: the place stays within the bytes.
 -- Assumes nothing.
-use Prim.Native.Nat.{_+_, _-_, _≤_}
+use Prim.Native.Nat.{_-_, _≤_}
 use lib.ListN.{length}
-use native.Mathlib.Omega.{arith}
 use borrow.Author.Needs.{needs}
 use Rattle.cases.proofs.bytes.Statement.{statement}
 use Rattle.cases.proofs.bytes.Tie as tie
-use Rattle.cases.proofs.say.Reads as say-reads
-use Rattle.field.proofs.wide.Reads as wide-reads
-use Rattle.io.proofs.print_hex.Reads as print-hex-reads
 
 abbrev Inv-loop : tie.InvT-loop
-Inv-loop image to i₀ t4 i = i ≤ length image
+Inv-loop image to i₀ i = i ≤ length image
 
 abbrev μ-loop : tie.MeasureT-loop
-μ-loop image to i₀ t4 i = length image - i
+μ-loop image to i₀ i = length image - i
 
 loop-holds : tie.Need-loop-holds Inv-loop μ-loop
 loop-holds c = search needs
-
-returns : tie.Need-returns Inv-loop μ-loop
-returns c = search needs
-
-slice-aggregate-say : tie.Need-slice-aggregate-say Inv-loop μ-loop
-slice-aggregate-say c = search needs
 
 say-requires : tie.Need-say-requires Inv-loop μ-loop
 say-requires c κs = search needs
@@ -46,6 +36,9 @@ loop-less c = search needs
 loop-again : tie.Need-loop-again Inv-loop μ-loop
 loop-again c = search needs
 
+returns : tie.Need-returns Inv-loop μ-loop
+returns c = search needs
+
 returns-2 : tie.Need-returns-2 Inv-loop μ-loop
 returns-2 c = search needs
 
@@ -56,8 +49,6 @@ bytes-spec =
     Inv-loop
     μ-loop
     loop-holds
-    returns
-    slice-aggregate-say
     say-requires
     shared-slice-read-wide
     wide-requires
@@ -65,4 +56,5 @@ bytes-spec =
     add-i
     loop-less
     loop-again
+    returns
     returns-2)

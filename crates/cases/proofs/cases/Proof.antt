@@ -1,23 +1,19 @@
--- `cases::cases` meets its contract, which asks only that it is safe and ends.
+-- `cases::cases` meets its contract, which asks only that it is safe and ends: what is lent stays within the image, and the number of a line within the place.
 -- Assumes nothing.
 use mathlib.Core.Path.{_≡_}
 use Prim.Native.Nat.{_+_, _-_, _≤_}
 use mathlib.Core.Logic.{⊎-elim}
-use lib.ListN.{length, take}
+use lib.ListN.{length}
 use native.Mathlib.Omega.{arith}
 use borrow.Author.Needs.{needs}
 use Rattle.cases.proofs.cases.Statement.{statement}
 use Rattle.cases.proofs.cases.Tie as tie
-use Rattle.cases.proofs.case.Reads as case-reads
-use Rattle.cases.proofs.fact.Reads as fact-reads
-use Rattle.cases.proofs.find.Reads as find-reads
-use Rattle.cases.proofs.say.Reads as say-reads
 
 abbrev Inv-loop : tie.InvT-loop
-Inv-loop text image₀ lent₀ at₀ number₀ t8 t9 image lent at number = (lent ≤ length image) × (number ≤ at + 1) × (length image ≡ length image₀)
+Inv-loop text image₀ lent₀ at₀ number₀ image lent at number = (lent ≤ length image) × (number ≤ at + 1) × (length image ≡ length image₀)
 
 abbrev μ-loop : tie.MeasureT-loop
-μ-loop text image₀ lent₀ at₀ number₀ t8 t9 image lent at number = length text - at
+μ-loop text image₀ lent₀ at₀ number₀ image lent at number = length text - at
 
 loop-holds : tie.Need-loop-holds Inv-loop μ-loop
 loop-holds c = search needs
@@ -37,14 +33,8 @@ part-case-end c = search needs
 case-requires : tie.Need-case-requires Inv-loop μ-loop
 case-requires c κs = search needs
 
-slice-aggregate-fact : tie.Need-slice-aggregate-fact Inv-loop μ-loop
-slice-aggregate-fact c = search needs
-
 fact-requires : tie.Need-fact-requires Inv-loop μ-loop
 fact-requires c κs = search needs
-
-slice-aggregate-say : tie.Need-slice-aggregate-say Inv-loop μ-loop
-slice-aggregate-say c = search needs
 
 say-requires : tie.Need-say-requires Inv-loop μ-loop
 say-requires c κs = search needs
@@ -79,9 +69,7 @@ cases-spec =
     part-case-start
     part-case-end
     case-requires
-    slice-aggregate-fact
     fact-requires
-    slice-aggregate-say
     say-requires
     add-at
     add-number

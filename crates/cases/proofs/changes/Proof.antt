@@ -1,9 +1,8 @@
--- `cases::changes` meets its contract, which asks only that it is safe and ends.
+-- `cases::changes` meets its contract, which asks only that it is safe and ends: the place stays within the image, the number within the place, and the length of what is lent is kept.
 -- Assumes nothing.
 use mathlib.Core.Path.{_≡_}
-use Prim.Native.Nat.{_+_, _-_, _≤_}
+use Prim.Native.Nat.{_-_, _≤_}
 use lib.ListN.{length}
-use mathlib.Core.Logic.{⊎-elim}
 use mathlib.Core.Logic.{⊎-elim}
 use native.Mathlib.Omega.{arith}
 use borrow.Author.Needs.{needs}

@@ -1,29 +1,23 @@
--- `cases::decimals` meets its contract, which asks only that it is safe and ends.
+-- `cases::decimals` meets its contract, which asks only that it is safe and ends: the place stays within the list.
 -- Assumes nothing.
-use mathlib.Core.Path.{_≡_}
-use Prim.Native.Nat.{_+_, _-_, _≤_}
+use Prim.Native.Nat.{_-_, _≤_}
 use lib.ListN.{length}
 use native.Mathlib.Omega.{arith}
 use borrow.Author.Needs.{needs}
 use Rattle.cases.proofs.decimals.Statement.{statement}
 use Rattle.cases.proofs.decimals.Tie as tie
-use Rattle.cases.proofs.fact.Reads as fact-reads
-use Rattle.cases.proofs.say.Reads as say-reads
 
 abbrev Inv-loop : tie.InvT-loop
-Inv-loop words list to i₀ t5 i = i₀ ≤ i
+Inv-loop words list to i₀ i = i₀ ≤ i
 
 abbrev μ-loop : tie.MeasureT-loop
-μ-loop words list to i₀ t5 i = length list - i
+μ-loop words list to i₀ i = length list - i
 
 say-requires : tie.Need-say-requires Inv-loop μ-loop
 say-requires c κs = search needs
 
 loop-holds : tie.Need-loop-holds Inv-loop μ-loop
 loop-holds c = search needs
-
-slice-aggregate-fact : tie.Need-slice-aggregate-fact Inv-loop μ-loop
-slice-aggregate-fact c = search needs
 
 mul-fact : tie.Need-mul-fact Inv-loop μ-loop
 mul-fact c = search needs
@@ -32,7 +26,7 @@ shared-slice-read-fact : tie.Need-shared-slice-read-fact Inv-loop μ-loop
 shared-slice-read-fact c = search needs
 
 cast-fact : tie.Need-cast-fact Inv-loop μ-loop
-cast-fact c = omega (arith, c .shared-slice-known3 .given (c .before .before .before .before .before .loop .i))
+cast-fact c = omega (arith, c .shared-slice-known2 .given (c .before .before .before .before .loop .i))
 
 fact-requires : tie.Need-fact-requires Inv-loop μ-loop
 fact-requires c κs = search needs
@@ -60,7 +54,6 @@ decimals-spec =
     μ-loop
     say-requires
     loop-holds
-    slice-aggregate-fact
     mul-fact
     shared-slice-read-fact
     cast-fact

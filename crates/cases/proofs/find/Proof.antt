@@ -1,8 +1,7 @@
--- `cases::find` meets its contract, which asks only that it is safe and ends.
+-- `cases::find` meets its contract: the place begins where it is told to and stays within the text.
 -- Assumes nothing.
-use Prim.Native.Nat.{_+_, _-_, _≤_}
+use Prim.Native.Nat.{_-_, _≤_}
 use lib.ListN.{length}
-use native.Mathlib.Omega.{arith}
 use borrow.Author.Needs.{needs}
 use Rattle.cases.proofs.find.Statement.{statement}
 use Rattle.cases.proofs.find.Tie as tie

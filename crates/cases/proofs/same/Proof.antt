@@ -1,8 +1,6 @@
--- `cases::same` meets its contract, which asks only that it is safe and ends.
+-- `cases::same` meets its contract, which asks only that it is safe and ends: the place stays within the forms.
 -- Assumes nothing.
-use Prim.Native.Nat.{_+_, _-_, _≤_}
-use lib.ListN.{length}
-use native.Mathlib.Omega.{arith}
+use Prim.Native.Nat.{_-_, _≤_}
 use borrow.Author.Needs.{needs}
 use Rattle.cases.proofs.same.Statement.{statement}
 use Rattle.cases.proofs.same.Tie as tie

