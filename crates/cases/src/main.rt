@@ -22,8 +22,8 @@
 // or "" is nothing. The image is kept from line to line, as the calls leave it. Before each call working numbers and lists of writes hold 7, key
 // buffers AA. A line with nothing before its bar is a remark. Any other line is reported, as in `line 17: not a case`, and the next one is run.
 //
-// For a new call: a row at the end of FORMS, and an arm with its number in `run`, if it is lent no working numbers, else in `work`, or in
-// `change`, if it changes the image.
+// For a new call: a row at the end of FORMS, one more in CALLS, and an arm with its number in `run`, if it is lent no working numbers, else in
+// `work`, or in `change`, if it changes the image. No proof changes.
 mod line;
 
 ghost use Prim.Native.Nat.{_≤_};
