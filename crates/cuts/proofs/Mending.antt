@@ -3,17 +3,13 @@
 use Prim.Native.Nat.{ℕ, _+_, _-_, _*_, _^_, _≤_, _<_}
 use mathlib.Core.Path.{_≡_, refl, sym, ap, ap₂, subst, _∙_}
 use mathlib.Core.Bool.{Bool, true, false, cond}
-use mathlib.Core.Logic.{inl}
 use mathlib.Core.List.{List, [], _∷_}
 use native.Mathlib.Nat.{mul-le-mul, le-refl}
 use native.Mathlib.Omega.{arith}
 use lib.Dec.{eqb}
 use lib.ListN.{length, getD}
-use lib.IntN.{pos}
 use borrow.Author.Tests.{eqb-true}
-use Rattle.field.specs.Field.{digits}
 use Rattle.field.proofs.Range.{both, between-true}
-use Rattle.field.proofs.Fields.{length-digits}
 use Rattle.trie.specs.Table.{Table, answer}
 use Rattle.trie.specs.Rules.{Within}
 use Rattle.trie.proofs.Lowered.{Agree, answer-alike, fault-alike}
@@ -24,17 +20,17 @@ use Rattle.head.proofs.Permitted.{bounds}
 use Rattle.head.proofs.Places.{width-least, used}
 use Rattle.node.specs.Image.{tableOf}
 use Rattle.node.proofs.Heads.{withTotal, child-kept, value-kept}
-use Rattle.node.proofs.Writes.{table-outside}
-use Rattle.paper.specs.Hearing.{Row, Numbers, Outcome, outcome, first, heard, doneNumbers}
+use Rattle.node.proofs.Writes.{table-total}
+use Rattle.paper.specs.Hearing.{Row, Numbers, Outcome, first, heard}
 use Rattle.paper.specs.Given.{Given, alphabetIn, keyIn}
 use Rattle.paper.specs.Rows.{badLink}
 use Rattle.paper.specs.Orders.{openingOf, keying}
-use Rattle.paper.specs.Calls.{tableIn, workAfter, checkOf, lookUpOf, isAccepted, mends, mendOf}
+use Rattle.paper.specs.Calls.{tableIn, workAfter, checkOf, telling, lookUpOf, isAccepted, mends, mendOf}
 use Rattle.paper.specs.Accepted.{Accepted}
 use Rattle.paper.proofs.Opening.{Passed, passed}
 use Rattle.paper.proofs.Linking.{milder}
 use Rattle.paper.proofs.Checking.{check-exactly}
-use Rattle.paper.proofs.Storing.{telling, unfaulted, looks-up-open, looks-up-accepted, same-keying, same-key}
+use Rattle.paper.proofs.Storing.{unfaulted, looks-up-open, looks-up-accepted, same-keying, same-key}
 use Rattle.paper.proofs.Mending.{accepted-exactly, mend-kept, mend-lowered, Eight, eight}
 use Rattle.seen.proofs.Seen.{same-alphabet}
 use Rattle.cuts.specs.Answers.{mendedImage}
@@ -129,7 +125,7 @@ module _ (l work : List ℕ) (e : mends l (checkOf l work .numbers) ≡ true) wh
   unfolding tableIn
   tables =
       ap (λ (k : Head). tableOf k m) heads
-      ∙ table-outside (withTotal h low) l (digits totalLen low) totalAt (inl (omega (arith, length-digits totalLen low)))
+      ∙ table-total (withTotal h low) l low
 
   agree : Agree (tableIn m) (tableIn l) low
   unfolding tableIn

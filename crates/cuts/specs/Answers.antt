@@ -24,7 +24,7 @@ unfoldable pub mendedImage : List ℕ → List ℕ → List ℕ
 unfolding mends checkOf
 mendedImage l work = cond (mends l (checkOf l work .numbers)) (putTotal l (checkOf l work .numbers .place - 1)) l
 
--- "The bytes of a write are those of the image after the call": the writes that a caller has from the list and the image
+-- The bytes of a write are those of the image after the call: the writes that a caller has from the list and the image
 unfoldable pub readBack : List ℕ → List ℕ → List Write
 readBack after [] = []
 readBack after (place ∷ []) = []

@@ -4,7 +4,6 @@ use Prim.Native.Nat.{ℕ}
 use mathlib.Core.Path.{_≡_, refl, sym, _∙_, ap}
 use mathlib.Core.Option.{Option, none, some}
 use mathlib.Core.List.{List, [], _∷_, _++_}
-use lib.IntN.{pos}
 use Rattle.trie.specs.Table.{answer, fault}
 use Rattle.head.specs.declared.Head.{Head}
 use Rattle.head.specs.Fields.{headOf}
@@ -12,12 +11,12 @@ use Rattle.node.specs.Image.{tableOf}
 use Rattle.paper.specs.declared.Refusal.{Refusal}
 use Rattle.paper.specs.declared.Verdict.{Verdict}
 use Rattle.paper.specs.declared.Looked.{Looked}
-use Rattle.paper.specs.Hearing.{Row, first, heard, outcome, doneNumbers}
+use Rattle.paper.specs.Hearing.{Row, first, heard, outcome}
 use Rattle.paper.specs.Answers.{rowOf, refusalNumbers, lookedOf}
 use Rattle.paper.specs.Rows.{badLink, rowAt, row6path}
 use Rattle.paper.specs.Given.{Given, keyIn}
 use Rattle.paper.specs.Orders.{openingOf, keying, lookingUp}
-use Rattle.paper.specs.Calls.{tableIn, lookUpOf}
+use Rattle.paper.specs.Calls.{tableIn, telling, lookUpOf}
 use Rattle.paper.specs.Promises.{LooksUp}
 use Rattle.paper.proofs.Hearing.{first-part, second-part, first-some, first-none, first-nil, heard-refused, heard-done, told-refused, told-passed}
 use Rattle.paper.proofs.Known.{Known}
@@ -36,7 +35,7 @@ module _ (l : List ℕ) (given : Given) where
   path = row6path (headOf l) (tableOf (headOf l) l) key ∷ []
 
   asked : lookUpOf l given
-      ≡ heard (first (openingOf l ++ (keying l given ++ path))) [] (outcome (doneNumbers 0 (pos 0) (answer (tableIn l) key)) [])
+      ≡ heard (first (openingOf l ++ (keying l given ++ path))) [] (telling (answer (tableIn l) key))
   unfolding lookUpOf lookingUp
   asked = refl
 

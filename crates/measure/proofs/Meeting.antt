@@ -1,13 +1,13 @@
 -- The keys of a walk, counted: each key that is met is one fewer to come, since the keys after the first one after a key are the rest of
 -- those after that key.
-use Prim.Native.Nat.{ℕ, suc, _+_, _≤_, _<_, _^_}
+use Prim.Native.Nat.{ℕ, suc, _+_, _<_, _^_}
 use native.Mathlib.Omega.{arith}
 use mathlib.Core.Bool.{true}
 use mathlib.Core.List.{List, [], _∷_}
 use mathlib.Core.Option.{Option, none, some, Option·some-ne-none, Option·some-injective}
-use mathlib.Core.Path.{_≡_, refl, sym, _∙_, ap, subst}
+use mathlib.Core.Path.{_≡_, refl, sym, _∙_, ap}
 use lib.ListN.{length, take}
-use Rattle.trie.specs.Keys.{listing, meets, firstMeeting, sift}
+use Rattle.trie.specs.Keys.{listing, meets, sift}
 use Rattle.trie.specs.Beyond.{firstOf}
 use Rattle.trie.proofs.Listing.{keysUnder-ascending}
 use Rattle.trie.proofs.Sift.{first-sift, sift-length}

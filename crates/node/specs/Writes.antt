@@ -21,7 +21,7 @@ unfoldable pub carriedOut : List ℕ → List Write → List ℕ
 carriedOut l [] = l
 carriedOut l (w ∷ ws) = carriedOut (sets l (w .place) (w .bytes)) ws
 
--- the writes as they are listed: "a place and a length for each write in order"
+-- the writes as they are listed: a place and a length for each write in order
 unfoldable pub listed : List Write → List ℕ
 listed [] = []
 listed (w ∷ ws) = w .place ∷ length (w .bytes) ∷ listed ws

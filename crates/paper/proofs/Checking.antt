@@ -9,7 +9,6 @@ use lib.ListN.{length}
 use lib.Dec.{ltb}
 use borrow.Author.Tests.{le-ltb, le-leb, ltb-false}
 use Rattle.field.proofs.Range.{between-true, true-between}
-use Rattle.trie.specs.Table.{Table}
 use Rattle.trie.specs.Rules.{Linked}
 use Rattle.trie.proofs.Rules.{rules-linked}
 use Rattle.head.specs.declared.Head.{Head}

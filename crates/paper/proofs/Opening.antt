@@ -1,14 +1,14 @@
 -- 1 to 4, row by row, for whoever opens an image: which is heard when, and what is known where none is. Each law goes down the order by the
 -- laws of `Hearing`.
-use Prim.Native.Nat.{ℕ, _≤_, _<_}
+use Prim.Native.Nat.{ℕ, _+_, _≤_, _<_}
 use mathlib.Core.Path.{_≡_, refl, _∙_}
 use mathlib.Core.Bool.{Bool, true, false, not, _&&_, and-false}
 use mathlib.Core.Option.{none, some}
 use mathlib.Core.List.{List, [], _∷_}
 use native.Mathlib.Decide.{ℕ-discrete, decLe}
 use native.Mathlib.Omega.{arith}
-use lib.ListN.{length, drop, length-drop}
-use lib.Seq.{length-take-le}
+use lib.ListN.{length, getD, take, drop, length-take, length-drop}
+use lib.Seq.{length-take-le, ext-getD, getD-take, getD-drop}
 use lib.Dec.{leb, ltb, eqb}
 use borrow.Author.Tests.{lt-ltb, le-ltb, eq-eqb, ne-eqb, leb-true, leb-false, ltb-false, not-false}
 use Rattle.field.specs.Range.{between}
@@ -102,6 +102,16 @@ module _ (h : Head) (alphabet : List ℕ) (len : ℕ) where
 
   pub unspoilt-good : spoilt ≡ false → 0 < h .f → length alphabet ≡ h .f → goodAlphabet (h .n) alphabet ≡ true
   unspoilt-good s f w = not-false _ (simp (lt-ltb 0 (h .f) f, eq-eqb (length alphabet) (h .f) w) at s)
+
+-- images of one length whose F bytes after the fields are the same have the same alphabet
+pub alphabet-same : (h : Head) (a b : List ℕ) → length a ≡ length b
+    → ((i : ℕ) → i < h .f → getD a (fieldsLen + i) 0 ≡ getD b (fieldsLen + i) 0) → alphabetIn h a ≡ alphabetIn h b
+unfolding alphabetIn
+alphabet-same h a b n e =
+    ext-getD 0 (take (h .f) (drop fieldsLen a)) (take (h .f) (drop fieldsLen b)) (simp (length-take, length-drop, n))
+    (λ i c.
+    let d : i < h .f = omega (arith, simp length-take at c) in
+    simp (getD-take, getD-drop) (e i d))
 
 -- where what is used lies inside the image, so does the alphabet
 pub alphabet-whole : (h : Head) (l : List ℕ) → usedLen h ≤ length l → length (alphabetIn h l) ≡ h .f

@@ -3,15 +3,14 @@
 use Prim.Native.Nat.{ℕ, zero, suc, _+_, _-_, _*_, _^_, _≤_, _<_}
 use mathlib.Core.Path.{_≡_, refl, sym, ap, ap₂, subst, _∙_}
 use mathlib.Core.Bool.{Bool, true, false, _&&_, and-false}
-use mathlib.Core.Logic.{_↔_, _≢_, inr}
+use mathlib.Core.Logic.{_↔_, _≢_}
 use mathlib.Core.Option.{Option, none, some}
 use mathlib.Core.List.{List, [], _∷_, _++_}
 use native.Mathlib.Nat.{add-zero, one-le-pow}
 use native.Mathlib.Decide.{ℕ-discrete, decLe, decLt}
 use native.Mathlib.Omega.{arith}
 use lib.Dec.{ltb}
-use lib.ListN.{length, getD, take, drop, length-take, length-drop}
-use lib.Seq.{ext-getD, getD-take, getD-drop}
+use lib.ListN.{length, getD}
 use lib.IntN.{pos, _+ℤ_}
 use borrow.Author.Tests.{ltb-false, lt-ltb, le-ltb}
 use Rattle.field.specs.Field.{digits}
@@ -44,11 +43,12 @@ use Rattle.paper.specs.Hearing.{Said, Row, Outcome, first, heard, outcom
 use Rattle.paper.specs.Rows.{row5, badLink, row9, row10, row11, row12, row13, rowAt, row6path}
 use Rattle.paper.specs.Given.{Given, asLetters, asText, alphabetIn, meantBy, meantIn, keyIn}
 use Rattle.paper.specs.Orders.{openingOf, checking, byLetters, byText, keyingBy, keying, lookingUp, adding, newOf, storing}
-use Rattle.paper.specs.Calls.{tableIn, workAfter, storedKeys, lookUpOf, storedImage, storeOf}
+use Rattle.paper.specs.Calls.{tableIn, workAfter, storedKeys, telling, lookUpOf, storedImage, storeOf}
 use Rattle.paper.specs.Accepted.{Accepted}
-use Rattle.paper.specs.Granted.{Fit, Granted}
+use Rattle.paper.specs.Granted.{Granted}
 use Rattle.paper.proofs.Hearing.{not-given, was-false, first-nil, first-none, yes-row, no-row, first-part, second-part, passed-row, passed-parts, silent-end, heard-done, heard-alike, kept-lent}
 use Rattle.paper.proofs.Numbers.{AllSay, end, _then_, given-says, parts-say, first-says, one-of, none-heard}
+use Rattle.paper.proofs.Opening.{alphabet-same}
 use Rattle.paper.proofs.Keying.{keyNumbers, given-meant, fit-given, given-says-key}
 use Rattle.paper.proofs.Checking.{accepted-opens, check-accepts, accepted-checks, checking-says, checked, accepted-linked}
 use Rattle.paper.proofs.Linking.{ruled-link}
@@ -139,13 +139,9 @@ module _ {l key : List ℕ} {value : ℕ} (s : Granted l key value) where
   pub stored-alphabet : alphabetIn (headOf (storedImage l key value)) (storedImage l key value) ≡ alphabetIn (headOf l) l
   unfolding alphabetIn
   stored-alphabet =
-      let f : ℕ = headOf l .f in
-      let n : length (storedImage l key value) ≡ length l = stored-length l key value in
       rw (stored-head s)
-      (ext-getD 0 (take f (drop fieldsLen (storedImage l key value))) (take f (drop fieldsLen l)) (simp (length-take, length-drop, n))
-      (λ i b.
-      let c : i < f = omega (arith, simp length-take at b) in
-      simp (getD-take, getD-drop) (stored-frame (fieldsLen + i) (none-before (omega arith) (omega arith)))))
+      (alphabet-same (headOf l) (storedImage l key value) l (stored-length l key value)
+      (λ i b. stored-frame (fieldsLen + i) (none-before (omega arith) (omega arith))))
 
   -- ---- the rules
 
@@ -180,10 +176,6 @@ module _ {l key : List ℕ} {value : ℕ} (s : Granted l key value) where
       }
 
 -- ---- a lookup in an image that was opened, on a path with no bad link
-
--- what a look up leaves that tells a value
-abbrev pub telling : ℕ → Outcome
-telling v = outcome (doneNumbers 0 (pos 0) v) []
 
 quiet : {at : Option ℕ} → at ≡ none → rowAt at ≡ none
 unfolding rowAt

@@ -76,9 +76,13 @@ countOf l work =
 
 -- look up
 
+-- what a look up leaves that tells a value
+abbrev pub telling : ℕ → Outcome
+telling v = outcome (doneNumbers 0 (pos 0) v) []
+
 unfoldable pub lookUpOf : List ℕ → Given → Outcome
 unfolding heard first lookingUp doneNumbers answer tableIn keyIn
-lookUpOf l given = heard (first (lookingUp l given)) [] (outcome (doneNumbers 0 (pos 0) (answer (tableIn l) (keyIn l given))) [])
+lookUpOf l given = heard (first (lookingUp l given)) [] (telling (answer (tableIn l) (keyIn l given)))
 
 -- store
 
@@ -100,8 +104,8 @@ storeOf l work given value =
 
 -- store, with its writes listed
 
--- As a store, and besides its writes are listed from the front of a lent array on: `length` says how many they are, and "entries after the
--- last keep what they held, and a refusal changes none".
+-- As a store, and besides its writes are listed from the front of a lent array on: `length` says how many they are. Entries after the
+-- last keep what they held, and a refusal changes none.
 unfoldable pub withList : List Write → List ℕ → Outcome → Outcome
 unfolding doneNumbers listed
 withList ws list o =

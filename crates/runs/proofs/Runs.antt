@@ -24,13 +24,13 @@ use Rattle.node.proofs.Heads.{withTotal}
 use Rattle.paper.specs.Hearing.{Said, Row, Outcome, outcome, first, heard, refusedNumbers, doneNumbers}
 use Rattle.paper.specs.Given.{Given, alphabetIn, meantBy, meantIn, keyIn}
 use Rattle.paper.specs.Orders.{newOf, checking, keyingBy, keying, lookingUp, storing, nexting}
-use Rattle.paper.specs.Calls.{tableIn, workAfter, freshHead, freshImage, makeOf, storedKeys, countOf, lookUpOf, writesIn, storedImage, storeOf, withList, checkOf, isAccepted, mends, nextIn}
+use Rattle.paper.specs.Calls.{tableIn, workAfter, freshHead, freshImage, makeOf, storedKeys, countOf, telling, lookUpOf, writesIn, storedImage, storeOf, withList, checkOf, isAccepted, mends, nextIn}
 use Rattle.paper.specs.Accepted.{Accepted}
 use Rattle.paper.specs.Granted.{Fit, Granted}
 use Rattle.paper.proofs.Hearing.{heard-done, heard-alike}
 use Rattle.paper.proofs.Checking.{accepted-opens, accepted-checks, check-exactly, accepted-linked}
 use Rattle.paper.proofs.Looking.{given-fit}
-use Rattle.paper.proofs.Storing.{accepted-again, stored-head, stored-alphabet, stored-table, stored-change, telling, looks-up-accepted, keying-total, granted, store-passed}
+use Rattle.paper.proofs.Storing.{accepted-again, stored-head, stored-alphabet, stored-table, stored-change, looks-up-accepted, keying-total, granted, store-passed}
 use Rattle.paper.proofs.Mending.{mend-kept, eight}
 use Rattle.paper.proofs.Fresh.{Made, make-done, fresh-head, fresh-alphabet, fresh-accepted, fresh-answers, fresh-keys}
 use Rattle.runs.specs.Runs.{sameKey, lastOf, Call, check, count, lookUp, store, storeWrites, mend, nextKey, firstLeft, notedBy, Run, after, ran, startOf, ranFrom}

@@ -6,10 +6,10 @@ use mathlib.Core.Bool.{true}
 use mathlib.Core.Option.{Option}
 use mathlib.Core.List.{List, [], _∷_, _++_}
 use native.Mathlib.Omega.{arith}
-use lib.ListN.{length, getD, take, drop, length-take, length-drop}
-use lib.Seq.{sets, ext-getD, getD-take, getD-drop}
+use lib.ListN.{length, getD}
+use lib.Seq.{sets}
 use lib.IntN.{pos}
-use Rattle.trie.specs.Table.{Table, answer}
+use Rattle.trie.specs.Table.{answer}
 use Rattle.trie.specs.Keys.{listing, meets, firstMeeting}
 use Rattle.trie.specs.Rules.{LinkRules}
 use Rattle.head.specs.declared.Head.{Head}
@@ -23,8 +23,9 @@ use Rattle.paper.specs.Hearing.{Row, Outcome, outcome, doneNumbers, first, hear
 use Rattle.paper.specs.Given.{Given, alphabetIn, meantBy, meantIn, keyIn}
 use Rattle.paper.specs.Rows.{row5, row6path, row14, row15}
 use Rattle.paper.specs.Orders.{opening, openingOf, linking, checking, keyingBy, keying, byNext, lookingUp, nexting}
-use Rattle.paper.specs.Calls.{tableIn, clearedBy, workAfter, checkOf, storedKeys, countOf, lookUpOf, nextIn, foundIn, nextKeyOf}
+use Rattle.paper.specs.Calls.{tableIn, clearedBy, workAfter, checkOf, storedKeys, countOf, telling, lookUpOf, nextIn, foundIn, nextKeyOf}
 use Rattle.paper.specs.Accepted.{Accepted}
+use Rattle.paper.proofs.Opening.{alphabet-same}
 use Rattle.seen.specs.Seen.{Seen, seenIn, SameAnswers}
 
 seen-eq : (s t : Seen) → s .head ≡ t .head → s .table ≡ t .table → s .alphabet ≡ t .alphabet → s .len ≡ t .len → s ≡ t
@@ -41,12 +42,7 @@ abbrev pub SameUpTo : ℕ → List ℕ → List ℕ → Type 0
 SameUpTo to a b = (p : ℕ) → totalAt + totalLen ≤ p → p < to → getD a p 0 ≡ getD b p 0
 
 pub same-alphabet : (h : Head) (a b : List ℕ) → length a ≡ length b → SameUpTo (fieldsLen + h .f) a b → alphabetIn h a ≡ alphabetIn h b
-unfolding alphabetIn
-same-alphabet h a b n e =
-    ext-getD 0 (take (h .f) (drop fieldsLen a)) (take (h .f) (drop fieldsLen b)) (simp (length-take, length-drop, n))
-    (λ i c.
-    let d : i < h .f = omega (arith, simp length-take at c) in
-    simp (getD-take, getD-drop) (e (fieldsLen + i) (omega arith) (omega arith)))
+same-alphabet h a b n e = alphabet-same h a b n (λ i c. e (fieldsLen + i) (omega arith) (omega arith))
 
 -- of 1 to 4 the nodes' bytes are no part
 pub opens-same : (a b : List ℕ) → headOf a ≡ headOf b → length a ≡ length b → SameUpTo (fieldsLen + headOf b .f) a b → openingOf a ≡ openingOf b
@@ -92,7 +88,7 @@ means s given = lettersIn (meantBy (s .alphabet) given)
 abbrev looks : Seen → Given → Outcome
 looks s given =
     heard (first (opens s ++ (keyingBy (s .head) (s .alphabet) given ++ (row6path (s .head) (s .table) (means s given) ∷ [])))) []
-    (outcome (doneNumbers 0 (pos 0) (answer (s .table) (means s given))) [])
+    (telling (answer (s .table) (means s given)))
 
 abbrev nexts : Seen → List ℕ → List ℕ → List ℕ → Option (List ℕ) → Outcome
 nexts s work key buffer found =

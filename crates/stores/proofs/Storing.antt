@@ -10,7 +10,6 @@ use lib.ListN.{length}
 use lib.Seq.{sets}
 use Rattle.trie.specs.Table.{answer}
 use Rattle.trie.specs.Storing.{changeOf}
-use Rattle.head.specs.Fields.{headOf}
 use Rattle.node.specs.Writes.{Write, listed}
 use Rattle.paper.specs.declared.Refusal.{Refusal}
 use Rattle.paper.specs.declared.Verdict.{Verdict}
