@@ -11,25 +11,26 @@ use borrow.Author.Tests.{ne-eqb}
 use lib.Dec.{eqb}
 use lib.ListN.{getD}
 use Rattle.paper.specs.declared.Refusal.{Refusal}
-use Rattle.paper.specs.declared.Refusal.the-variants.{ImageLength, HeadField, Alphabet, ImageRoom, TooFewNumbers, Link, LinkedTwice, NotLinked, KeyLength, Letter, ValueTooGreat, NoAddress, NoRoom, ShortBuffer, NoKey}
+use Rattle.paper.specs.declared.Refusal.the-variants.{ImageLength, HeadField, Alphabet, ImageRoom, TooFewNumbers, Link, LinkedTwice, NotLinked, KeyLength, Letter, ValueTooGreat, NoAddress, NoRoom, ShortBuffer, NoKey, CountsDiffer}
 use Rattle.paper.specs.declared.Done.{Done}
 use Rattle.paper.specs.declared.Counted.{Counted}
+use Rattle.paper.specs.declared.Placed.{Placed}
 use Rattle.paper.specs.declared.Looked.{Looked}
 use Rattle.paper.specs.declared.Stored.{Stored}
 use Rattle.paper.specs.declared.Listed.{Listed}
 use Rattle.paper.specs.declared.Found.{Found}
 use Rattle.paper.specs.Hearing.{Numbers, Outcome, outcome, refusedNumbers, doneNumbers}
-use Rattle.paper.specs.Answers.{saidOf, refusalNumbers, doneOf, countedOf, lookedOf, storedOf, listedOf, foundOf}
+use Rattle.paper.specs.Answers.{saidOf, refusalNumbers, doneOf, countedOf, placedOf, lookedOf, storedOf, listedOf, foundOf}
 use Rattle.paper.specs.Given.{Given}
 use Rattle.paper.specs.Promises.{Makes, Checks, Counts, LooksUp, Stores, StoresWrites, Mends, Nexts}
 
 -- ---- an answer, from its numbers
 
--- the refusal with this number and place; number 0 is none
+-- the refusal with this number and place; number 0 is none, nor is any that has not landed
 refusalIn : Numbers → Refusal
 refusalIn m =
     getD
-    (NoKey ∷ ImageLength ∷ HeadField ∷ Alphabet ∷ ImageRoom ∷ TooFewNumbers ∷ Link (m .place) ∷ LinkedTwice (m .place) ∷ NotLinked (m .place) ∷ KeyLength ∷ Letter ∷ ValueTooGreat ∷ NoAddress ∷ NoRoom ∷ ShortBuffer ∷ NoKey ∷ [])
+    (NoKey ∷ ImageLength ∷ HeadField ∷ Alphabet ∷ ImageRoom ∷ TooFewNumbers ∷ Link (m .place) ∷ LinkedTwice (m .place) ∷ NotLinked (m .place) ∷ KeyLength ∷ Letter ∷ ValueTooGreat ∷ NoAddress ∷ NoRoom ∷ ShortBuffer ∷ NoKey ∷ NoKey ∷ NoKey ∷ NoKey ∷ NoKey ∷ NoKey ∷ NoKey ∷ NoKey ∷ NoKey ∷ NoKey ∷ CountsDiffer (m .place) ∷ [])
     (m .number) NoKey
 
 refusal-back : (r : Refusal) → refusalIn (refusalNumbers r) ≡ r
@@ -49,6 +50,7 @@ refusal-back NoAddress = refl
 refusal-back NoRoom = refl
 refusal-back ShortBuffer = refl
 refusal-back NoKey = refl
+refusal-back (CountsDiffer q) = refl
 
 -- number 0 is done, every other a refusal
 byNumber : {X : Type 0} → ℕ → X → X → X
@@ -72,6 +74,7 @@ by-refusal done refused NoAddress = refl
 by-refusal done refused NoRoom = refl
 by-refusal done refused ShortBuffer = refl
 by-refusal done refused NoKey = refl
+by-refusal done refused (CountsDiffer q) = refl
 
 -- so no refusal's number is 0
 pub refusal-said : (r : Refusal) → eqb (saidOf r .number) 0 ≡ false
@@ -110,6 +113,14 @@ told-counted = record { back = tellBy (λ m. Counted.Keys (m .value)) Counted.Re
     inverse : (r : Counted) → tellBy (λ m. Counted.Keys (m .value)) Counted.Refused (countedOf r) ≡ r
     inverse (Counted.Keys n) = refl
     inverse (Counted.Refused r) = tell-refused (λ m. Counted.Keys (m .value)) Counted.Refused r
+
+pub told-placed : Told Placed placedOf
+unfolding tellBy byNumber placedOf doneNumbers
+told-placed = record { back = tellBy (λ m. Placed.At (m .value)) Placed.Refused; inverse = inverse }
+  where
+    inverse : (r : Placed) → tellBy (λ m. Placed.At (m .value)) Placed.Refused (placedOf r) ≡ r
+    inverse (Placed.At n) = refl
+    inverse (Placed.Refused r) = tell-refused (λ m. Placed.At (m .value)) Placed.Refused r
 
 pub told-looked : Told Looked lookedOf
 unfolding tellBy byNumber lookedOf doneNumbers
@@ -152,13 +163,13 @@ one-outcome {R} {numbersOf} t r s ls ms o p q =
     let e : outcome (numbersOf r) ls ≡ outcome (numbersOf s) ms = p ∙ sym q in
     (sym (t .inverse r) ∙ ap (t .back) (ap (λ (x : Outcome). x .numbers) e) ∙ t .inverse s, ap (λ (x : Outcome). x .lent) e)
 
-one : {a b : List ℕ} → (a ∷ []) ≡ (b ∷ []) → a ≡ b
+pub one : {a b : List ℕ} → (a ∷ []) ≡ (b ∷ []) → a ≡ b
 one e = cc
 
-two : {a b c d : List ℕ} → (a ∷ c ∷ []) ≡ (b ∷ d ∷ []) → (a ≡ b) × (c ≡ d)
+pub two : {a b c d : List ℕ} → (a ∷ c ∷ []) ≡ (b ∷ d ∷ []) → (a ≡ b) × (c ≡ d)
 two e = (cc, cc)
 
-three : {a b c d i j : List ℕ} → (a ∷ c ∷ i ∷ []) ≡ (b ∷ d ∷ j ∷ []) → (a ≡ b) × ((c ≡ d) × (i ≡ j))
+pub three : {a b c d i j : List ℕ} → (a ∷ c ∷ i ∷ []) ≡ (b ∷ d ∷ j ∷ []) → (a ≡ b) × ((c ≡ d) × (i ≡ j))
 three e = (cc, (cc, cc))
 
 -- ---- the calls, for whatever form of answer tells its numbers

@@ -4,10 +4,11 @@ use Prim.Native.Nat.{ℕ}
 use mathlib.Core.Option.{none, some}
 use lib.IntN.{pos}
 use Rattle.paper.specs.declared.Refusal.{Refusal}
-use Rattle.paper.specs.declared.Refusal.the-variants.{ImageLength, HeadField, Alphabet, ImageRoom, TooFewNumbers, Link, LinkedTwice, NotLinked, KeyLength, Letter, ValueTooGreat, NoAddress, NoRoom, ShortBuffer, NoKey}
+use Rattle.paper.specs.declared.Refusal.the-variants.{ImageLength, HeadField, Alphabet, ImageRoom, TooFewNumbers, Link, LinkedTwice, NotLinked, KeyLength, Letter, ValueTooGreat, NoAddress, NoRoom, ShortBuffer, NoKey, CountsDiffer}
 use Rattle.paper.specs.declared.Verdict.{Verdict}
 use Rattle.paper.specs.declared.Done.{Done}
 use Rattle.paper.specs.declared.Counted.{Counted}
+use Rattle.paper.specs.declared.Placed.{Placed}
 use Rattle.paper.specs.declared.Looked.{Looked}
 use Rattle.paper.specs.declared.Stored.{Stored}
 use Rattle.paper.specs.declared.Listed.{Listed}
@@ -33,6 +34,7 @@ saidOf NoAddress = said 12 0
 saidOf NoRoom = said 13 0
 saidOf ShortBuffer = said 14 0
 saidOf NoKey = said 15 0
+saidOf (CountsDiffer node) = said 25 node
 
 -- a part of an order that has been gone through
 unfoldable pub rowOf : Verdict → Row
@@ -52,6 +54,11 @@ unfoldable pub countedOf : Counted → Numbers
 unfolding refusalNumbers doneNumbers
 countedOf (Counted.Keys n) = doneNumbers 0 (pos 0) n
 countedOf (Counted.Refused r) = refusalNumbers r
+
+unfoldable pub placedOf : Placed → Numbers
+unfolding refusalNumbers doneNumbers
+placedOf (Placed.At n) = doneNumbers 0 (pos 0) n
+placedOf (Placed.Refused r) = refusalNumbers r
 
 unfoldable pub lookedOf : Looked → Numbers
 unfolding refusalNumbers doneNumbers

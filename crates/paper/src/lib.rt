@@ -4,7 +4,7 @@ ghost use mathlib.Core.Path.{_≡_};
 ghost use Rattle.paper.specs.Answers.{saidOf};
 ghost use Rattle.paper.specs.Rows.{badLink};
 
-// One variant for each number of 01's table from 1 on. Those whose place is a node or an address carry it.
+// One variant for each number of 01's table from 1 on, and for those of 02 that have landed. Those whose place is a node or an address carry it.
 pub enum Refusal {
     ImageLength,
     HeadField,
@@ -21,6 +21,7 @@ pub enum Refusal {
     NoRoom,
     ShortBuffer,
     NoKey,
+    CountsDiffer(u32),
 }
 
 impl Refusal {
@@ -43,6 +44,7 @@ impl Refusal {
             Refusal::NoRoom => 13,
             Refusal::ShortBuffer => 14,
             Refusal::NoKey => 15,
+            Refusal::CountsDiffer(_) => 25,
         }
     }
 
@@ -54,6 +56,7 @@ impl Refusal {
             Refusal::Link(node) => node,
             Refusal::LinkedTwice(address) => address,
             Refusal::NotLinked(address) => address,
+            Refusal::CountsDiffer(node) => node,
             Refusal::ImageLength => 0,
             Refusal::HeadField => 0,
             Refusal::Alphabet => 0,
@@ -92,6 +95,12 @@ pub enum Done {
 // The answer of number of keys.
 pub enum Counted {
     Keys(u32),
+    Refused(Refusal),
+}
+
+// The answer of a key's position: how many stored keys come before it.
+pub enum Placed {
+    At(u32),
     Refused(Refusal),
 }
 
