@@ -1,0 +1,1 @@
+// Which keys pass a node, and their laws: definitions and proofs alone, no code.

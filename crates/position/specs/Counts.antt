@@ -1,0 +1,33 @@
+-- 02, Ask 7: "Keep beside the image a lent list of counts, one for each node: how many stored keys lie at or under it." The counts of an image,
+-- and what is said of a list that differs from them.
+use Prim.Native.Nat.{ℕ, _+_}
+use mathlib.Core.Bool.{not}
+use mathlib.Core.List.{List}
+use lib.Dec.{ltb, eqb}
+use lib.ListN.{length, getD}
+use Rattle.head.specs.declared.Head.{Head}
+use Rattle.head.specs.Fields.{headOf}
+use Rattle.passing.specs.Passing.{countAt, oneForEach}
+use Rattle.paper.specs.Hearing.{Row, given}
+use Rattle.paper.specs.Rows.{givenLowest}
+use Rattle.paper.specs.Calls.{tableIn}
+
+-- how many stored keys lie at or under a node of an image
+unfoldable pub countIn : List ℕ → ℕ → ℕ
+unfolding countAt tableIn headOf
+countIn l q = countAt (tableIn l) (headOf l .n) (headOf l .min) (headOf l .max) q
+
+-- the counts of an image, for the nodes 0 to G
+unfoldable pub countsIn : List ℕ → List ℕ
+unfolding oneForEach countIn headOf
+countsIn l = oneForEach (countIn l) 0 (headOf l .g + 1)
+
+-- "25, counts differ, ... place the lowest such node"
+unfoldable pub row25 : List ℕ → List ℕ → Row
+unfolding givenLowest countIn headOf
+row25 l counts = givenLowest 25 (λ q. not (eqb (getD counts q 0) (countIn l q))) 0 (headOf l .g + 1)
+
+-- "for a store 5 again, after 13, if the list is shorter than G+k+1"
+unfoldable pub row5again : Head → ℕ → ℕ → Row
+unfolding given
+row5again h k lent = given 5 0 (ltb lent (h .g + k + 1))

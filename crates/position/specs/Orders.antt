@@ -1,0 +1,55 @@
+-- 02, Ask 7: the order of refusals of each call that takes counts, joined from the parts of 01's orders.
+use Prim.Native.Nat.{ℕ}
+use mathlib.Core.Bool.{cond}
+use mathlib.Core.Option.{Option, none, some}
+use mathlib.Core.List.{List, [], _∷_, _++_}
+use lib.Dec.{eqb}
+use lib.ListN.{length, take}
+use Rattle.trie.specs.Table.{answer}
+use Rattle.head.specs.Fields.{headOf}
+use Rattle.passing.specs.Passing.{keyAt}
+use Rattle.paper.specs.Hearing.{Row}
+use Rattle.paper.specs.Rows.{row14, row15}
+use Rattle.paper.specs.Given.{Given, keyIn}
+use Rattle.paper.specs.Orders.{checking, keying, adding, newOf}
+use Rattle.paper.specs.Calls.{tableIn, storedKeys}
+use Rattle.position.specs.Counts.{row25, row5again}
+
+-- "5, in its old place, also if the list is shorter than G+1": the check is lent as many working numbers as there are counts, or fewer
+unfoldable pub usable : List ℕ → List ℕ → List ℕ
+usable work counts = take (length counts) work
+
+-- working the counts out: "its 5 for either list", and never 25
+unfoldable pub workingOut : List ℕ → List ℕ → List ℕ → List Row
+unfolding checking usable
+workingOut l work counts = checking l (usable work counts)
+
+-- "25 ... after all the check's answers"
+unfoldable pub checkingCounts : List ℕ → List ℕ → List ℕ → List Row
+unfolding workingOut row25
+checkingCounts l work counts = workingOut l work counts ++ (row25 l counts ∷ [])
+
+-- "25 ... before 9 and 10; for a store 5 again, after 13"
+unfoldable pub storingCounts : List ℕ → List ℕ → Given → ℕ → List ℕ → List Row
+unfolding checkingCounts keying keyIn adding newOf row5again
+storingCounts l work given value counts =
+    checkingCounts l work counts
+    ++ (keying l given
+    ++ (adding (headOf l) value (newOf (headOf l) l (keyIn l given) value) (length l)
+    ++ (row5again (headOf l) (newOf (headOf l) l (keyIn l given) value) (length counts) ∷ [])))
+
+-- "15 for a position past the end ... after 14"
+unfoldable pub gettingKey : List ℕ → List ℕ → List ℕ → ℕ → ℕ → List Row
+unfolding checkingCounts row14 row15 keyAt storedKeys
+gettingKey l work counts position lent =
+    checkingCounts l work counts ++ (row14 (headOf l) lent ∷ row15 (keyAt (storedKeys l) position) ∷ [])
+
+-- a key whose length has passed 9, where it is stored: "A stored key is one with length in min..max whose data is not 0"
+unfoldable pub ifStored : List ℕ → List ℕ → Option (List ℕ)
+unfolding answer tableIn
+ifStored l key = cond (eqb (answer (tableIn l) key) 0) none (some key)
+
+-- "15 for ... a key not stored"
+unfoldable pub gettingPosition : List ℕ → List ℕ → List ℕ → Given → List Row
+unfolding checkingCounts keying keyIn row15 ifStored
+gettingPosition l work counts given = checkingCounts l work counts ++ (keying l given ++ (row15 (ifStored l (keyIn l given)) ∷ []))
