@@ -153,7 +153,7 @@ fn first_holding(work: &[u32], nodes: usize, v: u32) -> usize
 }
 
 // Sets the first n working numbers to 0.
-fn clear(work: &mut [u32], n: usize)
+pub fn clear(work: &mut [u32], n: usize)
     requires { ⌜ n ≤ length (now work) ⌝ }
     ensures { λ _. ⌜ now (work .exit) ≡ replicate n 0 ++ drop n (now (work .entry)) ⌝ }
 {

@@ -1,6 +1,7 @@
 -- 02, Ask 7: "Keep beside the image a lent list of counts, one for each node: how many stored keys lie at or under it." The counts of an image,
 -- and what is said of a list that differs from them.
-use Prim.Native.Nat.{ℕ, _+_}
+use Prim.Native.Nat.{ℕ, _+_, _≤_}
+use mathlib.Core.Path.{_≡_}
 use mathlib.Core.Bool.{not}
 use mathlib.Core.List.{List}
 use lib.Dec.{ltb, eqb}
@@ -31,3 +32,8 @@ row25 l counts = givenLowest 25 (λ q. not (eqb (getD counts q 0) (countIn l q))
 unfoldable pub row5again : Head → ℕ → ℕ → Row
 unfolding given
 row5again h k lent = given 5 0 (ltb lent (h .g + k + 1))
+
+-- a list of counts that is right for an image: long enough, and its first G+1 are the image's counts
+pub record RightCounts (l counts : List ℕ) : Type 0 where
+  pub long : headOf l .g + 1 ≤ length counts
+  pub each : (q : ℕ) → q ≤ headOf l .g → getD counts q 0 ≡ countIn l q

@@ -1,0 +1,159 @@
+// The way through an image by its counts: the key at a position, and the position of a key. The image has been checked and the counts have been
+// compared. At each node the links are looked at from the first letter on, and none is followed but the one that leads on.
+ghost use mathlib.Core.Path.{_≡_};
+ghost use mathlib.Core.Bool.{true};
+ghost use Prim.Native.Nat.{_+_, _≤_, _<_};
+ghost use lib.ListN.{length};
+ghost use Rattle.field.specs.Range.{between};
+ghost use Rattle.head.specs.Fields.{headOf};
+ghost use Rattle.node.specs.Image.{Open, Masks};
+ghost use Rattle.paper.specs.Accepted.{Accepted};
+ghost use Rattle.paper.specs.Calls.{storedKeys};
+ghost use Rattle.position.specs.Counts.{RightCounts};
+ghost use Rattle.key.specs.Hand.{Ready, lettersOf};
+ghost use Rattle.ranking.specs.Ranking.{Spotted, rankedOf, Below, Branches, lower, Room};
+use head::Head;
+use key::Key;
+
+// The stored key at a position: its letters are the first `length` of the path, and its value.
+pub struct Spot {
+    pub length: usize,
+    pub value: u64,
+}
+
+// A key's position, or it is not stored.
+pub enum Ranked {
+    At(u32),
+    Missing,
+}
+
+// The child under which a position lies: its letter, its address, and the position among the keys at or under it.
+pub struct Branch {
+    pub letter: u8,
+    pub child: u32,
+    pub left: u32,
+}
+
+// The stored key at a position below the number of stored keys.
+pub fn key_at(image: &[u8], h: Head, counts: &[u32], position: u32, path: &mut [u8]) -> Spot
+    requires { ⌜ Accepted (now image) ⌝ ∗ ⌜ h ≡ headOf (now image) ⌝ ∗ ⌜ RightCounts (now image) (now counts) ⌝ }
+    requires { ⌜ position < length (storedKeys (now image)) ⌝ ∗ ⌜ h .max ≤ length (now path) ⌝ }
+    ensures { λ r. ⌜ Spotted (now (image .entry)) position r (now (path .exit)) ⌝ }
+{
+    let mask = node::mask(h);
+    let mut node: u32 = 0;
+    let mut depth: usize = 0;
+    let mut left = position;
+    loop {
+        let value = bearing::own_value(image, h, node, depth);
+        if value != 0 {
+            if left == 0 {
+                return Spot {
+                    length: depth,
+                    value,
+                };
+            }
+            left -= 1;
+        }
+        let branch = branch_at(image, h, mask, counts, node, depth, left);
+        path[depth] = branch.letter;
+        node = branch.child;
+        left = branch.left;
+        depth += 1;
+    }
+}
+
+// The child of a node at a depth under which the position lies among the keys below the node, its own left out.
+fn branch_at(
+    image: &[u8],
+    h: Head,
+    mask: u32,
+    counts: &[u32],
+    node: u32,
+    depth: usize,
+    position: u32,
+) -> Branch
+    requires { ⌜ Open h (now image) ⌝ ∗ ⌜ Masks h mask ⌝ ∗ ⌜ node ≤ h .g ⌝ ∗ ⌜ depth < h .max ⌝ }
+    requires { ⌜ Below h (now image) node depth (now counts) ⌝ }
+    ensures { λ r. ⌜ Branches h (now (image .entry)) node depth position r ⌝ }
+{
+    let mut left = position;
+    for i in 0..h.n {
+        let c = node::link(image, h, mask, node, i);
+        if c == 0 {
+            continue;
+        }
+        let under = counts[c as usize];
+        if left < under {
+            return Branch {
+                letter: i as u8,
+                child: c,
+                left,
+            };
+        }
+        left -= under;
+    }
+    Branch {
+        letter: 0,
+        child: 0,
+        left: 0,
+    }
+}
+
+// The position of a key whose length is allowed: how many stored keys come before it. On the way down each node's own key comes before, and so
+// does every key at or under a child with a lower letter.
+pub fn rank(image: &[u8], h: Head, counts: &[u32], key: Key) -> Ranked
+    requires { ⌜ Accepted (now image) ⌝ ∗ ⌜ h ≡ headOf (now image) ⌝ ∗ ⌜ RightCounts (now image) (now counts) ⌝ }
+    requires { ⌜ Ready h key ⌝ ∗ ⌜ between (length (lettersOf key)) (h .min) (h .max) ≡ true ⌝ }
+    ensures { λ r. ⌜ r ≡ rankedOf (now (image .entry)) (lettersOf key) ⌝ }
+{
+    let mask = node::mask(h);
+    let letters = key.letters;
+    let len = key.len;
+    let mut node: u32 = 0;
+    let mut depth: usize = 0;
+    let mut before: u32 = 0;
+    while depth < len {
+        let letter = letters[depth] as u32;
+        let c = node::link(image, h, mask, node, letter);
+        if c == 0 {
+            return Ranked::Missing;
+        }
+        if bearing::own_value(image, h, node, depth) != 0 {
+            before += 1;
+        }
+        before = passed(image, h, mask, counts, node, depth, letter, before);
+        node = c;
+        depth += 1;
+    }
+    if bearing::own_value(image, h, node, depth) == 0 {
+        return Ranked::Missing;
+    }
+    Ranked::At(before)
+}
+
+// The keys at or under the children of a node at a depth whose letters are below one, added to those passed before.
+fn passed(
+    image: &[u8],
+    h: Head,
+    mask: u32,
+    counts: &[u32],
+    node: u32,
+    depth: usize,
+    letter: u32,
+    before: u32,
+) -> u32
+    requires { ⌜ Open h (now image) ⌝ ∗ ⌜ Masks h mask ⌝ ∗ ⌜ node ≤ h .g ⌝ ∗ ⌜ depth < h .max ⌝ ∗ ⌜ letter ≤ h .n ⌝ }
+    requires { ⌜ Below h (now image) node depth (now counts) ⌝ }
+    requires { ⌜ Room h (now image) node depth letter before ⌝ }
+    ensures { λ r. ⌜ r ≡ before + lower h (now (image .entry)) node depth letter ⌝ }
+{
+    let mut sum = before;
+    for i in 0..letter {
+        let c = node::link(image, h, mask, node, i);
+        if c != 0 {
+            sum += counts[c as usize];
+        }
+    }
+    sum
+}

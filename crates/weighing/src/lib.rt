@@ -1,0 +1,70 @@
+// The counts of an image that has been checked, worked out afresh: how many stored keys lie at or under each node. One walk down to max;
+// every node that it meets adds what lies at or under it to its own count.
+ghost use mathlib.Core.Path.{_≡_};
+ghost use Prim.Native.Nat.{ℕ, _+_, _-_, _^_, _≤_, _<_};
+ghost use lib.ListN.{length, getD};
+ghost use Rattle.trie.specs.Rules.{Within};
+ghost use Rattle.trie.specs.Keys.{ownKey, keysUnder};
+ghost use Rattle.head.specs.Fields.{headOf};
+ghost use Rattle.node.specs.Image.{Open, Masks, tableOf};
+ghost use Rattle.paper.specs.Accepted.{Accepted};
+ghost use Rattle.position.specs.Calls.{worked};
+ghost use Rattle.weighing.specs.Weighing.{Weighed, Fits};
+use head::Head;
+
+// Writes the counts of the nodes 0 to G to the front of a list; the rest of it keeps what it held.
+pub fn weigh(image: &[u8], h: Head, list: &mut [u32])
+    requires { ⌜ Accepted (now image) ⌝ ∗ ⌜ h ≡ headOf (now image) ⌝ ∗ ⌜ h .g + 1 ≤ length (now list) ⌝ }
+    ensures { λ _. ⌜ now (list .exit) ≡ worked (now (image .entry)) (now (list .entry)) ⌝ }
+{
+    audit::clear(list, (h.g as usize) + 1);
+    let own = if bearing::own_value(image, h, 0, 0) == 0 {
+        0
+    } else {
+        1
+    };
+    if bearing::fruitless(image, h, 0, 0) {
+        list[0] = own;
+        return;
+    }
+    weighed(image, h, node::mask(h), 0, 0, own, list);
+}
+
+// The stored keys at or under a node at a depth, of which `own` are its own; they are added to its count, and so for every node under it.
+// It calls itself on each child; the depth left to max falls.
+fn weighed(
+    image: &[u8],
+    h: Head,
+    mask: u32,
+    node: u32,
+    depth: usize,
+    own: u32,
+    list: &mut [u32],
+) -> u32
+    requires { ⌜ Open h (now image) ⌝ ∗ ⌜ Within (tableOf h (now image)) (h .g) ⌝ ∗ ⌜ Masks h mask ⌝ }
+    requires { ⌜ node ≤ h .g ⌝ ∗ ⌜ depth < h .max ⌝ ∗ ⌜ h .g + 1 ≤ length (now list) ⌝ }
+    requires { ⌜ own ≡ length (ownKey (tableOf h (now image)) (h .min - depth) node) ⌝ ∗ ⌜ Fits h (now image) node depth (now list) ⌝ }
+    ensures { λ r. ⌜ r ≡ length (keysUnder (tableOf h (now (image .entry))) (h .n) (h .min - depth) (h .max - depth) node) ⌝ }
+    ensures { λ _. ⌜ Weighed h (now (image .entry)) node depth (now (list .entry)) (now (list .exit)) ⌝ }
+{
+    let mut sum = own;
+    for i in 0..h.n {
+        let c = node::link(image, h, mask, node, i);
+        if c == 0 {
+            continue;
+        }
+        let one = if bearing::own_value(image, h, c, depth + 1) == 0 {
+            0
+        } else {
+            1
+        };
+        if bearing::fruitless(image, h, c, depth + 1) {
+            list[c as usize] = list[c as usize] + one;
+            sum += one;
+            continue;
+        }
+        sum += weighed(image, h, mask, c, depth + 1, one, list);
+    }
+    list[node as usize] = list[node as usize] + sum;
+    sum
+}
