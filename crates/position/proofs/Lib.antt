@@ -1,1 +1,2 @@
-
+mod Tabulated
+pub mod Unique

@@ -1,4 +1,5 @@
 pub mod Calls
+pub mod Cases
 pub mod Counts
 pub mod Orders
 pub mod Promises
