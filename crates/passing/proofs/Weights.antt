@@ -1,0 +1,129 @@
+-- What the nodes at or under a node add to a count, letter by letter as `Beyond` takes the keys. The sums are the counts: a key passes the node
+-- that it is counted at, or it passes that node below one link; and below its own links no key comes to a node again.
+use Prim.Native.Nat.{ℕ, zero, suc, pred, _+_, _-_, _<_, _≤_}
+use native.Mathlib.Omega.{arith}
+use native.Mathlib.Nat.{sub-zero}
+use mathlib.Core.Bool.{Bool, true, false, cond}
+use mathlib.Core.List.{List, [], _∷_, _++_, map}
+use mathlib.Core.Logic.{_≢_}
+use mathlib.Core.Path.{_≡_, refl, sym, _∙_, ap}
+use lib.Dec.{eqb}
+use lib.ListN.{length, length-append, length-map}
+use Rattle.trie.specs.Table.{Table, follow}
+use Rattle.trie.specs.Keys.{ownKey, byLetter, keysUnder}
+use Rattle.trie.specs.Beyond.{keysFrom}
+use Rattle.trie.proofs.Walk.{follow-empty, follow-on}
+use Rattle.trie.proofs.Listing.{under}
+use Rattle.trie.proofs.Beyond.{under-split}
+use Rattle.passing.specs.Weights.{sumFrom, weightAt, weightFrom}
+
+no-length : (l : List (List ℕ)) → length l ≡ 0 → l ≡ []
+no-length [] z = refl
+no-length (k ∷ l) z = absurd (omega arith)
+
+cond-same : (b : Bool) → _≡_ {A = ℕ} (cond b 0 0) 0
+cond-same true = refl
+cond-same false = refl
+
+-- where no key comes by any letter, nothing is added
+sum-none : (keys : ℕ → List (List ℕ)) (f : ℕ → ℕ) → ((i : ℕ) → keys i ≡ [] → f i ≡ 0) → (x m : ℕ) → byLetter keys x m ≡ [] → sumFrom f x m ≡ 0
+unfolding sumFrom byLetter
+sum-none keys f h x zero e = refl
+sum-none keys f h x (suc m) e =
+    let size : length (keys x) + length (byLetter keys (suc x) m) ≡ 0 =
+    omega (arith, length-map (keys x) (x ∷_), length-append (map (x ∷_) (keys x)) (byLetter keys (suc x) m), ap length e) in
+    let rest = sum-none keys f h (suc x) m (no-length (byLetter keys (suc x) m) (omega arith)) in
+    omega (arith, h x (no-length (keys x) (omega arith)), rest)
+
+module _ (t : Table) (n : ℕ) where
+  -- what is added by the link of letter i at node p
+  abbrev adds : ℕ → ℕ → ℕ → ℕ → ℕ → ℕ
+  adds short left q p i = follow (t .child p i) 0 (λ c. weightAt t n (pred short) left q c)
+
+  pub weight-split : (short left q p : ℕ)
+      → weightAt t n short left q p ≡ cond (eqb p q) (length (keysUnder t n short left p)) 0 + weightFrom t n short left q p 0
+  unfolding weightAt weightFrom
+  weight-split short zero q p = omega arith
+  weight-split short (suc left) q p = rw (sub-zero n)
+
+  -- past the last letter
+  pub weight-none : (short left q p x : ℕ) → n ≤ x → weightFrom t n short left q p x ≡ 0
+  unfolding weightFrom sumFrom
+  weight-none short zero q p x h = refl
+  weight-none short (suc left) q p x h = let e : n - x ≡ 0 = omega arith in rw e
+
+  -- where no letter is allowed
+  pub weight-shallow : (short q p x : ℕ) → weightFrom t n short 0 q p x ≡ 0
+  unfolding weightFrom
+  weight-shallow short q p x = refl
+
+  weight-letter : (short left q p x : ℕ) → x < n
+      → weightFrom t n short (suc left) q p x ≡ adds short left q p x + weightFrom t n short (suc left) q p (suc x)
+  unfolding weightFrom sumFrom
+  weight-letter short left q p x h = let e : n - x ≡ suc (n - suc x) = omega arith in rw e
+
+  -- an empty link adds nothing
+  pub weight-empty : (short left q p x : ℕ) → x < n → t .child p x ≡ 0
+      → weightFrom t n short left q p x ≡ weightFrom t n short left q p (suc x)
+  unfolding weightFrom
+  weight-empty short zero q p x h e = refl
+  weight-empty short (suc left) q p x h e =
+      omega (arith, weight-letter short left q p x h, follow-empty (t .child p x) 0 (λ c. weightAt t n (pred short) left q c) e)
+
+  -- any other adds what its node adds
+  pub weight-link : (short left q p x : ℕ) → x < n → 0 < left → t .child p x ≢ 0
+      → weightFrom t n short left q p x
+      ≡ weightAt t n (pred short) (pred left) q (t .child p x) + weightFrom t n short left q p (suc x)
+  weight-link short zero q p x h room full = absurd (omega arith)
+  weight-link short (suc left) q p x h room full =
+      omega (arith, weight-letter short left q p x h, follow-on (t .child p x) 0 (λ c. weightAt t n (pred short) left q c) full)
+
+  -- a link that no key comes by adds nothing
+  link-blank : (short left q c : ℕ) → ((p : ℕ) → keysUnder t n short left p ≡ [] → weightAt t n short left q p ≡ 0)
+      → follow c [] (λ p. keysUnder t n short left p) ≡ []
+      → follow c 0 (λ p. weightAt t n short left q p) ≡ 0
+  unfolding follow
+  link-blank short left q zero on e = refl
+  link-blank short left q (suc c) on e = on (suc c) e
+
+  -- where nothing lies below a node, no node there adds anything
+  below-blank : (short left q p : ℕ) → ((c : ℕ) → keysUnder t n (pred short) (pred left) c ≡ [] → weightAt t n (pred short) (pred left) q c ≡ 0)
+      → keysFrom t n short left p 0 ≡ []
+      → weightFrom t n short left q p 0 ≡ 0
+  unfolding keysFrom weightFrom
+  below-blank short zero q p on e = refl
+  below-blank short (suc left) q p on e =
+      sum-none
+      (under t n short left p)
+      (adds short left q p)
+      (λ i. link-blank (pred short) left q (t .child p i) on)
+      0
+      (n - 0)
+      e
+
+  all-blank : (short left q p : ℕ) → keysUnder t n short left p ≡ [] → weightFrom t n short left q p 0 ≡ 0 → weightAt t n short left q p ≡ 0
+  all-blank short left q p e below = weight-split short left q p ∙ rw (e, below, cond-same (eqb p q))
+
+  none-below : (short left p : ℕ) → keysUnder t n short left p ≡ [] → keysFrom t n short left p 0 ≡ []
+  none-below short left p e =
+      no-length
+      (keysFrom t n short left p 0)
+      (omega (
+        arith,
+        ap length (sym (under-split t n short left p) ∙ e),
+        length-append (ownKey t short p) (keysFrom t n short left p 0),
+      ))
+
+  weight-blank : (short left q p : ℕ) → keysUnder t n short left p ≡ [] → weightAt t n short left q p ≡ 0
+  weight-blank short zero q p e = all-blank short 0 q p e (weight-shallow short q p 0)
+  weight-blank short (suc left) q p e =
+      all-blank
+      short
+      (suc left)
+      q
+      p
+      e
+      (below-blank short (suc left) q p (λ c. weight-blank (pred short) left q c) (none-below short (suc left) p e))
+
+  pub weight-fruitless : (short left p : ℕ) → ((x : ℕ) → keysFrom t n short left p x ≡ []) → (q : ℕ) → weightFrom t n short left q p 0 ≡ 0
+  weight-fruitless short left p none q = below-blank short left q p (λ c. weight-blank (pred short) (pred left) q c) (none 0)
