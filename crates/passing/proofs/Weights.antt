@@ -2,20 +2,26 @@
 -- that it is counted at, or it passes that node below one link; and below its own links no key comes to a node again.
 use Prim.Native.Nat.{ℕ, zero, suc, pred, _+_, _-_, _<_, _≤_}
 use native.Mathlib.Omega.{arith}
+use native.Mathlib.Decide.{ℕ-discrete}
 use native.Mathlib.Nat.{sub-zero}
 use mathlib.Core.Bool.{Bool, true, false, cond}
 use mathlib.Core.List.{List, [], _∷_, _++_, map}
 use mathlib.Core.Logic.{_≢_}
-use mathlib.Core.Path.{_≡_, refl, sym, _∙_, ap}
+use mathlib.Core.Path.{_≡_, refl, sym, _∙_, ap, subst}
 use lib.Dec.{eqb}
 use lib.ListN.{length, length-append, length-map}
-use Rattle.trie.specs.Table.{Table, follow}
-use Rattle.trie.specs.Keys.{ownKey, byLetter, keysUnder}
+use borrow.Author.Tests.{eq-eqb, ne-eqb}
+use Rattle.trie.specs.Table.{Table, complete, follow, descend}
+use Rattle.trie.specs.Keys.{ownKey, byLetter, keysUnder, sift}
+use Rattle.trie.specs.Rules.{Once, Linked}
 use Rattle.trie.specs.Beyond.{keysFrom}
-use Rattle.trie.proofs.Walk.{follow-empty, follow-on}
-use Rattle.trie.proofs.Listing.{under}
+use Rattle.trie.proofs.Walk.{descend-nil, follow-empty, follow-on}
+use Rattle.trie.proofs.Listing.{under, own-cases}
 use Rattle.trie.proofs.Beyond.{under-split}
+use Rattle.trie.proofs.Sift.{sift-append, sift-map, sift-none, sift-every}
+use Rattle.passing.specs.Passing.{passes, countAt}
 use Rattle.passing.specs.Weights.{sumFrom, weightAt, weightFrom}
+use Rattle.passing.proofs.Passing.{passes-here, passes-nil, passes-link, never-again, child-reached}
 
 no-length : (l : List (List ℕ)) → length l ≡ 0 → l ≡ []
 no-length [] z = refl
@@ -127,3 +133,103 @@ module _ (t : Table) (n : ℕ) where
 
   pub weight-fruitless : (short left p : ℕ) → ((x : ℕ) → keysFrom t n short left p x ≡ []) → (q : ℕ) → weightFrom t n short left q p 0 ≡ 0
   weight-fruitless short left p none q = below-blank short left q p (λ c. weight-blank (pred short) (pred left) q c) (none 0)
+
+-- ---- the sums are the counts
+
+sum-sift : (test : List ℕ → Bool) (keys : ℕ → List (List ℕ)) (f : ℕ → ℕ)
+    → ((i : ℕ) → f i ≡ length (sift test (map (i ∷_) (keys i))))
+    → (x m : ℕ)
+    → sumFrom f x m ≡ length (sift test (byLetter keys x m))
+unfolding sumFrom byLetter sift
+sum-sift test keys f h x zero = refl
+sum-sift test keys f h x (suc m) =
+    omega (
+      arith,
+      h x,
+      sum-sift test keys f h (suc x) m,
+      ap length (sift-append test (map (x ∷_) (keys x)) (byLetter keys (suc x) m)),
+      length-append (sift test (map (x ∷_) (keys x))) (sift test (byLetter keys (suc x) m)),
+    )
+
+module _ (t : Table) (n : ℕ) (once : Once t) (q : ℕ) where
+  -- what is to be shown of node p
+  abbrev Weighed : ℕ → ℕ → ℕ → Type 0
+  Weighed short left p = weightAt t n short left q p ≡ length (sift (passes t q p) (keysUnder t n short left p))
+
+  -- below a node, where a test asks of its keys what the nodes of its links ask of what follows
+  weighed-below : (test : List ℕ → Bool) (short left p : ℕ)
+      → ((x : ℕ) → t .child p x ≢ 0 → 0 < left → Weighed (pred short) (pred left) (t .child p x))
+      → ((x : ℕ) → t .child p x ≢ 0 → (k : List ℕ) → test (x ∷ k) ≡ passes t q (t .child p x) k)
+      → weightFrom t n short left q p 0 ≡ length (sift test (keysFrom t n short left p 0))
+  unfolding weightFrom keysFrom sift
+  weighed-below test short zero p below asks = refl
+  weighed-below test short (suc left) p below asks = sum-sift test (under t n short left p) (adds t n short left q p) each 0 (n - 0)
+    where
+      each : (i : ℕ) → adds t n short left q p i ≡ length (sift test (map (i ∷_) (under t n short left p i)))
+      each i = go (ℕ-discrete (t .child p i) 0)
+        where
+          keys : List (List ℕ)
+          keys = keysUnder t n (pred short) left (t .child p i)
+
+          go : Dec (t .child p i ≡ 0) → adds t n short left q p i ≡ length (sift test (map (i ∷_) (under t n short left p i)))
+          go (yes z) =
+              follow-empty (t .child p i) 0 (λ c. weightAt t n (pred short) left q c) z
+              ∙ sym (ap (λ (l : List (List ℕ)). length (sift test (map (i ∷_) l))) (follow-empty (t .child p i) [] (λ c. keysUnder t n (pred short) left c) z))
+          go (no full) =
+              follow-on (t .child p i) 0 (λ c. weightAt t n (pred short) left q c) full
+              ∙ below i full (omega arith)
+              ∙ sym (length-map (sift (passes t q (t .child p i)) keys) (i ∷_))
+              ∙ ap length (sym (sift-map test (passes t q (t .child p i)) i keys (asks i full)))
+              ∙ sym (ap (λ (l : List (List ℕ)). length (sift test (map (i ∷_) l))) (follow-on (t .child p i) [] (λ c. keysUnder t n (pred short) left c) full))
+
+  -- at a node that a key reaches
+  weighed-node : (short left p : ℕ) (k : List ℕ) → descend t 0 k ≡ complete p
+      → ((x : ℕ) → t .child p x ≢ 0 → 0 < left → Weighed (pred short) (pred left) (t .child p x))
+      → Weighed short left p
+  weighed-node short left p k e below = go (ℕ-discrete p q)
+    where
+      own : List (List ℕ)
+      own = ownKey t short p
+
+      from : List (List ℕ)
+      from = keysFrom t n short left p 0
+
+      go : Dec (p ≡ q) → Weighed short left p
+      go (yes same) =
+          let every : sift (passes t q p) (keysUnder t n short left p) ≡ keysUnder t n short left p =
+          sift-every _ _ (λ j a. subst (λ (z : ℕ). passes t q z j ≡ true) (sym same) (passes-here t q j)) in
+          let again : (x : ℕ) → t .child p x ≢ 0 → (j : List ℕ) → false ≡ passes t q (t .child p x) j =
+          λ x full j. sym (subst (λ (z : ℕ). passes t z (t .child p x) j ≡ false) same (never-again t k x once e full j)) in
+          let nothing : weightFrom t n short left q p 0 ≡ 0 =
+          weighed-below (λ j. false) short left p below again ∙ ap length (sift-none (λ j. false) from (λ j a. refl)) in
+          let met : cond (eqb p q) (length (keysUnder t n short left p)) 0 ≡ length (keysUnder t n short left p) = rw (eq-eqb p q same) in
+          omega (arith, weight-split t n short left q p, nothing, met, ap length every)
+      go (no other) =
+          let unmet : cond (eqb p q) (length (keysUnder t n short left p)) 0 ≡ 0 = rw (ne-eqb p q other) in
+          let out : sift (passes t q p) own ≡ [] =
+          sift-none (passes t q p) own (λ j a. ap (passes t q p) (own-cases t short p a .0) ∙ passes-nil t q p other) in
+          omega (
+            arith,
+            weight-split t n short left q p,
+            unmet,
+            weighed-below (passes t q p) short left p below (λ x full j. passes-link t q p x j other full),
+            ap (λ (l : List (List ℕ)). length (sift (passes t q p) l)) (under-split t n short left p),
+            ap length (sift-append (passes t q p) own from),
+            length-append (sift (passes t q p) own) (sift (passes t q p) from),
+            ap length out,
+          )
+
+  weighed : (short left p : ℕ) (k : List ℕ) → descend t 0 k ≡ complete p → Weighed short left p
+  weighed short zero p k e = weighed-node short 0 p k e (λ x full room. absurd (omega arith))
+  weighed short (suc left) p k e =
+      weighed-node
+      short
+      (suc left)
+      p
+      k
+      e
+      (λ x full room. weighed (pred short) left (t .child p x) (k ++ (x ∷ [])) (child-reached t k x e full))
+
+pub weight-count : {t : Table} {g n : ℕ} → Linked t g n → (least most q : ℕ) → weightAt t n least most q 0 ≡ countAt t n least most q
+unfolding countAt
+weight-count {t} {g} {n} linked least most q = weighed t n (linked .once) q least most 0 [] (descend-nil t 0)
