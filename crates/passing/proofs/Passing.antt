@@ -81,7 +81,7 @@ module _ (t : Table) (q : ℕ) where
   prefix-passes p m r e = along (walk t p m e) r
 
 -- where a test holds only for what cannot be
-refuted : (b : Bool) → ¬ (b ≡ true) → b ≡ false
+pub refuted : (b : Bool) → ¬ (b ≡ true) → b ≡ false
 refuted true h = absurd (h refl)
 refuted false h = refl
 
