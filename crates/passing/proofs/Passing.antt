@@ -1,5 +1,5 @@
--- Which keys pass a node. A key passes a node if a part at its front walks there, so what is known of walks is known of passing: a node in a
--- table has one key, and below its own links no key comes to it again.
+-- Which keys pass a node. A key passes a node if a part at its front walks there, so what is known of walks is known of passing: a node
+-- has one key, and below its own links no key comes to it again.
 use Prim.Native.Nat.{ℕ, _<_, _≤_}
 use native.Mathlib.Omega.{arith}
 use native.Mathlib.Decide.{ℕ-discrete}

@@ -1,11 +1,10 @@
--- The count of a node that a key reaches. The keys that pass it are that key followed by each key at or under the node: both lists stand in order
--- and hold the same keys. So a node outside the table, or deeper than a key may be, counts none.
+-- The count of a node that a key reaches. The keys that pass it are that key followed by each key at or under the node: both lists stand
+-- in order and hold the same keys. So a node outside the table, or deeper than a key may be, counts none.
 use Prim.Native.Nat.{ℕ, zero, suc, _+_, _-_, _<_, _≤_}
 use native.Mathlib.Omega.{arith}
-use mathlib.Core.Bool.{Bool, true, false}
+use mathlib.Core.Bool.{true}
 use mathlib.Core.List.{List, [], _∷_, _++_, map, List·Memᴰ, Memᴰ·map, Memᴰ·of-map, Memᴰ·cast}
-use mathlib.Core.Logic.{_≢_}
-use mathlib.Core.Path.{_≡_, refl, sym, _∙_, ap, ap₂, subst}
+use mathlib.Core.Path.{_≡_, refl, sym, _∙_, ap, ap₂}
 use lib.ListN.{length, length-append, length-map, getD}
 use Rattle.trie.specs.Table.{Table, complete, descend, valueAt}
 use Rattle.trie.specs.Keys.{keysUnder, listing, before, sift, Ascending}
@@ -13,7 +12,7 @@ use Rattle.trie.specs.Rules.{Within, Linked}
 use Rattle.trie.proofs.Order.{before-cons}
 use Rattle.trie.proofs.Sift.{sift-none, sift-length, sift-holds, sift-ascending}
 use Rattle.trie.proofs.Walk.{descend-append}
-use Rattle.trie.proofs.Listing.{Found, under-listed, keysUnder-holds, keysUnder-ascending, same-keys}
+use Rattle.trie.proofs.Listing.{under-listed, keysUnder-holds, keysUnder-ascending, same-keys}
 use Rattle.passing.specs.Passing.{passes, countAt, oneForEach}
 use Rattle.passing.proofs.Passing.{prefix-passes, passes-extends, passes-within, refuted}
 
@@ -34,7 +33,7 @@ module _ {t : Table} {g n : ℕ} (linked : Linked t g n) (least most : ℕ) wher
   abbrev rests : List ℕ → ℕ → List (List ℕ)
   rests k p = keysUnder t n (least - length k) (most - length k) p
 
-  -- a key that is listed and passes the node goes on from the node's key by one that is listed there
+  -- a key that goes on from the node's key does so by one that is listed there
   onward : (k : List ℕ) {p : ℕ} → descend t 0 k ≡ complete p → (r : List ℕ)
       → List·Memᴰ (k ++ r) (listing t n least most)
       → List·Memᴰ r (rests k p)
@@ -95,7 +94,8 @@ module _ {t : Table} {g n : ℕ} (linked : Linked t g n) (least most : ℕ) wher
           → List·Memᴰ j (sift (passes t p 0) (listing t n least most))
       from j a =
           let (r, hr, f) = Memᴰ·of-map (k ++_) (rests k p) a in
-          Memᴰ·cast (sym f) (sift-holds (passes t p 0) (listing t n least most) (k ++ r) .1 (behind k e deep r hr, prefix-passes t p 0 k r e))
+          let met : passes t p 0 (k ++ r) ≡ true = prefix-passes t p 0 k r e in
+          Memᴰ·cast (sym f) (sift-holds (passes t p 0) (listing t n least most) (k ++ r) .1 (behind k e deep r hr, met))
 
   pub count-reached : (k : List ℕ) {p : ℕ} → descend t 0 k ≡ complete p → length k ≤ most
       → countAt t n least most p ≡ length (keysUnder t n (least - length k) (most - length k) p)

@@ -1,5 +1,5 @@
--- What the nodes at or under a node add to a count, letter by letter as `Beyond` takes the keys. The sums are the counts: a key passes the node
--- that it is counted at, or it passes that node below one link; and below its own links no key comes to a node again.
+-- What the nodes at or under a node add to a count, letter by letter as `Beyond` takes the keys. The sums are the counts: a key passes the
+-- node that it is counted at, or it passes that node below one link; and below its own links no key comes to a node again.
 use Prim.Native.Nat.{ℕ, zero, suc, pred, _+_, _-_, _<_, _≤_}
 use native.Mathlib.Omega.{arith}
 use native.Mathlib.Decide.{ℕ-discrete}
@@ -32,7 +32,8 @@ cond-same true = refl
 cond-same false = refl
 
 -- where no key comes by any letter, nothing is added
-sum-none : (keys : ℕ → List (List ℕ)) (f : ℕ → ℕ) → ((i : ℕ) → keys i ≡ [] → f i ≡ 0) → (x m : ℕ) → byLetter keys x m ≡ [] → sumFrom f x m ≡ 0
+sum-none : (keys : ℕ → List (List ℕ)) (f : ℕ → ℕ) → ((i : ℕ) → keys i ≡ [] → f i ≡ 0)
+    → (x m : ℕ) → byLetter keys x m ≡ [] → sumFrom f x m ≡ 0
 unfolding sumFrom byLetter
 sum-none keys f h x zero e = refl
 sum-none keys f h x (suc m) e =
@@ -93,7 +94,8 @@ module _ (t : Table) (n : ℕ) where
   link-blank short left q (suc c) on e = on (suc c) e
 
   -- where nothing lies below a node, no node there adds anything
-  below-blank : (short left q p : ℕ) → ((c : ℕ) → keysUnder t n (pred short) (pred left) c ≡ [] → weightAt t n (pred short) (pred left) q c ≡ 0)
+  below-blank : (short left q p : ℕ)
+      → ((c : ℕ) → keysUnder t n (pred short) (pred left) c ≡ [] → weightAt t n (pred short) (pred left) q c ≡ 0)
       → keysFrom t n short left p 0 ≡ []
       → weightFrom t n short left q p 0 ≡ 0
   unfolding keysFrom weightFrom
@@ -156,31 +158,34 @@ module _ (t : Table) (n : ℕ) (once : Once t) (q : ℕ) where
   abbrev Weighed : ℕ → ℕ → ℕ → Type 0
   Weighed short left p = weightAt t n short left q p ≡ length (sift (passes t q p) (keysUnder t n short left p))
 
-  -- below a node, where a test asks of its keys what the nodes of its links ask of what follows
+  -- one link, where a test asks of the keys by its letter what its node asks of what follows
+  link-weighed : (test : List ℕ → Bool) (short left i c : ℕ)
+      → (c ≢ 0 → Weighed short left c)
+      → (c ≢ 0 → (k : List ℕ) → test (i ∷ k) ≡ passes t q c k)
+      → follow c 0 (λ p. weightAt t n short left q p) ≡ length (sift test (map (i ∷_) (follow c [] (λ p. keysUnder t n short left p))))
+  unfolding follow sift
+  link-weighed test short left i zero below asks = refl
+  link-weighed test short left i (suc c) below asks =
+      let full : suc c ≢ 0 = λ e. omega arith in
+      let keys : List (List ℕ) = keysUnder t n short left (suc c) in
+      below full
+      ∙ sym (length-map (sift (passes t q (suc c)) keys) (i ∷_))
+      ∙ ap length (sym (sift-map test (passes t q (suc c)) i keys (asks full)))
+
   weighed-below : (test : List ℕ → Bool) (short left p : ℕ)
       → ((x : ℕ) → t .child p x ≢ 0 → 0 < left → Weighed (pred short) (pred left) (t .child p x))
       → ((x : ℕ) → t .child p x ≢ 0 → (k : List ℕ) → test (x ∷ k) ≡ passes t q (t .child p x) k)
       → weightFrom t n short left q p 0 ≡ length (sift test (keysFrom t n short left p 0))
   unfolding weightFrom keysFrom sift
   weighed-below test short zero p below asks = refl
-  weighed-below test short (suc left) p below asks = sum-sift test (under t n short left p) (adds t n short left q p) each 0 (n - 0)
-    where
-      each : (i : ℕ) → adds t n short left q p i ≡ length (sift test (map (i ∷_) (under t n short left p i)))
-      each i = go (ℕ-discrete (t .child p i) 0)
-        where
-          keys : List (List ℕ)
-          keys = keysUnder t n (pred short) left (t .child p i)
-
-          go : Dec (t .child p i ≡ 0) → adds t n short left q p i ≡ length (sift test (map (i ∷_) (under t n short left p i)))
-          go (yes z) =
-              follow-empty (t .child p i) 0 (λ c. weightAt t n (pred short) left q c) z
-              ∙ sym (ap (λ (l : List (List ℕ)). length (sift test (map (i ∷_) l))) (follow-empty (t .child p i) [] (λ c. keysUnder t n (pred short) left c) z))
-          go (no full) =
-              follow-on (t .child p i) 0 (λ c. weightAt t n (pred short) left q c) full
-              ∙ below i full (omega arith)
-              ∙ sym (length-map (sift (passes t q (t .child p i)) keys) (i ∷_))
-              ∙ ap length (sym (sift-map test (passes t q (t .child p i)) i keys (asks i full)))
-              ∙ sym (ap (λ (l : List (List ℕ)). length (sift test (map (i ∷_) l))) (follow-on (t .child p i) [] (λ c. keysUnder t n (pred short) left c) full))
+  weighed-below test short (suc left) p below asks =
+      sum-sift
+      test
+      (under t n short left p)
+      (adds t n short left q p)
+      (λ i. link-weighed test (pred short) left i (t .child p i) (λ full. below i full (omega arith)) (asks i))
+      0
+      (n - 0)
 
   -- at a node that a key reaches
   weighed-node : (short left p : ℕ) (k : List ℕ) → descend t 0 k ≡ complete p
