@@ -1,3 +1,4 @@
 pub mod Passing
+pub mod Ranks
 pub mod Reached
 pub mod Weights
