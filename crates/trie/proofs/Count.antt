@@ -2,9 +2,10 @@
 -- that differ in that key at most; and a node with no link and no data lists nothing.
 use Prim.Native.Nat.{ℕ, zero, suc, _+_, _-_, _≤_}
 use native.Mathlib.Omega.{arith}
+use native.Mathlib.Decide.{ℕ-discrete}
 use native.Mathlib.Numerals.{add-one}
 use mathlib.Core.List.{List, [], _∷_, _++_, List·Memᴰ, List·Memᴰ·head, List·Memᴰ·tail}
-use mathlib.Core.List.{List·Memᴰ·cases-cons, List·Memᴰ·append-cases, Memᴰ·append-left, Memᴰ·append-right, Memᴰ·cast}
+use mathlib.Core.List.{List·Memᴰ·cases-cons, List·Memᴰ·append-cases, Memᴰ·append-left, Memᴰ·append-right, Memᴰ·cast, List-discrete}
 use mathlib.Core.Logic.{_↔_, _≢_, ⊎-elim}
 use mathlib.Core.Path.{_≡_, refl, sym, _∙_, ap, subst}
 use lib.IntN.{pos, negsuc, _+ℤ_, +ℤ-idr}
@@ -54,7 +55,7 @@ inserted l xs ys k hl hm out others =
     from j a = others j (λ e. held-once xs ys k hm (Memᴰ·cast (sym e) a)) .1 (with-key xs ys k a)
 
 -- a list in order that has k besides the keys of another
-one-more : (l m : List (List ℕ)) (k : List ℕ) → Ascending l → Ascending m
+pub one-more : (l m : List (List ℕ)) (k : List ℕ) → Ascending l → Ascending m
     → ¬ List·Memᴰ k l
     → List·Memᴰ k m
     → ((j : List ℕ) → j ≢ k → List·Memᴰ j l ↔ List·Memᴰ j m)
@@ -67,6 +68,20 @@ one-more l m k hl hm out held others =
     (λ hm others. inserted l xs ys k hl hm out others)
     hm
     others
+
+-- lists in order that differ in k at most, and both hold it or neither
+pub same-but : (l m : List (List ℕ)) (k : List ℕ) → Ascending l → Ascending m
+    → (List·Memᴰ k l ↔ List·Memᴰ k m)
+    → ((j : List ℕ) → j ≢ k → List·Memᴰ j l ↔ List·Memᴰ j m)
+    → l ≡ m
+same-but l m k hl hm own others = same-keys l m hl hm (λ j. both j .0) (λ j. both j .1)
+  where
+    go : (j : List ℕ) → Dec (j ≡ k) → List·Memᴰ j l ↔ List·Memᴰ j m
+    go j (yes e) = (λ a. Memᴰ·cast e (own .0 (Memᴰ·cast (sym e) a)), λ a. Memᴰ·cast e (own .1 (Memᴰ·cast (sym e) a)))
+    go j (no other) = others j other
+
+    both : (j : List ℕ) → List·Memᴰ j l ↔ List·Memᴰ j m
+    both j = go j (List-discrete ℕ-discrete j k)
 
 -- Two tables that answer alike for every key but k, whose length is allowed.
 
@@ -81,26 +96,32 @@ turned : {t s : Table} {g h n least most : ℕ} {k : List ℕ} → Alike t s g h
 turned a = record { from = a .to; to = a .from; low = a .low; high = a .high; others = λ m e. sym (a .others m e) }
 
 -- a key that is listed stays listed, but perhaps for k
-kept : {t s : Table} {g h n least most : ℕ} {k : List ℕ} → Alike t s g h n least most k → (m : List ℕ)
-    → (m ≡ k → answer s m ≡ 0 → answer t m ≡ 0)
+kept : {t s : Table} {g h n least most : ℕ} {k : List ℕ} → Alike t s g h n least most k → (m : List ℕ) → m ≢ k
     → List·Memᴰ m (listing t n least most)
     → List·Memᴰ m (listing s n least most)
-kept {least = least} {most = most} a m at-k b =
+kept {least = least} {most = most} a m other b =
     let (low, high, full) = listing-holds (a .from) least most m .0 b in
-    listing-holds (a .to) least most m .1 (low, high, λ z. full (sym (a .others m (λ e. full (at-k e z))) ∙ z))
+    listing-holds (a .to) least most m .1 (low, high, λ z. full (sym (a .others m other) ∙ z))
+
+pub listed-others : {t s : Table} {g h n least most : ℕ} {k : List ℕ} → Alike t s g h n least most k → (m : List ℕ) → m ≢ k
+    → List·Memᴰ m (listing t n least most) ↔ List·Memᴰ m (listing s n least most)
+listed-others a m other = (kept a m other, kept (turned a) m other)
 
 -- k answers in both tables, or in neither
 same-listing : {t s : Table} {g h n least most : ℕ} {k : List ℕ} → Alike t s g h n least most k
     → ((answer t k ≡ 0) ↔ (answer s k ≡ 0))
     → listing s n least most ≡ listing t n least most
 same-listing {t} {s} {n = n} {least} {most} {k} a e =
-    same-keys
+    same-but
     (listing s n least most)
     (listing t n least most)
+    k
     (keysUnder-ascending s n least most 0)
-    (keysUnder-ascending t n least most 0)
-    (λ m. kept (turned a) m (λ q. subst (λ (m : List ℕ). answer t m ≡ 0 → answer s m ≡ 0) (sym q) (e .0)))
-    (λ m. kept a m (λ q. subst (λ (m : List ℕ). answer s m ≡ 0 → answer t m ≡ 0) (sym q) (e .1)))
+    (keysUnder-ascending t n least most 0) (
+      λ b. listing-holds (a .from) least most k .1 (a .low, a .high, λ z. listing-holds (a .to) least most k .0 b .2 (e .0 z)),
+      λ b. listing-holds (a .to) least most k .1 (a .low, a .high, λ z. listing-holds (a .from) least most k .0 b .2 (e .1 z)),
+    )
+    (listed-others (turned a))
 
 -- k answers in s alone
 longer-listing : {t s : Table} {g h n least most : ℕ} {k : List ℕ} → Alike t s g h n least most k
@@ -116,7 +137,7 @@ longer-listing {t} {s} {n = n} {least} {most} {k} a e f =
     (keysUnder-ascending s n least most 0)
     (λ b. listing-holds (a .from) least most k .0 b .2 e)
     (listing-holds (a .to) least most k .1 (a .low, a .high, f))
-    (λ m other. (kept a m (λ q. absurd (other q)), kept (turned a) m (λ q. absurd (other q))))
+    (listed-others a)
 
 -- the change as a whole number
 up : {a b : ℕ} → a ≡ suc b → pos a ≡ pos b +ℤ pos 1
@@ -141,19 +162,25 @@ listing-change {t} {s} {n = n} {least} {most} {k} a = go (answer t k) (answer s 
     go (suc b) zero e f = down (longer-listing (turned a) f (omega arith))
     go (suc b) (suc c) e f = level (omega arith)
 
--- "the change in the number of stored keys: -1, 0 or 1"
-pub stored-count : {t : Table} {g n : ℕ} → Linked t g n → (k : List ℕ) → Letters n k
+-- a store leaves the answers of all other keys
+pub stored-alike : {t : Table} {g n : ℕ} → Linked t g n → (k : List ℕ) → Letters n k
     → (v least most : ℕ) → least ≤ length k → length k ≤ most
-    → pos (length (listing (stored t g k v) n least most)) ≡ pos (length (listing t n least most)) +ℤ changeOf (answer t k) v
-stored-count {t} {g} {n} l k letters v least most low high =
-    let a : Alike t (stored t g k v) g (g + added (missing (descend t 0 k)) v) n least most k = record {
+    → Alike t (stored t g k v) g (g + added (missing (descend t 0 k)) v) n least most k
+stored-alike l k letters v least most low high =
+    record {
       from = l .framed;
       to = stored-linked l k letters v .framed;
       low = low;
       high = high;
       others = stored-answer-other l k letters v;
-    } in
-    rw (stored-answer l k letters v) at (listing-change a)
+    }
+
+-- "the change in the number of stored keys: -1, 0 or 1"
+pub stored-count : {t : Table} {g n : ℕ} → Linked t g n → (k : List ℕ) → Letters n k
+    → (v least most : ℕ) → least ≤ length k → length k ≤ most
+    → pos (length (listing (stored t g k v) n least most)) ≡ pos (length (listing t n least most)) +ℤ changeOf (answer t k) v
+stored-count l k letters v least most low high =
+    rw (stored-answer l k letters v) at (listing-change (stored-alike l k letters v least most low high))
 
 -- ---- a node with nothing in it
 
