@@ -1,4 +1,5 @@
 pub mod Passing
 pub mod Ranks
 pub mod Reached
+pub mod Shifted
 pub mod Weights

@@ -1,5 +1,5 @@
--- Positions in a list of keys. In a list in order the keys before one that is held are those that stand before it, so its rank is its position; and of
--- keys that begin with one letter all come before a key with a later letter, none before one with an earlier.
+-- Positions in a list of keys. In a list in order the keys before one that is held are those that stand before it, so its rank is its
+-- position; and of keys that begin with one letter all come before a key with a later letter, none before one with an earlier.
 use Prim.Native.Nat.{ℕ, zero, suc, _+_, _-_, _≤_, _<_}
 use native.Mathlib.Omega.{arith}
 use mathlib.Core.Bool.{true, false}

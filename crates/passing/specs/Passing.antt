@@ -35,3 +35,8 @@ keyAt (k ∷ keys) (suc i) = keyAt keys i
 unfoldable pub rankIn : List (List ℕ) → List ℕ → ℕ
 unfolding sift before
 rankIn keys k = length (sift (λ m. before m k) keys)
+
+-- one key, where the data is not 0
+unfoldable pub one : ℕ → ℕ
+one zero = 0
+one (suc v) = 1
