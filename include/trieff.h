@@ -1,25 +1,30 @@
-/* TRIEFF 0.6.0 images over lent memory: make, check, count, look up, store, mend, list. Link with libtrieff.a, which `rt staticlib trieff`
-   builds.
+/* TRIEFF 0.6.0 images over lent memory: make, check, count, look up, store, mend, list, jump by
+   position. Link with libtrieff.a, which `rt staticlib trieff` builds.
 
-   What is lent. Every slice is a pointer and the number of its elements: bytes, but 32-bit numbers for `work`. The list of a store's writes is
-   a pointer alone, to exactly TRIEFF_WRITES_LEN 32-bit numbers. A slice is lent for the call alone:
-   the library keeps no pointer, has no variables, allocates nothing and never stops the program. It calls memcpy and memset, and
-   nothing else. It does not trust what the slices hold: any bytes, key, text and value may be handed over, and each has its answer. What C
-   cannot check is the caller's part:
+   What is lent. Every slice is a pointer and the number of its elements: bytes, but 32-bit numbers
+   for `work` and `counts`. The list of a store's writes is a pointer alone, to exactly
+   TRIEFF_WRITES_LEN 32-bit numbers. A slice is lent for the call alone: the library keeps no
+   pointer, has no variables, allocates nothing and never stops the program. It calls memcpy and
+   memset, and nothing else. It does not trust what the slices hold: any bytes, key, text and value
+   may be handed over, and each has its answer. What C cannot check is the caller's part:
    - A pointer is not NULL, also where the length is 0, and that many elements are really there.
-   - `work` and `writes` are aligned as uint32_t is, as every array of uint32_t is.
-   - A slice that a call may write to overlaps no other slice of that call.
+   - `work`, `counts` and `writes` are aligned as uint32_t is, as every array of uint32_t is.
+   - A slice that a call may write to overlaps no other slice of that call. So `work` and `counts`
+     are two lists.
    - Nobody else changes a lent slice during the call.
    - `after` is false or true.
-   Calls that share no slice that is written to may run at the same time. As measured (examples/stack.c), a call takes at most 2,304 bytes of stack,
-   but count 16 KiB and next_key 32 KiB, since they go down 64 levels.
+   Calls that share no slice that is written to may run at the same time. As measured
+   (examples/stack.c), a call takes at most 2,304 bytes of stack, but count 16 KiB, and next_key
+   and each call with counts 32 KiB, since they go down 64 levels.
 
    What is answered. Each call answers the first refusal that applies, in the order that stands with it, else TRIEFF_DONE. A refused call
    changes nothing but the working numbers. A call that is done changes only what it is said to write.
 
-   Working numbers. check, count, the stores, mend and next_key need one for each node in use, G+1, and the answer does not depend on what
-   they held. Once TRIEFF_TOO_FEW_NUMBERS is passed, the first G+1 of them are 0 when the call returns, with the G of entry,
-   whatever the answer, also where mend lowers G; the rest keep what they held. Before that all keep what they held.
+   Working numbers. Every call but make and the lookups needs one for each node in use, G+1, and
+   the answer does not depend on what they held. Once TRIEFF_TOO_FEW_NUMBERS is passed, where the
+   call's order first names it, the first G+1 of them are 0 when the call returns, with the G of
+   entry, whatever the answer, also where mend lowers G; the rest keep what they held. Before that
+   all keep what they held.
 
    The image. Seven big-endian 32-bit fields G, N, A, D, F, min, max, then F bytes of alphabet, then the nodes 0 to G of W = N*A + D bytes:
    N links of A bytes, then D bytes of data. The used length is U = 28 + F + (G+1)*W; bytes from U on are spare and are never judged.
@@ -33,8 +38,26 @@
      them, so they may lie across the end of a sector; they do not where A and D are 1, 2 or 4 and both divide 28 + F, N*A and W.
    - A write of a node goes to spare bytes. Any of its bytes may have landed and the others not.
    - No byte changes that was not written.
-   Then, wherever the cut was, mending answers TRIEFF_DONE, and every answer is the one from before the store or every answer is the one from
-   after it: after, exactly if the last write of the list landed. A key is never half stored, and no other key is touched. */
+   Then, wherever the cut was, mending answers TRIEFF_DONE, and every answer is the one from before
+   the store or every answer is the one from after it: after, exactly if the last write of the list
+   landed. A key is never half stored, and no other key is touched.
+
+   Positions and counts. The position of a stored key is its place in the listing, from 0: the
+   first key has position 0, the next key after it 1. To jump by position, lend a list of counts
+   beside the image. counts[i] is the number of stored keys at or under node i: those whose path
+   from the root passes that node. So counts[0] is the number of stored keys, and a node that leads
+   to no stored key has 0. The list has one 32-bit number for each node. Lend enough for the
+   greatest G that the image can reach: `static uint32_t counts[nodes]` for an image of
+   TRIEFF_LENGTH(nodes, ..) bytes. Counts after counts[G] are never read. How firmware keeps them:
+   - Work them out once by trieff_counts, after the start or after mend. Then hand the same list to
+     every call with counts.
+   - trieff_store_counts and trieff_store_text_counts keep them right.
+   - No other call that changes the image does. After a listed store (trieff_store_writes,
+     trieff_store_text_writes), carry its writes out, then work the counts out afresh. Do the same
+     after trieff_store, trieff_store_text, trieff_mend and trieff_make.
+   - They are not part of the image, and need not be kept through a power cut.
+   Every call with counts but trieff_counts first compares them with fresh ones. If one differs, it
+   answers TRIEFF_COUNTS_DIFFER. Then work them out afresh, and call again. */
 #ifndef TRIEFF_H
 #define TRIEFF_H
 
@@ -60,8 +83,10 @@ extern "C" {
 #define TRIEFF_WRITES_MOST 66
 #define TRIEFF_WRITES_LEN 132
 
-/* The used length of an image of so many nodes, for static memory: `static uint8_t image[TRIEFF_LENGTH(nodes, n, a, d, f)]`, for which
-   `static uint32_t work[nodes]` is enough as long as the image in it was made with these numbers. */
+/* The used length of an image of so many nodes, for static memory:
+   `static uint8_t image[TRIEFF_LENGTH(nodes, n, a, d, f)]`. Then `static uint32_t work[nodes]` and
+   `static uint32_t counts[nodes]` are enough as long as the image in it was made with these
+   numbers. */
 #define TRIEFF_LENGTH(nodes, n, a, d, f) ((size_t)28 + (size_t)(f) + (size_t)(nodes) * ((size_t)(n) * (size_t)(a) + (size_t)(d)))
 
 /* What the bench may hear. The place is 0 where none is named. */
@@ -71,7 +96,8 @@ enum trieff_number {
     TRIEFF_HEAD_FIELD = 2,       /* a head field outside its limits: N 1..256, A 1..4, D 1..4, F 0..1024, min 0..max, max 0..64 */
     TRIEFF_ALPHABET = 3,         /* the F bytes, F above 0, are not N different well-formed UTF-8 characters */
     TRIEFF_IMAGE_ROOM = 4,       /* U exceeds the image's length */
-    TRIEFF_TOO_FEW_NUMBERS = 5,  /* fewer than G+1 working numbers lent */
+    TRIEFF_TOO_FEW_NUMBERS = 5,  /* fewer than G+1 working numbers or counts lent; after 13, fewer
+                                    counts than the nodes with the new ones */
     TRIEFF_LINK = 6,             /* a link is above G, or not above the node that holds it; place: the lowest node that holds one */
     TRIEFF_LINKED_TWICE = 7,     /* an address stands in two links or more; place: the lowest such address */
     TRIEFF_NOT_LINKED = 8,       /* an address in 1..G stands in no link; place: the lowest such address */
@@ -81,16 +107,19 @@ enum trieff_number {
     TRIEFF_NO_ADDRESS = 12,      /* new nodes are wanted and G with them would exceed 256^A - 1 */
     TRIEFF_NO_ROOM = 13,         /* new nodes are wanted and U with them would exceed the image's length */
     TRIEFF_SHORT_BUFFER = 14,    /* key buffer shorter than max */
-    TRIEFF_NO_KEY = 15           /* no stored key meets the request */
+    TRIEFF_NO_KEY = 15,          /* no stored key meets the request */
+    TRIEFF_COUNTS_DIFFER = 25    /* a count is not the fresh one; place: the lowest such node */
 };
 
 /* One answer for every call. What a call does not speak of is 0, and in a refusal all but number and place are 0. */
 typedef struct trieff_answer {
     uint32_t number; /* of enum trieff_number: TRIEFF_DONE, else the refusal */
     uint32_t place;  /* the node or address that the refusal names, else 0 */
-    uint32_t length; /* next_key: how many letters were written to the key buffer; store_writes, store_text_writes: how many writes are listed */
+    uint32_t length; /* next_key, key_at: how many letters were written to the key buffer;
+                        store_writes, store_text_writes: how many writes are listed */
     int32_t change;  /* the stores: the change in the number of stored keys, -1, 0 or 1 */
-    uint64_t value;  /* look_up, next_key: the value, 0 for absent; count: the number of stored keys */
+    uint64_t value;  /* look_up, next_key, key_at: the value, 0 for absent;
+                        count: the number of stored keys; position: the key's position */
 } trieff_answer;
 
 /* Makes a fresh image: N links in a node, A bytes in a link, D bytes of data, keys of min to max letters. Letter i is the i-th character
@@ -162,6 +191,63 @@ trieff_answer trieff_mend(uint8_t *image, size_t image_len, uint32_t *work, size
 trieff_answer trieff_next_key(const uint8_t *image, size_t image_len, uint32_t *work, size_t work_len,
                               const uint8_t *letters, size_t letters_len, bool after,
                               uint8_t *key, size_t key_len);
+
+/* Works the counts out afresh. What they held does not matter, so it never gives 25.
+   Refusals: 1 to 8, with 5 also where fewer than G+1 counts are lent.
+   Done: writes counts[0] to counts[G]. The rest of the list keeps what it held. */
+trieff_answer trieff_counts(const uint8_t *image, size_t image_len,
+                            uint32_t *work, size_t work_len,
+                            uint32_t *counts, size_t counts_len);
+
+/* Checks an image and its counts: each of counts[0] to counts[G] is the fresh one.
+   Refusals: 1 to 8 (5 for either list), 25. */
+trieff_answer trieff_check_counts(const uint8_t *image, size_t image_len,
+                                  uint32_t *work, size_t work_len,
+                                  const uint32_t *counts, size_t counts_len);
+
+/* Stores a value under a key, or deletes the key where the value is 0, and keeps the counts right.
+   `change` and every byte of the image are as trieff_store leaves them.
+   Refusals: 1 to 8 (5 for either list), 25, 9, 10, 11, 12, 13, then 5 again where fewer than G+k+1
+   counts are lent for the k nodes that are missing on the key's path. A value of 0 wants no nodes,
+   so it never hears 12, 13 or the second 5.
+   Done: writes what trieff_store writes. counts[0] to counts[G], with the new G, are those of the
+   new image: only those on the key's path change, and those of the new nodes. The rest of the list
+   keeps what it held. */
+trieff_answer trieff_store_counts(uint8_t *image, size_t image_len,
+                                  uint32_t *work, size_t work_len,
+                                  const uint8_t *letters, size_t letters_len, uint32_t value,
+                                  uint32_t *counts, size_t counts_len);
+
+/* The same for a key given as text in UTF-8.
+   Refusals: 1 to 8 (5 for either list), 25, 10, 9, 11, 12, 13, then 5 again. */
+trieff_answer trieff_store_text_counts(uint8_t *image, size_t image_len,
+                                       uint32_t *work, size_t work_len,
+                                       const uint8_t *text, size_t text_len, uint32_t value,
+                                       uint32_t *counts, size_t counts_len);
+
+/* The stored key at a position: the first stored key moved on by so many steps of next key.
+   Refusals: 1 to 8 (5 for either list), 25, 14, 15 (`position` is the number of stored keys or
+   more).
+   Done: writes the key's letters to the front of the key buffer, their number to `length` and its
+   value to `value`. The rest of the buffer keeps what it held. */
+trieff_answer trieff_key_at(const uint8_t *image, size_t image_len,
+                            uint32_t *work, size_t work_len,
+                            const uint32_t *counts, size_t counts_len, uint64_t position,
+                            uint8_t *key, size_t key_len);
+
+/* The position of a stored key, in `value`.
+   Refusals: 1 to 8 (5 for either list), 25, 9, 10, 15 (the key is not stored). */
+trieff_answer trieff_position(const uint8_t *image, size_t image_len,
+                              uint32_t *work, size_t work_len,
+                              const uint32_t *counts, size_t counts_len,
+                              const uint8_t *letters, size_t letters_len);
+
+/* The same for a key given as text in UTF-8.
+   Refusals: 1 to 8 (5 for either list), 25, 10, 9, 15. */
+trieff_answer trieff_position_text(const uint8_t *image, size_t image_len,
+                                   uint32_t *work, size_t work_len,
+                                   const uint32_t *counts, size_t counts_len,
+                                   const uint8_t *text, size_t text_len);
 
 #ifdef __cplusplus
 }
