@@ -9,7 +9,9 @@ fn main() {
     println!("cargo:rerun-if-env-changed=TRIEFF_LIB");
     let folder = match env::var_os("TRIEFF_LIB") {
         Some(named) => PathBuf::from(named),
-        None => PathBuf::from(env::var_os("CARGO_MANIFEST_DIR").unwrap()).join("../target/staticlib"),
+        None => {
+            PathBuf::from(env::var_os("CARGO_MANIFEST_DIR").unwrap()).join("../target/staticlib")
+        }
     };
     // cargo runs this in the crate's folder, so a relative path would not mean what the caller meant
     if !folder.is_absolute() {
@@ -19,7 +21,8 @@ fn main() {
     println!("cargo:rerun-if-changed={}", library.display());
     if !library.is_file() {
         refuse(&format!(
-            "no {}: run `rt staticlib trieff` first, or set TRIEFF_LIB to the folder that holds libtrieff.a",
+            "no {}: run `rt staticlib trieff` first, \
+             or set TRIEFF_LIB to the folder that holds libtrieff.a",
             library.display()
         ));
     }

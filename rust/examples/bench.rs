@@ -5,16 +5,13 @@
 //! cargo run --manifest-path rust/Cargo.toml --example bench
 //! ```
 
-use trieff::{check, count, look_up_text, make, mend, next_key, store_text, store_text_writes, Refusal, Shape, Writes};
+use trieff::{
+    check, count, look_up_text, make, mend, next_key, store_text, store_text_writes, Refusal,
+    Shape, Writes,
+};
 
 const ALPHABET: &[u8] = b"0123456789ABCDE-";
-const SHAPE: Shape = Shape {
-    n: 16,
-    a: 2,
-    d: 4,
-    min: 1,
-    max: 12,
-};
+const SHAPE: Shape = Shape { n: 16, a: 2, d: 4, min: 1, max: 12 };
 const NODES: usize = 30;
 
 /// What the bench does after a refusal. The match names them all, so that a new one has to be thought of here.
@@ -24,7 +21,9 @@ fn advice(refusal: Refusal) -> &'static str {
         Refusal::NoAddress | Refusal::NoRoom => "begin a greater image",
         Refusal::TooFewNumbers | Refusal::ShortBuffer => "lend more memory",
         Refusal::NoKey => "end of the list",
-        Refusal::ImageLength | Refusal::HeadField | Refusal::Alphabet | Refusal::ImageRoom => "load the copy",
+        Refusal::ImageLength | Refusal::HeadField | Refusal::Alphabet | Refusal::ImageRoom => {
+            "load the copy"
+        }
         Refusal::NotLinked(_) => "mend it, or load the copy",
         Refusal::Link(_) | Refusal::LinkedTwice(_) => "load the copy",
         Refusal::Unknown { .. } => "call the maker",
@@ -50,10 +49,8 @@ fn list(image: &[u8], work: &mut [u32]) -> Result<(), Refusal> {
             Err(Refusal::NoKey) => return Ok(()),
             heard => heard?,
         };
-        let label: String = key[..found.length]
-            .iter()
-            .map(|&letter| ALPHABET[letter as usize] as char)
-            .collect();
+        let label: String =
+            key[..found.length].iter().map(|&letter| ALPHABET[letter as usize] as char).collect();
         println!("{label} {}", found.value);
         (last, length, after) = (key, found.length, true);
     }
@@ -79,7 +76,9 @@ fn main() {
     let mut image = [0; SHAPE.length(NODES, ALPHABET.len())];
     let mut work = [0; NODES];
     show("make", make(&mut image, SHAPE, ALPHABET));
-    for (label, record) in [("B04-117-2", 2402), ("B04-117-1", 2401), ("A01-101-1", 2400), ("B04-117-2", 2409)] {
+    for (label, record) in
+        [("B04-117-2", 2402), ("B04-117-1", 2401), ("A01-101-1", 2400), ("B04-117-2", 2409)]
+    {
         show(
             &format!("store {label} = {record}"),
             store_text(&mut image, &mut work, label.as_bytes(), record),

@@ -177,7 +177,8 @@ pub fn make(image: &mut [u8], shape: Shape, alphabet: &[u8]) -> Result<(), Refus
 /// ```
 pub fn check(image: &[u8], work: &mut [u32]) -> Result<(), Refusal> {
     // SAFETY: a slice's pointer and length; work is borrowed for writing, so image does not overlap it.
-    let answer = unsafe { raw::trieff_check(image.as_ptr(), image.len(), work.as_mut_ptr(), work.len()) };
+    let answer =
+        unsafe { raw::trieff_check(image.as_ptr(), image.len(), work.as_mut_ptr(), work.len()) };
     heard(answer).map(|_| ())
 }
 
@@ -199,7 +200,8 @@ pub fn check(image: &[u8], work: &mut [u32]) -> Result<(), Refusal> {
 /// ```
 pub fn count(image: &[u8], work: &mut [u32]) -> Result<u64, Refusal> {
     // SAFETY: a slice's pointer and length; work is borrowed for writing, so image does not overlap it.
-    let answer = unsafe { raw::trieff_count(image.as_ptr(), image.len(), work.as_mut_ptr(), work.len()) };
+    let answer =
+        unsafe { raw::trieff_count(image.as_ptr(), image.len(), work.as_mut_ptr(), work.len()) };
     heard(answer).map(|done| done.value)
 }
 
@@ -228,7 +230,9 @@ pub fn count(image: &[u8], work: &mut [u32]) -> Result<u64, Refusal> {
 /// ```
 pub fn look_up(image: &[u8], letters: &[u8]) -> Result<Option<u64>, Refusal> {
     // SAFETY: a slice's pointer and length; neither is written to.
-    let answer = unsafe { raw::trieff_look_up(image.as_ptr(), image.len(), letters.as_ptr(), letters.len()) };
+    let answer = unsafe {
+        raw::trieff_look_up(image.as_ptr(), image.len(), letters.as_ptr(), letters.len())
+    };
     heard(answer).map(present)
 }
 
@@ -252,7 +256,9 @@ pub fn look_up(image: &[u8], letters: &[u8]) -> Result<Option<u64>, Refusal> {
 /// ```
 pub fn look_up_text(image: &[u8], text: &[u8]) -> Result<Option<u64>, Refusal> {
     // SAFETY: a slice's pointer and length; neither is written to.
-    let answer = unsafe { raw::trieff_look_up_text(image.as_ptr(), image.len(), text.as_ptr(), text.len()) };
+    let answer = unsafe {
+        raw::trieff_look_up_text(image.as_ptr(), image.len(), text.as_ptr(), text.len())
+    };
     heard(answer).map(present)
 }
 
@@ -278,7 +284,12 @@ pub fn look_up_text(image: &[u8], text: &[u8]) -> Result<Option<u64>, Refusal> {
 /// assert_eq!(store(&mut image, &mut work, &[2, 2, 2], 0)?, 0);
 /// # Ok::<(), Refusal>(())
 /// ```
-pub fn store(image: &mut [u8], work: &mut [u32], letters: &[u8], value: u32) -> Result<i32, Refusal> {
+pub fn store(
+    image: &mut [u8],
+    work: &mut [u32],
+    letters: &[u8],
+    value: u32,
+) -> Result<i32, Refusal> {
     // SAFETY: a slice's pointer and length; image and work are borrowed for writing, so no two overlap.
     let answer = unsafe {
         raw::trieff_store(
@@ -309,7 +320,12 @@ pub fn store(image: &mut [u8], work: &mut [u32], letters: &[u8], value: u32) -> 
 /// assert_eq!(store_text(&mut image, &mut work, b"E", 9), Err(Refusal::Letter));
 /// # Ok::<(), Refusal>(())
 /// ```
-pub fn store_text(image: &mut [u8], work: &mut [u32], text: &[u8], value: u32) -> Result<i32, Refusal> {
+pub fn store_text(
+    image: &mut [u8],
+    work: &mut [u32],
+    text: &[u8],
+    value: u32,
+) -> Result<i32, Refusal> {
     // SAFETY: a slice's pointer and length; image and work are borrowed for writing, so no two overlap.
     let answer = unsafe {
         raw::trieff_store_text(
@@ -352,7 +368,13 @@ pub fn store_text(image: &mut [u8], work: &mut [u32], text: &[u8], value: u32) -
 /// assert_eq!(writes.len(), 4);
 /// # Ok::<(), Refusal>(())
 /// ```
-pub fn store_writes(image: &mut [u8], work: &mut [u32], letters: &[u8], value: u32, writes: &mut Writes) -> Result<i32, Refusal> {
+pub fn store_writes(
+    image: &mut [u8],
+    work: &mut [u32],
+    letters: &[u8],
+    value: u32,
+    writes: &mut Writes,
+) -> Result<i32, Refusal> {
     // SAFETY: a slice's pointer and length, and an array of 132; image, work and writes are borrowed for writing, so no two overlap.
     let answer = unsafe {
         raw::trieff_store_writes(
@@ -385,7 +407,13 @@ pub fn store_writes(image: &mut [u8], work: &mut [u32], letters: &[u8], value: u
 /// assert_eq!(store_text_writes(&mut image, &mut work, b"E", 9, &mut writes), Err(Refusal::Letter));
 /// # Ok::<(), Refusal>(())
 /// ```
-pub fn store_text_writes(image: &mut [u8], work: &mut [u32], text: &[u8], value: u32, writes: &mut Writes) -> Result<i32, Refusal> {
+pub fn store_text_writes(
+    image: &mut [u8],
+    work: &mut [u32],
+    text: &[u8],
+    value: u32,
+    writes: &mut Writes,
+) -> Result<i32, Refusal> {
     // SAFETY: a slice's pointer and length, and an array of 132; image, work and writes are borrowed for writing, so no two overlap.
     let answer = unsafe {
         raw::trieff_store_text_writes(
@@ -433,7 +461,9 @@ pub fn store_text_writes(image: &mut [u8], work: &mut [u32], text: &[u8], value:
 /// ```
 pub fn mend(image: &mut [u8], work: &mut [u32]) -> Result<(), Refusal> {
     // SAFETY: a slice's pointer and length; image and work are borrowed for writing, so they do not overlap.
-    let answer = unsafe { raw::trieff_mend(image.as_mut_ptr(), image.len(), work.as_mut_ptr(), work.len()) };
+    let answer = unsafe {
+        raw::trieff_mend(image.as_mut_ptr(), image.len(), work.as_mut_ptr(), work.len())
+    };
     heard(answer).map(|_| ())
 }
 
@@ -462,7 +492,13 @@ pub fn mend(image: &mut [u8], work: &mut [u32]) -> Result<(), Refusal> {
 /// assert_eq!(next_key(&image, &mut work, &[1], true, &mut key[..2]), Err(Refusal::ShortBuffer));
 /// # Ok::<(), Refusal>(())
 /// ```
-pub fn next_key(image: &[u8], work: &mut [u32], letters: &[u8], after: bool, key: &mut [u8]) -> Result<Found, Refusal> {
+pub fn next_key(
+    image: &[u8],
+    work: &mut [u32],
+    letters: &[u8],
+    after: bool,
+    key: &mut [u8],
+) -> Result<Found, Refusal> {
     // SAFETY: a slice's pointer and length; work and key are borrowed for writing, so no two overlap but image and letters, which are read.
     let answer = unsafe {
         raw::trieff_next_key(
@@ -477,10 +513,7 @@ pub fn next_key(image: &[u8], work: &mut [u32], letters: &[u8], after: bool, key
             key.len(),
         )
     };
-    heard(answer).map(|done| Found {
-        length: done.length as usize,
-        value: done.value,
-    })
+    heard(answer).map(|done| Found { length: done.length as usize, value: done.value })
 }
 
 fn heard(answer: TrieffAnswer) -> Result<TrieffAnswer, Refusal> {

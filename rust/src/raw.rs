@@ -33,16 +33,36 @@ extern "C" {
     ) -> TrieffAnswer;
 
     /// Checks an image. Refusals: 1 to 8.
-    pub fn trieff_check(image: *const u8, image_len: usize, work: *mut u32, work_len: usize) -> TrieffAnswer;
+    pub fn trieff_check(
+        image: *const u8,
+        image_len: usize,
+        work: *mut u32,
+        work_len: usize,
+    ) -> TrieffAnswer;
 
     /// The number of stored keys. Refusals: 1 to 8.
-    pub fn trieff_count(image: *const u8, image_len: usize, work: *mut u32, work_len: usize) -> TrieffAnswer;
+    pub fn trieff_count(
+        image: *const u8,
+        image_len: usize,
+        work: *mut u32,
+        work_len: usize,
+    ) -> TrieffAnswer;
 
     /// The value under a key given by its letters. Refusals: 1 to 4, 9, 10, 6.
-    pub fn trieff_look_up(image: *const u8, image_len: usize, letters: *const u8, letters_len: usize) -> TrieffAnswer;
+    pub fn trieff_look_up(
+        image: *const u8,
+        image_len: usize,
+        letters: *const u8,
+        letters_len: usize,
+    ) -> TrieffAnswer;
 
     /// The value under a key given by its text. Refusals: 1 to 4, 10, 9, 6.
-    pub fn trieff_look_up_text(image: *const u8, image_len: usize, text: *const u8, text_len: usize) -> TrieffAnswer;
+    pub fn trieff_look_up_text(
+        image: *const u8,
+        image_len: usize,
+        text: *const u8,
+        text_len: usize,
+    ) -> TrieffAnswer;
 
     /// Stores a value under a key given by its letters, 0 to delete. Refusals: 1 to 8, 9, 10, 11, 12, 13.
     pub fn trieff_store(
@@ -91,7 +111,12 @@ extern "C" {
     ) -> TrieffAnswer;
 
     /// Mends an image after a cut: lowers G where that is all it takes. Refusals: 1 to 8, as the check's.
-    pub fn trieff_mend(image: *mut u8, image_len: usize, work: *mut u32, work_len: usize) -> TrieffAnswer;
+    pub fn trieff_mend(
+        image: *mut u8,
+        image_len: usize,
+        work: *mut u32,
+        work_len: usize,
+    ) -> TrieffAnswer;
 
     /// The first stored key at or after a key or, with `after`, after it. Refusals: 1 to 8, 9 (longer than max), 10, 14, 15.
     pub fn trieff_next_key(

@@ -102,7 +102,10 @@ impl Refusal {
     /// The node or address that the refusal names, else 0.
     pub fn place(&self) -> u32 {
         match *self {
-            Refusal::Link(place) | Refusal::LinkedTwice(place) | Refusal::NotLinked(place) | Refusal::Unknown { place, .. } => place,
+            Refusal::Link(place)
+            | Refusal::LinkedTwice(place)
+            | Refusal::NotLinked(place)
+            | Refusal::Unknown { place, .. } => place,
             _ => 0,
         }
     }

@@ -34,10 +34,7 @@ pub struct Writes {
 impl Writes {
     /// An empty list.
     pub const fn new() -> Writes {
-        Writes {
-            numbers: [0; 2 * WRITES_MOST],
-            count: 0,
-        }
+        Writes { numbers: [0; 2 * WRITES_MOST], count: 0 }
     }
 
     /// How many writes there are: 0 to [`WRITES_MOST`].
@@ -51,7 +48,9 @@ impl Writes {
     }
 
     /// The writes in their order, each as the range of the image's bytes that it puts.
-    pub fn iter(&self) -> impl DoubleEndedIterator<Item = Range<usize>> + ExactSizeIterator + Clone + '_ {
+    pub fn iter(
+        &self,
+    ) -> impl DoubleEndedIterator<Item = Range<usize>> + ExactSizeIterator + Clone + '_ {
         self.numbers.chunks_exact(2).take(self.count).map(|write| {
             let place = write[0] as usize;
             place..place + write[1] as usize

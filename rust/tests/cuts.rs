@@ -3,13 +3,7 @@
 
 use trieff::{check, count, look_up, make, mend, next_key, store_writes, Refusal, Shape, Writes};
 
-const SHAPE: Shape = Shape {
-    n: 3,
-    a: 2,
-    d: 3,
-    min: 0,
-    max: 3,
-};
+const SHAPE: Shape = Shape { n: 3, a: 2, d: 3, min: 0, max: 3 };
 const ROOM: usize = SHAPE.length(20, 0);
 const STORES: [(&[u8], u32); 9] = [
     (&[1, 0], 9),
@@ -70,7 +64,10 @@ fn after_any_cut_the_store_is_whole_or_has_not_been() {
                 assert_eq!(mend(&mut torn, &mut work), Ok(()));
                 assert_eq!(torn[4..], hit[4..]);
                 assert_eq!(check(&torn, &mut work), Ok(()));
-                assert_eq!(answers(&torn), answers(if cut == list.len() { &image } else { &before }));
+                assert_eq!(
+                    answers(&torn),
+                    answers(if cut == list.len() { &image } else { &before })
+                );
             }
             if cut == list.len() {
                 assert_eq!(kept, image);
@@ -83,13 +80,7 @@ fn after_any_cut_the_store_is_whole_or_has_not_been() {
 
 #[test]
 fn the_longest_list_and_a_list_in_words() {
-    const DEEP: Shape = Shape {
-        n: 1,
-        a: 1,
-        d: 1,
-        min: 0,
-        max: 64,
-    };
+    const DEEP: Shape = Shape { n: 1, a: 1, d: 1, min: 0, max: 64 };
     let mut image = [0; DEEP.length(65, 0)];
     let mut writes = Writes::default();
     make(&mut image, DEEP, b"").unwrap();
