@@ -1,6 +1,6 @@
 //! The C face as it is: `include/trieff.h`, name for name. The functions of the crate's root call it and are safe. Here the caller's part is
-//! what the header says: no pointer is null, also where the length is 0, that many elements are there, `work` is aligned, and a slice that is
-//! written to overlaps no other and is changed by nobody else meanwhile.
+//! what the header says: no pointer is null, also where the length is 0, that many elements are there, `work`, `counts` and `writes` are
+//! aligned, and a slice that is written to overlaps no other and is changed by nobody else meanwhile.
 
 /// One answer for every call. What a call does not speak of is 0; in a refusal all but `number` and `place` are 0.
 #[repr(C)]
@@ -10,11 +10,13 @@ pub struct TrieffAnswer {
     pub number: u32,
     /// The node or address that the refusal names, else 0.
     pub place: u32,
-    /// Next key: how many letters were written to the key buffer. Store with its writes listed: how many writes.
+    /// Next key and key at a position: how many letters were written to the key buffer.
+    /// Store with its writes listed: how many writes.
     pub length: u32,
     /// Store: the change in the number of stored keys, -1, 0 or 1.
     pub change: i32,
-    /// Look up and next key: the value, 0 for absent. Count: the number of stored keys.
+    /// Look up, next key and key at a position: the value, 0 for absent. Count: the number of
+    /// stored keys. Position: the key's position.
     pub value: u64,
 }
 
@@ -129,5 +131,92 @@ extern "C" {
         after: bool,
         key: *mut u8,
         key_len: usize,
+    ) -> TrieffAnswer;
+
+    /// Works the counts out afresh. Refusals: 1 to 8, with 5 for either list.
+    pub fn trieff_counts(
+        image: *const u8,
+        image_len: usize,
+        work: *mut u32,
+        work_len: usize,
+        counts: *mut u32,
+        counts_len: usize,
+    ) -> TrieffAnswer;
+
+    /// Checks an image and its counts. Refusals: 1 to 8 (5 for either list), 25.
+    pub fn trieff_check_counts(
+        image: *const u8,
+        image_len: usize,
+        work: *mut u32,
+        work_len: usize,
+        counts: *const u32,
+        counts_len: usize,
+    ) -> TrieffAnswer;
+
+    /// As `trieff_store`, and keeps the counts right.
+    /// Refusals: 1 to 8 (5 for either list), 25, 9, 10, 11, 12, 13, 5 again.
+    pub fn trieff_store_counts(
+        image: *mut u8,
+        image_len: usize,
+        work: *mut u32,
+        work_len: usize,
+        letters: *const u8,
+        letters_len: usize,
+        value: u32,
+        counts: *mut u32,
+        counts_len: usize,
+    ) -> TrieffAnswer;
+
+    /// As `trieff_store_text`, and keeps the counts right.
+    /// Refusals: 1 to 8 (5 for either list), 25, 10, 9, 11, 12, 13, 5 again.
+    pub fn trieff_store_text_counts(
+        image: *mut u8,
+        image_len: usize,
+        work: *mut u32,
+        work_len: usize,
+        text: *const u8,
+        text_len: usize,
+        value: u32,
+        counts: *mut u32,
+        counts_len: usize,
+    ) -> TrieffAnswer;
+
+    /// The stored key at a position. Refusals: 1 to 8 (5 for either list), 25, 14, 15.
+    pub fn trieff_key_at(
+        image: *const u8,
+        image_len: usize,
+        work: *mut u32,
+        work_len: usize,
+        counts: *const u32,
+        counts_len: usize,
+        position: u64,
+        key: *mut u8,
+        key_len: usize,
+    ) -> TrieffAnswer;
+
+    /// The position of a stored key given by its letters.
+    /// Refusals: 1 to 8 (5 for either list), 25, 9, 10, 15.
+    pub fn trieff_position(
+        image: *const u8,
+        image_len: usize,
+        work: *mut u32,
+        work_len: usize,
+        counts: *const u32,
+        counts_len: usize,
+        letters: *const u8,
+        letters_len: usize,
+    ) -> TrieffAnswer;
+
+    /// The position of a stored key given by its text.
+    /// Refusals: 1 to 8 (5 for either list), 25, 10, 9, 15.
+    pub fn trieff_position_text(
+        image: *const u8,
+        image_len: usize,
+        work: *mut u32,
+        work_len: usize,
+        counts: *const u32,
+        counts_len: usize,
+        text: *const u8,
+        text_len: usize,
     ) -> TrieffAnswer;
 }
