@@ -1,18 +1,22 @@
-//! What a bench's firmware does with the library, in short: labels stored, found, listed and deleted, what it hears when a worker or
-//! the memory goes wrong, and an image mended after a cut. examples/bench.txt holds what it must print.
+//! What a bench's firmware does with the library, in short: labels stored, found, listed and
+//! deleted, what it hears when a worker or the memory goes wrong, an image mended after a cut, and
+//! a label found by its position. examples/bench.txt holds what it must print.
 //!
 //! ```sh
 //! cargo run --manifest-path rust/Cargo.toml --example bench
 //! ```
 
 use trieff::{
-    check, count, look_up_text, make, mend, next_key, store_text, store_text_writes, Refusal,
-    Shape, Writes,
+    check, count, look_up_text, make, mend, next_key, store_text, store_text_writes, Counts,
+    Refusal, Shape, Writes,
 };
 
 const ALPHABET: &[u8] = b"0123456789ABCDE-";
 const SHAPE: Shape = Shape { n: 16, a: 2, d: 4, min: 1, max: 12 };
 const NODES: usize = 30;
+/// A season's labels, in an image of the same numbers but A = 3; lent with room for more nodes.
+const SEASON: &[u8] = include_bytes!("../../samples/season.trieff");
+const SEASON_NODES: usize = 700;
 
 /// What the bench does after a refusal. The match names them all, so that a new one has to be thought of here.
 fn advice(refusal: Refusal) -> &'static str {
@@ -26,6 +30,7 @@ fn advice(refusal: Refusal) -> &'static str {
         }
         Refusal::NotLinked(_) => "mend it, or load the copy",
         Refusal::Link(_) | Refusal::LinkedTwice(_) => "load the copy",
+        Refusal::CountsDiffer(_) => "work the counts out afresh",
         Refusal::Unknown { .. } => "call the maker",
     }
 }
@@ -35,6 +40,11 @@ fn show<T: std::fmt::Debug>(asked: &str, heard: Result<T, Refusal>) {
         Ok(answer) => println!("{asked}: {answer:?}"),
         Err(refusal) => println!("{asked}: {}; {refusal}", advice(refusal)),
     }
+}
+
+/// A key's letters as the label that the worker taps in.
+fn label(letters: &[u8]) -> String {
+    letters.iter().map(|&letter| ALPHABET[letter as usize] as char).collect()
 }
 
 /// Every label in order: the first at or after the empty key, then each after the one before.
@@ -49,9 +59,7 @@ fn list(image: &[u8], work: &mut [u32]) -> Result<(), Refusal> {
             Err(Refusal::NoKey) => return Ok(()),
             heard => heard?,
         };
-        let label: String =
-            key[..found.length].iter().map(|&letter| ALPHABET[letter as usize] as char).collect();
-        println!("{label} {}", found.value);
+        println!("{} {}", label(&key[..found.length]), found.value);
         (last, length, after) = (key, found.length, true);
     }
 }
@@ -69,6 +77,30 @@ fn cut_off(image: &[u8], label: &str, record: u32, cut: usize) -> Result<(), Ref
     show("check", check(&kept, &mut work));
     show("mend", mend(&mut kept, &mut work));
     show(&format!("look up {label}"), look_up_text(&kept, label.as_bytes()));
+    Ok(())
+}
+
+/// A season of labels by position. The counts are worked out once, and a store with counts keeps
+/// them right. A store without them does not, and then they are worked out afresh.
+fn jump() -> Result<(), Refusal> {
+    let mut image = SEASON.to_vec();
+    image.resize(Shape { a: 3, ..SHAPE }.length(SEASON_NODES, ALPHABET.len()), 0);
+    let (mut work, mut numbers) = ([0; SEASON_NODES], [0; SEASON_NODES]);
+    let mut counts = Counts::new(&mut numbers);
+    counts.work_out(&image, &mut work)?;
+    let mut key = [0; 12];
+    let found = counts.nth(&image, &mut work, 199, &mut key)?;
+    let name = label(&key[..found.length]);
+    println!("label 200 of {}: {name} {}", counts.numbers()[0], found.value);
+    let asked = format!("position of {name}");
+    show(&asked, counts.position_text(&image, &mut work, name.as_bytes()));
+    show("store A01-100-1", counts.store_text(&mut image, &mut work, b"A01-100-1", 2400));
+    show(&asked, counts.position_text(&image, &mut work, name.as_bytes()));
+    show("delete without counts", store_text(&mut image, &mut work, b"A01-100-1", 0));
+    show(&asked, counts.position_text(&image, &mut work, name.as_bytes()));
+    show("work out", counts.work_out(&image, &mut work));
+    show(&asked, counts.position_text(&image, &mut work, name.as_bytes()));
+    show("label 395", counts.nth(&image, &mut work, 394, &mut key));
     Ok(())
 }
 
@@ -92,6 +124,7 @@ fn main() {
     for cut in 1..=3 {
         show("cut", cut_off(&image, "B04-118", 2412, cut));
     }
+    show("jump", jump());
 
     show("look up B04/117", look_up_text(&image, b"B04/117"));
     show("look up 13 letters", look_up_text(&image, b"0123456789ABC"));

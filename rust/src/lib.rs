@@ -1,12 +1,14 @@
-//! TRIEFF 0.6.0 images over lent memory, for Rust: make, check, count, look up, store, mend, list.
+//! TRIEFF 0.6.0 images over lent memory, for Rust: make, check, count, look up, store, mend, list,
+//! jump by position.
 //!
 //! Every call works on slices that are lent for the call alone. It allocates nothing and keeps nothing, and any bytes, key, text and value may
 //! be handed over: each has its answer, the first [`Refusal`] that applies or what was asked for. A refused call changes nothing but the
 //! working numbers. The code behind it is `libtrieff.a`, which `rt staticlib trieff` proves and builds; the crate needs no `std`.
 //!
-//! Working numbers: [`check`], [`count`], the stores, [`mend`] and [`next_key`] need one for each node in use, G+1, and the answer does not
-//! depend on what they held. Once [`Refusal::TooFewNumbers`] is passed, the first G+1 of them are 0 when the call returns, with the G of
-//! entry, whatever the answer; before that all keep what they held.
+//! Working numbers: every call but [`make`] and the lookups needs one for each node in use, G+1, and
+//! the answer does not depend on what they held. Once [`Refusal::TooFewNumbers`] is passed, where
+//! the call's order first names it, the first G+1 of them are 0 when the call returns, with the G
+//! of entry, whatever the answer; before that all keep what they held.
 //!
 //! ```
 //! use trieff::{count, look_up_text, make, next_key, store_text, Refusal, Shape};
@@ -64,13 +66,44 @@
 //! assert_eq!(look_up_text(&kept, b"BA")?, Some(9));
 //! # Ok::<(), Refusal>(())
 //! ```
+//!
+//! # Positions and counts
+//!
+//! The position of a stored key is its place in the listing, from 0. To jump by position, lend a
+//! list of counts beside the image, as [`Counts`]: for each node the number of stored keys at or
+//! under it. Work the counts out once, after the start or after [`mend`], and hand them to every
+//! call with counts. Its stores keep them right. After any other call that changes the image, such
+//! as a listed store, work them out afresh. They are not part of the image, and need not be kept
+//! through a power cut.
+//!
+//! ```
+//! use trieff::{make, Counts, Refusal, Shape};
+//!
+//! let mut image = [0; 100];
+//! let (mut work, mut numbers) = ([0; 16], [0; 16]);
+//! make(&mut image, Shape { n: 3, a: 1, d: 1, min: 1, max: 3 }, b"ABC")?;
+//!
+//! let mut counts = Counts::new(&mut numbers);
+//! counts.work_out(&image, &mut work)?;
+//! counts.store_text(&mut image, &mut work, b"BA", 9)?;
+//! counts.store_text(&mut image, &mut work, b"B", 5)?;
+//! assert_eq!(counts.numbers()[..3], [2, 2, 1]);
+//! assert_eq!(counts.position_text(&image, &mut work, b"BA")?, 1);
+//!
+//! let mut key = [0; 3];
+//! let found = counts.nth(&image, &mut work, 1, &mut key)?;
+//! assert_eq!((&key[..found.length], found.value), (&[1, 0][..], 9));
+//! # Ok::<(), Refusal>(())
+//! ```
 #![no_std]
 #![warn(missing_docs)]
 
+mod counts;
 pub mod raw;
 mod refusal;
 mod writes;
 
+pub use counts::Counts;
 use raw::TrieffAnswer;
 pub use refusal::Refusal;
 pub use writes::{Writes, WRITES_MOST};
@@ -92,7 +125,7 @@ pub struct Shape {
 
 impl Shape {
     /// The used length U of an image of so many nodes, with an alphabet of `f` bytes. In a slice of this length, as many working numbers as
-    /// nodes are enough as long as the image in it was made with these numbers.
+    /// nodes are enough as long as the image in it was made with these numbers, and as many counts.
     ///
     /// It is a constant function, for static memory. No image that [`make`] would not find too long overflows it.
     ///
@@ -108,7 +141,7 @@ impl Shape {
     }
 }
 
-/// What [`next_key`] found. Its letters are in the key buffer.
+/// What [`next_key`] or [`Counts::nth`] found. Its letters are in the key buffer.
 #[derive(Clone, Copy, Debug, PartialEq, Eq)]
 pub struct Found {
     /// How many letters were written to the front of the key buffer.
@@ -513,7 +546,7 @@ pub fn next_key(
             key.len(),
         )
     };
-    heard(answer).map(|done| Found { length: done.length as usize, value: done.value })
+    heard(answer).map(found)
 }
 
 fn heard(answer: TrieffAnswer) -> Result<TrieffAnswer, Refusal> {
@@ -527,6 +560,10 @@ fn listed(answer: TrieffAnswer, writes: &mut Writes) -> Result<i32, Refusal> {
     let done = heard(answer)?;
     writes.count = done.length as usize;
     Ok(done.change)
+}
+
+fn found(done: TrieffAnswer) -> Found {
+    Found { length: done.length as usize, value: done.value }
 }
 
 fn present(done: TrieffAnswer) -> Option<u64> {

@@ -1,7 +1,6 @@
 use core::fmt;
 
-/// What the bench may hear instead of what it asked for. A variant for each number from 1 on; those whose place is a node or an address
-/// carry it.
+/// What the bench may hear instead of what it asked for. A variant for each number; those whose place is a node or an address carry it.
 ///
 /// ```
 /// use trieff::{check, Refusal};
@@ -21,7 +20,8 @@ pub enum Refusal {
     Alphabet,
     /// 4: U exceeds the image's length.
     ImageRoom,
-    /// 5: fewer than G+1 working numbers lent.
+    /// 5: fewer than G+1 working numbers or counts lent; after 13, fewer counts than the nodes
+    /// with the new ones.
     TooFewNumbers,
     /// 6: a link is above G, or not above the node that holds it. The lowest node that holds one; in a lookup, the first on the key's path.
     Link(u32),
@@ -43,8 +43,11 @@ pub enum Refusal {
     ShortBuffer,
     /// 15: no stored key meets the request.
     NoKey,
-    /// A number that this crate does not know, with its place. The library that the crate was written for is proved to answer 0 to 15, so only
-    /// a newer `libtrieff.a` can give it; it is handed on, since firmware should neither stop for it nor take it for another refusal.
+    /// 25: a count is not the fresh one. The lowest such node.
+    CountsDiffer(u32),
+    /// A number that this crate does not know, with its place. The library that the crate was
+    /// written for is proved to answer 0 to 15 and 25, so only a newer `libtrieff.a` can give it;
+    /// it is handed on, since firmware should neither stop for it nor take it for another refusal.
     Unknown {
         /// The number.
         number: u32,
@@ -73,6 +76,7 @@ impl Refusal {
             13 => Refusal::NoRoom,
             14 => Refusal::ShortBuffer,
             15 => Refusal::NoKey,
+            25 => Refusal::CountsDiffer(place),
             _ => Refusal::Unknown { number, place },
         })
     }
@@ -95,6 +99,7 @@ impl Refusal {
             Refusal::NoRoom => 13,
             Refusal::ShortBuffer => 14,
             Refusal::NoKey => 15,
+            Refusal::CountsDiffer(_) => 25,
             Refusal::Unknown { number, .. } => number,
         }
     }
@@ -105,6 +110,7 @@ impl Refusal {
             Refusal::Link(place)
             | Refusal::LinkedTwice(place)
             | Refusal::NotLinked(place)
+            | Refusal::CountsDiffer(place)
             | Refusal::Unknown { place, .. } => place,
             _ => 0,
         }
@@ -116,7 +122,7 @@ impl Refusal {
             Refusal::HeadField => "a head field outside its limits",
             Refusal::Alphabet => "the alphabet is not N different well-formed characters",
             Refusal::ImageRoom => "U exceeds the image's length",
-            Refusal::TooFewNumbers => "fewer than G+1 working numbers lent",
+            Refusal::TooFewNumbers => "too few working numbers or counts lent",
             Refusal::Link(_) => "a link breaks the first link rule",
             Refusal::LinkedTwice(_) => "an address stands in two links or more",
             Refusal::NotLinked(_) => "an address in 1..G stands in no link",
@@ -127,6 +133,7 @@ impl Refusal {
             Refusal::NoRoom => "U + k*W exceeds the image's length, with k new nodes",
             Refusal::ShortBuffer => "key buffer shorter than max",
             Refusal::NoKey => "no stored key meets the request",
+            Refusal::CountsDiffer(_) => "a count is not the fresh one",
             Refusal::Unknown { .. } => "a number that this crate does not know",
         }
     }
@@ -147,10 +154,11 @@ mod tests {
     fn every_number_keeps_its_number_and_place() {
         assert_eq!(Refusal::of(0, 0), None);
         for number in 1..=40 {
-            let place = if [6, 7, 8].contains(&number) || number > 15 { 77 } else { 0 };
+            let unknown = number > 15 && number != 25;
+            let place = if unknown || [6, 7, 8, 25].contains(&number) { 77 } else { 0 };
             let refusal = Refusal::of(number, place).unwrap();
             assert_eq!((refusal.number(), refusal.place()), (number, place));
-            assert_eq!(matches!(refusal, Refusal::Unknown { .. }), number > 15);
+            assert_eq!(matches!(refusal, Refusal::Unknown { .. }), unknown);
         }
     }
 }

@@ -1,0 +1,108 @@
+//! Counts beside an image: stores keep them as working them out afresh would, and the keys by
+//! position are those of the listing, in its order.
+
+use trieff::{make, next_key, Counts, Refusal, Shape};
+
+const SEASON: &[u8] = include_bytes!("../../samples/season.trieff");
+const NODES: usize = 659;
+
+/// Every stored key with its value, by next key.
+fn listing(image: &[u8], work: &mut [u32]) -> Vec<(Vec<u8>, u64)> {
+    let (mut all, mut last, mut after) = (Vec::new(), Vec::new(), false);
+    loop {
+        let mut key = [0; 64];
+        match next_key(image, work, &last, after, &mut key) {
+            Ok(found) => {
+                last = key[..found.length].to_vec();
+                all.push((last.clone(), found.value));
+            }
+            Err(refusal) => {
+                assert_eq!(refusal, Refusal::NoKey);
+                return all;
+            }
+        }
+        after = true;
+    }
+}
+
+/// The listing by position is the listing by next key, and each key knows its position.
+fn agree(image: &[u8], counts: &Counts, work: &mut [u32]) -> usize {
+    let all = listing(image, work);
+    for (position, (letters, value)) in all.iter().enumerate() {
+        let mut key = [0; 64];
+        let found = counts.nth(image, work, position as u64, &mut key).unwrap();
+        assert_eq!((&key[..found.length], found.value), (&letters[..], *value));
+        assert_eq!(counts.position(image, work, letters), Ok(position as u64));
+    }
+    for position in [all.len() as u64, u64::MAX] {
+        assert_eq!(counts.nth(image, work, position, &mut [0; 64]), Err(Refusal::NoKey));
+    }
+    all.len()
+}
+
+#[test]
+fn a_season_by_position() {
+    let (mut work, mut numbers) = ([7; NODES], [7; NODES]);
+    let mut counts = Counts::new(&mut numbers);
+    assert_eq!(counts.check(SEASON, &mut work), Err(Refusal::CountsDiffer(0)));
+    counts.work_out(SEASON, &mut work).unwrap();
+    assert_eq!(agree(SEASON, &counts, &mut work), 394);
+    assert_eq!(counts.numbers()[0], 394);
+}
+
+#[test]
+fn stores_keep_the_counts() {
+    const SHAPE: Shape = Shape { n: 3, a: 1, d: 1, min: 1, max: 3 };
+    const STORES: [(&[u8], u32, i32); 8] = [
+        (&[1, 0], 9, 1),
+        (&[1], 5, 1),
+        (&[1], 6, 0),
+        (&[2, 2, 2], 0, 0),
+        (&[2, 2, 2], 1, 1),
+        (&[0], 3, 1),
+        (&[1, 0], 0, -1),
+        (&[1, 0], 0, 0),
+    ];
+    let mut image = [255; SHAPE.length(8, 3)];
+    let (mut work, mut numbers) = ([7; 9], [0; 9]);
+    make(&mut image, SHAPE, b"ABC").unwrap();
+    numbers[1..].fill(77); // what comes after the root's count is not read, and is written in time
+    let mut counts = Counts::new(&mut numbers);
+    for (letters, value, change) in STORES {
+        assert_eq!(counts.store(&mut image, &mut work, letters, value), Ok(change));
+        let mut fresh = [77; 9];
+        Counts::new(&mut fresh).work_out(&image, &mut work).unwrap();
+        assert_eq!(counts.numbers(), fresh);
+        agree(&image, &counts, &mut work);
+    }
+    assert_eq!(counts.numbers(), [3, 1, 0, 1, 1, 1, 1, 77, 77]);
+}
+
+#[test]
+fn a_refusal_leaves_image_and_counts() {
+    const SHAPE: Shape = Shape { n: 3, a: 1, d: 1, min: 1, max: 3 };
+    let mut image = [0; SHAPE.length(5, 3)];
+    let (mut work, mut numbers) = ([7; 6], [0; 4]);
+    make(&mut image, SHAPE, b"ABC").unwrap();
+    let mut counts = Counts::new(&mut numbers);
+    counts.store_text(&mut image, &mut work, b"BA", 9).unwrap();
+    let before = image;
+    for (text, value, refusal) in [
+        ("", 1, Refusal::KeyLength),
+        ("ABCx", 1, Refusal::Letter),
+        ("BA", 256, Refusal::ValueTooGreat),
+        ("CCC", 1, Refusal::NoRoom), // three nodes, room for two: before the second 5
+        ("CC", 1, Refusal::TooFewNumbers), // two nodes and room, but a count for one
+    ] {
+        work.fill(7);
+        let heard = counts.store_text(&mut image, &mut work, text.as_bytes(), value);
+        assert_eq!((heard, image), (Err(refusal), before));
+        assert_eq!((counts.numbers(), work), (&[1, 1, 1, 0][..], [0, 0, 0, 7, 7, 7]));
+    }
+    let mut wrong = [1, 0, 1, 0];
+    let mut counts = Counts::new(&mut wrong);
+    work.fill(7);
+    let heard = counts.store_text(&mut image, &mut work, b"x", 256);
+    assert_eq!((heard, image), (Err(Refusal::CountsDiffer(1)), before));
+    assert_eq!((counts.numbers(), work), (&[1, 0, 1, 0][..], [0, 0, 0, 7, 7, 7]));
+}
