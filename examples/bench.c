@@ -1,6 +1,7 @@
-/* What a bench's firmware does with the library: it keeps the labels of buckets in an image, each with its record number, hears every
-   refusal once, and mends an image after a cut. All memory is static; bench_file.c keeps its image in a file. From the repository's root,
-   after `rt staticlib trieff`:
+/* What a bench's firmware does with the library: it keeps the labels of buckets in an image, each
+   with its record number, hears every refusal once, mends an image after a cut, and jumps by
+   position in samples/season.trieff. All memory is static; bench_file.c keeps its image in a file.
+   From the repository's root, after `rt staticlib trieff`:
 
      gcc -std=c11 -O2 -Iinclude -o target/bench-c examples/bench.c target/staticlib/libtrieff.a && target/bench-c
 
@@ -20,9 +21,10 @@ static uint32_t work[NODES];
 #define TEXT(s) (const uint8_t *)(s), strlen(s)
 #define ALL(array) (array), sizeof(array) / sizeof *(array)
 
-/* What the bench shows for an answer. The worker can mend 9 to 11; 12 and 13 need a greater image; 5 and 14 are mistakes of the firmware;
-   15 is the end of the list; 8 may come from a cut, and mending helps. After the others the image isn't one to go on with, and the bench
-   loads its copy; the place says where to look. */
+/* What the bench shows for an answer. The worker can mend 9 to 11; 12 and 13 need a greater image;
+   5 and 14 are mistakes of the firmware; 15 is the end of the list; 8 may come from a cut, and
+   mending helps; after 25 the counts are worked out afresh. After the others the image isn't one to
+   go on with, and the bench loads its copy; the place says where to look. */
 static void show(const char *asked, trieff_answer heard)
 {
     printf("%s: ", asked);
@@ -43,6 +45,7 @@ static void show(const char *asked, trieff_answer heard)
     case TRIEFF_NO_ROOM: printf("image full, lend more memory"); break;
     case TRIEFF_SHORT_BUFFER: printf("lend a key buffer of max letters"); break;
     case TRIEFF_NO_KEY: printf("no more labels"); break;
+    case TRIEFF_COUNTS_DIFFER: printf("wrong count at node %u", (unsigned)heard.place); break;
     default: printf("a number that this firmware does not know"); break;
     }
     if (heard.number != TRIEFF_DONE)
@@ -70,8 +73,15 @@ static void look_up(const char *label)
         printf("look up %s: record %llu\n", label, (unsigned long long)heard.value);
 }
 
+/* A key's letters are numbers: places in the alphabet. */
+static void print_label(const uint8_t *key, size_t length)
+{
+    for (size_t i = 0; i < length; i++)
+        putchar(alphabet[key[i]]);
+}
+
 /* Every label in order: the first at or after the empty key, then each after the one before. The key found is copied, since the letters that
-   a call reads and the buffer that it writes may not overlap. Its letters are numbers: places in the alphabet. */
+   a call reads and the buffer that it writes may not overlap. */
 static void list(void)
 {
     uint8_t last[MAX] = {0}, key[MAX];
@@ -86,8 +96,7 @@ static void list(void)
     while (heard.number == TRIEFF_DONE) {
         length = heard.length;
         memcpy(last, key, length);
-        for (size_t i = 0; i < length; i++)
-            putchar(alphabet[key[i]]);
+        print_label(key, length);
         printf(" %llu\n", (unsigned long long)heard.value);
         heard = trieff_next_key(ALL(image), ALL(work), last, length, true, ALL(key));
     }
@@ -176,6 +185,66 @@ static void cut_off(void)
     printf("BA: %llu kept, node %u is the last\n", (unsigned long long)trieff_look_up_text(ALL(kept), TEXT("BA")).value, (unsigned)kept[3]);
 }
 
+/* A season of labels, in an image of the same alphabet, with room for more nodes. The counts lie
+   beside it, one for each node. */
+enum { SEASON_A = 3, SEASON_NODES = 700 };
+static uint8_t season[TRIEFF_LENGTH(SEASON_NODES, N, SEASON_A, D, sizeof alphabet - 1)];
+static uint32_t season_work[SEASON_NODES], counts[SEASON_NODES];
+#define SEASON ALL(season), ALL(season_work)
+
+static int read_season(void)
+{
+    FILE *file = fopen("samples/season.trieff", "rb");
+    if (file == NULL) {
+        fprintf(stderr, "no samples/season.trieff: start this in the repository's root\n");
+        return 0;
+    }
+    size_t read = fread(season, 1, sizeof season, file);
+    fclose(file);
+    return read != 0;
+}
+
+static void label_at(uint64_t position)
+{
+    uint8_t key[MAX];
+    trieff_answer heard = trieff_key_at(SEASON, ALL(counts), position, ALL(key));
+    if (heard.number != TRIEFF_DONE) {
+        show("jump", heard);
+        return;
+    }
+    printf("label %llu of %u: ", (unsigned long long)position + 1, (unsigned)counts[0]);
+    print_label(key, heard.length);
+    printf(", record %llu\n", (unsigned long long)heard.value);
+}
+
+static void position_of(const char *label)
+{
+    trieff_answer heard = trieff_position_text(SEASON, ALL(counts), TEXT(label));
+    if (heard.number != TRIEFF_DONE)
+        show(label, heard);
+    else
+        printf("position of %s: %llu\n", label, (unsigned long long)heard.value);
+}
+
+/* Jumping by position. The counts are worked out once, and a store with counts keeps them right.
+   A store without counts does not: the next call with counts says so, and they are worked out
+   afresh. */
+static void jump(void)
+{
+    show("work the counts out", trieff_counts(SEASON, ALL(counts)));
+    label_at(199);
+    position_of("B03-145-1");
+    show("store A01-100-1 = 2400",
+         trieff_store_text_counts(SEASON, TEXT("A01-100-1"), 2400, ALL(counts)));
+    position_of("B03-145-1");
+    show("delete A01-100-1 without counts", trieff_store_text(SEASON, TEXT("A01-100-1"), 0));
+    position_of("B03-145-1");
+    show("work the counts out", trieff_counts(SEASON, ALL(counts)));
+    position_of("B03-145-1");
+    label_at(394);
+    show("check with counts", trieff_check_counts(SEASON, ALL(counts)));
+}
+
 int main(void)
 {
     show("make the labels' image", trieff_make(ALL(image), N, A, D, TEXT(alphabet), MIN, MAX));
@@ -193,5 +262,8 @@ int main(void)
     refused_keys();
     refused_address();
     cut_off();
+    if (!read_season())
+        return 1;
+    jump();
     return 0;
 }
