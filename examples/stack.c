@@ -10,15 +10,17 @@
 #include <string.h>
 #include <ucontext.h>
 
-enum { DEEP = TRIEFF_KEY_MOST, NODES = DEEP + 1, ROOM = 65536, MOST = 2304, COUNT_MOST = 16384, NEXT_MOST = 32768 };
+enum { DEEP = TRIEFF_KEY_MOST, NODES = DEEP + 1, ROOM = 65536 };
+enum { MOST = 2304, COUNT_MOST = 16384, NEXT_MOST = 32768, COUNTS_MOST = 32768 };
 static uint8_t image[TRIEFF_LENGTH(NODES, 2, 1, 1, 2)];
-static uint32_t work[NODES], writes[TRIEFF_WRITES_LEN];
+static uint32_t work[NODES], writes[TRIEFF_WRITES_LEN], counts[NODES];
 static uint8_t letters[DEEP], text[DEEP], key[DEEP];
 static uint8_t stack[ROOM];
 static trieff_answer heard;
 
 #define IMAGE image, sizeof image
 #define WORK work, NODES
+#define COUNTS counts, NODES
 
 /* One key of 64 letters, so that each call goes down as far as it can. */
 static void call_make(void) { heard = trieff_make(IMAGE, 2, 1, 1, (const uint8_t *)"AB", 2, 0, DEEP); }
@@ -32,9 +34,27 @@ static void call_count(void) { heard = trieff_count(IMAGE, WORK); }
 static void call_look_up(void) { heard = trieff_look_up(IMAGE, letters, DEEP); }
 static void call_look_up_text(void) { heard = trieff_look_up_text(IMAGE, text, DEEP); }
 static void call_next_key(void) { heard = trieff_next_key(IMAGE, WORK, letters, 0, false, key, DEEP); }
+static void call_counts(void) { heard = trieff_counts(IMAGE, WORK, COUNTS); }
+static void call_check_counts(void) { heard = trieff_check_counts(IMAGE, WORK, COUNTS); }
+static void call_store_counts(void)
+{
+    heard = trieff_store_counts(IMAGE, WORK, letters, DEEP, 7, COUNTS);
+}
+static void call_store_text_counts(void)
+{
+    heard = trieff_store_text_counts(IMAGE, WORK, text, DEEP, 7, COUNTS);
+}
+static void call_key_at(void) { heard = trieff_key_at(IMAGE, WORK, COUNTS, 1, key, DEEP); }
+static void call_position(void) { heard = trieff_position(IMAGE, WORK, COUNTS, letters, DEEP); }
+static void call_position_text(void)
+{
+    heard = trieff_position_text(IMAGE, WORK, COUNTS, text, DEEP);
+}
 static void call_nothing(void) { heard = (trieff_answer){0}; }
 
-/* The image before the call: fresh, with the key stored, or cut between G and the link, which is the second of the root's two. */
+/* The image before the call: fresh, with the key stored, or cut between G and the link, which is
+   the second of the root's two. With counts: fresh, or with the key stored and the empty key too,
+   so that the long key has position 1. */
 static void whole(void)
 {
     call_make();
@@ -44,6 +64,18 @@ static void cut(void)
 {
     whole();
     image[28 + 2 + 1] = 0;
+}
+
+static void counted(void)
+{
+    call_make();
+    call_counts();
+}
+static void whole_counted(void)
+{
+    whole();
+    trieff_store(IMAGE, WORK, letters, 0, 5);
+    call_counts();
 }
 
 static size_t taken_by(void (*call)(void))
@@ -76,6 +108,13 @@ int main(void)
         {"look_up_text", whole, call_look_up_text, MOST, 0, 7},
         {"count", whole, call_count, COUNT_MOST, 0, 1},
         {"next_key", whole, call_next_key, NEXT_MOST, DEEP, 7},
+        {"counts", whole, call_counts, COUNTS_MOST, 0, 0},
+        {"check_counts", whole_counted, call_check_counts, COUNTS_MOST, 0, 0},
+        {"store_counts", counted, call_store_counts, COUNTS_MOST, 0, 0},
+        {"store_text_counts", counted, call_store_text_counts, COUNTS_MOST, 0, 0},
+        {"key_at", whole_counted, call_key_at, COUNTS_MOST, DEEP, 7},
+        {"position", whole_counted, call_position, COUNTS_MOST, 0, 1},
+        {"position_text", whole_counted, call_position_text, COUNTS_MOST, 0, 1},
     };
     int failed = 0;
     memset(letters, 1, DEEP);
