@@ -23,8 +23,8 @@ static uint32_t work[NODES];
 
 /* What the bench shows for an answer. The worker can mend 9 to 11; 12 and 13 need a greater image;
    5 and 14 are mistakes of the firmware; 15 is the end of the list; 8 may come from a cut, and
-   mending helps; after 25 the counts are worked out afresh. After the others the image isn't one to
-   go on with, and the bench loads its copy; the place says where to look. */
+   mending helps; after 25 the counts are worked out afresh. After the others the image isn't one
+   to go on with, and the bench loads its copy; the place says where to look. */
 static void show(const char *asked, trieff_answer heard)
 {
     printf("%s: ", asked);
