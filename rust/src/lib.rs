@@ -5,10 +5,10 @@
 //! be handed over: each has its answer, the first [`Refusal`] that applies or what was asked for. A refused call changes nothing but the
 //! working numbers. The code behind it is `libtrieff.a`, which `rt staticlib trieff` proves and builds; the crate needs no `std`.
 //!
-//! Working numbers: every call but [`make`] and the lookups needs one for each node in use, G+1, and
-//! the answer does not depend on what they held. Once [`Refusal::TooFewNumbers`] is passed, where
-//! the call's order first names it, the first G+1 of them are 0 when the call returns, with the G
-//! of entry, whatever the answer; before that all keep what they held.
+//! Working numbers: every call but [`make`] and the lookups needs one for each node in use, G+1,
+//! and the answer does not depend on what they held. Once [`Refusal::TooFewNumbers`] is passed,
+//! where the call's order first names it, the first G+1 of them are 0 when the call returns, with
+//! the G of entry, whatever the answer; before that all keep what they held.
 //!
 //! ```
 //! use trieff::{count, look_up_text, make, next_key, store_text, Refusal, Shape};
@@ -125,7 +125,8 @@ pub struct Shape {
 
 impl Shape {
     /// The used length U of an image of so many nodes, with an alphabet of `f` bytes. In a slice of this length, as many working numbers as
-    /// nodes are enough as long as the image in it was made with these numbers, and as many counts.
+    /// nodes are enough as long as the image in it was made with these numbers, and as many
+    /// counts.
     ///
     /// It is a constant function, for static memory. No image that [`make`] would not find too long overflows it.
     ///
