@@ -1,10 +1,10 @@
 -- 02, Ask 7: "every other call that takes counts, a checking call too, first compares them with fresh ones". What the check of an image with counts
 -- beside it tells, and how it leaves the working numbers.
-use Prim.Native.Nat.{ℕ}
+use Prim.Native.Nat.{ℕ, _<_}
 use mathlib.Core.Path.{_≡_}
 use mathlib.Core.Option.{none}
 use mathlib.Core.List.{List, _++_}
-use lib.ListN.{take, drop}
+use lib.ListN.{getD, take, drop}
 use Rattle.head.specs.Fields.{headOf}
 use Rattle.paper.specs.Hearing.{first}
 use Rattle.paper.specs.Answers.{rowOf}
@@ -30,3 +30,7 @@ pub record Compared (l work counts : List ℕ) (r : Opened) (work′ codes : Lis
   pub numbers : work′ ≡ workLeft l work counts
   pub head : rowOf (r .verdict) ≡ none → r .head ≡ headOf l
   pub decoded : rowOf (r .verdict) ≡ none → Decoded (alphabetIn (headOf l) l) r codes
+
+-- two lists hold the same numbers for the first `nodes` nodes
+abbrev pub Alike : List ℕ → List ℕ → ℕ → Type 0
+Alike fresh counts nodes = (q : ℕ) → q < nodes → getD counts q 0 ≡ getD fresh q 0

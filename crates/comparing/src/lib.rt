@@ -1,11 +1,11 @@
 // The check of an image with counts beside it: 1 to 8, with 5 for either list, and 25. Neither function has a `requires`.
 ghost use mathlib.Core.Path.{_≡_};
-ghost use mathlib.Core.Bool.{not};
-ghost use Prim.Native.Nat.{_≤_};
+ghost use mathlib.Core.Bool.{true, not};
+ghost use Prim.Native.Nat.{_≤_, min};
 ghost use lib.ListN.{length, getD};
 ghost use lib.Dec.{eqb};
 ghost use Rattle.trie.specs.Lowest.{lowest};
-ghost use Rattle.comparing.specs.Comparing.{CheckedBoth, Compared};
+ghost use Rattle.comparing.specs.Comparing.{CheckedBoth, Alike};
 use head::Head;
 use opening::Opened;
 use paper::Refusal;
@@ -20,41 +20,14 @@ pub fn check_both(
 ) -> Opened
     ensures { λ r. ⌜ CheckedBoth (now (image .entry)) (now (work .entry)) lent r (now (work .exit)) (now (codes .exit)) ⌝ }
 {
-    let most = if lent < work.len() { lent } else { work.len() };
+    let most = lesser(lent, work.len());
     audit::check(image, &mut work[0..most], codes)
 }
 
-// 1 to 8, then 25: the counts are held against fresh ones, worked out in the working numbers.
-pub fn compare(
-    image: &[u8],
-    work: &mut [u32],
-    counts: &[u32],
-    codes: &mut [u32; Head::N_MOST as usize],
-) -> Opened
-    ensures { λ r. ⌜ Compared (now (image .entry)) (now (work .entry)) (now (counts .entry)) r (now (work .exit)) (now (codes .exit)) ⌝ }
+fn lesser(a: usize, b: usize) -> usize
+    ensures { λ r. ⌜ r ≡ min a b ⌝ }
 {
-    let checked = check_both(image, work, counts.len(), codes);
-    let verdict = checked.verdict;
-    match verdict {
-        Verdict::Refused(_) => checked,
-        Verdict::Passed => {
-            let h = checked.head;
-            let nodes = (h.g as usize) + 1;
-            weighing::weigh(image, h, work);
-            let differs = first_different(work, counts, nodes);
-            audit::clear(work, nodes);
-            let judged = if differs < nodes {
-                Verdict::Refused(Refusal::CountsDiffer(differs as u32))
-            } else {
-                Verdict::Passed
-            };
-            Opened {
-                verdict: judged,
-                head: h,
-                count: checked.count,
-            }
-        }
-    }
+    if a < b { a } else { b }
 }
 
 // The lowest of the first `nodes` nodes whose two numbers differ, `nodes` where none does. The first loop has no early exit, so that it runs
@@ -74,4 +47,18 @@ fn first_different(fresh: &[u32], counts: &[u32], nodes: usize) -> usize
         q += 1;
     }
     nodes
+}
+
+// Are the first `nodes` numbers of the two lists the same? The loop has no early exit; "no" promises nothing.
+fn alike(fresh: &[u32], counts: &[u32], nodes: usize) -> bool
+    requires { ⌜ nodes ≤ length (now fresh) ⌝ ∗ ⌜ nodes ≤ length (now counts) ⌝ }
+    ensures { λ r. ⌜ (r ≡ true → Alike (now (fresh .entry)) (now (counts .entry)) nodes) ⌝ }
+{
+    let mut same = true;
+    let mut q: usize = 0;
+    while q < nodes {
+        same = same & (counts[q] == fresh[q]);
+        q += 1;
+    }
+    same
 }

@@ -1,0 +1,73 @@
+-- Two lists held against each other, and the check lent a part of the working numbers.
+use Prim.Native.Nat.{ℕ, _+_, _≤_, _<_, min}
+use native.Mathlib.Decide.{ℕ-discrete, decLe}
+use native.Mathlib.Omega.{arith}
+use mathlib.Core.Path.{_≡_, refl, sym, _∙_, ap, ap₂}
+use mathlib.Core.Bool.{Bool, true, false, _&&_, not}
+use mathlib.Core.List.{List, _++_}
+use lib.Dec.{eqb}
+use lib.ListN.{length, getD, take, drop, drop-of-length-le}
+use lib.Seq.{take-all}
+use borrow.Author.Tests.{eqb-true, eq-eqb}
+use Rattle.field.proofs.Range.{both}
+use Rattle.trie.specs.Lowest.{lowest}
+use Rattle.trie.proofs.Lowest.{lowest-none}
+use Rattle.paper.specs.Hearing.{first}
+use Rattle.paper.specs.Orders.{checking}
+use Rattle.paper.specs.Calls.{workAfter}
+use Rattle.opening.specs.declared.Opened.{Opened}
+use Rattle.audit.specs.Audit.{Checked}
+use Rattle.comparing.specs.Comparing.{CheckedBoth, Alike}
+
+-- if the answer is yes, the first q numbers are the same
+pub record Same (fresh counts : List ℕ) (same : Bool) (q : ℕ) : Type 0 where
+  pub told : same ≡ true → Alike fresh counts q
+
+pub same-none : (fresh counts : List ℕ) → Same fresh counts true 0
+same-none fresh counts = record { told = λ e q b. absurd (omega arith) }
+
+module _ {fresh counts : List ℕ} {same : Bool} {q : ℕ} (p : Same fresh counts same q) where
+  pub same-more : Same fresh counts (same && eqb (getD counts q 0) (getD fresh q 0)) (q + 1)
+  same-more = record { told = λ e r b. go e r b (ℕ-discrete r q) }
+    where
+      go : (same && eqb (getD counts q 0) (getD fresh q 0)) ≡ true → (r : ℕ) → r < q + 1 → Dec (r ≡ q) → getD counts r 0 ≡ getD fresh r 0
+      go e r b (yes here) = rw here (eqb-true _ _ (both same _ e .1))
+      go e r b (no other) = p .told (both same _ e .0) r (omega arith)
+
+  pub same-all : {nodes : ℕ} → nodes ≤ q → same ≡ true → Alike fresh counts nodes
+  same-all high e r b = p .told e r (omega arith)
+
+-- lists that are alike differ nowhere
+pub alike-nowhere : (fresh counts : List ℕ) (nodes : ℕ) → Alike fresh counts nodes
+    → nodes ≡ lowest (λ q. not (eqb (getD counts q 0) (getD fresh q 0))) 0 nodes
+alike-nowhere fresh counts nodes a =
+    let e : 0 + nodes ≡ nodes = omega arith in
+    sym (lowest-none (λ q. not (eqb (getD counts q 0) (getD fresh q 0))) 0 nodes (λ q low high. rw (eq-eqb _ _ (a q (omega arith)))) ∙ e)
+
+-- ---- the part lent
+
+-- no more of a list than there is
+pub take-lesser : (lent : ℕ) (l : List ℕ) {most : ℕ} → most ≡ min lent (length l) → take most l ≡ take lent l
+take-lesser lent l {most} e = go (decLe (length l) lent)
+  where
+    go : Dec (length l ≤ lent) → take most l ≡ take lent l
+    go (yes b) = take-all most l (omega arith) ∙ sym (take-all lent l b)
+    go (no b) = let f : most ≡ lent = omega arith in ap (λ n. take n l) f
+
+pub drop-lesser : (lent : ℕ) (l : List ℕ) {most : ℕ} → most ≡ min lent (length l) → drop most l ≡ drop lent l
+drop-lesser lent l {most} e = go (decLe (length l) lent)
+  where
+    go : Dec (length l ≤ lent) → drop most l ≡ drop lent l
+    go (yes b) = drop-of-length-le l {i = most} (omega arith) ∙ sym (drop-of-length-le l b)
+    go (no b) = let f : most ≡ lent = omega arith in ap (λ n. drop n l) f
+
+pub checked-both : {l work : List ℕ} {lent most : ℕ} {r : Opened} {part codes : List ℕ} → most ≡ min lent (length work)
+    → Checked l (take most work) r part codes → CheckedBoth l work lent r (part ++ drop most work) codes
+checked-both {l} {work} {lent} {most} e c =
+    let t = take-lesser lent work e in
+    record {
+      verdict = c .verdict ∙ ap (λ (w : List ℕ). first (checking l w)) t;
+      numbers = ap₂ _++_ (c .numbers ∙ ap (workAfter l) t) (drop-lesser lent work e);
+      head = c .head;
+      decoded = c .decoded;
+    }
