@@ -74,7 +74,7 @@ abbrev pub nextNumbers : List ℕ
 nextNumbers = 1 ∷ 2 ∷ 3 ∷ 4 ∷ 5 ∷ 6 ∷ 7 ∷ 8 ∷ 9 ∷ 10 ∷ 14 ∷ 15 ∷ []
 
 -- a key at the front of a buffer that has room for it is read back
-front : (buffer k : List ℕ) → length k ≤ length buffer → take (length k) (sets buffer 0 k) ≡ k
+pub front : (buffer k : List ℕ) → length k ≤ length buffer → take (length k) (sets buffer 0 k) ≡ k
 front buffer k b = ap (take (length k)) (sets-eq k buffer 0 (omega arith)) ∙ take-at k (drop (0 + length k) buffer) (length k) refl
 
 module _ (l work key : List ℕ) (after : Bool) (buffer : List ℕ) where
@@ -103,12 +103,12 @@ module _ (l work key : List ℕ) (after : Bool) (buffer : List ℕ) where
         ∙ second-part (byNext (headOf l) key) _ keyed
         ∙ no-row 14 0 _ (le-ltb (length buffer) (headOf l .max) room)
 
-    leaves-none : nextIn l key after ≡ none
+    pub leaves-none : nextIn l key after ≡ none
         → nextKeyOf l work key after buffer ≡ outcome (refusedNumbers (said 15 0)) (workAfter l work ∷ buffer ∷ [])
     unfolding nextKeyOf row15 isNone
     leaves-none e = rw e (heard-refused _ _ _ (left-15 none ∙ yes-row 15 0 [] refl))
 
-    leaves-some : {k : List ℕ} → nextIn l key after ≡ some k → nextKeyOf l work key after buffer ≡ foundIn l work buffer k
+    pub leaves-some : {k : List ℕ} → nextIn l key after ≡ some k → nextKeyOf l work key after buffer ≡ foundIn l work buffer k
     unfolding nextKeyOf row15 isNone lettersIn
     leaves-some {k} e = rw e (heard-done _ _ _ (left-15 (some k) ∙ no-row 15 0 [] refl ∙ first-nil))
 

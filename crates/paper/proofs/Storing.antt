@@ -334,7 +334,7 @@ acceptedNumbers = 5 ∷ 9 ∷ 10 ∷ 11 ∷ 12 ∷ 13 ∷ []
 abbrev pub valued : List ℕ → List ℕ → ℕ → List Row
 valued l key value = adding (headOf l) value (newOf (headOf l) l key value) (length l)
 
-valued-says : (l key : List ℕ) (value : ℕ) → AllSay (11 ∷ 12 ∷ 13 ∷ []) (valued l key value)
+pub valued-says : (l key : List ℕ) (value : ℕ) → AllSay (11 ∷ 12 ∷ 13 ∷ []) (valued l key value)
 unfolding adding row11 row12 row13 among
 valued-says l key value =
     let h : Head = headOf l in
@@ -349,7 +349,7 @@ module _ (l work : List ℕ) (given : Given) (value : ℕ) where
   key = keyIn l given
 
   -- what an order that passed tells of its parts
-  order-passed : first (storing l work given value) ≡ none
+  pub order-passed : first (storing l work given value) ≡ none
       → (first (checking l work) ≡ none) × (first (keying l given) ≡ none) × (first (valued l key value) ≡ none)
   unfolding storing
   order-passed e =
@@ -377,7 +377,7 @@ module _ (l work : List ℕ) (given : Given) (value : ℕ) where
       }
 
   -- and one that is granted passes them, where its key does and the working numbers are enough
-  grants : Granted l key value → headOf l .g + 1 ≤ length work → first (keying l given) ≡ none → first (storing l work given value) ≡ none
+  pub grants : Granted l key value → headOf l .g + 1 ≤ length work → first (keying l given) ≡ none → first (storing l work given value) ≡ none
   unfolding storing adding
   grants s lent passes =
       let h : Head = headOf l in

@@ -1,2 +1,3 @@
+pub mod Plain
 mod Tabulated
 pub mod Unique

@@ -1,0 +1,238 @@
+-- A call that takes counts, held against the call without them. The check is lent the shorter of the two lists, so it passes where the
+-- plain check passes and the counts are long enough; then it clears the same working numbers, and the rows that follow are the same.
+use Prim.Native.Nat.{ℕ, _+_, _≤_, _<_, min}
+use mathlib.Core.Path.{_≡_, refl, sym, _∙_, ap}
+use mathlib.Core.Logic.{_↔_, _≢_}
+use mathlib.Core.Bool.{not, _||_}
+use mathlib.Core.Option.{none, some}
+use mathlib.Core.List.{List, [], _∷_, _++_, append-assoc}
+use native.Mathlib.Decide.{decLt}
+use native.Mathlib.Omega.{arith}
+use lib.Dec.{ltb, eqb}
+use lib.IntN.{pos}
+use lib.ListN.{length, getD, take, drop, replicate, length-take, take-append-drop}
+use lib.Seq.{drop-append-le}
+use borrow.Author.Tests.{lt-ltb, le-ltb}
+use Rattle.trie.specs.Storing.{changeOf}
+use Rattle.trie.specs.Table.{answer}
+use Rattle.head.specs.declared.Head.{Head}
+use Rattle.head.specs.Fields.{headOf}
+use Rattle.alphabet.specs.Letters.{among}
+use Rattle.paper.specs.Hearing.{Said, Row, Numbers, Outcome, given, first, heard, outcome, refusedNumbers, doneNumbers}
+use Rattle.paper.specs.Rows.{row5}
+use Rattle.paper.specs.Given.{Given, alphabetIn, keyIn}
+use Rattle.paper.specs.Orders.{openingOf, checking, keying, newOf, storing}
+use Rattle.paper.specs.Calls.{tableIn, clearedBy, workAfter, storedImage, storeOf}
+use Rattle.paper.specs.Accepted.{Accepted}
+use Rattle.paper.proofs.Hearing.{first-nil, no-row, second-part, passed-row, passed-parts, heard-done, kept-lent}
+use Rattle.paper.proofs.Numbers.{AllSay, end, _then_, given-says, lowest-says, parts-say, first-says, none-heard}
+use Rattle.paper.proofs.Checking.{accepted-opens, checked, check-accepts, accepted-checks, checking-says, checkNumbers}
+use Rattle.paper.proofs.Keying.{given-says-key}
+use Rattle.paper.proofs.Storing.{valued, valued-says}
+use Rattle.position.specs.Counts.{countIn, row25, row5again}
+use Rattle.position.specs.Orders.{usable, workingOut, checkingCounts, storingCounts}
+use Rattle.position.specs.Calls.{workLeft, worked, storeCountsOf}
+
+-- ---- the list that the check is lent
+
+usable-length : (work counts : List ℕ) → length (usable work counts) ≡ min (length counts) (length work)
+unfolding usable
+usable-length work counts = length-take (length counts) work
+
+pub both-lent : (l work counts : List ℕ)
+    → (headOf l .g + 1 ≤ length (usable work counts)) ↔ ((headOf l .g + 1 ≤ length work) × (headOf l .g + 1 ≤ length counts))
+both-lent l work counts =
+    let e = usable-length work counts in
+    (λ b. (omega arith, omega arith), λ b. omega arith)
+
+-- "5, in its old place, also if the list is shorter than G+1"
+pub five-either : (h : Head) (work counts : List ℕ)
+    → row5 h (length (usable work counts)) ≡ given 5 0 (ltb (length work) (h .g + 1) || ltb (length counts) (h .g + 1))
+unfolding row5
+five-either h work counts = ap (given 5 0) (go (decLt (length work) (h .g + 1)) (decLt (length counts) (h .g + 1)))
+  where
+    lent : ℕ
+    lent = length (usable work counts)
+
+    e : lent ≡ min (length counts) (length work)
+    e = usable-length work counts
+
+    go : Dec (length work < h .g + 1) → Dec (length counts < h .g + 1)
+        → ltb lent (h .g + 1) ≡ (ltb (length work) (h .g + 1) || ltb (length counts) (h .g + 1))
+    go (yes a) b = lt-ltb lent (h .g + 1) (omega (arith, e)) ∙ sym (rw (lt-ltb (length work) (h .g + 1) a))
+    go (no a) (yes b) =
+        lt-ltb lent (h .g + 1) (omega (arith, e))
+        ∙ sym (rw (le-ltb (length work) (h .g + 1) (omega arith), lt-ltb (length counts) (h .g + 1) b))
+    go (no a) (no b) =
+        le-ltb lent (h .g + 1) (omega (arith, e))
+        ∙ sym (rw (le-ltb (length work) (h .g + 1) (omega arith), le-ltb (length counts) (h .g + 1) (omega arith)))
+
+-- ---- the working numbers that are left
+
+-- in an accepted image with enough of them, the first G+1 are cleared
+cleared : (l work : List ℕ) → Accepted l → headOf l .g + 1 ≤ length work
+    → workAfter l work ≡ replicate (headOf l .g + 1) 0 ++ drop (headOf l .g + 1) work
+unfolding workAfter clearedBy row5
+cleared l work a b =
+    ap (λ (r : Row). clearedBy r (headOf l .g + 1) work)
+    (second-part (openingOf l) (row5 (headOf l) (length work) ∷ []) (accepted-opens a)
+    ∙ no-row 5 0 [] (le-ltb (length work) (headOf l .g + 1) b)
+    ∙ first-nil)
+
+-- the rest of a front part, and what stands behind that part
+rest-joined : (n m : ℕ) (l : List ℕ) → n ≤ length (take m l) → drop n (take m l) ++ drop m l ≡ drop n l
+rest-joined n m l b = sym (drop-append-le n (take m l) (drop m l) b) ∙ ap (drop n) (take-append-drop m l)
+
+pub work-left : (l work counts : List ℕ) → first (checking l (usable work counts)) ≡ none
+    → (workLeft l work counts ≡ workAfter l work)
+    × (workLeft l work counts ≡ replicate (headOf l .g + 1) 0 ++ drop (headOf l .g + 1) work)
+unfolding workLeft usable
+work-left l work counts e =
+    let m : ℕ = headOf l .g + 1 in
+    let a = check-accepts l (usable work counts) e in
+    let lent = checked l (usable work counts) e .lent in
+    let zeros : List ℕ = replicate m 0 in
+    let left : workLeft l work counts ≡ zeros ++ drop m work =
+    ap (λ (w : List ℕ). w ++ drop (length counts) work) (cleared l (usable work counts) a lent)
+    ∙ append-assoc zeros (drop m (usable work counts)) (drop (length counts) work)
+    ∙ ap (λ (w : List ℕ). zeros ++ w) (rest-joined m (length counts) work lent) in
+    (left ∙ sym (cleared l work a (both-lent l work counts .0 lent .0)), left)
+
+-- "If the call stops at 5, where its order first names it, or before that, all keep what they held."
+pub work-kept : (l work counts : List ℕ) {s : Said}
+    → first (openingOf l ++ (row5 (headOf l) (length (usable work counts)) ∷ [])) ≡ some s
+    → workLeft l work counts ≡ work
+unfolding workLeft usable workAfter clearedBy
+work-kept l work counts e =
+    ap (λ (r : Row). clearedBy r (headOf l .g + 1) (usable work counts) ++ drop (length counts) work) e
+    ∙ take-append-drop (length counts) work
+
+-- ---- the rows of a store with counts
+
+-- the check's numbers, and 25
+pub counts-say : (l work counts : List ℕ) → AllSay (checkNumbers ++ (25 ∷ [])) (checkingCounts l work counts)
+unfolding checkingCounts workingOut row25 among
+counts-say l work counts =
+    parts-say (checking-says l (usable work counts))
+    (lowest-says 25 (λ q. not (eqb (getD counts q 0) (countIn l q))) 0 (headOf l .g + 1) refl then end)
+
+-- what a check with counts that passed tells
+pub record CountsChecked (l work counts : List ℕ) : Type 0 where
+  pub passes : first (checking l (usable work counts)) ≡ none
+  pub accepted : Accepted l
+  pub lent : headOf l .g + 1 ≤ length work
+  pub listed : headOf l .g + 1 ≤ length counts
+  pub same : row25 l counts ≡ none
+
+pub counts-checked : (l work counts : List ℕ) → first (checkingCounts l work counts) ≡ none → CountsChecked l work counts
+unfolding checkingCounts workingOut
+counts-checked l work counts e =
+    let (passes, rest) = passed-parts (checking l (usable work counts)) (row25 l counts ∷ []) e in
+    let both = both-lent l work counts .0 (checked l (usable work counts) passes .lent) in
+    record {
+      passes = passes;
+      accepted = check-accepts l (usable work counts) passes;
+      lent = both .0;
+      listed = both .1;
+      same = passed-row (row25 l counts) [] rest .0;
+    }
+
+-- the numbers of a store's refusals
+abbrev pub storeCountsNumbers : List ℕ
+storeCountsNumbers = 1 ∷ 2 ∷ 3 ∷ 4 ∷ 5 ∷ 6 ∷ 7 ∷ 8 ∷ 25 ∷ 9 ∷ 10 ∷ 11 ∷ 12 ∷ 13 ∷ 5 ∷ []
+
+module _ (l work : List ℕ) (given : Given) (value : ℕ) (counts : List ℕ) where
+  abbrev key : List ℕ
+  key = keyIn l given
+
+  abbrev new : ℕ
+  new = newOf (headOf l) l key value
+
+  -- the numbers of a store that is done
+  abbrev told : Numbers
+  told = doneNumbers 0 (changeOf (answer (tableIn l) key) value) 0
+
+  -- what an order that passed tells of its parts
+  pub record StorePassed : Type 0 where
+    pub counts-passed : CountsChecked l work counts
+    pub keys : first (keying l given) ≡ none
+    pub values : first (valued l key value) ≡ none
+    pub again : row5again (headOf l) new (length counts) ≡ none
+
+  pub store-order : first (storingCounts l work given value counts) ≡ none → StorePassed
+  unfolding storingCounts
+  store-order e =
+      let last : List Row = row5again (headOf l) new (length counts) ∷ [] in
+      let after25 = passed-parts (checkingCounts l work counts) (keying l given ++ (valued l key value ++ last)) e in
+      let after10 = passed-parts (keying l given) (valued l key value ++ last) (after25 .1) in
+      let after13 = passed-parts (valued l key value) last (after10 .1) in
+      record {
+        counts-passed = counts-checked l work counts (after25 .0);
+        keys = after10 .0;
+        values = after13 .0;
+        again = passed-row (row5again (headOf l) new (length counts)) [] (after13 .1) .0;
+      }
+
+  pub storing-counts-say : AllSay storeCountsNumbers (storingCounts l work given value counts)
+  unfolding storingCounts keying row5again among
+  storing-counts-say =
+      parts-say (counts-say l work counts)
+      (parts-say (given-says-key (headOf l) (alphabetIn (headOf l) l) given)
+      (parts-say (valued-says l key value)
+      (given-says 5 0 (ltb (length counts) (headOf l .g + new + 1)) refl then end)))
+
+  pub store-counts-passed : storeCountsOf l work given value counts .numbers .number ≡ 0
+      → first (storingCounts l work given value counts) ≡ none
+  unfolding storeCountsOf among
+  store-counts-passed z = none-heard _ _ (first-says storing-counts-say) refl z
+
+  -- then the plain order passes too
+  pub plain-passes : StorePassed → first (storing l work given value) ≡ none
+  unfolding storing
+  plain-passes p =
+      let c = p .counts-passed in
+      second-part (checking l work) (keying l given ++ valued l key value) (accepted-checks l work (c .accepted) (c .lent))
+      ∙ second-part (keying l given) (valued l key value) (p .keys)
+      ∙ p .values
+
+  -- ---- held against the plain store
+
+  pub store-counts-plain : storeCountsOf l work given value counts .numbers .number ≡ 0
+      → (storeOf l work given value .numbers .number ≡ 0)
+      × (storeCountsOf l work given value counts
+      ≡ outcome (storeOf l work given value .numbers)
+      (storedImage l key value ∷ workAfter l work ∷ worked (storedImage l key value) counts ∷ []))
+  unfolding storeCountsOf storeOf doneNumbers
+  store-counts-plain z =
+      let e = store-counts-passed z in
+      let p = store-order e in
+      let image : List ℕ = storedImage l key value in
+      let plain : storeOf l work given value ≡ outcome told (image ∷ workAfter l work ∷ []) =
+      heard-done _ _ _ (plain-passes p) in (
+        ap (λ (o : Outcome). o .numbers .number) plain,
+        heard-done _ _ _ e
+            ∙ ap (λ (w : List ℕ). outcome told (image ∷ w ∷ worked image counts ∷ []))
+            (work-left l work counts (p .counts-passed .passes) .0)
+            ∙ ap (λ (o : Outcome). outcome (o .numbers) (image ∷ workAfter l work ∷ worked image counts ∷ [])) (sym plain),
+      )
+
+  -- "A refused call changes nothing in the image or in any other lent buffer but the working numbers"
+  pub store-counts-kept : storeCountsOf l work given value counts .numbers .number ≢ 0
+      → (storeCountsOf l work given value counts .lent ≡ l ∷ workLeft l work counts ∷ counts ∷ [])
+      × (storeCountsOf l work given value counts .numbers .change ≡ pos 0)
+  unfolding storeCountsOf doneNumbers heard refusedNumbers
+  store-counts-kept z = (kept-lent r kept done refl z, no-change r z)
+    where
+      r : Row
+      r = first (storingCounts l work given value counts)
+
+      kept : List (List ℕ)
+      kept = l ∷ workLeft l work counts ∷ counts ∷ []
+
+      done : Outcome
+      done =
+          outcome told (storedImage l key value ∷ workLeft l work counts ∷ worked (storedImage l key value) counts ∷ [])
+
+      no-change : (r : Row) → heard r kept done .numbers .number ≢ 0 → heard r kept done .numbers .change ≡ pos 0
+      no-change none f = absurd (f refl)
+      no-change (some s) f = refl
