@@ -1,11 +1,13 @@
 // The check of an image with counts beside it: 1 to 8, with 5 for either list, and 25. Neither function has a `requires`.
 ghost use mathlib.Core.Path.{_≡_};
 ghost use mathlib.Core.Bool.{true, not};
-ghost use Prim.Native.Nat.{_≤_, min};
+ghost use Prim.Native.Nat.{_^_, _≤_, min};
 ghost use lib.ListN.{length, getD};
-ghost use lib.Dec.{eqb};
+ghost use lib.Dec.{ltb, eqb};
 ghost use Rattle.trie.specs.Lowest.{lowest};
-ghost use Rattle.comparing.specs.Comparing.{CheckedBoth, Alike};
+ghost use Rattle.paper.specs.Hearing.{given};
+ghost use Rattle.paper.specs.Answers.{rowOf};
+ghost use Rattle.comparing.specs.Comparing.{CheckedBoth, Compared, Alike};
 use head::Head;
 use opening::Opened;
 use paper::Refusal;
@@ -28,6 +30,45 @@ fn lesser(a: usize, b: usize) -> usize
     ensures { λ r. ⌜ r ≡ min a b ⌝ }
 {
     if a < b { a } else { b }
+}
+
+// 1 to 8, then 25: the counts are held against fresh ones, worked out in the working numbers.
+pub fn compare(
+    image: &[u8],
+    work: &mut [u32],
+    counts: &[u32],
+    codes: &mut [u32; Head::N_MOST as usize],
+) -> Opened
+    ensures { λ r. ⌜ Compared (now (image .entry)) (now (work .entry)) (now (counts .entry)) r (now (work .exit)) (now (codes .exit)) ⌝ }
+{
+    let checked = check_both(image, work, counts.len(), codes);
+    let verdict = checked.verdict;
+    match verdict {
+        Verdict::Refused(_) => checked,
+        Verdict::Passed => {
+            let h = checked.head;
+            let nodes = (h.g as usize) + 1;
+            weighing::weigh(image, h, work);
+            let differs = first_different(work, counts, nodes);
+            audit::clear(work, nodes);
+            Opened {
+                verdict: judge(differs, nodes),
+                head: h,
+                count: checked.count,
+            }
+        }
+    }
+}
+
+// 25, by the lowest node whose count differs.
+fn judge(differs: usize, nodes: usize) -> Verdict
+    requires { ⌜ nodes ≤ 2 ^ 32 ⌝ }
+    ensures { λ r. ⌜ rowOf r ≡ given 25 differs (ltb differs nodes) ⌝ }
+{
+    if differs < nodes {
+        return Verdict::Refused(Refusal::CountsDiffer(differs as u32));
+    }
+    Verdict::Passed
 }
 
 // The lowest of the first `nodes` nodes whose two numbers differ, `nodes` where none does. The first loop has no early exit, so that it runs
