@@ -13,6 +13,7 @@ const char *const version_names[VERSIONS] = {"project", "naive", "tuned"};
 #define WORK lent->work, lent->work_len
 #define KEY lent->key, lent->key_len
 #define BUFFER lent->buffer, lent->buffer_len
+#define COUNTS lent->counts, lent->counts_len
 
 #define ON(of, name, ...) \
     static trieff_answer on_##of##_##name(const struct lent *lent) { return of##_##name(__VA_ARGS__); }
@@ -31,6 +32,13 @@ ON_ALL(store_writes, IMAGE, WORK, KEY, lent->value, lent->writes)
 ON_ALL(store_text_writes, IMAGE, WORK, KEY, lent->value, lent->writes)
 ON_ALL(mend, IMAGE, WORK)
 ON_ALL(next_key, IMAGE, WORK, KEY, lent->after, BUFFER)
+ON_ALL(counts, IMAGE, WORK, COUNTS)
+ON_ALL(check_counts, IMAGE, WORK, COUNTS)
+ON_ALL(store_counts, IMAGE, WORK, KEY, lent->value, COUNTS)
+ON_ALL(store_text_counts, IMAGE, WORK, KEY, lent->value, COUNTS)
+ON_ALL(key_at, IMAGE, WORK, COUNTS, lent->position, BUFFER)
+ON_ALL(position, IMAGE, WORK, COUNTS, KEY)
+ON_ALL(position_text, IMAGE, WORK, COUNTS, KEY)
 ON_WALK(trieff, measure_walk)
 ON_WALK(naive, naive_walk)
 ON_WALK(tuned, tuned_walk)
@@ -38,6 +46,8 @@ ON_WALK(tuned, tuned_walk)
 static const struct call calls[] = {
     ROW(check), ROW(count), ROW(look_up), ROW(look_up_text), ROW(store), ROW(store_text), ROW(store_writes), ROW(store_text_writes),
     ROW(mend), ROW(next_key), ROW(walk),
+    ROW(counts), ROW(check_counts), ROW(store_counts), ROW(store_text_counts), ROW(key_at),
+    ROW(position), ROW(position_text),
 };
 
 const struct call *call_at(size_t place)
@@ -80,6 +90,7 @@ static struct lent copies(const struct lent *from)
     to.key = copy_of(from->key, from->key_len);
     to.buffer = copy_of(from->buffer, from->buffer_len);
     to.writes = copy_of(from->writes, TRIEFF_WRITES_LEN * sizeof *from->writes);
+    to.counts = copy_of(from->counts, from->counts_len * sizeof *from->counts);
     return to;
 }
 
@@ -90,6 +101,7 @@ static void drop(struct lent *lent)
     free((void *)lent->key);
     free(lent->buffer);
     free(lent->writes);
+    free(lent->counts);
 }
 
 static void print_answer(const char *of, trieff_answer a)
@@ -111,11 +123,13 @@ static bool same(const char *call, int version, const struct lent *a, const stru
     bool work = memcmp(a->work, b->work, a->work_len * sizeof *a->work) == 0;
     bool buffer = memcmp(a->buffer, b->buffer, a->buffer_len) == 0;
     bool writes = memcmp(a->writes, b->writes, TRIEFF_WRITES_LEN * sizeof *a->writes) == 0;
-    if (answer && image && work && buffer && writes)
+    bool counts = memcmp(a->counts, b->counts, a->counts_len * sizeof *a->counts) == 0;
+    if (answer && image && work && buffer && writes && counts)
         return true;
-    fprintf(stderr, "%s: project and %s differ in%s%s%s%s%s\n", call, version_names[version], answer ? "" : " the answer",
-            image ? "" : " the image", work ? "" : " the working numbers", buffer ? "" : " the key buffer",
-            writes ? "" : " the list of writes");
+    fprintf(stderr, "%s: project and %s differ in%s%s%s%s%s%s\n", call, version_names[version],
+            answer ? "" : " the answer", image ? "" : " the image",
+            work ? "" : " the working numbers", buffer ? "" : " the key buffer",
+            writes ? "" : " the list of writes", counts ? "" : " the list of counts");
     print_answer("project", x);
     print_answer(version_names[version], y);
     return false;

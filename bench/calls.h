@@ -1,5 +1,5 @@
 /* The calls that are measured, each in three versions: the project's library, naive C and tuned C. All have the C face's signatures.
-   A new call takes a line in VERSION, one in calls.c, its two functions in C, and a row in bench/plan for each way to measure it. */
+   A new call takes a line in VERSION or COUNTS_VERSION, one in calls.c, its two functions in C, and a row in bench/plan for each way to measure it. */
 #ifndef BENCH_CALLS_H
 #define BENCH_CALLS_H
 
@@ -33,8 +33,32 @@
     /* document 01's lines of an image on standard output */                                                          \
     void of##_list(const uint8_t *image, size_t image_len, uint32_t *work, size_t work_len);
 
+/* The calls with counts. */
+#define COUNTS_VERSION(of)                                                                         \
+    trieff_answer of##_counts(const uint8_t *image, size_t image_len, uint32_t *work,              \
+                              size_t work_len, uint32_t *counts, size_t counts_len);               \
+    trieff_answer of##_check_counts(const uint8_t *image, size_t image_len, uint32_t *work,        \
+                                    size_t work_len, const uint32_t *counts, size_t counts_len);   \
+    trieff_answer of##_store_counts(uint8_t *image, size_t image_len, uint32_t *work,              \
+                                    size_t work_len, const uint8_t *letters, size_t letters_len,   \
+                                    uint32_t value, uint32_t *counts, size_t counts_len);          \
+    trieff_answer of##_store_text_counts(uint8_t *image, size_t image_len, uint32_t *work,         \
+                                         size_t work_len, const uint8_t *text, size_t text_len,    \
+                                         uint32_t value, uint32_t *counts, size_t counts_len);     \
+    trieff_answer of##_key_at(const uint8_t *image, size_t image_len, uint32_t *work,              \
+                              size_t work_len, const uint32_t *counts, size_t counts_len,          \
+                              uint64_t position, uint8_t *key, size_t key_len);                    \
+    trieff_answer of##_position(const uint8_t *image, size_t image_len, uint32_t *work,            \
+                                size_t work_len, const uint32_t *counts, size_t counts_len,        \
+                                const uint8_t *letters, size_t letters_len);                       \
+    trieff_answer of##_position_text(const uint8_t *image, size_t image_len, uint32_t *work,       \
+                                     size_t work_len, const uint32_t *counts, size_t counts_len,   \
+                                     const uint8_t *text, size_t text_len);
+
 VERSION(naive)
 VERSION(tuned)
+COUNTS_VERSION(naive)
+COUNTS_VERSION(tuned)
 
 /* The project's walk has a library of its own, and its listing is a program, target/bin/list. */
 uint64_t measure_walk(const uint8_t *image, size_t image_len, uint32_t *work, size_t work_len);
@@ -58,6 +82,9 @@ struct lent {
     uint8_t *buffer;
     size_t buffer_len;
     uint32_t *writes; /* TRIEFF_WRITES_LEN of them */
+    uint32_t *counts;
+    size_t counts_len;
+    uint64_t position;
 };
 
 struct call {
@@ -71,8 +98,9 @@ const struct call *call_named(const char *name);
 /* The call at a place in the table, NULL behind the last. */
 const struct call *call_at(size_t place);
 
-/* Performs a call in every version, on copies of what is lent. True where the five numbers, image, working numbers, key buffer and list of
-   writes are the same in all; otherwise standard error says in what they differ. The answer is the project's. */
+/* Performs a call in every version, on copies of what is lent. True where the five numbers, image,
+   working numbers, key buffer, list of writes and list of counts are the same in all; otherwise
+   standard error says in what they differ. The answer is the project's. */
 bool agree(const struct call *call, const struct lent *lent, trieff_answer *answer);
 
 #endif

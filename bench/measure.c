@@ -23,6 +23,7 @@ struct row {
     uint8_t key[256];
     size_t key_len;
     uint32_t value;
+    uint64_t position;
     bool stores, mends;
     char answer[24]; /* what it must answer, or "*" */
 };
@@ -30,8 +31,8 @@ struct row {
 static uint8_t image[IMAGE_MOST + 1], kept_image[IMAGE_MOST + 1];
 static uint8_t buffer[KEY_MOST];
 static uint32_t writes[TRIEFF_WRITES_LEN];
-static uint32_t *work;
-static size_t image_len, work_len;
+static uint32_t *work, *counts, *kept_counts;
+static size_t image_len, work_len, counts_len;
 static const char *image_name;
 
 static void fail(const char *what, const char *which)
@@ -67,10 +68,29 @@ static void read_image(const char *folder)
         fail("no memory for", path);
 }
 
-/* A row's key: the text as it stands, or the letter numbers of its one-byte characters. */
+/* The image's counts by the project, with room for the nodes of a new key. A row of the plan holds
+   them against those of the other versions. */
+static void make_counts(void)
+{
+    counts_len = work_len + KEY_MOST;
+    counts = malloc(counts_len * sizeof *counts);
+    kept_counts = malloc(counts_len * sizeof *kept_counts);
+    if (counts == NULL || kept_counts == NULL)
+        fail("no memory for the counts of", image_name);
+    memset(kept_counts, RUBBISH, counts_len * sizeof *kept_counts);
+    if (trieff_counts(kept_image, image_len, work, work_len, kept_counts, counts_len).number != 0)
+        fail("no counts of", image_name);
+}
+
+/* A row's key: the text as it stands, or the letter numbers of its one-byte characters, or a
+   position. */
 static void set_key(struct row *row, const char *text)
 {
     uint32_t f = field(kept_image + 16, 4);
+    if (strcmp(row->call->name, "key_at") == 0) {
+        row->position = strtoull(text, NULL, 10);
+        return;
+    }
     row->key_len = strcmp(text, "-") == 0 ? 0 : strlen(text);
     for (size_t i = 0; i < row->key_len; i++) {
         row->key[i] = (uint8_t)text[i];
@@ -139,22 +159,39 @@ static void cut(const struct row *row)
     memset(link, 0, a);
 }
 
-/* The image as it was read; to be mended without the last link of its row's key, if there is one. */
+/* The image as it was read, and its counts; to be mended without the last link of its row's key, if
+   there is one. */
 static void put_back(const struct row *row)
 {
     memcpy(image, kept_image, image_len);
+    memcpy(counts, kept_counts, counts_len * sizeof *counts);
     if (row->mends && row->key_len > 0)
         cut(row);
 }
 
-/* What a row lends: its image, and rubbish in the other buffers. */
+/* What a row lends: its image, the counts of it, and rubbish in the other buffers. */
 static struct lent lend(const struct row *row)
 {
     put_back(row);
     memset(work, RUBBISH, work_len * sizeof *work);
     memset(buffer, RUBBISH, sizeof buffer);
     memset(writes, RUBBISH, sizeof writes);
-    return (struct lent){image, image_len, work, work_len, row->key, row->key_len, row->value, true, buffer, sizeof buffer, writes};
+    if (strcmp(row->call->name, "counts") == 0)
+        memset(counts, RUBBISH, counts_len * sizeof *counts);
+    return (struct lent){.image = image,
+                         .image_len = image_len,
+                         .work = work,
+                         .work_len = work_len,
+                         .key = row->key,
+                         .key_len = row->key_len,
+                         .value = row->value,
+                         .after = true,
+                         .buffer = buffer,
+                         .buffer_len = sizeof buffer,
+                         .writes = writes,
+                         .counts = counts,
+                         .counts_len = counts_len,
+                         .position = row->position};
 }
 
 /* ---- compare, count, time */
@@ -255,6 +292,7 @@ int main(int argc, char **argv)
         fail("usage:", "measure compare|time|count PLAN FOLDER IMAGE [VERSION]");
     image_name = argv[4];
     read_image(argv[3]);
+    make_counts();
     size_t many = read_plan(argv[2], rows);
     if (many == 0)
         fail("no row of the plan is for", image_name);

@@ -303,9 +303,11 @@ static void note(struct list *list, size_t place, size_t len)
     list->len++;
 }
 
-/* The path stops at a node at a depth: nodes for the letters left, then G, then the link that was empty. */
-static inline trieff_answer extend(uint8_t *image, size_t len, const struct head *h, const struct key *key, uint32_t node,
-                                   size_t depth, uint32_t value, struct list *list)
+/* The path stops at a node at a depth: nodes for the letters left, then G, then the link that was
+   empty. A list of counts has room for `most` nodes; SIZE_MAX where there is no such list. */
+__attribute__((always_inline)) static inline trieff_answer extend(
+    uint8_t *image, size_t len, const struct head *h, const struct key *key, uint32_t node,
+    size_t depth, uint32_t value, struct list *list, size_t most)
 {
     uint64_t total = h->g + (uint64_t)(key->len - depth);
     if (value == 0)
@@ -314,6 +316,8 @@ static inline trieff_answer extend(uint8_t *image, size_t len, const struct head
         return refusal(12, 0);
     if (len < node_place(h, total + 1))
         return refusal(13, 0);
+    if (most < total + 1)
+        return refusal(5, 0);
     for (uint32_t fresh = h->g + 1; fresh <= total; fresh++) {
         memset(image + node_place(h, fresh), 0, node_width(h));
         if (fresh < total)
@@ -329,9 +333,11 @@ static inline trieff_answer extend(uint8_t *image, size_t len, const struct head
     return (trieff_answer){.change = 1};
 }
 
-/* A store behind the check and the judging of the key; without a list for its writes the tests for one fall out. */
-__attribute__((always_inline)) static inline trieff_answer store_in(uint8_t *image, size_t len, const struct head *h,
-                                                                    const struct key *key, uint32_t value, struct list *list)
+/* A store behind the check and the judging of the key; without a list for its writes or of counts
+   the tests for one fall out. */
+__attribute__((always_inline)) static inline trieff_answer store_in(
+    uint8_t *image, size_t len, const struct head *h, const struct key *key, uint32_t value,
+    struct list *list, size_t most)
 {
     if (value > greatest(h->d))
         return refusal(11, 0);
@@ -339,7 +345,7 @@ __attribute__((always_inline)) static inline trieff_answer store_in(uint8_t *ima
     for (size_t depth = 0; depth < key->len; depth++) {
         uint32_t link = link_of(image, h, node, key->letters[depth]);
         if (link == 0)
-            return extend(image, len, h, key, node, depth, value, list);
+            return extend(image, len, h, key, node, depth, value, list, most);
         node = link;
     }
     uint32_t old = data_of(image, h, node);
@@ -352,14 +358,14 @@ __attribute__((always_inline)) static inline trieff_answer store_in(uint8_t *ima
 __attribute__((noinline)) static trieff_answer inner_store(uint8_t *image, size_t len, const struct head *h,
                                                            const struct key *key, uint32_t value)
 {
-    return store_in(image, len, h, key, value, NULL);
+    return store_in(image, len, h, key, value, NULL, SIZE_MAX);
 }
 
 __attribute__((noinline)) static trieff_answer inner_store_writes(uint8_t *image, size_t len, const struct head *h,
                                                                   const struct key *key, uint32_t value, uint32_t *writes)
 {
     struct list list = {.numbers = writes};
-    trieff_answer answer = store_in(image, len, h, key, value, &list);
+    trieff_answer answer = store_in(image, len, h, key, value, &list, SIZE_MAX);
     answer.length = list.len;
     return answer;
 }
@@ -530,6 +536,200 @@ trieff_answer naive_next_key(const uint8_t *image, size_t image_len, uint32_t *w
     if (r.found.len > 0)
         memcpy(key, r.found.letters, r.found.len);
     return (trieff_answer){.length = (uint32_t)r.found.len, .value = r.value};
+}
+
+/* ---- counts */
+
+static size_t lesser(size_t a, size_t b)
+{
+    return a < b ? a : b;
+}
+
+static bool stored_at(const uint8_t *image, const struct head *h, uint32_t node, size_t depth)
+{
+    return h->min <= depth && data_of(image, h, node) != 0;
+}
+
+/* The number of stored keys at and under a node at a depth. The counts of all these nodes are put
+   into the list; what is deeper than max keeps the 0 it has. */
+static uint32_t count_under(const uint8_t *image, const struct head *h, uint32_t node,
+                            size_t depth, uint32_t *counts)
+{
+    uint32_t keys = stored_at(image, h, node, depth);
+    for (uint32_t i = 0; depth < h->max && i < h->n; i++) {
+        uint32_t link = link_of(image, h, node, i);
+        if (link != 0)
+            keys += count_under(image, h, link, depth + 1, counts);
+    }
+    counts[node] = keys;
+    return keys;
+}
+
+trieff_answer naive_counts(const uint8_t *image, size_t image_len, uint32_t *work, size_t work_len,
+                           uint32_t *counts, size_t counts_len)
+{
+    struct head h;
+    trieff_answer answer = check(image, image_len, work, lesser(work_len, counts_len), &h);
+    if (answer.number != 0)
+        return answer;
+    memset(counts, 0, ((size_t)h.g + 1) * sizeof *counts);
+    count_under(image, &h, 0, 0, counts);
+    return valued(0);
+}
+
+/* 1 to 8, where 5 speaks of the counts too, and 25: fresh counts stand in the working numbers while
+   they are compared. */
+__attribute__((noinline)) static trieff_answer compare(
+    const uint8_t *image, size_t len, uint32_t *work, size_t work_len, const uint32_t *counts,
+    size_t counts_len, struct head *h)
+{
+    trieff_answer answer = check(image, len, work, lesser(work_len, counts_len), h);
+    if (answer.number != 0)
+        return answer;
+    size_t nodes = (size_t)h->g + 1;
+    count_under(image, h, 0, 0, work);
+    for (size_t x = nodes; x > 0; x--)
+        if (counts[x - 1] != work[x - 1])
+            answer = refusal(25, (uint32_t)(x - 1));
+    memset(work, 0, nodes * sizeof *work);
+    return answer;
+}
+
+trieff_answer naive_check_counts(const uint8_t *image, size_t image_len, uint32_t *work,
+                                 size_t work_len, const uint32_t *counts, size_t counts_len)
+{
+    struct head h;
+    return compare(image, image_len, work, work_len, counts, counts_len, &h);
+}
+
+/* A store, then the counts on the path of its key; the new nodes are those above the old G. */
+static trieff_answer inner_store_counts(uint8_t *image, size_t len, const struct head *h,
+                                        const struct key *key, uint32_t value, uint32_t *counts,
+                                        size_t counts_len)
+{
+    trieff_answer answer = store_in(image, len, h, key, value, NULL, counts_len);
+    if (answer.number != 0 || answer.change == 0)
+        return answer;
+    uint32_t node = 0;
+    counts[0] += (uint32_t)answer.change;
+    for (size_t i = 0; i < key->len; i++) {
+        node = link_of(image, h, node, key->letters[i]);
+        counts[node] = node > h->g ? 1 : counts[node] + (uint32_t)answer.change;
+    }
+    return answer;
+}
+
+trieff_answer naive_store_counts(uint8_t *image, size_t image_len, uint32_t *work, size_t work_len,
+                                 const uint8_t *letters, size_t letters_len, uint32_t value,
+                                 uint32_t *counts, size_t counts_len)
+{
+    struct head h;
+    trieff_answer answer = compare(image, image_len, work, work_len, counts, counts_len, &h);
+    if (answer.number != 0)
+        return answer;
+    struct key key = key_of(letters, letters_len);
+    uint32_t number = judge_key(&h, &key);
+    if (number != 0)
+        return refusal(number, 0);
+    return inner_store_counts(image, image_len, &h, &key, value, counts, counts_len);
+}
+
+trieff_answer naive_store_text_counts(uint8_t *image, size_t image_len, uint32_t *work,
+                                      size_t work_len, const uint8_t *text, size_t text_len,
+                                      uint32_t value, uint32_t *counts, size_t counts_len)
+{
+    struct head h;
+    trieff_answer answer = compare(image, image_len, work, work_len, counts, counts_len, &h);
+    if (answer.number != 0)
+        return answer;
+    struct key key;
+    uint32_t number = judge_text(image, &h, text, text_len, &key);
+    if (number != 0)
+        return refusal(number, 0);
+    return inner_store_counts(image, image_len, &h, &key, value, counts, counts_len);
+}
+
+/* The link under which the key at a position below a node is, as its letter; the position becomes
+   the one below that link. */
+static uint32_t letter_towards(const uint8_t *image, const struct head *h, uint32_t node,
+                               const uint32_t *counts, uint64_t *position)
+{
+    uint32_t letter = 0;
+    for (;; letter++) {
+        uint32_t link = link_of(image, h, node, letter);
+        if (link != 0 && *position < counts[link])
+            return letter;
+        if (link != 0)
+            *position -= counts[link];
+    }
+}
+
+trieff_answer naive_key_at(const uint8_t *image, size_t image_len, uint32_t *work, size_t work_len,
+                           const uint32_t *counts, size_t counts_len, uint64_t position,
+                           uint8_t *key, size_t key_len)
+{
+    struct head h;
+    trieff_answer answer = compare(image, image_len, work, work_len, counts, counts_len, &h);
+    if (answer.number != 0)
+        return answer;
+    if (key_len < h.max)
+        return refusal(14, 0);
+    if (position >= counts[0])
+        return refusal(15, 0);
+    uint32_t node = 0;
+    size_t depth = 0;
+    while (position > 0 || !stored_at(image, &h, node, depth)) {
+        position -= stored_at(image, &h, node, depth);
+        key[depth] = (uint8_t)letter_towards(image, &h, node, counts, &position);
+        node = link_of(image, &h, node, key[depth++]);
+    }
+    return (trieff_answer){.length = (uint32_t)depth, .value = data_of(image, &h, node)};
+}
+
+/* The position of a key: what is stored at the nodes before its own, and under lower letters. */
+static trieff_answer position_of(const uint8_t *image, const struct head *h,
+                                 const uint32_t *counts, const struct key *key)
+{
+    uint32_t node = 0;
+    uint64_t position = 0;
+    for (size_t depth = 0; depth < key->len; depth++) {
+        position += stored_at(image, h, node, depth);
+        for (uint32_t i = 0; i < key->letters[depth]; i++) {
+            uint32_t link = link_of(image, h, node, i);
+            if (link != 0)
+                position += counts[link];
+        }
+        node = link_of(image, h, node, key->letters[depth]);
+        if (node == 0)
+            return refusal(15, 0);
+    }
+    return data_of(image, h, node) != 0 ? valued(position) : refusal(15, 0);
+}
+
+trieff_answer naive_position(const uint8_t *image, size_t image_len, uint32_t *work,
+                             size_t work_len, const uint32_t *counts, size_t counts_len,
+                             const uint8_t *letters, size_t letters_len)
+{
+    struct head h;
+    trieff_answer answer = compare(image, image_len, work, work_len, counts, counts_len, &h);
+    if (answer.number != 0)
+        return answer;
+    struct key key = key_of(letters, letters_len);
+    uint32_t number = judge_key(&h, &key);
+    return number != 0 ? refusal(number, 0) : position_of(image, &h, counts, &key);
+}
+
+trieff_answer naive_position_text(const uint8_t *image, size_t image_len, uint32_t *work,
+                                  size_t work_len, const uint32_t *counts, size_t counts_len,
+                                  const uint8_t *text, size_t text_len)
+{
+    struct head h;
+    trieff_answer answer = compare(image, image_len, work, work_len, counts, counts_len, &h);
+    if (answer.number != 0)
+        return answer;
+    struct key key;
+    uint32_t number = judge_text(image, &h, text, text_len, &key);
+    return number != 0 ? refusal(number, 0) : position_of(image, &h, counts, &key);
 }
 
 /* ---- the listing */

@@ -405,9 +405,17 @@ static inline uint32_t *note(uint32_t *list, size_t place, size_t len)
     return list + 2;
 }
 
-/* The path stops at a link: nodes for the letters behind it, then G, then that link. The letters are those behind the link's own. */
-static inline trieff_answer extend(uint8_t *image, size_t image_len, const struct opened *o, uint8_t *link_end,
-                                   const uint8_t *letters, size_t len, uint32_t value, uint32_t *list)
+/* The nodes that were there on a key's path, for a store with counts, which has room for `most`. */
+struct trail {
+    uint32_t nodes[KEY_MOST + 1];
+    size_t len, most;
+};
+
+/* The path stops at a link: nodes for the letters behind it, then G, then that link. The letters are
+   those behind the link's own. */
+__attribute__((always_inline)) static inline trieff_answer extend(
+    uint8_t *image, size_t image_len, const struct opened *o, uint8_t *link_end,
+    const uint8_t *letters, size_t len, uint32_t value, uint32_t *list, const struct trail *trail)
 {
     size_t k = len + 1;
     if (value == 0)
@@ -417,6 +425,8 @@ static inline trieff_answer extend(uint8_t *image, size_t image_len, const struc
     uint8_t *node = image + (node_at(o, o->g + 1) - image);
     if (image_len < (size_t)(node - image) + k * o->width)
         return refusal(13, 0);
+    if (trail != NULL && trail->most < o->g + k + 1)
+        return refusal(5, 0);
     memset(node, 0, k * o->width);
     for (size_t i = 0; i < len; i++, node += o->width)
         put_field(node + (size_t)letters[i] * o->a + o->a, o->link_mask, (uint32_t)(o->g + 2 + i));
@@ -432,21 +442,31 @@ static inline trieff_answer extend(uint8_t *image, size_t image_len, const struc
     return (trieff_answer){.change = 1, .length = (uint32_t)k + 2};
 }
 
-/* A store behind the check and the judging of the key; without a list for its writes the tests for one fall out. */
-__attribute__((always_inline)) static inline trieff_answer store_in(uint8_t *image, size_t image_len, const struct opened *o,
-                                                                    const uint8_t *letters, size_t len, uint32_t value,
-                                                                    uint32_t *list)
+/* A store behind the check and the judging of the key; without a list for its writes or a trail the
+   tests for one fall out. */
+__attribute__((always_inline)) static inline trieff_answer store_in(
+    uint8_t *image, size_t image_len, const struct opened *o, const uint8_t *letters, size_t len,
+    uint32_t value, uint32_t *list, struct trail *trail)
 {
     if (value > o->data_mask)
         return refusal(11, 0);
     uint8_t *nodes = image + 28 + o->f, *node = nodes;
+    if (trail != NULL)
+        trail->nodes[0] = 0;
     for (size_t i = 0; i < len; i++) {
         uint8_t *end = node + (size_t)letters[i] * o->a + o->a;
         uint32_t link = field(end, o->link_mask);
+        if (trail != NULL)
+            trail->len = i + 1;
         if (link == 0)
-            return extend(image, image_len, o, end, letters + i + 1, len - i - 1, value, list);
+            return extend(image, image_len, o, end, letters + i + 1, len - i - 1, value, list,
+                          trail);
         node = nodes + link * o->width;
+        if (trail != NULL)
+            trail->nodes[i + 1] = link;
     }
+    if (trail != NULL)
+        trail->len = len + 1;
     uint32_t old = data_of(o, node);
     put_field(node + o->width, o->data_mask, value);
     uint32_t *end = note(list, (size_t)(node - image) + o->links_len, o->d);
@@ -457,14 +477,14 @@ __attribute__((always_inline)) static inline trieff_answer store_in(uint8_t *ima
 __attribute__((noinline)) static trieff_answer inner_store(uint8_t *image, size_t image_len, const struct opened *o,
                                                            const uint8_t *letters, size_t len, uint32_t value)
 {
-    return store_in(image, image_len, o, letters, len, value, NULL);
+    return store_in(image, image_len, o, letters, len, value, NULL, NULL);
 }
 
 __attribute__((noinline)) static trieff_answer inner_store_writes(uint8_t *image, size_t image_len, const struct opened *o,
                                                                   const uint8_t *letters, size_t len, uint32_t value,
                                                                   uint32_t *writes)
 {
-    return store_in(image, image_len, o, letters, len, value, writes);
+    return store_in(image, image_len, o, letters, len, value, writes, NULL);
 }
 
 trieff_answer tuned_store(uint8_t *image, size_t image_len, uint32_t *work, size_t work_len, const uint8_t *letters,
@@ -630,6 +650,310 @@ trieff_answer tuned_next_key(const uint8_t *image, size_t image_len, uint32_t *w
     for (size_t i = 0; i < p.depth; i++)
         key[i] = p.letters[i];
     return (trieff_answer){.length = (uint32_t)p.depth, .value = value};
+}
+
+/* ---- counts */
+
+/* Has a node no link that is not empty? Fewer than eight bytes are read with what is in front. */
+static inline bool leaf(const struct opened *o, const uint8_t *node)
+{
+    size_t len = o->links_len;
+    return len < 8 ? load8(node + len - 8) >> (64 - 8 * len) == 0 : childless(o, node);
+}
+
+/* A walk from the root that judges the links as it goes, and leaves a node's count, plus 1, in its
+   working number. So 0 says that a node was not met. No address needs to be above another. */
+struct tally {
+    const struct opened *o;
+    uint32_t *work;
+    uint32_t met;  /* how many nodes were met, without the root */
+    uint32_t odd;  /* not 0: a bad link, an address met again, or nodes deeper than max */
+    uint32_t deep; /* 1 where nodes deeper than max are odd */
+};
+
+/* The number of stored keys at and under a node that is not at max, `own` of them its own. Leaves
+   are counted in its loop, and it calls itself at most max levels deep. A node is entered only once,
+   since none is entered after an address that was met again. */
+static uint32_t tally_below(struct tally *t, uint32_t q, uint32_t depth, uint32_t own)
+{
+    const struct opened *o = t->o;
+    uint32_t *work = t->work, g = o->g, a = o->a, mask = o->link_mask, odd = 0, keys = own, met = 0;
+    uint32_t data_mask = o->min <= ++depth ? __builtin_bswap32(o->data_mask) : 0;
+    const uint8_t *nodes = o->nodes, *end = node_at(o, q) + a, *last = end + o->links_len;
+    size_t width = o->width;
+    for (; end != last; end += a) {
+        uint32_t link = field(end, mask);
+        if (link == 0)
+            continue;
+        if (link - q - 1 >= g - q) {
+            odd = 1;
+            continue;
+        }
+        const uint8_t *child = nodes + link * width;
+        memcpy(&own, child + width - 4, 4);
+        own = (own & data_mask) != 0;
+        odd |= work[link];
+        work[link] = own + 1;
+        met++;
+        if (!leaf(o, child)) {
+            t->odd |= odd;
+            if (depth == o->max)
+                t->odd |= t->deep;
+            else if (t->odd == 0)
+                own = tally_below(t, link, depth, own);
+        }
+        keys += own;
+    }
+    t->odd |= odd;
+    t->met += met;
+    work[q] = keys + 1;
+    return keys;
+}
+
+/* The walk over working numbers that are 0. */
+static struct tally tally(const struct opened *o, uint32_t *work, uint32_t deep)
+{
+    struct tally t = {.o = o, .work = work, .deep = deep};
+    uint32_t own = o->min == 0 && data_of(o, o->nodes) != 0;
+    work[0] = own + 1;
+    if (o->max > 0)
+        tally_below(&t, 0, 0, own);
+    else if (!leaf(o, o->nodes))
+        t.odd = deep;
+    return t;
+}
+
+/* 1 to 8, where 5 speaks of the counts too. Done, every working number is a count plus 1. A walk
+   that meets every node, and nothing odd, has judged the image; otherwise the check has the word,
+   and of an image that it accepts there are nodes deeper than max, whose counts are 0. */
+static trieff_answer fresh(const uint8_t *image, size_t len, uint32_t *work, size_t work_len,
+                           size_t counts_len, struct opened *o, struct alphabet *al)
+{
+    uint32_t number = open_image(image, len, o, al);
+    if (number != 0)
+        return refusal(number, 0);
+    size_t nodes = (size_t)o->g + 1;
+    if (work_len < nodes || counts_len < nodes)
+        return refusal(5, 0);
+    memset(work, 0, nodes * sizeof *work);
+    struct tally t = tally(o, work, 1);
+    if (t.odd == 0 && t.met == o->g)
+        return (trieff_answer){.number = 0};
+    trieff_answer answer = judge_links(o, work, work_len, false, NULL);
+    if (answer.number != 0)
+        return answer;
+    tally(o, work, 0);
+    for (size_t x = 0; x < nodes; x++)
+        work[x] += work[x] == 0;
+    return answer;
+}
+
+#define BLOCK 32
+
+/* Moves the counts out of the working numbers, which become 0. */
+static void move_counts(uint32_t *restrict counts, uint32_t *restrict work, size_t nodes)
+{
+    size_t x = 0;
+    for (; x + BLOCK <= nodes; x += BLOCK) {
+        for (size_t i = 0; i < BLOCK; i++)
+            counts[x + i] = work[x + i] - 1;
+        memset(work + x, 0, BLOCK * sizeof *work);
+    }
+    for (; x < nodes; x++) {
+        counts[x] = work[x] - 1;
+        work[x] = 0;
+    }
+}
+
+/* The lowest node whose count is not the one in its working number, `nodes` where there is none.
+   The working numbers become 0. */
+static size_t first_other(const uint32_t *restrict counts, uint32_t *restrict work, size_t nodes)
+{
+    size_t x = 0;
+    for (; x + BLOCK <= nodes; x += BLOCK) {
+        uint32_t other = 0;
+        for (size_t i = 0; i < BLOCK; i++)
+            other |= (counts[x + i] + 1) ^ work[x + i];
+        if (other != 0)
+            break;
+        memset(work + x, 0, BLOCK * sizeof *work);
+    }
+    size_t cleared = x;
+    while (x < nodes && counts[x] + 1 == work[x])
+        x++;
+    memset(work + cleared, 0, (nodes - cleared) * sizeof *work);
+    return x;
+}
+
+trieff_answer tuned_counts(const uint8_t *image, size_t image_len, uint32_t *work, size_t work_len,
+                           uint32_t *counts, size_t counts_len)
+{
+    struct opened o;
+    struct alphabet al;
+    trieff_answer answer = fresh(image, image_len, work, work_len, counts_len, &o, &al);
+    if (answer.number == 0)
+        move_counts(counts, work, (size_t)o.g + 1);
+    return answer;
+}
+
+/* 1 to 8 and 25. It stays a function of its own, so that what a call takes beyond it can be told. */
+__attribute__((noinline)) static trieff_answer compare(
+    const uint8_t *image, size_t len, uint32_t *work, size_t work_len, const uint32_t *counts,
+    size_t counts_len, struct opened *o, struct alphabet *al)
+{
+    trieff_answer answer = fresh(image, len, work, work_len, counts_len, o, al);
+    if (answer.number != 0)
+        return answer;
+    size_t nodes = (size_t)o->g + 1, other = first_other(counts, work, nodes);
+    return other < nodes ? refusal(25, (uint32_t)other) : answer;
+}
+
+trieff_answer tuned_check_counts(const uint8_t *image, size_t image_len, uint32_t *work,
+                                 size_t work_len, const uint32_t *counts, size_t counts_len)
+{
+    struct opened o;
+    struct alphabet al;
+    return compare(image, image_len, work, work_len, counts, counts_len, &o, &al);
+}
+
+/* A store, then the counts of the nodes that were on the path and of the new ones. */
+static trieff_answer inner_store_counts(uint8_t *image, size_t image_len, const struct opened *o,
+                                        const uint8_t *letters, size_t len, uint32_t value,
+                                        uint32_t *counts, size_t counts_len)
+{
+    struct trail trail;
+    trail.most = counts_len;
+    trieff_answer answer = store_in(image, image_len, o, letters, len, value, NULL, &trail);
+    if (answer.number != 0 || answer.change == 0)
+        return answer;
+    for (size_t i = 0; i < trail.len; i++)
+        counts[trail.nodes[i]] += (uint32_t)answer.change;
+    for (size_t i = trail.len; i <= len; i++)
+        counts[o->g + 1 + i - trail.len] = 1;
+    return answer;
+}
+
+trieff_answer tuned_store_counts(uint8_t *image, size_t image_len, uint32_t *work, size_t work_len,
+                                 const uint8_t *letters, size_t letters_len, uint32_t value,
+                                 uint32_t *counts, size_t counts_len)
+{
+    struct opened o;
+    struct alphabet al;
+    trieff_answer answer = compare(image, image_len, work, work_len, counts, counts_len, &o, &al);
+    if (answer.number != 0)
+        return answer;
+    uint32_t number = judge_key(&o, letters, letters_len);
+    if (number != 0)
+        return refusal(number, 0);
+    return inner_store_counts(image, image_len, &o, letters, letters_len, value, counts,
+                              counts_len);
+}
+
+trieff_answer tuned_store_text_counts(uint8_t *image, size_t image_len, uint32_t *work,
+                                      size_t work_len, const uint8_t *text, size_t text_len,
+                                      uint32_t value, uint32_t *counts, size_t counts_len)
+{
+    struct opened o;
+    struct alphabet al;
+    uint8_t letters[KEY_MOST];
+    size_t len;
+    trieff_answer answer = compare(image, image_len, work, work_len, counts, counts_len, &o, &al);
+    if (answer.number != 0)
+        return answer;
+    uint32_t number = judge_text(&o, &al, text, text_len, letters, &len);
+    if (number != 0)
+        return refusal(number, 0);
+    return inner_store_counts(image, image_len, &o, letters, len, value, counts, counts_len);
+}
+
+/* The count of what a link leads to, 0 where it is empty. */
+static inline uint32_t count_at(const uint32_t *counts, uint32_t link)
+{
+    return link == 0 ? 0 : counts[link];
+}
+
+trieff_answer tuned_key_at(const uint8_t *image, size_t image_len, uint32_t *work, size_t work_len,
+                           const uint32_t *counts, size_t counts_len, uint64_t position,
+                           uint8_t *key, size_t key_len)
+{
+    struct opened o;
+    struct alphabet al;
+    trieff_answer answer = compare(image, image_len, work, work_len, counts, counts_len, &o, &al);
+    if (answer.number != 0)
+        return answer;
+    if (key_len < o.max)
+        return refusal(14, 0);
+    if (position >= counts[0])
+        return refusal(15, 0);
+    const uint8_t *node = o.nodes;
+    uint32_t left = (uint32_t)position, a = o.a, mask = o.link_mask;
+    for (uint32_t depth = 0;; depth++) {
+        uint32_t value = depth < o.min ? 0 : data_of(&o, node);
+        if (value != 0 && left == 0)
+            return (trieff_answer){.length = depth, .value = value};
+        left -= value != 0;
+        const uint8_t *end = node + a;
+        uint32_t letter = 0, link = field(end, mask), under = count_at(counts, link);
+        while (left >= under) {
+            left -= under;
+            letter++;
+            end += a;
+            link = field(end, mask);
+            under = count_at(counts, link);
+        }
+        key[depth] = (uint8_t)letter;
+        node = node_at(&o, link);
+    }
+}
+
+/* The position of a key: what is stored at the nodes before its own, and under lower letters. */
+static inline trieff_answer position_of(const struct opened *o, const uint32_t *counts,
+                                        const uint8_t *letters, size_t len)
+{
+    const uint8_t *node = o->nodes;
+    uint32_t position = 0, a = o->a, mask = o->link_mask;
+    for (size_t depth = 0; depth < len; depth++) {
+        if (depth >= o->min)
+            position += data_of(o, node) != 0;
+        const uint8_t *end = node + a, *own = end + (size_t)letters[depth] * a;
+        for (; end != own; end += a)
+            position += count_at(counts, field(end, mask));
+        uint32_t link = field(own, mask);
+        if (link == 0)
+            return refusal(15, 0);
+        node = node_at(o, link);
+    }
+    if (data_of(o, node) == 0)
+        return refusal(15, 0);
+    return (trieff_answer){.value = position};
+}
+
+trieff_answer tuned_position(const uint8_t *image, size_t image_len, uint32_t *work,
+                             size_t work_len, const uint32_t *counts, size_t counts_len,
+                             const uint8_t *letters, size_t letters_len)
+{
+    struct opened o;
+    struct alphabet al;
+    trieff_answer answer = compare(image, image_len, work, work_len, counts, counts_len, &o, &al);
+    if (answer.number != 0)
+        return answer;
+    uint32_t number = judge_key(&o, letters, letters_len);
+    return number != 0 ? refusal(number, 0) : position_of(&o, counts, letters, letters_len);
+}
+
+trieff_answer tuned_position_text(const uint8_t *image, size_t image_len, uint32_t *work,
+                                  size_t work_len, const uint32_t *counts, size_t counts_len,
+                                  const uint8_t *text, size_t text_len)
+{
+    struct opened o;
+    struct alphabet al;
+    uint8_t letters[KEY_MOST];
+    size_t len;
+    trieff_answer answer = compare(image, image_len, work, work_len, counts, counts_len, &o, &al);
+    if (answer.number != 0)
+        return answer;
+    uint32_t number = judge_text(&o, &al, text, text_len, letters, &len);
+    return number != 0 ? refusal(number, 0) : position_of(&o, counts, letters, len);
 }
 
 /* ---- the walk of a listing, and its lines */
