@@ -1,12 +1,19 @@
-/* Compares the three versions on random small images and calls: whole images, damaged ones, and every limit of 9 to 15 nearby.
-   Each number from 0 to 15 must be heard, and images be mended and 8 stay 8, or the run fails. Usage: random SEED IMAGES */
+/* Compares the three versions on random small images and calls: whole images, damaged ones, every limit
+   of 9 to 15 nearby, and lists of counts that are right, wrong and too short. What naive C answers to
+   the calls with counts is held to its other calls too.
+   Each number from 0 to 15 and 25 must be heard, images be mended and 8 stay 8, a store find its list
+   of counts too short for its new nodes, and every call be done, or the run fails.
+   Usage: random SEED IMAGES */
 #include "calls.h"
 #include <stdio.h>
 #include <stdlib.h>
 #include <string.h>
 
 #define ROOM 4096
-#define CALLS_PER_IMAGE 24
+#define CALLS_PER_IMAGE 40
+#define CALLS_MOST 32
+#define NUMBERS 26
+#define NODES_MOST 600
 
 static uint64_t state;
 
@@ -36,6 +43,14 @@ static void put_field(uint8_t *at, uint32_t width, uint32_t v)
 {
     for (uint32_t i = width; i > 0; i--, v >>= 8)
         at[i - 1] = (uint8_t)v;
+}
+
+static uint32_t get_field(const uint8_t *at, uint32_t width)
+{
+    uint32_t v = 0;
+    for (uint32_t i = 0; i < width; i++)
+        v = v << 8 | at[i];
+    return v;
 }
 
 static uint8_t *node_of(struct small *s, uint32_t node)
@@ -124,20 +139,30 @@ static void lose_link(struct small *s)
     for (uint32_t q = 0; q <= s->g; q++)
         for (uint32_t i = 0; i < s->n; i++) {
             uint8_t *link = node_of(s, q) + i * s->a;
-            uint32_t v = 0;
-            for (uint32_t j = 0; j < s->a; j++)
-                v = v << 8 | link[j];
-            if (v == lost)
+            if (get_field(link, s->a) == lost)
                 put_field(link, s->a, 0);
         }
 }
 
-/* One harm: a head field near its limits, a link, any byte, G, the length, or a link that is missing. */
+/* Swaps two links, or copies one over the other: a tree whose addresses do not rise, a ring that
+   hangs in the air, or an address in two links, at any depth. */
+static void entangle(struct small *s)
+{
+    uint8_t *one = node_of(s, any_below(s->g + 1)) + any_below(s->n) * s->a;
+    uint8_t *other = node_of(s, any_below(s->g + 1)) + any_below(s->n) * s->a;
+    uint32_t to = get_field(one, s->a);
+    if (one_in(2))
+        put_field(one, s->a, get_field(other, s->a));
+    put_field(other, s->a, to);
+}
+
+/* One harm: a head field near its limits, a link, two links, any byte, G, the length, or a link that is
+   missing. */
 static void harm(struct small *s)
 {
     static const uint32_t ODD[] = {0, 1, 2, 4, 5, 64, 65, 256, 257, 1024, 1025, 0xFFFFFFFF};
     static const uint32_t GREAT[] = {0xFFFFFFFF, 0x7FFFFFFF, 0x3FFFFFFF, 0x00FFFFFF};
-    switch (any_below(8)) {
+    switch (any_below(11)) {
     case 0:
         put_field(s->bytes + 4 * any_below(7), 4, ODD[any_below(sizeof ODD / sizeof *ODD)]);
         break;
@@ -153,6 +178,11 @@ static void harm(struct small *s)
         break;
     case 5:
         s->len = one_in(2) ? any_below((uint32_t)s->len + 1) : s->len - 1;
+        break;
+    case 6:
+    case 7:
+    case 8:
+        entangle(s);
         break;
     default:
         lose_link(s);
@@ -170,26 +200,99 @@ static size_t any_letters(const struct small *s, uint8_t *key)
     return len;
 }
 
+/* Letters along links that are there, from the root, and at times one to three letters more. Their nodes
+   may hold a value or not. */
+static size_t any_path(struct small *s, uint8_t *key)
+{
+    uint32_t node = 0, len = 0, most = any_below(s->max + 2);
+    while (len < most) {
+        uint32_t from = any_below(s->n), link = 0;
+        for (uint32_t i = 0; i < s->n && link == 0; i++) {
+            key[len] = (uint8_t)((from + i) % s->n);
+            link = get_field(node_of(s, node) + key[len] * s->a, s->a);
+        }
+        if (link == 0 || link > s->g)
+            break;
+        node = link;
+        len++;
+    }
+    for (uint32_t more = one_in(4) ? 1 + any_below(3) : 0; more > 0 && len < s->max; more--)
+        key[len++] = (uint8_t)any_below(s->n);
+    return len;
+}
+
+/* Where the characters of the alphabet start, and how many there are. */
+static size_t starts_of(const struct small *s, size_t *starts)
+{
+    size_t many = 0;
+    for (size_t at = 0; at < s->f && many < 80; at++)
+        if ((s->bytes[28 + at] & 0xC0) != 0x80)
+            starts[many++] = at;
+    return many;
+}
+
+/* Puts the character that starts at a place of the alphabet behind a text, and answers its end. */
+static size_t add_character(const struct small *s, size_t at, uint8_t *text, size_t len)
+{
+    do
+        text[len++] = s->bytes[28 + at++];
+    while (at < s->f && (s->bytes[28 + at] & 0xC0) == 0x80);
+    return len;
+}
+
 /* Characters of the image's alphabet, but now and then another or a broken one. */
 static size_t any_text(const struct small *s, uint8_t *key)
 {
-    size_t len = 0, letters[80], many = one_in(20) ? any_below(80) : any_below(s->max + 2), starts = 0;
-    for (size_t at = 0; at < s->f && starts < 80; at++)
-        if ((s->bytes[28 + at] & 0xC0) != 0x80)
-            letters[starts++] = at;
+    size_t len = 0, starts[80], many = one_in(20) ? any_below(80) : any_below(s->max + 2);
+    size_t characters = starts_of(s, starts);
     for (size_t i = 0; i < many; i++) {
-        const char *other = one_in(2) ? CHARACTERS[any_below(CHARACTERS_MANY)] : BROKEN[any_below(BROKEN_MANY)];
-        size_t at = starts == 0 ? 0 : letters[any_below((uint32_t)starts)], size = 0;
-        if (starts == 0 || one_in(40)) {
+        const char *other = one_in(2) ? CHARACTERS[any_below(CHARACTERS_MANY)]
+                                      : BROKEN[any_below(BROKEN_MANY)];
+        if (characters == 0 || one_in(40)) {
             memcpy(key + len, other, strlen(other));
             len += strlen(other);
             continue;
         }
-        do
-            key[len++] = s->bytes[28 + at + size++];
-        while (at + size < s->f && (s->bytes[28 + at + size] & 0xC0) == 0x80);
+        len = add_character(s, starts[any_below((uint32_t)characters)], key, len);
     }
     return len;
+}
+
+/* The text of letters along links that are there. */
+static size_t any_path_text(struct small *s, uint8_t *key)
+{
+    uint8_t letters[KEY_MOST + 2];
+    size_t len = 0, starts[80], characters = starts_of(s, starts), many = any_path(s, letters);
+    for (size_t i = 0; i < many; i++)
+        if (letters[i] < characters)
+            len = add_character(s, starts[letters[i]], key, len);
+    return len;
+}
+
+/* A key as a call takes it: half of them lead along links that are there. */
+static size_t any_key(struct small *s, bool text, uint8_t *key)
+{
+    if (one_in(2))
+        return text ? any_path_text(s, key) : any_path(s, key);
+    return text ? any_text(s, key) : any_letters(s, key);
+}
+
+/* Puts the image's counts into a list of NODES_MOST, if it is accepted; one or two are made wrong at
+   times. The lent list ends before G, or there, or a few nodes behind it. */
+static void lend_counts(const struct small *s, struct lent *lent)
+{
+    static const uint32_t WRONG[] = {0, 1, 2, 0x7FFFFFFF, 0xFFFFFFFF};
+    static uint32_t work[NODES_MOST];
+    memset(lent->counts, 0xA5, NODES_MOST * sizeof *lent->counts);
+    naive_counts(lent->image, lent->image_len, work, NODES_MOST, lent->counts, NODES_MOST);
+    for (uint32_t many = one_in(4) ? 1 + any_below(2) : 0; many > 0; many--) {
+        uint32_t *count = &lent->counts[any_below(s->g + 2)];
+        *count = one_in(2) ? *count + 1 - 2 * any_below(2) : WRONG[any_below(5)];
+    }
+    lent->counts_len = one_in(10) ? any_below(s->g + 1) : s->g + 1 + any_below(4);
+    lent->position = any_below(one_in(2) ? s->g + 3 : 5);
+    if (one_in(12))
+        lent->position |= (uint64_t)1 << (32 + any_below(32));
 }
 
 static uint32_t any_value(const struct small *s)
@@ -198,40 +301,147 @@ static uint32_t any_value(const struct small *s)
     return one_in(4) ? 0 : one_in(6) ? most + 1 : one_in(4) ? most : any_below(most);
 }
 
-/* What was heard: each number, and what became of the images that a mending found to have an address in no link. */
+/* ---- naive C's calls with counts against its other calls */
+
+static uint32_t held_work[NODES_MOST];
+#define HELD held_work, NODES_MOST
+
+/* Does a list say what the number of keys says, and is it accepted as the image's counts? */
+static bool held_counts(const struct lent *lent, const uint32_t *counts, size_t len)
+{
+    uint64_t keys = naive_count(lent->image, lent->image_len, HELD).value;
+    return counts[0] == keys &&
+           naive_check_counts(lent->image, lent->image_len, HELD, counts, len).number == 0;
+}
+
+/* Is the key at a position the first one moved on by so many steps of next key? */
+static bool held_key_at(const struct lent *lent)
+{
+    uint8_t from[KEY_MOST], at[KEY_MOST], key[KEY_MOST];
+    trieff_answer step = {.length = 0};
+    for (uint64_t i = 0; i <= lent->position; i++) {
+        size_t len = step.length;
+        memcpy(from, at, len);
+        step = naive_next_key(lent->image, lent->image_len, HELD, from, len, i > 0, at, KEY_MOST);
+    }
+    trieff_answer said = naive_key_at(lent->image, lent->image_len, HELD, lent->counts,
+                                      lent->counts_len, lent->position, key, KEY_MOST);
+    return step.number == 0 && said.number == 0 && step.value == said.value &&
+           step.length == said.length && memcmp(key, at, step.length) == 0;
+}
+
+/* Is the key at the position of a key that key? */
+static bool held_position(const struct lent *lent)
+{
+    uint8_t key[KEY_MOST];
+    uint64_t position = naive_position(lent->image, lent->image_len, HELD, lent->counts,
+                                       lent->counts_len, lent->key, lent->key_len).value;
+    trieff_answer said = naive_key_at(lent->image, lent->image_len, HELD, lent->counts,
+                                      lent->counts_len, position, key, KEY_MOST);
+    return said.number == 0 && said.length == lent->key_len &&
+           memcmp(key, lent->key, lent->key_len) == 0;
+}
+
+/* Does a store with counts leave the plain store's image, and the counts of it? It is carried out on
+   what is lent. */
+static bool held_store(const struct lent *lent)
+{
+    static uint8_t image[ROOM];
+    memcpy(image, lent->image, lent->image_len);
+    naive_store(image, lent->image_len, HELD, lent->key, lent->key_len, lent->value);
+    naive_store_counts(lent->image, lent->image_len, HELD, lent->key, lent->key_len, lent->value,
+                       lent->counts, lent->counts_len);
+    return memcmp(image, lent->image, lent->image_len) == 0 &&
+           held_counts(lent, lent->counts, lent->counts_len);
+}
+
+/* Of a call that is done: does its answer agree with naive C's other calls? */
+static bool held(const char *name, const struct lent *lent)
+{
+    if (strcmp(name, "counts") == 0) {
+        static uint32_t counts[NODES_MOST];
+        naive_counts(lent->image, lent->image_len, HELD, counts, NODES_MOST);
+        return held_counts(lent, counts, NODES_MOST);
+    }
+    if (strcmp(name, "key_at") == 0)
+        return held_key_at(lent);
+    if (strcmp(name, "position") == 0)
+        return held_position(lent);
+    return strcmp(name, "store_counts") == 0 ? held_store(lent) : true;
+}
+
+/* ---- a call */
+
+/* What was heard: each number, each call done, what became of the images that a mending found to have
+   an address in no link, and stores whose list of counts has no room for the new nodes. */
 struct heard {
-    uint64_t numbers[16];
-    uint64_t mended, left;
+    uint64_t numbers[NUMBERS], done[CALLS_MOST];
+    uint64_t mended, left, no_counts;
 };
 
+/* Notes an answer. The image is as it was before the call. */
+static void note(struct heard *heard, size_t place, const struct lent *lent, trieff_answer answer)
+{
+    const char *name = call_at(place)->name;
+    uint32_t g = lent->image_len < 4 ? 0 : get_field(lent->image, 4);
+    heard->numbers[answer.number]++;
+    heard->done[place] += answer.number == 0;
+    if (answer.number == 5 && lent->work_len > g && lent->counts_len > g)
+        heard->no_counts++;
+    if (strcmp(name, "mend") != 0)
+        return;
+    uint32_t was = naive_check(lent->image, lent->image_len, lent->work, lent->work_len).number;
+    heard->left += answer.number == 8;
+    heard->mended += answer.number == 0 && was == 8;
+}
+
 /* A random call on an image, compared; what is heard is noted. */
-static bool try_call(const struct small *s, struct heard *heard)
+static bool try_call(struct small *s, struct heard *heard)
 {
     static uint8_t image[ROOM], key[400], buffer[80];
-    static uint32_t work[600], writes[TRIEFF_WRITES_LEN];
+    static uint32_t work[NODES_MOST], counts[NODES_MOST], writes[TRIEFF_WRITES_LEN];
     size_t calls = 0;
     while (call_at(calls) != NULL)
         calls++;
-    const struct call *call = call_at(any_below((uint32_t)calls));
+    size_t place = any_below((uint32_t)calls);
+    const struct call *call = call_at(place);
     memcpy(image, s->bytes, s->len);
     memset(work, 0xA5, sizeof work);
     memset(buffer, 0xA5, sizeof buffer);
     memset(writes, 0xA5, sizeof writes);
-    struct lent lent = {.image = image, .image_len = s->len, .work = work, .key = key, .buffer = buffer, .writes = writes};
+    struct lent lent = {.image = image, .image_len = s->len, .work = work, .key = key,
+                        .buffer = buffer, .writes = writes, .counts = counts};
     lent.work_len = one_in(8) ? any_below(s->g + 2) : s->g + 1 + any_below(4);
     lent.buffer_len = one_in(6) ? any_below(s->max + 1) : s->max + any_below(4);
-    lent.key_len = strstr(call->name, "_text") != NULL ? any_text(s, key) : any_letters(s, key);
+    lent.key_len = any_key(s, strstr(call->name, "_text") != NULL, key);
     lent.value = any_value(s);
     lent.after = one_in(2);
+    lend_counts(s, &lent);
     trieff_answer answer;
     if (!agree(call, &lent, &answer))
         return false;
-    heard->numbers[answer.number]++;
-    if (strcmp(call->name, "mend") != 0)
+    note(heard, place, &lent, answer);
+    if (answer.number != 0 || held(call->name, &lent))
         return true;
-    heard->left += answer.number == 8;
-    heard->mended += answer.number == 0 && trieff_check(image, lent.image_len, work, lent.work_len).number == 8;
-    return true;
+    fprintf(stderr, "%s: naive C does not agree with its other calls\n", call->name);
+    return false;
+}
+
+/* Was all heard that must be? Says what was. */
+static bool all_heard(const struct heard *heard)
+{
+    bool all = heard->mended > 0 && heard->left > 0 && heard->no_counts > 0;
+    for (int number = 0; number < NUMBERS; number++) {
+        if (heard->numbers[number] > 0)
+            printf(" %d:%llu", number, (unsigned long long)heard->numbers[number]);
+        all = all && (heard->numbers[number] > 0 || (15 < number && number < 25));
+    }
+    for (size_t place = 0; call_at(place) != NULL; place++)
+        all = all && heard->done[place] > 0;
+    printf("; of 8, mended %llu, left %llu; of 5, for new nodes %llu\n",
+           (unsigned long long)heard->mended, (unsigned long long)heard->left,
+           (unsigned long long)heard->no_counts);
+    return all;
 }
 
 int main(int argc, char **argv)
@@ -254,10 +464,5 @@ int main(int argc, char **argv)
             fprintf(stderr, "  on image %ld of seed %llu\n", i, seed);
     }
     printf("random calls, seed %llu: %ld images, %d calls each; heard", seed, images, CALLS_PER_IMAGE);
-    for (int number = 0; number < 16; number++) {
-        printf(" %d:%llu", number, (unsigned long long)heard.numbers[number]);
-        good = good && heard.numbers[number] > 0;
-    }
-    printf("; of 8, mended %llu, left %llu\n", (unsigned long long)heard.mended, (unsigned long long)heard.left);
-    return good && heard.mended > 0 && heard.left > 0 ? 0 : 1;
+    return all_heard(&heard) && good ? 0 : 1;
 }

@@ -661,6 +661,12 @@ static inline bool leaf(const struct opened *o, const uint8_t *node)
     return len < 8 ? load8(node + len - 8) >> (64 - 8 * len) == 0 : childless(o, node);
 }
 
+/* The same for links of 32 to 64 bytes, the usual ones, without a loop. */
+static inline bool leaf_of_64(const uint8_t *node, size_t len)
+{
+    return (any_of_32(node) | any_of_32(node + len - 32)) == 0;
+}
+
 /* A walk from the root that judges the links as it goes, and leaves a node's count, plus 1, in its
    working number. So 0 says that a node was not met. No address needs to be above another. */
 struct tally {
@@ -671,21 +677,24 @@ struct tally {
     uint32_t deep; /* 1 where nodes deeper than max are odd */
 };
 
+typedef uint32_t tally_function(struct tally *t, uint32_t q, uint32_t depth, uint32_t own);
+
 /* The number of stored keys at and under a node that is not at max, `own` of them its own. Leaves
-   are counted in its loop, and it calls itself at most max levels deep. A node is entered only once,
+   are counted in its loop, and it goes on at most max levels deep. A node is entered only once,
    since none is entered after an address that was met again. */
-static uint32_t tally_below(struct tally *t, uint32_t q, uint32_t depth, uint32_t own)
+__attribute__((always_inline)) static inline uint32_t tally_in(
+    struct tally *t, uint32_t q, uint32_t depth, uint32_t own, bool usual, tally_function *enter)
 {
     const struct opened *o = t->o;
-    uint32_t *work = t->work, g = o->g, a = o->a, mask = o->link_mask, odd = 0, keys = own, met = 0;
+    size_t a = o->a, width = o->width, len = o->links_len;
+    uint32_t *work = t->work, mask = o->link_mask, room = o->g - q, odd = 0, keys = own, met = 0;
     uint32_t data_mask = o->min <= ++depth ? __builtin_bswap32(o->data_mask) : 0;
-    const uint8_t *nodes = o->nodes, *end = node_at(o, q) + a, *last = end + o->links_len;
-    size_t width = o->width;
+    const uint8_t *nodes = o->nodes, *end = node_at(o, q) + a, *last = end + len;
     for (; end != last; end += a) {
         uint32_t link = field(end, mask);
         if (link == 0)
             continue;
-        if (link - q - 1 >= g - q) {
+        if (link + ~q >= room) {
             odd = 1;
             continue;
         }
@@ -695,12 +704,12 @@ static uint32_t tally_below(struct tally *t, uint32_t q, uint32_t depth, uint32_
         odd |= work[link];
         work[link] = own + 1;
         met++;
-        if (!leaf(o, child)) {
+        if (usual ? !leaf_of_64(child, len) : !leaf(o, child)) {
             t->odd |= odd;
             if (depth == o->max)
                 t->odd |= t->deep;
             else if (t->odd == 0)
-                own = tally_below(t, link, depth, own);
+                own = enter(t, link, depth, own);
         }
         keys += own;
     }
@@ -710,14 +719,25 @@ static uint32_t tally_below(struct tally *t, uint32_t q, uint32_t depth, uint32_
     return keys;
 }
 
+static uint32_t tally_usual(struct tally *t, uint32_t q, uint32_t depth, uint32_t own)
+{
+    return tally_in(t, q, depth, own, true, tally_usual);
+}
+
+static uint32_t tally_other(struct tally *t, uint32_t q, uint32_t depth, uint32_t own)
+{
+    return tally_in(t, q, depth, own, false, tally_other);
+}
+
 /* The walk over working numbers that are 0. */
 static struct tally tally(const struct opened *o, uint32_t *work, uint32_t deep)
 {
     struct tally t = {.o = o, .work = work, .deep = deep};
     uint32_t own = o->min == 0 && data_of(o, o->nodes) != 0;
     work[0] = own + 1;
+    bool usual = 32 <= o->links_len && o->links_len <= 64;
     if (o->max > 0)
-        tally_below(&t, 0, 0, own);
+        (usual ? tally_usual : tally_other)(&t, 0, 0, own);
     else if (!leaf(o, o->nodes))
         t.odd = deep;
     return t;
