@@ -11,6 +11,8 @@ import sys
 folder = sys.argv[1]
 VERSIONS = ("project", "naive", "tuned")
 BEYOND = ", beyond its check"
+COMPARE = "check with counts"
+COMPARED = ", beyond " + COMPARE
 WALK = "listing walk, per key beyond the check"
 PROGRAM = "listing program with its lines, per key beyond the check"
 
@@ -63,8 +65,18 @@ def each(of):
     return {version: of(version) for version in VERSIONS}
 
 
+def beyond(row, other, image):
+    """What a row takes more than another one on the same image."""
+    return each(lambda version: counted[row, image][version] - counted[other, image][version])
+
+
 def beyond_check(row, image):
-    return each(lambda version: counted[row, image][version] - counted["check", image][version])
+    return beyond(row, "check", image)
+
+
+def compares(row):
+    """Does a row compare counts before anything else?"""
+    return row.startswith(("store with counts", "key at", "position"))
 
 
 def walk_per_key(image):
@@ -84,13 +96,16 @@ def program_per_key():
 
 
 def all_counts():
-    """The counts in the plan's order, each with what follows from it: the inner store, what is beyond the check, the walk per key."""
+    """The counts in the plan's order, each with what follows from it: the inner store, what is beyond the
+    check or the check with counts, the walk per key."""
     table = {}
     for row, image in answers:
         table[row, image] = counted[row, image]
         if ("inner " + row, image) in counted:
             table["inner " + row, image] = counted["inner " + row, image]
-        if row.startswith(("store", "next key")):
+        if compares(row):
+            table[row + COMPARED, image] = beyond(row, COMPARE, image)
+        elif row.startswith(("store", "next key")):
             table[row + BEYOND, image] = beyond_check(row, image)
         if row == "listing walk":
             table[WALK, image] = walk_per_key(image)
@@ -122,12 +137,19 @@ def print_table(title, heads, lines):
             print("|" + "|".join("-" * (width + 2) if i < 2 else "-" * (width + 1) + ":" for i, width in enumerate(widths)) + "|")
 
 
+def by_row(table):
+    """The table's rows and images, those of one row together."""
+    for row in dict.fromkeys(row for row, _ in table):
+        for image in (image for other, image in table if other == row):
+            yield row, image
+
+
 def print_versions(title, table, form):
     def lines():
-        for row in dict.fromkeys(row for row, _ in table):
-            for image in (image for other, image in table if other == row):
-                project, naive, tuned = (table[row, image][version] for version in VERSIONS)
-                yield row, image, form(project), form(naive), form(tuned), "%.2f" % (project / tuned), "%.2f" % (project / naive)
+        for row, image in by_row(table):
+            project, naive, tuned = (table[row, image][version] for version in VERSIONS)
+            ratios = "%.2f" % (project / tuned), "%.2f" % (project / naive)
+            yield row, image, form(project), form(naive), form(tuned), *ratios
 
     print_table(title, ("Call", "Image", *VERSIONS, "project:tuned", "project:naive"), joined(lines()))
 
@@ -145,10 +167,16 @@ def goals(table):
     for row, image in table:
         if row.startswith("text look up"):
             yield goal(row, image, {"full-16MiB": 1400, "ascending-200": 15000, "anyorder-200": 50000}[image])
-    for row in dict.fromkeys(row for row, _ in table):
-        for image in (image for other, image in table if other == row):
-            if row.endswith(BEYOND):
-                yield goal(row, image, 2000)
+    for row, image in by_row(table):
+        if row.endswith(BEYOND):
+            yield goal(row, image, 2000)
+    for row, image in by_row(table):
+        if row in ("work out counts", COMPARE):
+            yield goal(row, image, 2.5 * table["check", image]["project"])
+        elif row.startswith(("key at", "position")) and row.endswith(COMPARED):
+            yield goal(row, image, 2000)
+        elif row.startswith("store with counts") and not row.endswith(COMPARED):
+            yield goal(row, image, 3.6 * table["check", image]["project"] + 2000)
     for row in ("one new node", "nine new nodes", "another value"):
         yield goal("inner store, " + row, twenty, 800)
     for row, image in table:

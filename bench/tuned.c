@@ -1,5 +1,6 @@
 /* The calls in C tuned by hand for speed: masked loads of four bytes, 32 bytes of empty links at a time, one pass for the check.
-   It leans on what document 01's base gives, such as that a child's address is above its node's; no vector instruction is written out. */
+   It leans on what document 01's base gives, such as that a child's address is above its node's; the
+   calls with counts do not lean on that. No vector instruction is written out. */
 #include "calls.h"
 #include <string.h>
 #include <unistd.h>
