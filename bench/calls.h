@@ -1,5 +1,6 @@
 /* The calls that are measured, each in three versions: the project's library, naive C and tuned C. All have the C face's signatures.
-   A new call takes a line in VERSION or COUNTS_VERSION, one in calls.c, its two functions in C, and a row in bench/plan for each way to measure it. */
+   A new call takes a line in VERSION or COUNTS_VERSION, one in calls.c, its two functions in C, and
+   a row in bench/plan for each way to measure it. */
 #ifndef BENCH_CALLS_H
 #define BENCH_CALLS_H
 
@@ -34,25 +35,25 @@
     void of##_list(const uint8_t *image, size_t image_len, uint32_t *work, size_t work_len);
 
 /* The calls with counts. */
-#define COUNTS_VERSION(of)                                                                         \
-    trieff_answer of##_counts(const uint8_t *image, size_t image_len, uint32_t *work,              \
-                              size_t work_len, uint32_t *counts, size_t counts_len);               \
-    trieff_answer of##_check_counts(const uint8_t *image, size_t image_len, uint32_t *work,        \
-                                    size_t work_len, const uint32_t *counts, size_t counts_len);   \
-    trieff_answer of##_store_counts(uint8_t *image, size_t image_len, uint32_t *work,              \
-                                    size_t work_len, const uint8_t *letters, size_t letters_len,   \
-                                    uint32_t value, uint32_t *counts, size_t counts_len);          \
-    trieff_answer of##_store_text_counts(uint8_t *image, size_t image_len, uint32_t *work,         \
-                                         size_t work_len, const uint8_t *text, size_t text_len,    \
-                                         uint32_t value, uint32_t *counts, size_t counts_len);     \
-    trieff_answer of##_key_at(const uint8_t *image, size_t image_len, uint32_t *work,              \
-                              size_t work_len, const uint32_t *counts, size_t counts_len,          \
-                              uint64_t position, uint8_t *key, size_t key_len);                    \
-    trieff_answer of##_position(const uint8_t *image, size_t image_len, uint32_t *work,            \
-                                size_t work_len, const uint32_t *counts, size_t counts_len,        \
-                                const uint8_t *letters, size_t letters_len);                       \
-    trieff_answer of##_position_text(const uint8_t *image, size_t image_len, uint32_t *work,       \
-                                     size_t work_len, const uint32_t *counts, size_t counts_len,   \
+#define COUNTS_VERSION(of)                                                                        \
+    trieff_answer of##_counts(const uint8_t *image, size_t image_len, uint32_t *work,             \
+                              size_t work_len, uint32_t *counts, size_t counts_len);              \
+    trieff_answer of##_check_counts(const uint8_t *image, size_t image_len, uint32_t *work,       \
+                                    size_t work_len, const uint32_t *counts, size_t counts_len);  \
+    trieff_answer of##_store_counts(uint8_t *image, size_t image_len, uint32_t *work,             \
+                                    size_t work_len, const uint8_t *letters, size_t letters_len,  \
+                                    uint32_t value, uint32_t *counts, size_t counts_len);         \
+    trieff_answer of##_store_text_counts(uint8_t *image, size_t image_len, uint32_t *work,        \
+                                         size_t work_len, const uint8_t *text, size_t text_len,   \
+                                         uint32_t value, uint32_t *counts, size_t counts_len);    \
+    trieff_answer of##_key_at(const uint8_t *image, size_t image_len, uint32_t *work,             \
+                              size_t work_len, const uint32_t *counts, size_t counts_len,         \
+                              uint64_t position, uint8_t *key, size_t key_len);                   \
+    trieff_answer of##_position(const uint8_t *image, size_t image_len, uint32_t *work,           \
+                                size_t work_len, const uint32_t *counts, size_t counts_len,       \
+                                const uint8_t *letters, size_t letters_len);                      \
+    trieff_answer of##_position_text(const uint8_t *image, size_t image_len, uint32_t *work,      \
+                                     size_t work_len, const uint32_t *counts, size_t counts_len,  \
                                      const uint8_t *text, size_t text_len);
 
 VERSION(naive)

@@ -159,8 +159,8 @@ static void cut(const struct row *row)
     memset(link, 0, a);
 }
 
-/* The image as it was read, and its counts; to be mended without the last link of its row's key, if
-   there is one. */
+/* The image as it was read, and its counts; to be mended without the last link of its row's key,
+   if there is one. */
 static void put_back(const struct row *row)
 {
     memcpy(image, kept_image, image_len);

@@ -577,8 +577,8 @@ trieff_answer naive_counts(const uint8_t *image, size_t image_len, uint32_t *wor
     return valued(0);
 }
 
-/* 1 to 8, where 5 speaks of the counts too, and 25: fresh counts stand in the working numbers while
-   they are compared. */
+/* 1 to 8, where 5 speaks of the counts too, and 25: fresh counts stand in the working numbers
+   while they are compared. */
 __attribute__((noinline)) static trieff_answer compare(
     const uint8_t *image, size_t len, uint32_t *work, size_t work_len, const uint32_t *counts,
     size_t counts_len, struct head *h)

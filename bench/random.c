@@ -1,8 +1,8 @@
-/* Compares the three versions on random small images and calls: whole images, damaged ones, every limit
-   of 9 to 15 nearby, and lists of counts that are right, wrong and too short. What naive C answers to
-   the calls with counts is held to its other calls too.
-   Each number from 0 to 15 and 25 must be heard, images be mended and 8 stay 8, a store find its list
-   of counts too short for its new nodes, and every call be done, or the run fails.
+/* Compares the three versions on random small images and calls: whole images, damaged ones, every
+   limit of 9 to 15 nearby, and lists of counts that are right, wrong and too short. What naive C
+   answers to the calls with counts is compared with its other calls too.
+   Each number from 0 to 15 and 25 must be heard, images be mended and 8 stay 8, a store find its
+   list of counts too short for its new nodes, and every call be done, or the run fails.
    Usage: random SEED IMAGES */
 #include "calls.h"
 #include <stdio.h>
@@ -156,8 +156,8 @@ static void entangle(struct small *s)
     put_field(other, s->a, to);
 }
 
-/* One harm: a head field near its limits, a link, two links, any byte, G, the length, or a link that is
-   missing. */
+/* One harm: a head field near its limits, a link, two links, any byte, G, the length, or a link
+   that is missing. */
 static void harm(struct small *s)
 {
     static const uint32_t ODD[] = {0, 1, 2, 4, 5, 64, 65, 256, 257, 1024, 1025, 0xFFFFFFFF};
@@ -200,8 +200,8 @@ static size_t any_letters(const struct small *s, uint8_t *key)
     return len;
 }
 
-/* Letters along links that are there, from the root, and at times one to three letters more. Their nodes
-   may hold a value or not. */
+/* Letters along links that are there, from the root, and at times one to three letters more. Their
+   nodes may hold a value or not. */
 static size_t any_path(struct small *s, uint8_t *key)
 {
     uint32_t node = 0, len = 0, most = any_below(s->max + 2);
@@ -277,8 +277,8 @@ static size_t any_key(struct small *s, bool text, uint8_t *key)
     return text ? any_text(s, key) : any_letters(s, key);
 }
 
-/* Puts the image's counts into a list of NODES_MOST, if it is accepted; one or two are made wrong at
-   times. The lent list ends before G, or there, or a few nodes behind it. */
+/* Puts the image's counts into a list of NODES_MOST, if it is accepted; one or two are made wrong
+   at times. The lent list ends before G, or there, or a few nodes behind it. */
 static void lend_counts(const struct small *s, struct lent *lent)
 {
     static const uint32_t WRONG[] = {0, 1, 2, 0x7FFFFFFF, 0xFFFFFFFF};
@@ -342,8 +342,8 @@ static bool held_position(const struct lent *lent)
            memcmp(key, lent->key, lent->key_len) == 0;
 }
 
-/* Does a store with counts leave the plain store's image, and the counts of it? It is carried out on
-   what is lent. */
+/* Does a store with counts leave the plain store's image, and the counts of it? It is carried out
+   on what is lent. */
 static bool held_store(const struct lent *lent)
 {
     static uint8_t image[ROOM];
@@ -372,8 +372,8 @@ static bool held(const char *name, const struct lent *lent)
 
 /* ---- a call */
 
-/* What was heard: each number, each call done, what became of the images that a mending found to have
-   an address in no link, and stores whose list of counts has no room for the new nodes. */
+/* What was heard: each number, each call done, what became of the images that a mending found to
+   have an address in no link, and stores whose list of counts has no room for the new nodes. */
 struct heard {
     uint64_t numbers[NUMBERS], done[CALLS_MOST];
     uint64_t mended, left, no_counts;

@@ -96,8 +96,8 @@ def program_per_key():
 
 
 def all_counts():
-    """The counts in the plan's order, each with what follows from it: the inner store, what is beyond the
-    check or the check with counts, the walk per key."""
+    """The counts in the plan's order, each with what follows from it: the inner store, what is
+    beyond the check or the check with counts, the walk per key."""
     table = {}
     for row, image in answers:
         table[row, image] = counted[row, image]

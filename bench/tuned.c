@@ -1,6 +1,6 @@
 /* The calls in C tuned by hand for speed: masked loads of four bytes, 32 bytes of empty links at a time, one pass for the check.
-   It leans on what document 01's base gives, such as that a child's address is above its node's; the
-   calls with counts do not lean on that. No vector instruction is written out. */
+   It leans on what document 01's base gives, such as that a child's address is above its node's;
+   the calls with counts do not lean on that. No vector instruction is written out. */
 #include "calls.h"
 #include <string.h>
 #include <unistd.h>
@@ -406,14 +406,14 @@ static inline uint32_t *note(uint32_t *list, size_t place, size_t len)
     return list + 2;
 }
 
-/* The nodes that were there on a key's path, for a store with counts, which has room for `most`. */
+/* The nodes that were there on a key's path, for a store whose list of counts holds `most`. */
 struct trail {
     uint32_t nodes[KEY_MOST + 1];
     size_t len, most;
 };
 
-/* The path stops at a link: nodes for the letters behind it, then G, then that link. The letters are
-   those behind the link's own. */
+/* The path stops at a link: nodes for the letters behind it, then G, then that link. The letters
+   are those behind the link's own. */
 __attribute__((always_inline)) static inline trieff_answer extend(
     uint8_t *image, size_t image_len, const struct opened *o, uint8_t *link_end,
     const uint8_t *letters, size_t len, uint32_t value, uint32_t *list, const struct trail *trail)
@@ -443,8 +443,8 @@ __attribute__((always_inline)) static inline trieff_answer extend(
     return (trieff_answer){.change = 1, .length = (uint32_t)k + 2};
 }
 
-/* A store behind the check and the judging of the key; without a list for its writes or a trail the
-   tests for one fall out. */
+/* A store behind the check and the judging of the key; without a list for its writes or a trail
+   the tests for one fall out. */
 __attribute__((always_inline)) static inline trieff_answer store_in(
     uint8_t *image, size_t image_len, const struct opened *o, const uint8_t *letters, size_t len,
     uint32_t value, uint32_t *list, struct trail *trail)
@@ -817,7 +817,7 @@ trieff_answer tuned_counts(const uint8_t *image, size_t image_len, uint32_t *wor
     return answer;
 }
 
-/* 1 to 8 and 25. It stays a function of its own, so that what a call takes beyond it can be told. */
+/* 1 to 8 and 25. It stays a function of its own, so that what is beyond it can be told. */
 __attribute__((noinline)) static trieff_answer compare(
     const uint8_t *image, size_t len, uint32_t *work, size_t work_len, const uint32_t *counts,
     size_t counts_len, struct opened *o, struct alphabet *al)
