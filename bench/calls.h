@@ -1,6 +1,6 @@
 /* The calls that are measured, each in three versions: the project's library, naive C and tuned C. All have the C face's signatures.
-   A new call takes a line in VERSION or COUNTS_VERSION, one in calls.c, its two functions in C, and
-   a row in bench/plan for each way to measure it. */
+   A new call takes a line in VERSION or COUNTS_VERSION, one in calls.c, its two functions in C,
+   and a row in bench/plan for each way to measure it. */
 #ifndef BENCH_CALLS_H
 #define BENCH_CALLS_H
 
