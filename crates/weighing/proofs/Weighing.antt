@@ -1,0 +1,162 @@
+-- The walk that weighs a node, from letter to letter: what has been added to each count and what the later links add make up what all links
+-- add, and so for the sum of the node's keys. A sum never outgrows what the walk adds in all, so every number fits 32 bits.
+use Prim.Native.Nat.{ℕ, pred, _+_, _-_, _^_, _<_, _≤_}
+use native.Mathlib.Decide.{ℕ-discrete}
+use native.Mathlib.Numerals.{add-one}
+use native.Mathlib.Omega.{arith}
+use mathlib.Core.Bool.{Bool, true, cond}
+use mathlib.Core.List.{List}
+use mathlib.Core.Logic.{_≢_}
+use mathlib.Core.Path.{_≡_, refl, sym, _∙_, ap}
+use lib.Dec.{eqb}
+use lib.ListN.{length, getD, set, length-set, length-append}
+use lib.Seq.{getD-set-same, getD-set-other}
+use borrow.Author.Tests.{eq-eqb, ne-eqb}
+use Rattle.trie.specs.Table.{Table}
+use Rattle.trie.specs.Keys.{keysUnder}
+use Rattle.trie.proofs.Beyond.{under-split}
+use Rattle.head.specs.declared.Head.{Head}
+use Rattle.node.specs.Image.{tableOf}
+use Rattle.bearing.specs.Bearing.{Bearing}
+use Rattle.counting.proofs.Counting.{left, owned, left-fruitless, left-none, left-empty, left-link}
+use Rattle.passing.specs.Weights.{weightAt, weightFrom}
+use Rattle.passing.proofs.Weights.{weight-split, weight-none, weight-empty, weight-link, weight-fruitless}
+use Rattle.weighing.specs.Weighing.{weight, Fits, Weighed}
+
+-- ---- one number more in a list
+
+pub one-more : (list : List ℕ) (x v q : ℕ) → x < length list → getD (set list x (getD list x 0 + v)) q 0 ≡ getD list q 0 + cond (eqb x q) v 0
+one-more list x v q room = go (ℕ-discrete x q)
+  where
+    go : Dec (x ≡ q) → getD (set list x (getD list x 0 + v)) q 0 ≡ getD list q 0 + cond (eqb x q) v 0
+    go (yes e) = rw (eq-eqb x q e, ← e) (getD-set-same list x (getD list x 0 + v) 0 room)
+    go (no other) = rw (ne-eqb x q other) (getD-set-other list x q (getD list x 0 + v) 0 (λ e. other (sym e)) ∙ omega arith)
+
+module _ (h : Head) (l : List ℕ) where
+  -- the keys at or under a node at a depth, and what its links from a letter on add to the count of node q
+  abbrev pub under : ℕ → ℕ → ℕ
+  under p depth = length (keysUnder (tableOf h l) (h .n) (h .min - depth) (h .max - depth) p)
+
+  abbrev pub later : ℕ → ℕ → ℕ → ℕ → ℕ
+  later p depth q i = weightFrom (tableOf h l) (h .n) (h .min - depth) (h .max - depth) q p i
+
+  pub under-parts : (p depth : ℕ) → under p depth ≡ owned h (tableOf h l) p depth + left h (tableOf h l) p depth 0
+  under-parts p depth = ap length (under-split (tableOf h l) (h .n) (h .min - depth) (h .max - depth) p) ∙ simp length-append
+
+  weight-parts : (p depth q : ℕ) → weight h l p depth q ≡ cond (eqb p q) (under p depth) 0 + later p depth q 0
+  weight-parts p depth q = weight-split (tableOf h l) (h .n) (h .min - depth) (h .max - depth) q p
+
+  -- a node's keys are added to its own count
+  weight-own : (p depth : ℕ) → weight h l p depth p ≡ under p depth + later p depth p 0
+  weight-own p depth = weight-parts p depth p ∙ rw (eq-eqb p p refl)
+
+  later-link : (p depth q i : ℕ) {c : ℕ} → depth < h .max → i < h .n → c ≡ tableOf h l .child p i → c ≢ 0
+      → later p depth q i ≡ weight h l c (depth + 1) q + later p depth q (i + 1)
+  later-link p depth q i deep low e full =
+      let s : pred (h .min - depth) ≡ h .min - (depth + 1) = omega arith in
+      let m : pred (h .max - depth) ≡ h .max - (depth + 1) = omega arith in
+      rw (← s, ← m, e, add-one i)
+      (weight-link (tableOf h l) (h .n) (h .min - depth) (h .max - depth) q p i low (omega arith) (λ z. full (e ∙ z)))
+
+  -- a node that no key lies below adds its own key to its own count
+  weight-fruitless-own : (p depth q : ℕ) {r : Bool} → Bearing h (tableOf h l) p depth r → r ≡ true
+      → weight h l p depth q ≡ cond (eqb p q) (owned h (tableOf h l) p depth) 0
+  weight-fruitless-own p depth q b e =
+      let t : Table = tableOf h l in
+      let below : later p depth q 0 ≡ 0 = weight-fruitless t (h .n) (h .min - depth) (h .max - depth) p (b .nothing e) q in
+      let own : under p depth ≡ owned h t p depth = omega (arith, under-parts p depth, left-fruitless h t p depth 0 b e) in
+      weight-parts p depth q ∙ rw (below, own) (omega arith)
+
+-- ---- the loop over a node's letters
+
+-- before letter i the sum holds the node's own key and those by the letters below i, and each count what the links of these letters add
+pub record Weighing (h : Head) (l : List ℕ) (p depth : ℕ) (list list′ : List ℕ) (sum i : ℕ) : Type 0 where
+  pub summed : sum + left h (tableOf h l) p depth i ≡ under h l p depth
+  pub long : length list′ ≡ length list
+  pub added : (q : ℕ) → getD list′ q 0 + later h l p depth q i ≡ getD list q 0 + later h l p depth q 0
+
+pub weighing-start : (h : Head) (l : List ℕ) (p depth : ℕ) (list : List ℕ) {own : ℕ} → own ≡ owned h (tableOf h l) p depth
+    → Weighing h l p depth list list own 0
+weighing-start h l p depth list e = record { summed = omega (arith, e, under-parts h l p depth); long = refl; added = λ q. refl }
+
+module _ {h : Head} {l : List ℕ} {p depth : ℕ} {list list′ : List ℕ} {sum i : ℕ} (w : Weighing h l p depth list list′ sum i) where
+  pub weighing-empty : {c : ℕ} → i < h .n → c ≡ tableOf h l .child p i → c ≡ 0 → Weighing h l p depth list list′ sum (i + 1)
+  weighing-empty low e empty =
+      let same : (q : ℕ) → later h l p depth q i ≡ later h l p depth q (i + 1) =
+      λ q. rw (add-one i) (weight-empty (tableOf h l) (h .n) (h .min - depth) (h .max - depth) q p i low (sym e ∙ empty)) in
+      record {
+        summed = omega (arith, w .summed, left-empty h (tableOf h l) p depth i low e empty);
+        long = w .long;
+        added = λ q. omega (arith, w .added q, same q);
+      }
+
+  -- past the last letter the sum is added to the node's own count
+  pub weighing-sum : h .n ≤ i → sum ≡ under h l p depth
+  weighing-sum high = omega (arith, w .summed, left-none h (tableOf h l) p depth i high)
+
+  weighing-added : h .n ≤ i → (q : ℕ) → getD list′ q 0 ≡ getD list q 0 + later h l p depth q 0
+  weighing-added high q = omega (arith, w .added q, weight-none (tableOf h l) (h .n) (h .min - depth) (h .max - depth) q p i high)
+
+  pub weighing-end : h .n ≤ i → p < length list → Weighed h l p depth list (set list′ p (getD list′ p 0 + sum))
+  weighing-end high room =
+      record {
+        long = length-set list′ p (getD list′ p 0 + sum) ∙ w .long;
+        each = λ q.
+            let more : getD (set list′ p (getD list′ p 0 + sum)) q 0 ≡ getD list′ q 0 + cond (eqb p q) sum 0 =
+            one-more list′ p sum q (omega (arith, w .long)) in
+            more ∙ rw (weighing-sum high) (omega (arith, weighing-added high q, weight-parts h l p depth q));
+      }
+
+  module _ (fits : Fits h l p depth list) where
+    -- the sum of all of the node's keys
+    fits-under : under h l p depth < 2 ^ 32
+    fits-under = omega (arith, fits p, weight-own h l p depth)
+
+    pub fits-end : h .n ≤ i → getD list′ p 0 + sum < 2 ^ 32
+    fits-end high = omega (arith, fits p, weight-own h l p depth, weighing-added high p, weighing-sum high)
+
+  -- by a link that is not empty
+  module _ {c : ℕ} (deep : depth < h .max) (low : i < h .n) (link : c ≡ tableOf h l .child p i) (full : c ≢ 0) where
+    by-link : left h (tableOf h l) p depth i ≡ under h l c (depth + 1) + left h (tableOf h l) p depth (i + 1)
+    by-link = omega (arith, left-link h (tableOf h l) p depth i deep low link full, under-parts h l c (depth + 1))
+
+    -- where the child has been weighed into the list, and its keys stand in the sum
+    pub weighing-child : {list″ : List ℕ} {r : ℕ} → r ≡ under h l c (depth + 1) → Weighed h l c (depth + 1) list′ list″
+        → Weighing h l p depth list list″ (sum + r) (i + 1)
+    weighing-child e d =
+        record {
+          summed = omega (arith, w .summed, by-link, e);
+          long = d .long ∙ w .long;
+          added = λ q. omega (arith, w .added q, d .each q, later-link h l p depth q i deep low link full);
+        }
+
+    -- the child's own key, where no key lies below the child
+    weighed-leaf : {one : ℕ} {r : Bool} → one ≡ owned h (tableOf h l) c (depth + 1) → Bearing h (tableOf h l) c (depth + 1) r → r ≡ true
+        → c < length list′ → Weighed h l c (depth + 1) list′ (set list′ c (getD list′ c 0 + one))
+    weighed-leaf {one} e b z room =
+        record {
+          long = length-set list′ c (getD list′ c 0 + one);
+          each = λ q. one-more list′ c one q room ∙ ap (λ (x : ℕ). getD list′ q 0 + x) (rw e (sym (weight-fruitless-own h l c (depth + 1) q b z)));
+        }
+
+    pub weighing-leaf : {one : ℕ} {r : Bool} → one ≡ owned h (tableOf h l) c (depth + 1) → Bearing h (tableOf h l) c (depth + 1) r → r ≡ true
+        → c < length list′ → Weighing h l p depth list (set list′ c (getD list′ c 0 + one)) (sum + one) (i + 1)
+    weighing-leaf e b z room =
+        weighing-child
+        (omega (arith, e, under-parts h l c (depth + 1), left-fruitless h (tableOf h l) c (depth + 1) 0 b z))
+        (weighed-leaf e b z room)
+
+    -- the numbers fit
+    module _ (fits : Fits h l p depth list) where
+      pub fits-child : Fits h l c (depth + 1) list′
+      fits-child q =
+          omega (arith, fits q, w .added q, weight-parts h l p depth q, later-link h l p depth q i deep low link full)
+
+      pub fits-sum : sum + under h l c (depth + 1) < 2 ^ 32
+      fits-sum = omega (arith, fits-under fits, w .summed, by-link)
+
+      pub fits-one : {one : ℕ} → one ≡ owned h (tableOf h l) c (depth + 1) → (getD list′ c 0 + one < 2 ^ 32) × (sum + one < 2 ^ 32)
+      fits-one e = (
+        omega (arith, fits-child c, weight-own h l c (depth + 1), under-parts h l c (depth + 1), e),
+        omega (arith, fits-sum, under-parts h l c (depth + 1), e),
+      )
