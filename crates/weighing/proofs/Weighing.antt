@@ -67,6 +67,16 @@ module _ (h : Head) (l : List ℕ) where
       let own : under p depth ≡ owned h t p depth = omega (arith, under-parts p depth, left-fruitless h t p depth 0 b e) in
       weight-parts p depth q ∙ rw (below, own) (omega arith)
 
+  -- so it is weighed
+  pub weighed-leaf : (p depth : ℕ) (list : List ℕ) {own : ℕ} {r : Bool} → own ≡ owned h (tableOf h l) p depth
+      → Bearing h (tableOf h l) p depth r → r ≡ true → p < length list
+      → Weighed h l p depth list (set list p (getD list p 0 + own))
+  weighed-leaf p depth list {own} e b z room =
+      record {
+        long = length-set list p (getD list p 0 + own);
+        each = λ q. one-more list p own q room ∙ ap (λ (x : ℕ). getD list q 0 + x) (rw e (sym (weight-fruitless-own p depth q b z)));
+      }
+
 -- ---- the loop over a node's letters
 
 -- before letter i the sum holds the node's own key and those by the letters below i, and each count what the links of these letters add
@@ -107,56 +117,63 @@ module _ {h : Head} {l : List ℕ} {p depth : ℕ} {list list′ : List ℕ} {su
             more ∙ rw (weighing-sum high) (omega (arith, weighing-added high q, weight-parts h l p depth q));
       }
 
-  module _ (fits : Fits h l p depth list) where
-    -- the sum of all of the node's keys
-    fits-under : under h l p depth < 2 ^ 32
-    fits-under = omega (arith, fits p, weight-own h l p depth)
+  -- the numbers fit
+  fits-under : Fits h l p depth list → under h l p depth < 2 ^ 32
+  fits-under fits = omega (arith, fits p, weight-own h l p depth)
 
-    pub fits-end : h .n ≤ i → getD list′ p 0 + sum < 2 ^ 32
-    fits-end high = omega (arith, fits p, weight-own h l p depth, weighing-added high p, weighing-sum high)
+  pub fits-end : Fits h l p depth list → h .n ≤ i → getD list′ p 0 + sum < 2 ^ 32
+  fits-end fits high = omega (arith, fits p, weight-own h l p depth, weighing-added high p, weighing-sum high)
 
-  -- by a link that is not empty
-  module _ {c : ℕ} (deep : depth < h .max) (low : i < h .n) (link : c ≡ tableOf h l .child p i) (full : c ≢ 0) where
-    by-link : left h (tableOf h l) p depth i ≡ under h l c (depth + 1) + left h (tableOf h l) p depth (i + 1)
-    by-link = omega (arith, left-link h (tableOf h l) p depth i deep low link full, under-parts h l c (depth + 1))
+-- ---- a link that is not empty
 
-    -- where the child has been weighed into the list, and its keys stand in the sum
-    pub weighing-child : {list″ : List ℕ} {r : ℕ} → r ≡ under h l c (depth + 1) → Weighed h l c (depth + 1) list′ list″
-        → Weighing h l p depth list list″ (sum + r) (i + 1)
-    weighing-child e d =
-        record {
-          summed = omega (arith, w .summed, by-link, e);
-          long = d .long ∙ w .long;
-          added = λ q. omega (arith, w .added q, d .each q, later-link h l p depth q i deep low link full);
-        }
+pub record Onto (h : Head) (l : List ℕ) (p depth : ℕ) (list list′ : List ℕ) (sum i c : ℕ) : Type 0 where
+  pub so-far : Weighing h l p depth list list′ sum i
+  pub fits : Fits h l p depth list
+  pub deep : depth < h .max
+  pub low : i < h .n
+  pub link : c ≡ tableOf h l .child p i
+  pub full : c ≢ 0
+  pub room : c < length list′
 
-    -- the child's own key, where no key lies below the child
-    weighed-leaf : {one : ℕ} {r : Bool} → one ≡ owned h (tableOf h l) c (depth + 1) → Bearing h (tableOf h l) c (depth + 1) r → r ≡ true
-        → c < length list′ → Weighed h l c (depth + 1) list′ (set list′ c (getD list′ c 0 + one))
-    weighed-leaf {one} e b z room =
-        record {
-          long = length-set list′ c (getD list′ c 0 + one);
-          each = λ q. one-more list′ c one q room ∙ ap (λ (x : ℕ). getD list′ q 0 + x) (rw e (sym (weight-fruitless-own h l c (depth + 1) q b z)));
-        }
+module _ {h : Head} {l : List ℕ} {p depth : ℕ} {list list′ : List ℕ} {sum i c : ℕ} (o : Onto h l p depth list list′ sum i c) where
+  by-link : left h (tableOf h l) p depth i ≡ under h l c (depth + 1) + left h (tableOf h l) p depth (i + 1)
+  by-link = omega (arith, left-link h (tableOf h l) p depth i (o .deep) (o .low) (o .link) (o .full), under-parts h l c (depth + 1))
 
-    pub weighing-leaf : {one : ℕ} {r : Bool} → one ≡ owned h (tableOf h l) c (depth + 1) → Bearing h (tableOf h l) c (depth + 1) r → r ≡ true
-        → c < length list′ → Weighing h l p depth list (set list′ c (getD list′ c 0 + one)) (sum + one) (i + 1)
-    weighing-leaf e b z room =
-        weighing-child
-        (omega (arith, e, under-parts h l c (depth + 1), left-fruitless h (tableOf h l) c (depth + 1) 0 b z))
-        (weighed-leaf e b z room)
+  -- where the child has been weighed into the list, and its keys stand in the sum
+  pub weighing-child : {list″ : List ℕ} {r : ℕ} → r ≡ under h l c (depth + 1) → Weighed h l c (depth + 1) list′ list″
+      → Weighing h l p depth list list″ (sum + r) (i + 1)
+  weighing-child e d =
+      record {
+        summed = omega (arith, o .so-far .summed, by-link, e);
+        long = d .long ∙ o .so-far .long;
+        added = λ q. omega (arith, o .so-far .added q, d .each q, later-link h l p depth q i (o .deep) (o .low) (o .link) (o .full));
+      }
 
-    -- the numbers fit
-    module _ (fits : Fits h l p depth list) where
-      pub fits-child : Fits h l c (depth + 1) list′
-      fits-child q =
-          omega (arith, fits q, w .added q, weight-parts h l p depth q, later-link h l p depth q i deep low link full)
+  -- a child that no key lies below
+  pub weighing-leaf : {one : ℕ} {r : Bool} → one ≡ owned h (tableOf h l) c (depth + 1) → Bearing h (tableOf h l) c (depth + 1) r → r ≡ true
+      → Weighing h l p depth list (set list′ c (getD list′ c 0 + one)) (sum + one) (i + 1)
+  weighing-leaf e b z =
+      weighing-child
+      (omega (arith, e, under-parts h l c (depth + 1), left-fruitless h (tableOf h l) c (depth + 1) 0 b z))
+      (weighed-leaf h l c (depth + 1) list′ e b z (o .room))
 
-      pub fits-sum : sum + under h l c (depth + 1) < 2 ^ 32
-      fits-sum = omega (arith, fits-under fits, w .summed, by-link)
-
-      pub fits-one : {one : ℕ} → one ≡ owned h (tableOf h l) c (depth + 1) → (getD list′ c 0 + one < 2 ^ 32) × (sum + one < 2 ^ 32)
-      fits-one e = (
-        omega (arith, fits-child c, weight-own h l c (depth + 1), under-parts h l c (depth + 1), e),
-        omega (arith, fits-sum, under-parts h l c (depth + 1), e),
+  -- the numbers fit
+  pub fits-child : Fits h l c (depth + 1) list′
+  fits-child q =
+      omega (
+        arith,
+        o .fits q,
+        o .so-far .added q,
+        weight-parts h l p depth q,
+        later-link h l p depth q i (o .deep) (o .low) (o .link) (o .full),
       )
+
+  pub fits-sum : {r : ℕ} → r ≡ under h l c (depth + 1) → sum + r < 2 ^ 32
+  fits-sum e = omega (arith, fits-under (o .so-far) (o .fits), o .so-far .summed, by-link, e)
+
+  module _ {one : ℕ} (e : one ≡ owned h (tableOf h l) c (depth + 1)) where
+    pub fits-one : getD list′ c 0 + one < 2 ^ 32
+    fits-one = omega (arith, fits-child c, weight-own h l c (depth + 1), under-parts h l c (depth + 1), e)
+
+    pub fits-sum-one : sum + one < 2 ^ 32
+    fits-sum-one = omega (arith, fits-sum refl, under-parts h l c (depth + 1), e)
