@@ -1,0 +1,110 @@
+-- `weighing::weigh` meets its contract: the list is cleared in front, and what the root weighs is then each node's count. Assumes nothing.
+use mathlib.Core.Path.{_≡_, _∙_}
+use mathlib.Core.Logic.{⊎-elim}
+use native.Mathlib.Omega.{arith}
+use borrow.Author.Needs.{needs}
+use Rattle.node.specs.Image.{Open, tableOf}
+use Rattle.paper.proofs.Checking.{head-open}
+use Rattle.counting.proofs.Counting.{owned, owned-none, owned-one}
+use Rattle.weighing.proofs.Working.{head-within, start-length, fits-start, leaf-worked, weighed-worked}
+use Rattle.weighing.proofs.weigh.Statement.{statement}
+use Rattle.weighing.proofs.weigh.Tie as tie
+
+cast-clear : tie.Need-cast-clear
+cast-clear c = search needs
+
+add-clear : tie.Need-add-clear
+add-clear c = search needs
+
+clear-requires : tie.Need-clear-requires
+clear-requires c κs = search needs
+
+-- the image is open
+opened : (c : tie.Start) → Open (c .args .h) (c .args .image .now)
+opened c = head-open (c .pre .0) (c .pre .1 .0)
+
+own-value-requires : tie.Need-own-value-requires
+own-value-requires c κs = (opened (c .before .before .before .before .before .before .before), omega arith)
+
+-- the root's own key
+own-counted : (c : tie.Joined1) → (let a = c .before .before .before .before .before .before .before .before .before .args in c .if1 .own ≡ owned (a .h) (tableOf (a .h) (a .image .now)) 0 0)
+own-counted c =
+    let a = c .before .before .before .before .before .before .before .before .before .args in
+    let e = c .before .own-value .ensures in
+    ⊎-elim (λ w. omega (arith, w .1, owned-none (a .h) (tableOf (a .h) (a .image .now)) 0 0 e (w .0 .taken)))
+    (λ w. omega (arith, w .1, owned-one (a .h) (tableOf (a .h) (a .image .now)) 0 0 e (w .0 .left)))
+    (c .if1 .came)
+
+fruitless-requires : tie.Need-fruitless-requires
+fruitless-requires c κs = (opened (c .before .before .before .before .before .before .before .before .before), omega arith)
+
+slice-write-list : tie.Need-slice-write-list
+slice-write-list c = search needs
+
+same-length : tie.Need-same-length
+same-length c = search needs
+
+returns : tie.Need-returns
+returns c =
+    let own = c .before .before in
+    let start = own .before .before .before .before .before .before .before .before .before in
+    let p = start .pre in
+    leaf-worked (p .0) (p .1 .0) (start .args .list .now) (own .before .before .before .before .clear .ensures) (p .1 .1) (own-counted own) (c .before .fruitless .ensures) (c .if2 .taken)
+
+mask-requires : tie.Need-mask-requires
+mask-requires c κs = opened (c .before .before .before .before .before .before .before .before .before .before .before) .head-permitted
+
+weighed-requires : tie.Need-weighed-requires
+weighed-requires c κs =
+    let fruitful = c .before .before in
+    let own = fruitful .before .before in
+    let start = own .before .before .before .before .before .before .before .before .before in
+    let p = start .pre in
+    let clear = own .before .before .before .before .clear .ensures in
+    let list = start .args .list .now in
+    let deep = fruitful .before .fruitless .ensures .deep (fruitful .if2 .left) in (
+      opened start,
+      (
+        head-within (p .0) (p .1 .0),
+        (
+          c .before .mask .ensures,
+          (
+            omega arith,
+            (
+              deep,
+              (
+                omega (arith, p .1 .1, start-length (p .0) (p .1 .0) list clear (p .1 .1)),
+                (own-counted own, fits-start (p .0) (p .1 .0) list clear (λ q. own .before .before .slice-known2 .given q .fits)),
+              ),
+            ),
+          ),
+        ),
+      ),
+    )
+
+same-length-2 : tie.Need-same-length-2
+same-length-2 c = search needs
+
+returns-2 : tie.Need-returns-2
+returns-2 c =
+    let own = c .before .before .before .before .before .before .before in
+    let start = own .before .before .before .before .before .before .before .before .before in
+    let p = start .pre in
+    weighed-worked (p .0) (p .1 .0) (start .args .list .now) (own .before .before .before .before .clear .ensures) (p .1 .1) (c .before .before .weighed .ensures .1)
+
+pub weigh-spec : {M : Type 1} → statement M
+weigh-spec =
+    tie.close
+    (tie.spec
+    cast-clear
+    add-clear
+    clear-requires
+    own-value-requires
+    fruitless-requires
+    slice-write-list
+    same-length
+    returns
+    mask-requires
+    weighed-requires
+    same-length-2
+    returns-2)
