@@ -65,3 +65,43 @@ module _ {l work counts : List ℕ} {r : Opened} {work₁ codes : List ℕ} (o :
 
     cleared : work₁ ≡ replicate (headOf l .g + 1) 0 ++ drop (headOf l .g + 1) work
     cleared = left ∙ work-left l work counts passes .1
+
+    module _ {fresh : List ℕ} (weighed : fresh ≡ worked l work₁) where
+      -- the fresh counts stand in front of the working numbers
+      room : headOf l .g + 1 ≤ length work₁
+      room = omega (arith, ap length left, work-length l work counts, both-lent l work counts .0 (checked l (usable work counts) passes .lent) .0)
+
+      pub fresh-long : length fresh ≡ length work₁
+      fresh-long = ap length weighed ∙ worked-length l work₁
+
+      fresh-count : (q : ℕ) → q < headOf l .g + 1 → getD fresh q 0 ≡ countIn l q
+      fresh-count q b = ap (λ (w : List ℕ). getD w q 0) weighed ∙ worked-right l work₁ room .each q (omega arith)
+
+      -- what was found is row 25's place
+      pub lowest-25 : {differs : ℕ} → differs ≡ lowest (λ q. not (eqb (getD counts q 0) (getD fresh q 0))) 0 (headOf l .g + 1)
+          → given 25 differs (ltb differs (headOf l .g + 1)) ≡ row25 l counts
+      unfolding row25 givenLowest
+      lowest-25 {differs} f =
+          let same : differs ≡ lowest (λ q. not (eqb (getD counts q 0) (countIn l q))) 0 (headOf l .g + 1) =
+          f ∙ lowest-same _ _ 0 (headOf l .g + 1) (λ q low high. ap (λ (n : ℕ). not (eqb (getD counts q 0) n)) (fresh-count q (omega arith))) in
+          let k : 0 + (headOf l .g + 1) ≡ headOf l .g + 1 = omega arith in
+          rw (k, ← same)
+
+      pub compared : {differs nodes : ℕ} {v : Verdict} {last : List ℕ} → nodes ≡ headOf l .g + 1
+          → differs ≡ lowest (λ q. not (eqb (getD counts q 0) (getD fresh q 0))) 0 nodes
+          → rowOf v ≡ given 25 differs (ltb differs nodes)
+          → last ≡ replicate nodes 0 ++ drop nodes fresh
+          → Compared l work counts (record { verdict = v; head = r .head; count = r .count }) last codes
+      unfolding checkingCounts workingOut
+      compared {v = v} n f says clears =
+          let d = o .decoded (told-passed refl e) in
+          record {
+            verdict = (rw n at says)
+                ∙ lowest-25 (rw n at f)
+                ∙ sym (second-part (checking l (usable work counts)) (row25 l counts ∷ []) passes ∙ last-row (row25 l counts));
+            numbers = (rw n at clears)
+                ∙ ap (replicate (headOf l .g + 1) 0 ++_) (ap (drop (headOf l .g + 1)) weighed ∙ worked-drop l work₁ room ∙ cleared-rest (headOf l .g + 1) work cleared)
+                ∙ sym (work-left l work counts passes .1);
+            head = λ _. compared-head;
+            decoded = λ _. record { count = d .count; codes = d .codes };
+          }
