@@ -1,3 +1,4 @@
 pub mod Plain
+pub mod Right
 mod Tabulated
 pub mod Unique
