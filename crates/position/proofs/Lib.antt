@@ -1,4 +1,5 @@
 pub mod Plain
+pub mod Positions
 pub mod Right
 mod Tabulated
 pub mod Unique

@@ -3,3 +3,4 @@ pub mod Cases
 pub mod Counts
 pub mod Orders
 pub mod Promises
+pub mod Steps
