@@ -4,15 +4,16 @@ use Prim.Native.Nat.{ℕ, _+_, _≤_, _<_, _^_}
 use native.Mathlib.Omega.{arith}
 use mathlib.Core.Path.{_≡_, refl, sym, _∙_, ap}
 use mathlib.Core.Bool.{not}
-use mathlib.Core.Option.{none}
+use mathlib.Core.Option.{none, some}
 use mathlib.Core.List.{List, [], _∷_, _++_}
 use lib.Dec.{ltb, eqb}
-use lib.ListN.{length, getD, drop, replicate}
+use lib.ListN.{length, getD, drop, replicate, length-append, length-replicate}
+use lib.Seq.{sets-eq, drop-at}
 use Rattle.trie.specs.Lowest.{lowest}
 use Rattle.head.specs.Fields.{headOf}
 use Rattle.paper.specs.declared.Refusal.{Refusal}
 use Rattle.paper.specs.declared.Verdict.{Verdict}
-use Rattle.paper.specs.Hearing.{first, given}
+use Rattle.paper.specs.Hearing.{Row, first, given}
 use Rattle.paper.specs.Answers.{rowOf}
 use Rattle.paper.specs.Rows.{givenLowest}
 use Rattle.paper.specs.Orders.{checking}
@@ -24,11 +25,29 @@ use Rattle.position.specs.Counts.{countIn, countsIn, row25}
 use Rattle.position.specs.Orders.{usable, workingOut, checkingCounts}
 use Rattle.position.specs.Calls.{workLeft, worked}
 use Rattle.position.proofs.Plain.{both-lent, work-left}
+use Rattle.position.proofs.Right.{counts-length, worked-length, worked-right}
 use Rattle.opening.specs.declared.Opened.{Opened}
+use Rattle.audit.proofs.Clearing.{cleared-rest}
 use Rattle.audit.proofs.Seeking.{lowest-same}
 use Rattle.comparing.specs.Comparing.{CheckedBoth, Compared}
 
-module _ {l work counts : List ℕ} {r : Opened} {work₁ codes : List ℕ} (o : CheckedBoth l work (length counts) r work₁ codes) where
+-- the counts worked out leave what stands past them
+worked-drop : (l c : List ℕ) → headOf l .g + 1 ≤ length c → drop (headOf l .g + 1) (worked l c) ≡ drop (headOf l .g + 1) c
+unfolding worked
+worked-drop l c b =
+    let n = counts-length l in
+    let k : 0 + length (countsIn l) ≡ headOf l .g + 1 = omega arith in
+    ap (drop (headOf l .g + 1)) (sets-eq (countsIn l) c 0 (omega arith))
+    ∙ drop-at (countsIn l) (drop (0 + length (countsIn l)) c) (headOf l .g + 1) n
+    ∙ ap (λ (m : ℕ). drop m c) k
+
+-- an order of one row
+last-row : (row : Row) → first (row ∷ []) ≡ row
+unfolding first
+last-row none = refl
+last-row (some s) = refl
+
+module _ (l work counts : List ℕ) {r : Opened} {work₁ codes : List ℕ} (o : CheckedBoth l work (length counts) r work₁ codes) where
   told : rowOf (r .verdict) ≡ first (workingOut l work counts)
   unfolding workingOut usable
   told = o .verdict
@@ -69,7 +88,9 @@ module _ {l work counts : List ℕ} {r : Opened} {work₁ codes : List ℕ} (o :
     module _ {fresh : List ℕ} (weighed : fresh ≡ worked l work₁) where
       -- the fresh counts stand in front of the working numbers
       room : headOf l .g + 1 ≤ length work₁
-      room = omega (arith, ap length left, work-length l work counts, both-lent l work counts .0 (checked l (usable work counts) passes .lent) .0)
+      room =
+          omega
+          (arith, ap length cleared, length-append (replicate {A = ℕ} (headOf l .g + 1) 0) (drop (headOf l .g + 1) work), length-replicate {A = ℕ} (headOf l .g + 1) 0)
 
       pub fresh-long : length fresh ≡ length work₁
       fresh-long = ap length weighed ∙ worked-length l work₁

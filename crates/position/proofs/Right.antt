@@ -103,7 +103,7 @@ module _ (l counts : List ℕ) where
 
 -- ---- the counts worked out
 
-counts-length : (l : List ℕ) → length (countsIn l) ≡ headOf l .g + 1
+pub counts-length : (l : List ℕ) → length (countsIn l) ≡ headOf l .g + 1
 unfolding countsIn
 counts-length l = each-length (countIn l) 0 (headOf l .g + 1)
 
