@@ -19,7 +19,7 @@ use Rattle.head.specs.declared.Head.{Head}
 use Rattle.node.specs.Image.{tableOf}
 use Rattle.bearing.specs.Bearing.{Bearing}
 use Rattle.counting.proofs.Counting.{left, owned, left-fruitless, left-none, left-empty, left-link}
-use Rattle.passing.specs.Weights.{weightAt, weightFrom}
+use Rattle.passing.specs.Weights.{weightFrom}
 use Rattle.passing.proofs.Weights.{weight-split, weight-none, weight-empty, weight-link, weight-fruitless}
 use Rattle.weighing.specs.Weighing.{weight, Fits, Weighed}
 

@@ -9,7 +9,6 @@ use mathlib.Core.List.{List, _++_}
 use mathlib.Core.Path.{_≡_, sym, _∙_, ap}
 use lib.ListN.{length, getD, set, drop, replicate, length-append, length-drop, length-replicate, getD-replicate, List·getD-append}
 use lib.Seq.{sets-eq, ext-getD, getD-append-add, getD-drop}
-use Rattle.trie.specs.Rules.{Within}
 use Rattle.head.specs.declared.Head.{Head}
 use Rattle.head.specs.Fields.{headOf}
 use Rattle.node.specs.Image.{tableOf}
@@ -61,13 +60,9 @@ module _ {l : List ℕ} (a : Accepted l) where
   count-none q out =
       count-outside (tableIn l) (headOf l .g) (headOf l .n) (headOf l .min) (headOf l .max) q (accepted-linked a .within) out
 
-  -- by a head in hand that is the image's own
-  pub head-within : {h : Head} → h ≡ headOf l → Within (tableOf h l) (h .g)
-  unfolding tableIn
-  head-within same = rw same (accepted-linked a .within)
-
   -- `start` is the list before the walk
-  module _ {h : Head} (same : h ≡ headOf l) (list : List ℕ) {start : List ℕ} (clear : start ≡ replicate (h .g + 1) 0 ++ drop (h .g + 1) list) where
+  module _ {h : Head} (same : h ≡ headOf l) (list : List ℕ) {start : List ℕ}
+      (clear : start ≡ replicate (h .g + 1) 0 ++ drop (h .g + 1) list) where
     zeros : length (replicate {A = ℕ} (h .g + 1) 0) ≡ h .g + 1
     zeros = length-replicate (h .g + 1) 0
 
@@ -144,8 +139,8 @@ module _ {l : List ℕ} (a : Accepted l) where
             )
 
     -- where no key lies below the root, its own key alone is counted
-    pub leaf-worked : {own : ℕ} {r : Bool} → h .g + 1 ≤ length list → own ≡ owned h (tableOf h l) 0 0 → Bearing h (tableOf h l) 0 0 r → r ≡ true
-        → set start 0 own ≡ worked l list
+    pub leaf-worked : {own : ℕ} {r : Bool} → h .g + 1 ≤ length list → own ≡ owned h (tableOf h l) 0 0
+        → Bearing h (tableOf h l) 0 0 r → r ≡ true → set start 0 own ≡ worked l list
     leaf-worked {own} room e b z =
         let blank : own ≡ getD start 0 0 + own = omega (arith, start-front 0 (omega arith)) in
         ap (set start 0) blank ∙ weighed-worked room (weighed-leaf h l 0 0 start e b z (omega (arith, start-length room)))

@@ -70,7 +70,8 @@ loop-again t c =
     weighing-empty (found .before .before .loop .inv) (found .before .loop-test .taken) (found .link .ensures) (c .if1 .taken)
 
 -- the child stands in the table
-inside : (t : ℕ) (c : lts.After-link (claims t) (at t) weighed.Post Inv-loop μ-loop) → c .link .result ≤ c .before .before .before .before .before .args .h .g
+inside : (t : ℕ) (c : lts.After-link (claims t) (at t) weighed.Post Inv-loop μ-loop)
+    → c .link .result ≤ c .before .before .before .before .before .args .h .g
 inside t c =
     let loop = c .before .before in
     let start = loop .before .before .before in
@@ -173,13 +174,16 @@ weighed-requires t c κs =
     let start = found .before .before .before .before .before in
     let p = start .pre .1 in
     let o = onto t (joined .before .before) in
+    let long : start .args .h .g + 1 ≤ length (found .before .before .loop .list) = omega (arith, p .1 .1 .1 .1 .1 .0, o .so-far .long) in
     let deep = fruitful .before .fruitless .ensures .deep (fruitful .if3 .left) in (
       omega (arith, start .pre .0, o .deep),
-      (p .0, (p .1 .0, (p .1 .1 .0, (inside t found, (deep, (omega (arith, p .1 .1 .1 .1 .1 .0, o .so-far .long), (own-counted t joined, fits-child o))))))),
+      (p .0, (p .1 .0, (p .1 .1 .0, (inside t found, (deep, (long, (own-counted t joined, fits-child o))))))),
     )
 
 add-sum-2 : (t : ℕ) → lts.Need-add-sum-2 (claims t) (at t) weighed.Post Inv-loop μ-loop
-add-sum-2 t c = omega (arith, fits-sum (onto t (c .before .before .before .before .before .before .before .before)) (c .before .before .weighed .ensures .0))
+add-sum-2 t c =
+    let called = c .before .before in
+    omega (arith, fits-sum (onto t (called .before .before .before .before .before .before)) (called .weighed .ensures .0))
 
 add-i-3 : (t : ℕ) → lts.Need-add-i-3 (claims t) (at t) weighed.Post Inv-loop μ-loop
 add-i-3 t c = omega arith
@@ -188,7 +192,9 @@ loop-less-3 : (t : ℕ) → lts.Need-loop-less-3 (claims t) (at t) weighed.Post 
 loop-less-3 t c = omega arith
 
 loop-again-3 : (t : ℕ) → lts.Need-loop-again-3 (claims t) (at t) weighed.Post Inv-loop μ-loop
-loop-again-3 t c = let e = c .before .before .weighed .ensures in weighing-child (onto t (c .before .before .before .before .before .before .before .before)) (e .0) (e .1)
+loop-again-3 t c =
+    let called = c .before .before in
+    weighing-child (onto t (called .before .before .before .before .before .before)) (called .weighed .ensures .0) (called .weighed .ensures .1)
 
 mul-list-3 : (t : ℕ) → lts.Need-mul-list-3 (claims t) (at t) weighed.Post Inv-loop μ-loop
 mul-list-3 t c = omega arith
@@ -205,7 +211,10 @@ slice-read-list-2 : (t : ℕ) → lts.Need-slice-read-list-2 (claims t) (at t) w
 slice-read-list-2 t c = node-room t c
 
 add-list-2 : (t : ℕ) → lts.Need-add-list-2 (claims t) (at t) weighed.Post Inv-loop μ-loop
-add-list-2 t c = omega (arith, fits-end (c .before .before .loop .inv) (c .before .before .before .before .before .pre .1 .1 .1 .1 .1 .1 .1 .1) (c .before .loop-test .left))
+add-list-2 t c =
+    let loop = c .before .before in
+    let p = loop .before .before .before .pre .1 .1 .1 .1 in
+    omega (arith, fits-end (loop .loop .inv) (p .1 .1 .1 .1) (c .before .loop-test .left))
 
 mul-list-4 : (t : ℕ) → lts.Need-mul-list-4 (claims t) (at t) weighed.Post Inv-loop μ-loop
 mul-list-4 t c = omega arith

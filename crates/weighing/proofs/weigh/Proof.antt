@@ -1,12 +1,12 @@
 -- `weighing::weigh` meets its contract: the list is cleared in front, and what the root weighs is then each node's count. Assumes nothing.
-use mathlib.Core.Path.{_≡_, _∙_}
+use mathlib.Core.Path.{_≡_}
 use mathlib.Core.Logic.{⊎-elim}
 use native.Mathlib.Omega.{arith}
 use borrow.Author.Needs.{needs}
-use Rattle.node.specs.Image.{Open, tableOf}
-use Rattle.paper.proofs.Checking.{head-open}
+use Rattle.node.specs.Image.{tableOf}
+use Rattle.bearing.proofs.Walkable.{Walkable, walkable}
 use Rattle.counting.proofs.Counting.{owned, owned-none, owned-one}
-use Rattle.weighing.proofs.Working.{head-within, start-length, fits-start, leaf-worked, weighed-worked}
+use Rattle.weighing.proofs.Working.{start-length, fits-start, leaf-worked, weighed-worked}
 use Rattle.weighing.proofs.weigh.Statement.{statement}
 use Rattle.weighing.proofs.weigh.Tie as tie
 
@@ -19,15 +19,16 @@ add-clear c = search needs
 clear-requires : tie.Need-clear-requires
 clear-requires c κs = search needs
 
--- the image is open
-opened : (c : tie.Start) → Open (c .args .h) (c .args .image .now)
-opened c = head-open (c .pre .0) (c .pre .1 .0)
+ready : (c : tie.Start) → Walkable (c .args .h) (c .args .image .now)
+ready c = walkable (c .pre .0) (c .pre .1 .0)
 
 own-value-requires : tie.Need-own-value-requires
-own-value-requires c κs = (opened (c .before .before .before .before .before .before .before), omega arith)
+own-value-requires c κs = (ready (c .before .before .before .before .before .before .before) .opened, omega arith)
 
 -- the root's own key
-own-counted : (c : tie.Joined1) → (let a = c .before .before .before .before .before .before .before .before .before .args in c .if1 .own ≡ owned (a .h) (tableOf (a .h) (a .image .now)) 0 0)
+own-counted : (c : tie.Joined1)
+    → (let a = c .before .before .before .before .before .before .before .before .before .args in
+    c .if1 .own ≡ owned (a .h) (tableOf (a .h) (a .image .now)) 0 0)
 own-counted c =
     let a = c .before .before .before .before .before .before .before .before .before .args in
     let e = c .before .own-value .ensures in
@@ -36,7 +37,7 @@ own-counted c =
     (c .if1 .came)
 
 fruitless-requires : tie.Need-fruitless-requires
-fruitless-requires c κs = (opened (c .before .before .before .before .before .before .before .before .before), omega arith)
+fruitless-requires c κs = (ready (c .before .before .before .before .before .before .before .before .before) .opened, omega arith)
 
 slice-write-list : tie.Need-slice-write-list
 slice-write-list c = search needs
@@ -49,10 +50,11 @@ returns c =
     let own = c .before .before in
     let start = own .before .before .before .before .before .before .before .before .before in
     let p = start .pre in
-    leaf-worked (p .0) (p .1 .0) (start .args .list .now) (own .before .before .before .before .clear .ensures) (p .1 .1) (own-counted own) (c .before .fruitless .ensures) (c .if2 .taken)
+    let clear = own .before .before .before .before .clear .ensures in
+    leaf-worked (p .0) (p .1 .0) (start .args .list .now) clear (p .1 .1) (own-counted own) (c .before .fruitless .ensures) (c .if2 .taken)
 
 mask-requires : tie.Need-mask-requires
-mask-requires c κs = opened (c .before .before .before .before .before .before .before .before .before .before .before) .head-permitted
+mask-requires c κs = ready (c .before .before .before .before .before .before .before .before .before .before .before) .opened .head-permitted
 
 weighed-requires : tie.Need-weighed-requires
 weighed-requires c κs =
@@ -63,9 +65,9 @@ weighed-requires c κs =
     let clear = own .before .before .before .before .clear .ensures in
     let list = start .args .list .now in
     let deep = fruitful .before .fruitless .ensures .deep (fruitful .if2 .left) in (
-      opened start,
+      ready start .opened,
       (
-        head-within (p .0) (p .1 .0),
+        ready start .within,
         (
           c .before .mask .ensures,
           (
@@ -90,7 +92,8 @@ returns-2 c =
     let own = c .before .before .before .before .before .before .before in
     let start = own .before .before .before .before .before .before .before .before .before in
     let p = start .pre in
-    weighed-worked (p .0) (p .1 .0) (start .args .list .now) (own .before .before .before .before .clear .ensures) (p .1 .1) (c .before .before .weighed .ensures .1)
+    let clear = own .before .before .before .before .clear .ensures in
+    weighed-worked (p .0) (p .1 .0) (start .args .list .now) clear (p .1 .1) (c .before .before .weighed .ensures .1)
 
 pub weigh-spec : {M : Type 1} → statement M
 weigh-spec =
