@@ -85,18 +85,18 @@ module _ (l work counts : List ℕ) {r : Opened} {work₁ codes : List ℕ} (o :
     cleared : work₁ ≡ replicate (headOf l .g + 1) 0 ++ drop (headOf l .g + 1) work
     cleared = left ∙ work-left l work counts passes .1
 
-    module _ {fresh : List ℕ} (weighed : fresh ≡ worked l work₁) where
-      -- the fresh counts stand in front of the working numbers
-      room : headOf l .g + 1 ≤ length work₁
-      room =
-          omega
-          (arith, ap length cleared, length-append (replicate {A = ℕ} (headOf l .g + 1) 0) (drop (headOf l .g + 1) work), length-replicate {A = ℕ} (headOf l .g + 1) 0)
+    pub long-work : headOf l .g + 1 ≤ length work₁
+    long-work =
+        omega
+        (arith, ap length cleared, length-append (replicate {A = ℕ} (headOf l .g + 1) 0) (drop (headOf l .g + 1) work), length-replicate {A = ℕ} (headOf l .g + 1) 0)
 
+    -- the fresh counts stand in front of the working numbers
+    module _ {fresh : List ℕ} (weighed : fresh ≡ worked l work₁) where
       pub fresh-long : length fresh ≡ length work₁
       fresh-long = ap length weighed ∙ worked-length l work₁
 
       fresh-count : (q : ℕ) → q < headOf l .g + 1 → getD fresh q 0 ≡ countIn l q
-      fresh-count q b = ap (λ (w : List ℕ). getD w q 0) weighed ∙ worked-right l work₁ room .each q (omega arith)
+      fresh-count q b = ap (λ (w : List ℕ). getD w q 0) weighed ∙ worked-right l work₁ long-work .each q (omega arith)
 
       -- what was found is row 25's place
       pub lowest-25 : {differs : ℕ} → differs ≡ lowest (λ q. not (eqb (getD counts q 0) (getD fresh q 0))) 0 (headOf l .g + 1)
@@ -121,7 +121,7 @@ module _ (l work counts : List ℕ) {r : Opened} {work₁ codes : List ℕ} (o :
                 ∙ lowest-25 (rw n at f)
                 ∙ sym (second-part (checking l (usable work counts)) (row25 l counts ∷ []) passes ∙ last-row (row25 l counts));
             numbers = (rw n at clears)
-                ∙ ap (replicate (headOf l .g + 1) 0 ++_) (ap (drop (headOf l .g + 1)) weighed ∙ worked-drop l work₁ room ∙ cleared-rest (headOf l .g + 1) work cleared)
+                ∙ ap (replicate (headOf l .g + 1) 0 ++_) (ap (drop (headOf l .g + 1)) weighed ∙ worked-drop l work₁ long-work ∙ cleared-rest (headOf l .g + 1) work cleared)
                 ∙ sym (work-left l work counts passes .1);
             head = λ _. compared-head;
             decoded = λ _. record { count = d .count; codes = d .codes };

@@ -16,13 +16,7 @@ use paper::Stored;
 use paper::Verdict;
 
 // Stores a value under a key, 0 to delete it, and keeps the counts right. Refusals: 11, 12, 13, 5; they leave image and counts as they were.
-pub fn store_counted(
-    image: &mut [u8],
-    h: Head,
-    key: Key,
-    value: u64,
-    counts: &mut [u32],
-) -> Stored
+pub fn store_counted(image: &mut [u8], h: Head, key: Key, value: u64, counts: &mut [u32]) -> Stored
     requires { ⌜ Accepted (now image) ⌝ ∗ ⌜ h ≡ headOf (now image) ⌝ ∗ ⌜ Ready h key ⌝ }
     requires { ⌜ between (length (lettersOf key)) (h .min) (h .max) ≡ true ⌝ ∗ ⌜ RightCounts (now image) (now counts) ⌝ }
     ensures { λ r. ⌜ StoresCounted (now (image .entry)) (lettersOf key) value (now (counts .entry)) r (now (image .exit)) (now (counts .exit)) ⌝ }

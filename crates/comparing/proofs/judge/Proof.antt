@@ -8,8 +8,8 @@ use Rattle.paper.proofs.Hearing.{is-given, not-given}
 use Rattle.comparing.proofs.judge.Statement.{statement}
 use Rattle.comparing.proofs.judge.Tie as tie
 
-cast-field : tie.Need-cast-field
-cast-field c = omega arith
+cast-t4 : tie.Need-cast-t4
+cast-t4 c = omega arith
 
 returns : tie.Need-returns
 unfolding rowOf
@@ -20,4 +20,4 @@ unfolding rowOf
 returns-2 c = sym (not-given 25 _ (le-ltb _ _ (c .if1 .left)))
 
 pub judge-spec : {M : Type 1} → statement M
-judge-spec = tie.close (tie.spec cast-field returns returns-2)
+judge-spec = tie.close (tie.spec cast-t4 returns returns-2)
