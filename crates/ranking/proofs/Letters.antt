@@ -26,12 +26,21 @@ module _ (h : Head) (l : List ℕ) (p depth : ℕ) where
   abbrev pub onward : ℕ → List (List ℕ)
   onward i = from h (tableOf h l) p depth i
 
+  -- how many keys come by a letter
+  abbrev pub sizes : ℕ → ℕ
+  sizes i = length (underLetter h l p depth i)
+
   pub by-none : (i : ℕ) → tableOf h l .child p i ≡ 0 → underLetter h l p depth i ≡ []
   by-none i e = follow-empty (tableOf h l .child p i) [] _ e
 
   pub by-child : (i : ℕ) → tableOf h l .child p i ≢ 0
       → underLetter h l p depth i ≡ keysUnder (tableOf h l) (h .n) (h .min - suc depth) (h .max - suc depth) (tableOf h l .child p i)
   by-child i full = follow-on (tableOf h l .child p i) [] _ full
+
+  -- the count of a child that is linked
+  pub below-link : (counts : List ℕ) (i : ℕ) {c : ℕ} → Below h l p depth counts → c ≡ tableOf h l .child p i → c ≢ 0
+      → (c < length counts) × (getD counts c 0 ≡ sizes i)
+  below-link counts i below e full = rw e (below i (λ z. full (e ∙ z)))
 
   pub past-letters : (i : ℕ) → h .n ≤ i → onward i ≡ []
   past-letters i b = from-none (tableOf h l) (h .n) (h .min - depth) (h .max - depth) p i b
@@ -118,9 +127,6 @@ module _ (h : Head) (l : List ℕ) (p depth : ℕ) where
 
     -- ---- the keys before a key, by its first letter
 
-    abbrev pub sizes : ℕ → ℕ
-    sizes i = length (underLetter h l p depth i)
-
     -- from a later letter on there are none
     rank-past : (x : ℕ) (k : List ℕ) (m i : ℕ) → i + m ≡ h .n → x < i → rankIn (onward i) (x ∷ k) ≡ 0
     rank-past x k zero i e b = omega (arith, rank-few (onward i) (x ∷ k), ap length (past-letters i (omega arith)))
@@ -155,26 +161,26 @@ module _ (h : Head) (l : List ℕ) (p depth : ℕ) where
     unfolding lower
     rank-letters x k low = rank-through x k low x 0 (omega arith)
 
-    -- ---- the keys by the lower letters, counted
+  -- ---- the keys by the lower letters, counted
 
-    -- how many are still to come from letter i on, below letter x
-    abbrev pub rest : ℕ → ℕ → ℕ
-    rest x i = sumFrom sizes i (x - i)
+  -- how many are still to come from letter i on, below letter x
+  abbrev pub rest : ℕ → ℕ → ℕ
+  rest x i = sumFrom sizes i (x - i)
 
-    pub rest-all : (x : ℕ) → rest x 0 ≡ lower h l p depth x
-    unfolding lower
-    rest-all x = let e : x - 0 ≡ x = omega arith in rw e
+  pub rest-all : (x : ℕ) → rest x 0 ≡ lower h l p depth x
+  unfolding lower
+  rest-all x = let e : x - 0 ≡ x = omega arith in rw e
 
-    pub rest-none : (x i : ℕ) → x ≤ i → rest x i ≡ 0
-    unfolding sumFrom
-    rest-none x i b = let e : x - i ≡ 0 = omega arith in rw e
+  pub rest-none : (x i : ℕ) → x ≤ i → rest x i ≡ 0
+  unfolding sumFrom
+  rest-none x i b = let e : x - i ≡ 0 = omega arith in rw e
 
-    rest-more : (x i : ℕ) → i < x → rest x i ≡ sizes i + rest x (i + 1)
-    unfolding sumFrom
-    rest-more x i b = let e : x - i ≡ suc (x - suc i) = omega arith in rw (add-one i, e)
+  rest-more : (x i : ℕ) → i < x → rest x i ≡ sizes i + rest x (i + 1)
+  unfolding sumFrom
+  rest-more x i b = let e : x - i ≡ suc (x - suc i) = omega arith in rw (add-one i, e)
 
-    pub rest-empty : (x i : ℕ) {c : ℕ} → i < x → c ≡ tableOf h l .child p i → c ≡ 0 → rest x i ≡ rest x (i + 1)
-    rest-empty x i b e empty = omega (arith, rest-more x i b, ap length (by-none i (sym e ∙ empty)))
+  pub rest-empty : (x i : ℕ) {c : ℕ} → i < x → c ≡ tableOf h l .child p i → c ≡ 0 → rest x i ≡ rest x (i + 1)
+  rest-empty x i b e empty = omega (arith, rest-more x i b, ap length (by-none i (sym e ∙ empty)))
 
-    pub rest-counted : (x i under : ℕ) → i < x → under ≡ sizes i → rest x i ≡ under + rest x (i + 1)
-    rest-counted x i under b e = omega (arith, rest-more x i b)
+  pub rest-counted : (x i under : ℕ) → i < x → under ≡ sizes i → rest x i ≡ under + rest x (i + 1)
+  rest-counted x i under b e = omega (arith, rest-more x i b)

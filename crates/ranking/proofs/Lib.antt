@@ -1,1 +1,3 @@
+pub mod Below
 pub mod Letters
+pub mod Spotting
