@@ -23,6 +23,10 @@ use Rattle.position.specs.Counts.{RightCounts, countIn}
 use Rattle.ranking.specs.Ranking.{underLetter, Below}
 use Rattle.ranking.proofs.Letters.{by-child}
 
+-- the keys at or under a node at a depth
+abbrev pub held : Head → List ℕ → ℕ → ℕ → List (List ℕ)
+held h l p depth = keysUnder (tableOf h l) (h .n) (h .min - depth) (h .max - depth) p
+
 -- what an accepted image with right counts gives a way through it, by a head in hand that is the image's own
 pub record Counted (h : Head) (l counts : List ℕ) : Type 0 where
   pub opened : Open h l

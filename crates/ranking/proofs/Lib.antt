@@ -1,3 +1,4 @@
 pub mod Below
 pub mod Letters
+pub mod Placing
 pub mod Spotting

@@ -11,7 +11,7 @@ use mathlib.Core.Path.{_≡_, refl, sym, _∙_, ap}
 use lib.ListN.{length, take, set, length-append, length-set}
 use lib.Seq.{length-take-le, take-suc-set}
 use Rattle.trie.specs.Table.{complete, descend, answer}
-use Rattle.trie.specs.Keys.{ownKey, keysUnder, listing}
+use Rattle.trie.specs.Keys.{ownKey, listing}
 use Rattle.trie.proofs.Walk.{descend-nil, answer-complete}
 use Rattle.trie.proofs.Beyond.{under-split, from-shallow}
 use Rattle.head.specs.declared.Head.{Head}
@@ -24,11 +24,7 @@ use Rattle.paper.specs.Calls.{tableIn, storedKeys}
 use Rattle.ranking.specs.declared.Branch.{Branch}
 use Rattle.ranking.specs.Ranking.{Spotted, underLetter, Below, Branches}
 use Rattle.ranking.proofs.Letters.{onward, by-child}
-use Rattle.ranking.proofs.Below.{Counted, within, one-more, below}
-
--- the keys at or under a node at a depth
-abbrev pub held : Head → List ℕ → ℕ → ℕ → List (List ℕ)
-held h l p depth = keysUnder (tableOf h l) (h .n) (h .min - depth) (h .max - depth) p
+use Rattle.ranking.proofs.Below.{Counted, held, within, one-more, below}
 
 pub record Spotting (h : Head) (l : List ℕ) (position : ℕ) (path₀ path : List ℕ) (node depth left : ℕ) : Type 0 where
   pub reaches : descend (tableOf h l) 0 (take depth path) ≡ complete node
