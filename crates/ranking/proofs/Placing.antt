@@ -7,9 +7,9 @@ use mathlib.Core.List.{List, [], _∷_, _++_}
 use mathlib.Core.Logic.{_≢_}
 use mathlib.Core.Path.{_≡_, refl, sym, _∙_, ap, ap₂}
 use lib.ListN.{length, take, drop, length-drop, take-append-drop}
-use lib.Seq.{length-take-le, take-all, drop-length, take-suc}
+use lib.Seq.{length-take-le, take-all, drop-length, take-add, drop-drop}
 use borrow.Author.Tests.{ne-eqb}
-use Rattle.trie.specs.Table.{complete, descend, answer, Letters}
+use Rattle.trie.specs.Table.{Table, complete, descend, answer}
 use Rattle.trie.specs.Keys.{ownKey, listing}
 use Rattle.trie.proofs.Walk.{descend-nil, descend-empty, descend-append, answer-complete, answer-stopped}
 use Rattle.trie.proofs.Beyond.{under-split}
@@ -34,12 +34,16 @@ pub record Placing (h : Head) (l k : List ℕ) (node depth passed : ℕ) : Type 
 abbrev pub owned : Head → List ℕ → ℕ → ℕ → ℕ
 owned h l node depth = length (ownKey (tableOf h l) (h .min - depth) node)
 
-module _ {h : Head} {l : List ℕ} {node depth v : ℕ} (own : v ≡ ownValue h (tableOf h l) node depth) where
+module _ (h : Head) (l : List ℕ) (node depth : ℕ) {v : ℕ} (own : v ≡ ownValue h (tableOf h l) node depth) where
   pub owned-none : v ≡ 0 → owned h l node depth ≡ 0
   owned-none empty = ap length (own-empty h (tableOf h l) node depth (sym own ∙ empty))
 
   pub owned-one : v ≢ 0 → owned h l node depth ≡ 1
   owned-one full = ap length (own-full h (tableOf h l) node depth (λ z. full (own ∙ z)))
+
+stored-at : (l k : List ℕ) → answer (tableIn l) k ≢ 0 → Ranked.At (rankIn (storedKeys l) k) ≡ rankedOf l k
+unfolding rankedOf
+stored-at l k full = rw (ne-eqb (answer (tableIn l) k) 0 full)
 
 module _ {h : Head} {l counts : List ℕ} (w : Counted h l counts) (k : List ℕ) where
   -- a key that is not stored, and one that is
@@ -49,14 +53,15 @@ module _ {h : Head} {l counts : List ℕ} (w : Counted h l counts) (k : List ℕ
 
   there : answer (tableOf h l) k ≢ 0 → {passed : ℕ} → passed ≡ rankIn (listing (tableOf h l) (h .n) (h .min) (h .max)) k
       → Ranked.At passed ≡ rankedOf l k
-  unfolding rankedOf
-  there full e = rw (w .table, ne-eqb _ _ full, w .stored, e)
+  there full e =
+      ap Ranked.At (e ∙ ap (λ (keys : List (List ℕ)). rankIn keys k) (sym (w .stored)))
+      ∙ stored-at l k (λ z. full (ap (λ (t : Table). answer t k) (sym (w .table)) ∙ z))
 
   pub placing-start : Placing h l k 0 0 0
   placing-start =
       let least : h .min - 0 ≡ h .min = omega arith in
       let most : h .max - 0 ≡ h .max = omega arith in
-      record { reaches = descend-nil (tableOf h l) 0; short = omega arith; same = rw (least, most) }
+      record { reaches = descend-nil (tableOf h l) 0; short = omega arith; same = rw (least, most) (omega arith) }
 
   module _ {node depth passed : ℕ} (s : Placing h l k node depth passed) where
     pub placing-within : node ≤ h .g
@@ -124,8 +129,10 @@ module _ {h : Head} {l counts : List ℕ} (w : Counted h l counts) (k : List ℕ
           pub placing-on : c ≢ 0 → {sum : ℕ} → sum ≡ behind + lower h l node depth x → Placing h l k c (depth + 1) sum
           placing-on full {sum} e =
               let linked : tableOf h l .child node x ≢ 0 = λ z. full (link ∙ z) in
-              let longer : take (suc depth) k ≡ take depth k ++ (x ∷ []) = ? in
-              let rest : drop (suc depth) k ≡ xs = ? in
+              let longer : take (suc depth) k ≡ take depth k ++ (x ∷ []) =
+              ap (λ (d : ℕ). take d k) (sym (add-one depth)) ∙ take-add depth 1 k ∙ ap (λ (m : List ℕ). take depth k ++ take 1 m) next in
+              let rest : drop (suc depth) k ≡ xs =
+              ap (λ (d : ℕ). drop d k) (sym (add-one depth)) ∙ sym (drop-drop 1 depth k) ∙ ap (drop 1) next in
               let keys : held h l c (suc depth) ≡ underLetter h l node depth x =
               ap (λ (q : ℕ). held h l q (suc depth)) link ∙ sym (by-child h l node depth x linked) in
               let same : rankIn (held h l c (suc depth)) (drop (suc depth) k) ≡ rankIn (underLetter h l node depth x) xs = ap₂ rankIn keys rest in
