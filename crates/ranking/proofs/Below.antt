@@ -20,7 +20,7 @@ use Rattle.paper.specs.Accepted.{Accepted}
 use Rattle.paper.proofs.Checking.{accepted-open, accepted-linked}
 use Rattle.paper.proofs.Nexting.{counted-fits}
 use Rattle.position.specs.Counts.{RightCounts, countIn}
-use Rattle.ranking.specs.Ranking.{underLetter, Below}
+use Rattle.ranking.specs.Ranking.{Below}
 use Rattle.ranking.proofs.Letters.{by-child}
 
 -- the keys at or under a node at a depth
@@ -74,6 +74,6 @@ module _ {h : Head} {l counts : List ℕ} (w : Counted h l counts) where
       let size : length (k ++ (i ∷ [])) ≡ suc depth = omega (arith, length-append k (i ∷ [])) in
       let inside : c ≤ h .g = within (k ++ (i ∷ [])) reached in
       let all : countAt (tableOf h l) (h .n) (h .min) (h .max) c
-          ≡ length (keysUnder (tableOf h l) (h .n) (h .min - suc depth) (h .max - suc depth) c) =
+      ≡ length (keysUnder (tableOf h l) (h .n) (h .min - suc depth) (h .max - suc depth) c) =
       rw size at (count-reached (w .linked) (h .min) (h .max) (k ++ (i ∷ [])) reached (omega (arith, size))) in
       (omega (arith, w .long, inside), w .each c inside ∙ all ∙ ap length (sym (by-child h l p depth i full)))

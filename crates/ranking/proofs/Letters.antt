@@ -19,7 +19,7 @@ use Rattle.passing.specs.Passing.{keyAt, rankIn}
 use Rattle.passing.specs.Weights.{sumFrom}
 use Rattle.passing.proofs.Ranks.{at-left, at-right, at-map, rank-few, rank-append, rank-lower, rank-same, rank-higher}
 use Rattle.ranking.specs.declared.Branch.{Branch}
-use Rattle.ranking.specs.Ranking.{underLetter, Below, lower, Room, Under, Branches}
+use Rattle.ranking.specs.Ranking.{underLetter, Below, lower, Branches}
 
 module _ (h : Head) (l : List ℕ) (p depth : ℕ) where
   -- the keys from letter i on, and those by letter i

@@ -8,7 +8,7 @@ use mathlib.Core.List.{List, [], _∷_, _++_, append-nil, append-assoc}
 use mathlib.Core.Logic.{_≢_}
 use mathlib.Core.Option.{some}
 use mathlib.Core.Path.{_≡_, refl, sym, _∙_, ap}
-use lib.ListN.{length, take, set, length-append, length-set}
+use lib.ListN.{length, take, set, length-set}
 use lib.Seq.{length-take-le, take-suc-set}
 use Rattle.trie.specs.Table.{complete, descend, answer}
 use Rattle.trie.specs.Keys.{ownKey, listing}
@@ -19,8 +19,8 @@ use Rattle.node.specs.Image.{tableOf}
 use Rattle.bearing.specs.Bearing.{ownValue}
 use Rattle.bearing.proofs.Links.{own-empty, own-full, own-long, own-data}
 use Rattle.passing.specs.Passing.{keyAt}
-use Rattle.passing.proofs.Ranks.{at-left, at-right}
-use Rattle.paper.specs.Calls.{tableIn, storedKeys}
+use Rattle.passing.proofs.Ranks.{at-right}
+use Rattle.paper.specs.Calls.{storedKeys}
 use Rattle.ranking.specs.declared.Branch.{Branch}
 use Rattle.ranking.specs.Ranking.{Spotted, underLetter, Below, Branches}
 use Rattle.ranking.proofs.Letters.{onward, by-child}
@@ -73,7 +73,10 @@ module _ {h : Head} {l counts : List ℕ} (w : Counted h l counts) {position : �
           let here : keyAt (held h l node depth) left ≡ some [] = rw (first, all) in
           record {
             key = take depth path;
-            there = ap (λ (keys : List (List ℕ)). keyAt keys position) (w .stored) ∙ s .there [] here ∙ ap (λ (k : List ℕ). some k) (append-nil (take depth path));
+            there =
+                ap (λ (keys : List (List ℕ)). keyAt keys position) (w .stored)
+                ∙ s .there [] here
+                ∙ ap (λ (k : List ℕ). some k) (append-nil (take depth path));
             long = sym so-many;
             value =
                 own

@@ -47,7 +47,8 @@ counted c =
     let loop = found .before .before in
     let start = loop .before .before .before in
     let a = start .args in
-    below-link (a .h) (a .image .now) (a .node) (a .depth) (a .counts .now) (loop .loop .i) (start .pre .1 .1 .1 .1) (found .link .ensures) (c .if1 .left)
+    below-link (a .h) (a .image .now) (a .node) (a .depth) (a .counts .now) (loop .loop .i) (start .pre .1 .1 .1 .1)
+    (found .link .ensures) (c .if1 .left)
 
 cast-under : tie.Need-cast-under Inv-loop μ-loop
 cast-under c = search needs

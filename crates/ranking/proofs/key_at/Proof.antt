@@ -3,7 +3,6 @@
 use Prim.Native.Nat.{_-_}
 use mathlib.Core.Logic.{⊎-elim}
 use native.Mathlib.Omega.{arith}
-use borrow.Author.Needs.{needs}
 use Rattle.head.proofs.Permitted.{bounds}
 use Rattle.ranking.proofs.Below.{Counted, counted}
 use Rattle.ranking.proofs.Spotting.{Spotting, Beneath, spotting-start, spotting-within, spotting-end, beneath-own, beneath-none}
@@ -69,7 +68,8 @@ branch-at-requires c κs =
     let start = loop .before .before .before .before .before in
     let w = known start in
     let room = start .pre .1 .1 .1 .1 in
-    (w .opened, (loop .before .mask .ensures, (spotting-within w room (loop .loop .inv), (spotting-deep w room (loop .loop .inv) (beneath c), spotting-below w room (loop .loop .inv) (beneath c)))))
+    let i = loop .loop .inv in
+    (w .opened, (loop .before .mask .ensures, (spotting-within w room i, (spotting-deep w room i (beneath c), spotting-below w room i (beneath c)))))
 
 slice-write-path : tie.Need-slice-write-path Inv-loop μ-loop
 slice-write-path c =

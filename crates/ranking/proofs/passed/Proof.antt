@@ -37,7 +37,8 @@ counted c =
     let loop = found .before .before in
     let start = loop .before .before .before in
     let a = start .args in
-    below-link (a .h) (a .image .now) (a .node) (a .depth) (a .counts .now) (loop .loop .i) (start .pre .1 .1 .1 .1 .1 .0) (found .link .ensures) (c .if1 .taken)
+    below-link (a .h) (a .image .now) (a .node) (a .depth) (a .counts .now) (loop .loop .i) (start .pre .1 .1 .1 .1 .1 .0)
+    (found .link .ensures) (c .if1 .taken)
 
 -- and is the next of those still to come
 next : (c : tie.Then1 Inv-loop μ-loop)
@@ -80,7 +81,9 @@ loop-again c =
     let a = loop .before .before .before .args in
     ⊎-elim
     (λ w. omega (arith, w .2, loop .loop .inv, next (record { before = found; if1 = w .0 })))
-    (λ w. omega (arith, w .1, loop .loop .inv, rest-empty (a .h) (a .image .now) (a .node) (a .depth) (a .letter) (loop .loop .i) (found .before .loop-test .taken) (found .link .ensures) (w .0 .left)))
+    (λ w.
+    let none = rest-empty (a .h) (a .image .now) (a .node) (a .depth) (a .letter) (loop .loop .i) (found .before .loop-test .taken) (found .link .ensures) (w .0 .left) in
+    omega (arith, w .1, loop .loop .inv, none))
     (c .if1 .came)
 
 returns : tie.Need-returns Inv-loop μ-loop

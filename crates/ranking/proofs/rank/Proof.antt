@@ -13,8 +13,8 @@ use Rattle.head.proofs.Permitted.{bounds}
 use Rattle.key.specs.Hand.{lettersOf}
 use Rattle.key.proofs.Hand.{letters-count, letters-from, letter-below}
 use Rattle.ranking.proofs.Below.{Counted, counted}
-use Rattle.ranking.proofs.Placing.{Placing, owned, owned-none, owned-one, placing-start, placing-within, placing-missing, placing-end, placing-stop}
-use Rattle.ranking.proofs.Placing.{placing-deep, placing-below, placing-own, placing-room, placing-on}
+use Rattle.ranking.proofs.Placing.{Placing, owned, owned-none, owned-one, placing-start, placing-within, placing-missing, placing-end}
+use Rattle.ranking.proofs.Placing.{placing-stop, placing-deep, placing-below, placing-own, placing-room, placing-on}
 use Rattle.ranking.proofs.rank.Statement.{statement}
 use Rattle.ranking.proofs.rank.Tie as tie
 
@@ -97,7 +97,9 @@ add-before c =
     let loop = found .before .before in
     let start = loop .before .before .before .before .before in
     let a = start .args in
-    omega (arith, owned-one (a .h) (a .image .now) (loop .loop .node) (loop .loop .depth) (own .own-value .ensures) (c .if2 .taken), placing-own (known start) _ (loop .loop .inv) (next (found .before)) (found .link .ensures) (allowed start .1) (low (found .before)))
+    let one = owned-one (a .h) (a .image .now) (loop .loop .node) (loop .loop .depth) (own .own-value .ensures) (c .if2 .taken) in
+    let few = placing-own (known start) _ (loop .loop .inv) (next (found .before)) (found .link .ensures) (allowed start .1) (low (found .before)) in
+    omega (arith, one, few)
 
 -- the node's own key is passed
 own-passed : (c : tie.Joined2 Inv-loop μ-loop)
@@ -148,8 +150,8 @@ loop-again c =
     let found = joined .before .before .before in
     let loop = found .before .before in
     let start = loop .before .before .before .before .before in
-    placing-on (known start) _ (loop .loop .inv) (next (found .before)) (found .link .ensures) (allowed start .1) (low (found .before)) (own-passed joined)
-    (joined .before .before .if1 .left) (c .passed .ensures)
+    placing-on (known start) _ (loop .loop .inv) (next (found .before)) (found .link .ensures) (allowed start .1) (low (found .before))
+    (own-passed joined) (joined .before .before .if1 .left) (c .passed .ensures)
 
 own-value-requires-2 : tie.Need-own-value-requires-2 Inv-loop μ-loop
 own-value-requires-2 c κs =
