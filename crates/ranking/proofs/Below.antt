@@ -1,5 +1,5 @@
--- The counts below a node that letters lead to: one letter more leads to a child, and the count of a node that a key reaches is the number of the
--- keys at or under it (`count-reached`). So right counts are the children's.
+-- The counts below a node that letters lead to: one letter more leads to a child, and the count of a node that a key reaches is the number
+-- of the keys at or under it (`count-reached`). So right counts are the children's.
 use Prim.Native.Nat.{ℕ, suc, _+_, _-_, _^_, _≤_, _<_}
 use native.Mathlib.Omega.{arith}
 use mathlib.Core.List.{List, [], _∷_, _++_}

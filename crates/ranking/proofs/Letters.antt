@@ -1,5 +1,5 @@
--- The keys below a node by letter: those from a letter on are those by that letter, then those from the next on. So a position lies by the letter
--- behind which it no longer reaches, and before a key stand all those by a lower letter.
+-- The keys below a node by letter: those from a letter on are those by that letter, then those from the next on. So a position lies by the
+-- letter behind which it no longer reaches, and before a key stand all those by a lower letter.
 use Prim.Native.Nat.{ℕ, zero, suc, pred, _+_, _-_, _≤_, _<_}
 use native.Mathlib.Omega.{arith}
 use native.Mathlib.Decide.{ℕ-discrete}

@@ -1,5 +1,5 @@
--- The way of a key by its letters: the keys passed by so far, and those before the rest of the key under the node reached, are all that come before
--- it. A letter more passes the node's own key and all by a lower letter; at the key's end nothing comes before what is left of it, the empty key.
+-- The way of a key by its letters: the keys passed by so far, and those before the rest of the key under the node reached, are all that come
+-- before it. A letter more passes the node's own key and all by a lower letter; at the key's end nothing comes before what is left of it.
 use Prim.Native.Nat.{ℕ, suc, _+_, _-_, _^_, _≤_, _<_}
 use native.Mathlib.Omega.{arith}
 use native.Mathlib.Numerals.{add-one}

@@ -1,5 +1,5 @@
--- The way to the key at a position: the letters taken lead to a node, and under it lies the rest of the key, at the position that is left. A letter
--- more, and the rest is the shorter; at the node whose own key it is nothing is left.
+-- The way to the key at a position: the letters taken lead to a node, and under it lies the rest of the key, at the position that is left.
+-- A letter more, and the rest is the shorter; at the node whose own key it is nothing is left.
 use Prim.Native.Nat.{ℕ, suc, _+_, _-_, _≤_, _<_}
 use native.Mathlib.Omega.{arith}
 use native.Mathlib.Decide.{decLt}

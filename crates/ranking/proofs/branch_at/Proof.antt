@@ -1,5 +1,5 @@
--- `ranking::branch_at` meets its contract: letter by letter the position falls by the keys that come before, and it lies by the first letter whose
--- keys it does not reach beyond. Assumes nothing.
+-- `ranking::branch_at` meets its contract: letter by letter the position falls by the keys that come before, and it lies by the first letter
+-- whose keys it does not reach beyond. Assumes nothing.
 use Prim.Native.Nat.{_-_, _<_}
 use native.Mathlib.Omega.{arith}
 use mathlib.Core.Path.{_≡_}

@@ -1,5 +1,5 @@
--- `ranking::key_at` meets its contract: letter by letter what is left of the position lies under the node reached, down to the node whose own key it
--- is. The depth left to max falls. Assumes nothing.
+-- `ranking::key_at` meets its contract: letter by letter what is left of the position lies under the node reached, down to the node whose own
+-- key it is. The depth left to max falls. Assumes nothing.
 use Prim.Native.Nat.{_-_}
 use mathlib.Core.Logic.{⊎-elim}
 use native.Mathlib.Omega.{arith}
@@ -69,7 +69,8 @@ branch-at-requires c κs =
     let w = known start in
     let room = start .pre .1 .1 .1 .1 in
     let i = loop .loop .inv in
-    (w .opened, (loop .before .mask .ensures, (spotting-within w room i, (spotting-deep w room i (beneath c), spotting-below w room i (beneath c)))))
+    let deep = spotting-deep w room i (beneath c) in
+    (w .opened, (loop .before .mask .ensures, (spotting-within w room i, (deep, spotting-below w room i (beneath c)))))
 
 slice-write-path : tie.Need-slice-write-path Inv-loop μ-loop
 slice-write-path c =

@@ -82,8 +82,9 @@ loop-again c =
     ⊎-elim
     (λ w. omega (arith, w .2, loop .loop .inv, next (record { before = found; if1 = w .0 })))
     (λ w.
-    let none = rest-empty (a .h) (a .image .now) (a .node) (a .depth) (a .letter) (loop .loop .i) (found .before .loop-test .taken) (found .link .ensures) (w .0 .left) in
-    omega (arith, w .1, loop .loop .inv, none))
+    let low = found .before .loop-test .taken in
+    let e = rest-empty (a .h) (a .image .now) (a .node) (a .depth) (a .letter) (loop .loop .i) low (found .link .ensures) (w .0 .left) in
+    omega (arith, w .1, loop .loop .inv, e))
     (c .if1 .came)
 
 returns : tie.Need-returns Inv-loop μ-loop

@@ -1,5 +1,5 @@
--- `ranking::rank` meets its contract: letter by letter the keys passed by, and those before the rest of the key under the node reached, are all that
--- come before it. Assumes nothing.
+-- `ranking::rank` meets its contract: letter by letter the keys passed by, and those before the rest of the key under the node reached, are
+-- all that come before it. Assumes nothing.
 use Prim.Native.Nat.{suc, _+_, _-_, _≤_, _<_}
 use mathlib.Core.Logic.{⊎-elim}
 use mathlib.Core.List.{_∷_}
@@ -82,7 +82,8 @@ returns : tie.Need-returns Inv-loop μ-loop
 returns c =
     let found = c .before in
     let loop = found .before .before in
-    placing-stop (known (loop .before .before .before .before .before)) _ (loop .loop .inv) (next (found .before)) (found .link .ensures) (c .if1 .taken)
+    let w = known (loop .before .before .before .before .before) in
+    placing-stop w _ (loop .loop .inv) (next (found .before)) (found .link .ensures) (c .if1 .taken)
 
 own-value-requires : tie.Need-own-value-requires Inv-loop μ-loop
 own-value-requires c κs =
@@ -98,7 +99,8 @@ add-before c =
     let start = loop .before .before .before .before .before in
     let a = start .args in
     let one = owned-one (a .h) (a .image .now) (loop .loop .node) (loop .loop .depth) (own .own-value .ensures) (c .if2 .taken) in
-    let few = placing-own (known start) _ (loop .loop .inv) (next (found .before)) (found .link .ensures) (allowed start .1) (low (found .before)) in
+    let at = found .before in
+    let few = placing-own (known start) _ (loop .loop .inv) (next at) (found .link .ensures) (allowed start .1) (low at) in
     omega (arith, one, few)
 
 -- the node's own key is passed
@@ -124,19 +126,11 @@ passed-requires c κs =
     let w = known start in
     let i = loop .loop .inv in
     let link = found .link .ensures in
-    let short = allowed start .1 in (
-      w .opened,
-      (
-        loop .before .before .mask .ensures,
-        (
-          placing-within w _ i,
-          (
-            placing-deep w _ i (next at) link short (low at),
-            (omega (arith, low at), (placing-below w _ i (next at) link short (low at), placing-room w _ i (next at) link short (low at) (own-passed c))),
-          ),
-        ),
-      ),
-    )
+    let short = allowed start .1 in
+    let deep = placing-deep w _ i (next at) link short (low at) in
+    let below = placing-below w _ i (next at) link short (low at) in
+    let room = placing-room w _ i (next at) link short (low at) (own-passed c) in
+    (w .opened, (loop .before .before .mask .ensures, (placing-within w _ i, (deep, (omega (arith, low at), (below, room))))))
 
 add-depth : tie.Need-add-depth Inv-loop μ-loop
 add-depth c = omega arith
