@@ -2,16 +2,18 @@
 -- first four only the number in them.
 use Prim.Native.Nat.{ℕ, _+_, _≤_, _<_}
 use mathlib.Core.Path.{_≡_, sym, ap, ap₂, subst, _∙_}
-use mathlib.Core.Bool.{true}
-use mathlib.Core.Option.{Option}
+use mathlib.Core.Bool.{true, not, cond}
+use mathlib.Core.Option.{Option, none, some}
 use mathlib.Core.List.{List, [], _∷_, _++_}
 use native.Mathlib.Omega.{arith}
-use lib.ListN.{length, getD}
+use lib.Dec.{eqb}
+use lib.ListN.{length, getD, take, drop}
 use lib.Seq.{sets}
 use lib.IntN.{pos}
 use Rattle.trie.specs.Table.{answer}
 use Rattle.trie.specs.Keys.{listing, meets, firstMeeting}
 use Rattle.trie.specs.Rules.{LinkRules}
+use Rattle.passing.specs.Passing.{countAt, oneForEach, keyAt, rankIn}
 use Rattle.head.specs.declared.Head.{Head}
 use Rattle.head.specs.Fields.{shortestImage, longestImage, fieldsLen, totalAt, totalLen, headOf, permitted, usedLen}
 use Rattle.head.proofs.Fields.{head-same}
@@ -21,11 +23,14 @@ use Rattle.node.specs.Image.{tableOf}
 use Rattle.node.proofs.Tables.{table-bytes}
 use Rattle.paper.specs.Hearing.{Row, Outcome, outcome, doneNumbers, first, heard}
 use Rattle.paper.specs.Given.{Given, alphabetIn, meantBy, meantIn, keyIn}
-use Rattle.paper.specs.Rows.{row5, row6path, row14, row15}
+use Rattle.paper.specs.Rows.{row5, givenLowest, row6path, row14, row15}
 use Rattle.paper.specs.Orders.{opening, openingOf, linking, checking, keyingBy, keying, byNext, lookingUp, nexting}
 use Rattle.paper.specs.Calls.{tableIn, clearedBy, workAfter, checkOf, storedKeys, countOf, telling, lookUpOf, nextIn, foundIn, nextKeyOf}
 use Rattle.paper.specs.Accepted.{Accepted}
 use Rattle.paper.proofs.Opening.{alphabet-same}
+use Rattle.position.specs.Counts.{countIn, countsIn, row25}
+use Rattle.position.specs.Orders.{usable, workingOut, checkingCounts, gettingKey, ifStored, gettingPosition}
+use Rattle.position.specs.Calls.{workLeft, worked, countsOf, checkCountsOf, placedKey, keyAtOf, positionOf}
 use Rattle.seen.specs.Seen.{Seen, seenIn, SameAnswers}
 
 seen-eq : (s t : Seen) → s .head ≡ t .head → s .table ≡ t .table → s .alphabet ≡ t .alphabet → s .len ≡ t .len → s ≡ t
@@ -97,9 +102,51 @@ nexts s work key buffer found =
     (outcome (doneNumbers (length (lettersIn found)) (pos 0) (answer (s .table) (lettersIn found)))
     (clears s work ∷ sets buffer 0 (lettersIn found) ∷ []))
 
+-- and those of the calls with counts
+abbrev count : Seen → ℕ → ℕ
+count s q = countAt (s .table) (s .head .n) (s .head .min) (s .head .max) q
+
+abbrev weighs : Seen → List ℕ
+weighs s = oneForEach (count s) 0 (s .head .g + 1)
+
+abbrev lets : List ℕ → List ℕ → List ℕ
+lets work counts = take (length counts) work
+
+abbrev leaves : Seen → List ℕ → List ℕ → List ℕ
+leaves s work counts = clears s (lets work counts) ++ drop (length counts) work
+
+abbrev compares : Seen → List ℕ → List ℕ → List Row
+compares s work counts =
+    checks s (lets work counts)
+    ++ (givenLowest 25 (λ q. not (eqb (getD counts q 0) (count s q))) 0 (s .head .g + 1) ∷ [])
+
+abbrev works : Seen → List ℕ → List ℕ → Outcome
+works s work counts =
+    heard (first (checks s (lets work counts))) (leaves s work counts ∷ counts ∷ [])
+    (outcome (doneNumbers 0 (pos 0) 0) (leaves s work counts ∷ sets counts 0 (weighs s) ∷ []))
+
+abbrev holds : Seen → List ℕ → List ℕ → Outcome
+holds s work counts =
+    heard (first (compares s work counts)) (leaves s work counts ∷ []) (outcome (doneNumbers 0 (pos 0) 0) (leaves s work counts ∷ []))
+
+abbrev places : Seen → List ℕ → List ℕ → List ℕ → Option (List ℕ) → Outcome
+places s work counts buffer found =
+    heard (first (compares s work counts ++ (row14 (s .head) (length buffer) ∷ row15 found ∷ []))) (leaves s work counts ∷ buffer ∷ [])
+    (outcome (doneNumbers (length (lettersIn found)) (pos 0) (answer (s .table) (lettersIn found)))
+    (leaves s work counts ∷ sets buffer 0 (lettersIn found) ∷ []))
+
+abbrev has : Seen → List ℕ → Option (List ℕ)
+has s key = cond (eqb (answer (s .table) key) 0) none (some key)
+
+abbrev ranks : Seen → List ℕ → List ℕ → Given → Outcome
+ranks s work counts given =
+    heard (first (compares s work counts ++ (keyingBy (s .head) (s .alphabet) given ++ (row15 (has s (means s given)) ∷ []))))
+    (leaves s work counts ∷ [])
+    (outcome (doneNumbers 0 (pos 0) (rankIn (lists s) (means s given))) (leaves s work counts ∷ []))
+
 module _ {a b : List ℕ} (e : seenIn a ≡ seenIn b) where
   pub same-answers : SameAnswers a b
-  unfolding openingOf checking keying meantIn keyIn lookingUp nexting tableIn workAfter checkOf storedKeys countOf lookUpOf nextIn foundIn nextKeyOf
+  unfolding openingOf checking keying meantIn keyIn lookingUp nexting tableIn workAfter checkOf storedKeys countOf lookUpOf nextIn foundIn nextKeyOf countIn countsIn row25 usable workingOut checkingCounts gettingKey ifStored gettingPosition workLeft worked countsOf checkCountsOf placedKey keyAtOf positionOf
   same-answers =
       record {
         checks = λ work. ap (λ (s : Seen). heard (first (checks s work)) (clears s work ∷ []) (outcome (doneNumbers 0 (pos 0) 0) (clears s work ∷ []))) e;
@@ -107,6 +154,11 @@ module _ {a b : List ℕ} (e : seenIn a ≡ seenIn b) where
         looks = λ given. ap (λ (s : Seen). looks s given) e;
         nexts = λ work key after buffer. ap (λ (s : Seen). nexts s work key buffer (firstMeeting (meets after key) (lists s))) e;
         lists = ap lists e;
+        workedOut = λ work counts. ap (λ (s : Seen). works s work counts) e;
+        checksCounts = λ work counts. ap (λ (s : Seen). holds s work counts) e;
+        keysAt = λ work counts position buffer. ap (λ (s : Seen). places s work counts buffer (keyAt (lists s) position)) e;
+        positions = λ work counts given. ap (λ (s : Seen). ranks s work counts given) e;
+        weighed = ap weighs e;
       }
 
   -- and one is accepted where the other is

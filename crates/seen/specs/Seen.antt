@@ -10,6 +10,8 @@ use Rattle.head.specs.declared.Head.{Head}
 use Rattle.head.specs.Fields.{headOf}
 use Rattle.paper.specs.Given.{Given, alphabetIn}
 use Rattle.paper.specs.Calls.{tableIn, checkOf, storedKeys, countOf, lookUpOf, nextKeyOf}
+use Rattle.position.specs.Counts.{countsIn}
+use Rattle.position.specs.Calls.{countsOf, checkCountsOf, keyAtOf, positionOf}
 
 pub record Seen : Type 0 where
   pub head : Head
@@ -20,10 +22,17 @@ pub record Seen : Type 0 where
 abbrev pub seenIn : List ℕ → Seen
 seenIn l = record { head = headOf l; table = tableIn l; alphabet = alphabetIn (headOf l) l; len = length l }
 
--- two images answer alike, whatever they are asked that does not write them, and they list the same keys
+-- two images answer alike, whatever they are asked that does not write them, with counts beside them or not; and they list the same keys
+-- and have the same counts
 pub record SameAnswers (l m : List ℕ) : Type 0 where
   pub checks : (work : List ℕ) → checkOf l work ≡ checkOf m work
   pub counts : (work : List ℕ) → countOf l work ≡ countOf m work
   pub looks : (given : Given) → lookUpOf l given ≡ lookUpOf m given
   pub nexts : (work key : List ℕ) (after : Bool) (buffer : List ℕ) → nextKeyOf l work key after buffer ≡ nextKeyOf m work key after buffer
   pub lists : storedKeys l ≡ storedKeys m
+  pub workedOut : (work counts : List ℕ) → countsOf l work counts ≡ countsOf m work counts
+  pub checksCounts : (work counts : List ℕ) → checkCountsOf l work counts ≡ checkCountsOf m work counts
+  pub keysAt : (work counts : List ℕ) (position : ℕ) (buffer : List ℕ)
+      → keyAtOf l work counts position buffer ≡ keyAtOf m work counts position buffer
+  pub positions : (work counts : List ℕ) (given : Given) → positionOf l work counts given ≡ positionOf m work counts given
+  pub weighed : countsIn l ≡ countsIn m
