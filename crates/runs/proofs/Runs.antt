@@ -2,11 +2,12 @@
 -- both: it holds of a fresh image, every call keeps it, and what is asked of a run is read off it. Every beginning of a run is a run, so
 -- that a call in the middle is answered by the same laws.
 use Prim.Native.Nat.{ℕ, _+_, _-_, _≤_}
-use mathlib.Core.Path.{_≡_, refl, sym, _∙_, ap, ap₂}
+use mathlib.Core.Path.{_≡_, refl, sym, _∙_, ap, ap₂, subst}
 use mathlib.Core.Bool.{Bool, true, false, true≢false, _&&_}
 use mathlib.Core.Logic.{_≢_}
 use mathlib.Core.Option.{none, some, Option·some-ne-none}
 use mathlib.Core.List.{List, [], _∷_, _++_}
+use native.Mathlib.Decide.{ℕ-discrete}
 use native.Mathlib.Omega.{arith}
 use lib.Dec.{eqb}
 use lib.IntN.{ℤ, pos, _+ℤ_, +ℤ-idr}
@@ -21,7 +22,7 @@ use Rattle.head.specs.Fields.{headOf, putTotal}
 use Rattle.alphabet.specs.Letters.{lettersIn}
 use Rattle.node.specs.Writes.{Write}
 use Rattle.node.proofs.Heads.{withTotal}
-use Rattle.paper.specs.Hearing.{Said, Row, Outcome, outcome, first, heard, refusedNumbers, doneNumbers}
+use Rattle.paper.specs.Hearing.{Row, Numbers, Outcome, outcome, first, heard, refusedNumbers, doneNumbers}
 use Rattle.paper.specs.Given.{Given, alphabetIn, meantBy, meantIn, keyIn}
 use Rattle.paper.specs.Orders.{newOf, checking, keyingBy, keying, lookingUp, storing, nexting}
 use Rattle.paper.specs.Calls.{tableIn, workAfter, freshHead, freshImage, makeOf, storedKeys, countOf, telling, lookUpOf, writesIn, storedImage, storeOf, withList, checkOf, isAccepted, mends, nextIn}
@@ -30,10 +31,13 @@ use Rattle.paper.specs.Granted.{Fit, Granted}
 use Rattle.paper.proofs.Hearing.{heard-done, heard-alike}
 use Rattle.paper.proofs.Checking.{accepted-opens, accepted-checks, check-exactly, accepted-linked}
 use Rattle.paper.proofs.Looking.{given-fit}
-use Rattle.paper.proofs.Storing.{accepted-again, stored-head, stored-alphabet, stored-table, stored-change, looks-up-accepted, keying-total, granted, store-passed}
+use Rattle.paper.proofs.Storing.{accepted-again, stored-head, stored-alphabet, stored-table, stored-change, looks-up-accepted, keying-total, granted, store-granted, store-leaves, store-passed}
 use Rattle.paper.proofs.Mending.{mend-kept, eight}
 use Rattle.paper.proofs.Fresh.{Made, make-done, fresh-head, fresh-alphabet, fresh-accepted, fresh-answers, fresh-keys}
-use Rattle.runs.specs.Runs.{sameKey, lastOf, Call, check, count, lookUp, store, storeWrites, mend, nextKey, firstLeft, notedBy, Run, after, ran, startOf, ranFrom}
+use Rattle.position.specs.Calls.{worked, storeCountsOf}
+use Rattle.position.specs.Orders.{workingOut, checkingCounts, gettingKey, gettingPosition}
+use Rattle.position.proofs.Plain.{store-counts-plain, store-counts-kept}
+use Rattle.runs.specs.Runs.{sameKey, lastOf, Call, check, count, lookUp, store, storeWrites, mend, nextKey, counts, checkCounts, storeCounts, keyAt, position, firstLeft, notedBy, Run, after, ran, startOf, ranFrom}
 
 -- ---- the plain list
 
@@ -79,11 +83,11 @@ start {h} {alphabet} {image} m =
 
 -- ---- a store
 
--- how a store ends, listed or not: granted and done, or refused with the image as it was
+-- how a store ends, listed or not, with counts or without: granted and done, or refused with the image as it was
 data Ended (l key : List ℕ) (value : ℕ) : Outcome → Type 0 where
   was-done : (writes : ℕ) {others : List (List ℕ)} → Granted l key value
       → Ended l key value (outcome (doneNumbers writes (changeOf (answer (tableIn l) key) value) 0) (storedImage l key value ∷ others))
-  was-refused : (s : Said) {others : List (List ℕ)} → s .number ≢ 0 → Ended l key value (outcome (refusedNumbers s) (l ∷ others))
+  was-refused : (n : Numbers) {others : List (List ℕ)} → n .number ≢ 0 → n .change ≡ pos 0 → Ended l key value (outcome n (l ∷ others))
 
 ended : (l work : List ℕ) (given : Given) (value : ℕ) → Ended l (keyIn l given) value (storeOf l work given value)
 unfolding storeOf heard refusedNumbers
@@ -91,14 +95,35 @@ ended l work given value = go (first (storing l work given value)) refl
   where
     go : (row : Row) → first (storing l work given value) ≡ row → Ended l (keyIn l given) value (storeOf l work given value)
     go none e = rw e (was-done 0 (granted l work given value e))
-    go (some s) e = rw e (was-refused s (λ z. Option·some-ne-none s (sym e ∙ store-passed l work given value (rw e z))))
+    go (some s) e =
+        rw e (was-refused (refusedNumbers s) (λ z. Option·some-ne-none s (sym e ∙ store-passed l work given value (rw e z))) refl)
 
 -- the list of its writes is one buffer more, and changes neither the number nor the change
 ended-listed : {l key : List ℕ} {value : ℕ} (ws : List Write) (list : List ℕ) {o : Outcome} → Ended l key value o
     → Ended l key value (withList ws list o)
 unfolding withList doneNumbers refusedNumbers
 ended-listed ws list (was-done n s) = was-done (length ws) s
-ended-listed ws list (was-refused s d) = rw (ne-eqb (s .number) 0 d) (was-refused s d)
+ended-listed ws list (was-refused n d c) = rw (ne-eqb (n .number) 0 d) (was-refused n d c)
+
+-- with counts beside the image it does what the plain store does, or nothing
+ended-counts : (l work : List ℕ) (given : Given) (value : ℕ) (tally : List ℕ)
+    → Ended l (keyIn l given) value (storeCountsOf l work given value tally)
+ended-counts l work given value tally = go (ℕ-discrete (o .numbers .number) 0)
+  where
+    o : Outcome
+    o = storeCountsOf l work given value tally
+
+    left : List (List ℕ)
+    left = storedImage l (keyIn l given) value ∷ workAfter l work ∷ worked (storedImage l (keyIn l given) value) tally ∷ []
+
+    go : Dec (o .numbers .number ≡ 0) → Ended l (keyIn l given) value o
+    go (yes z) =
+        let p = store-counts-plain l work given value tally z in
+        let same = p .1 ∙ ap (λ (a : Outcome). outcome (a .numbers) left) (store-leaves l work given value (p .0)) in
+        subst (Ended l (keyIn l given) value) (sym same) (was-done 0 (store-granted l work given value (p .0)))
+    go (no z) =
+        let k = store-counts-kept l work given value tally z in
+        subst (Ended l (keyIn l given) value) (ap (outcome (o .numbers)) (sym (k .0))) (was-refused (o .numbers) z (k .1))
 
 -- where a run stands after a store that left this outcome
 abbrev storedRun : Run → List ℕ → ℕ → Outcome → Run
@@ -148,7 +173,7 @@ module _ {h : Head} {alphabet : List ℕ} {r : Run} (i : Holds h alphabet r) whe
         answers = answers-stored s;
         sums = ap (_+ℤ changeOf (answer (tableIn (r .image)) key) value) (i .sums) ∙ sym (stored-change s);
       }
-  step-store (was-refused s d) = rw (ne-eqb (s .number) 0 d) (unchanged refl)
+  step-store (was-refused n d c) = rw (ne-eqb (n .number) 0 d) (unchanged c)
 
 -- ---- mending
 
@@ -187,6 +212,11 @@ module _ {h : Head} {alphabet : List ℕ} where
       (unchanged i (no-change (first (checking (r .image) work)) _ _ refl))
   step r (nextKey work key onward buffer) i =
       unchanged i (no-change (first (nexting (r .image) work key (length buffer) (nextIn (r .image) key onward))) _ _ refl)
+  step r (counts work tally) i = unchanged i (no-change (first (workingOut (r .image) work tally)) _ _ refl)
+  step r (checkCounts work tally) i = unchanged i (no-change (first (checkingCounts (r .image) work tally)) _ _ refl)
+  step r (storeCounts work given value tally) i = step-store i (ended-counts (r .image) work given value tally)
+  step r (keyAt work tally at buffer) i = unchanged i (no-change (first (gettingKey (r .image) work tally at (length buffer))) _ _ refl)
+  step r (position work tally given) i = unchanged i (no-change (first (gettingPosition (r .image) work tally given)) _ _ refl)
 
   holds : (r : Run) (cs : List Call) → Holds h alphabet r → Holds h alphabet (ran r cs)
   unfolding ran

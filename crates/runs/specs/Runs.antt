@@ -1,6 +1,7 @@
 -- Demand 3, "A run of calls from a fresh image answers as a plain list of last values"; 01, "The sum of these from a fresh image equals the
 -- number of keys stored now". A run is any list of calls on one image, each on what the one before left; the listed stores and mending
--- are 02's, Ask 1. Beside it goes a plain list: a store that was done adds its key and value in front, and nothing else changes the list.
+-- are 02's, Ask 1, and the calls with counts its Ask 7: each is lent any list of counts, right or not. Beside it goes a plain list: a store
+-- that was done adds its key and value in front, and nothing else changes the list.
 use Prim.Native.Nat.{ℕ}
 use mathlib.Core.Bool.{Bool, true, false, _&&_, cond}
 use mathlib.Core.List.{List, [], _∷_}
@@ -10,6 +11,7 @@ use Rattle.head.specs.declared.Head.{Head}
 use Rattle.paper.specs.Hearing.{Outcome}
 use Rattle.paper.specs.Given.{Given, keyIn}
 use Rattle.paper.specs.Calls.{freshImage, checkOf, countOf, lookUpOf, storeOf, storeWritesOf, mendOf, nextKeyOf}
+use Rattle.position.specs.Calls.{countsOf, checkCountsOf, storeCountsOf, keyAtOf, positionOf}
 
 -- ---- the plain list
 
@@ -31,7 +33,7 @@ lastOf (e ∷ plain) k = cond (sameKey (e .key) k) (e .value) (lastOf plain k)
 
 -- ---- the calls
 
--- a call on an image that is there, with what it is given and lent
+-- a call on an image that is there, with what it is given and lent; `tally` is a lent list of counts
 pub data Call : Type 0 where
   check : (work : List ℕ) → Call
   count : (work : List ℕ) → Call
@@ -40,10 +42,15 @@ pub data Call : Type 0 where
   storeWrites : (work : List ℕ) (given : Given) (value : ℕ) (list : List ℕ) → Call
   mend : (work : List ℕ) → Call
   nextKey : (work key : List ℕ) (after : Bool) (buffer : List ℕ) → Call
+  counts : (work tally : List ℕ) → Call
+  checkCounts : (work tally : List ℕ) → Call
+  storeCounts : (work : List ℕ) (given : Given) (value : ℕ) (tally : List ℕ) → Call
+  keyAt : (work tally : List ℕ) (at : ℕ) (buffer : List ℕ) → Call
+  position : (work tally : List ℕ) (given : Given) → Call
 
 -- what it answers and leaves, in this image
 unfoldable pub heardOf : List ℕ → Call → Outcome
-unfolding checkOf countOf lookUpOf storeOf storeWritesOf mendOf nextKeyOf
+unfolding checkOf countOf lookUpOf storeOf storeWritesOf mendOf nextKeyOf countsOf checkCountsOf storeCountsOf keyAtOf positionOf
 heardOf l (check work) = checkOf l work
 heardOf l (count work) = countOf l work
 heardOf l (lookUp given) = lookUpOf l given
@@ -51,6 +58,11 @@ heardOf l (store work given value) = storeOf l work given value
 heardOf l (storeWrites work given value list) = storeWritesOf l work given value list
 heardOf l (mend work) = mendOf l work
 heardOf l (nextKey work key after buffer) = nextKeyOf l work key after buffer
+heardOf l (counts work tally) = countsOf l work tally
+heardOf l (checkCounts work tally) = checkCountsOf l work tally
+heardOf l (storeCounts work given value tally) = storeCountsOf l work given value tally
+heardOf l (keyAt work tally at buffer) = keyAtOf l work tally at buffer
+heardOf l (position work tally given) = positionOf l work tally given
 
 -- the first of the buffers that a call leaves: for a store and for a mending, the image
 unfoldable pub firstLeft : List (List ℕ) → List ℕ
@@ -62,11 +74,16 @@ unfoldable pub imageAfter : List ℕ → Call → List ℕ
 unfolding firstLeft heardOf
 imageAfter l (store work given value) = firstLeft (heardOf l (store work given value) .lent)
 imageAfter l (storeWrites work given value list) = firstLeft (heardOf l (storeWrites work given value list) .lent)
+imageAfter l (storeCounts work given value tally) = firstLeft (heardOf l (storeCounts work given value tally) .lent)
 imageAfter l (mend work) = firstLeft (heardOf l (mend work) .lent)
 imageAfter l (check work) = l
 imageAfter l (count work) = l
 imageAfter l (lookUp given) = l
 imageAfter l (nextKey work key after buffer) = l
+imageAfter l (counts work tally) = l
+imageAfter l (checkCounts work tally) = l
+imageAfter l (keyAt work tally at buffer) = l
+imageAfter l (position work tally given) = l
 
 -- the plain list after a store that left this outcome: one that answers number 0 is noted
 unfoldable pub notedBy : Outcome → List ℕ → ℕ → List Entry → List Entry
@@ -78,11 +95,17 @@ unfolding notedBy heardOf keyIn
 noted l (store work given value) plain = notedBy (heardOf l (store work given value)) (keyIn l given) value plain
 noted l (storeWrites work given value list) plain =
     notedBy (heardOf l (storeWrites work given value list)) (keyIn l given) value plain
+noted l (storeCounts work given value tally) plain =
+    notedBy (heardOf l (storeCounts work given value tally)) (keyIn l given) value plain
 noted l (mend work) plain = plain
 noted l (check work) plain = plain
 noted l (count work) plain = plain
 noted l (lookUp given) plain = plain
 noted l (nextKey work key after buffer) plain = plain
+noted l (counts work tally) plain = plain
+noted l (checkCounts work tally) plain = plain
+noted l (keyAt work tally at buffer) plain = plain
+noted l (position work tally given) plain = plain
 
 -- ---- a run
 
