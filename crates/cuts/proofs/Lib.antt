@@ -1,5 +1,6 @@
 pub mod Callers
 pub mod Computed
+pub mod Counts
 pub mod Cuts
 pub mod Listed
 pub mod Lists

@@ -18,6 +18,7 @@ use Rattle.head.specs.Fields.{shortestImage, longestImage, headOf, nodeWidth, p
 use Rattle.head.proofs.Fields.{length-total, total-outside, head-total}
 use Rattle.head.proofs.Permitted.{bounds}
 use Rattle.head.proofs.Places.{width-least, used}
+use Rattle.alphabet.specs.Letters.{among}
 use Rattle.node.specs.Image.{tableOf}
 use Rattle.node.proofs.Heads.{withTotal, child-kept, value-kept}
 use Rattle.node.proofs.Writes.{table-total}
@@ -27,9 +28,10 @@ use Rattle.paper.specs.Rows.{badLink}
 use Rattle.paper.specs.Orders.{openingOf, keying}
 use Rattle.paper.specs.Calls.{tableIn, workAfter, checkOf, telling, lookUpOf, isAccepted, mends, mendOf}
 use Rattle.paper.specs.Accepted.{Accepted}
+use Rattle.paper.proofs.Numbers.{first-says, none-heard}
 use Rattle.paper.proofs.Opening.{Passed, passed}
 use Rattle.paper.proofs.Linking.{milder}
-use Rattle.paper.proofs.Checking.{check-exactly}
+use Rattle.paper.proofs.Checking.{check-accepts, checking-says, check-exactly}
 use Rattle.paper.proofs.Storing.{unfaulted, looks-up-open, looks-up-accepted, same-keying, same-key}
 use Rattle.paper.proofs.Mending.{accepted-exactly, mend-kept, mend-lowered, Eight, eight}
 use Rattle.seen.proofs.Seen.{same-alphabet}
@@ -163,3 +165,18 @@ module _ (l work : List ℕ) (e : mends l (checkOf l work .numbers) ≡ true) wh
 
 pub mend-looks : (l work : List ℕ) (given : Given) → lookUpOf (mendedImage l work) given ≡ lookUpOf l given
 mend-looks l work given = either l work (λ (r : List ℕ). lookUpOf r given ≡ lookUpOf l given) refl (λ e. looks-alike l work e given)
+
+-- ---- a mending that answers 0 leaves an accepted image
+
+check-zero : (l work : List ℕ) → checkOf l work .numbers .number ≡ 0 → Accepted l
+unfolding checkOf among
+check-zero l work z = check-accepts l work (none-heard _ _ (first-says (checking-says l work)) refl z)
+
+pub mend-zero : (l work : List ℕ) → mendOf l work .numbers .number ≡ 0 → Accepted (mendedImage l work)
+mend-zero l work z = go (mends l (checkOf l work .numbers)) refl
+  where
+    go : (b : Bool) → mends l (checkOf l work .numbers) ≡ b → Accepted (mendedImage l work)
+    go false e =
+        let n : checkOf l work .numbers .number ≡ 0 = sym (ap (λ (o : Outcome). o .numbers .number) (mend-kept l work e)) ∙ z in
+        subst Accepted (sym (mended-kept l work e)) (check-zero l work n)
+    go true e = subst Accepted (sym (mended-lowered l work e)) (again l work e)
