@@ -1,3 +1,4 @@
+pub mod Added
 pub mod Passing
 pub mod Ranks
 pub mod Reached
