@@ -5,11 +5,10 @@ use native.Mathlib.Decide.{ℕ-discrete}
 use native.Mathlib.Omega.{arith}
 use mathlib.Core.Bool.{true, false, _||_}
 use mathlib.Core.List.{List, [], _∷_, _++_, append-assoc}
-use mathlib.Core.Logic.{_≢_}
 use mathlib.Core.Path.{_≡_, refl, sym, _∙_, ap}
 use lib.Dec.{eqb}
 use lib.ListN.{length}
-use Rattle.trie.specs.Table.{Table, complete, stopped, follow, descend, missing, Letters}
+use Rattle.trie.specs.Table.{Table, complete, follow, descend, missing, Letters}
 use Rattle.trie.specs.Rules.{Linked}
 use Rattle.trie.specs.Storing.{put, grow, growPath, stored, added}
 use Rattle.trie.proofs.Walk.{descend-append, where-stopped}

@@ -109,12 +109,14 @@ work-kept l work counts e =
 
 -- ---- the rows of a store with counts
 
+pub says-only-25 : (l counts : List ℕ) → AllSay (25 ∷ []) (row25 l counts ∷ [])
+unfolding row25 among
+says-only-25 l counts = lowest-says 25 (λ q. not (eqb (getD counts q 0) (countIn l q))) 0 (headOf l .g + 1) refl then end
+
 -- the check's numbers, and 25
 pub counts-say : (l work counts : List ℕ) → AllSay (checkNumbers ++ (25 ∷ [])) (checkingCounts l work counts)
-unfolding checkingCounts workingOut row25 among
-counts-say l work counts =
-    parts-say (checking-says l (usable work counts))
-    (lowest-says 25 (λ q. not (eqb (getD counts q 0) (countIn l q))) 0 (headOf l .g + 1) refl then end)
+unfolding checkingCounts workingOut
+counts-say l work counts = parts-say (checking-says l (usable work counts)) (says-only-25 l counts)
 
 -- what a check with counts that passed tells
 pub record CountsChecked (l work counts : List ℕ) : Type 0 where
