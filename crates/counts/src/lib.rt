@@ -1,0 +1,78 @@
+// The calls that keep counts beside an image: working them out, the check with counts, and the stores with counts. None has a `requires`: any
+// bytes, counts, key, text or value may be handed over. Each promises one line, that the numbers of its answer and every lent buffer's last
+// content are the outcome that document 02 states (crate `position`).
+ghost use Rattle.paper.specs.Answers.{doneOf, storedOf};
+ghost use Rattle.paper.specs.Given.{asLetters, asText};
+ghost use Rattle.position.specs.Promises.{WorksOut, ChecksCounts, StoresCounts};
+use head::Head;
+use paper::Done;
+use paper::Stored;
+use paper::Verdict;
+
+// Works the counts out afresh into the front of the list. Refusals: 1 to 8, where 5 is also for a list of counts shorter than G+1.
+pub fn counts(image: &[u8], work: &mut [u32], list: &mut [u32]) -> Done
+    ensures { λ r. ⌜ WorksOut (now (image .entry)) (now (work .entry)) (now (list .entry)) (doneOf r) (now (work .exit)) (now (list .exit)) ⌝ }
+{
+    let mut codes = [0u32; Head::N_MOST as usize];
+    let checked = comparing::check_both(image, work, list.len(), &mut codes);
+    let verdict = checked.verdict;
+    match verdict {
+        Verdict::Refused(why) => Done::Refused(why),
+        Verdict::Passed => {
+            weighing::weigh(image, checked.head, list);
+            Done::Done
+        }
+    }
+}
+
+// Checks an image and holds the counts against fresh ones. Refusals: 1 to 8, with 5 for either list, 25.
+pub fn check_counts(image: &[u8], work: &mut [u32], list: &[u32]) -> Done
+    ensures { λ r. ⌜ ChecksCounts (now (image .entry)) (now (work .entry)) (now (list .entry)) (doneOf r) (now (work .exit)) ⌝ }
+{
+    let mut codes = [0u32; Head::N_MOST as usize];
+    let compared = comparing::compare(image, work, list, &mut codes);
+    let verdict = compared.verdict;
+    match verdict {
+        Verdict::Refused(why) => Done::Refused(why),
+        Verdict::Passed => Done::Done,
+    }
+}
+
+// Stores a value under a key given by its letters, 0 to delete it, and keeps the counts right; the answer is the change in the number of stored
+// keys. Refusals: 1 to 8, with 5 for either list, 25, 9, 10, 11, 12, 13, then 5 where the list has no number for a new node.
+pub fn store_counts(
+    image: &mut [u8],
+    work: &mut [u32],
+    letters: &[u8],
+    value: u32,
+    list: &mut [u32],
+) -> Stored
+    ensures { λ r. ⌜ StoresCounts (now (image .entry)) (now (work .entry)) (asLetters (now (letters .entry))) value (now (list .entry)) (storedOf r) (now (image .exit)) (now (work .exit)) (now (list .exit)) ⌝ }
+{
+    let asked = asking_counts::ask(image, work, list, letters);
+    let verdict = asked.verdict;
+    let head = asked.head;
+    match verdict {
+        Verdict::Refused(why) => Stored::Refused(why),
+        Verdict::Passed => tracking::store_counted(image, head, asked.key, value as u64, list),
+    }
+}
+
+// The same for a key given by its text; 10 stands before 9.
+pub fn store_text_counts(
+    image: &mut [u8],
+    work: &mut [u32],
+    text: &[u8],
+    value: u32,
+    list: &mut [u32],
+) -> Stored
+    ensures { λ r. ⌜ StoresCounts (now (image .entry)) (now (work .entry)) (asText (now (text .entry))) value (now (list .entry)) (storedOf r) (now (image .exit)) (now (work .exit)) (now (list .exit)) ⌝ }
+{
+    let named = asking_counts::ask_text(image, work, list, text);
+    let verdict = named.verdict;
+    let head = named.head;
+    match verdict {
+        Verdict::Refused(at_text) => Stored::Refused(at_text),
+        Verdict::Passed => tracking::store_counted(image, head, named.key, value as u64, list),
+    }
+}

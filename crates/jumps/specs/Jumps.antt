@@ -1,0 +1,29 @@
+-- 02, Ask 7: what a jump tells once the counts have been compared. Where that part of the order has passed, what is answered and left in the buffer is
+-- what the whole call does, whatever working numbers were lent.
+use Prim.Native.Nat.{ℕ}
+use mathlib.Core.Path.{_≡_}
+use mathlib.Core.Bool.{cond}
+use mathlib.Core.Option.{none}
+use mathlib.Core.List.{List}
+use lib.Dec.{eqb}
+use Rattle.trie.specs.Table.{answer}
+use Rattle.passing.specs.Passing.{rankIn}
+use Rattle.paper.specs.declared.Refusal.{Refusal}
+use Rattle.paper.specs.declared.Found.{Found}
+use Rattle.paper.specs.declared.Placed.{Placed}
+use Rattle.paper.specs.Answers.{foundOf}
+use Rattle.paper.specs.Hearing.{first}
+use Rattle.paper.specs.Calls.{tableIn, storedKeys}
+use Rattle.position.specs.Orders.{checkingCounts}
+use Rattle.position.specs.Calls.{workLeft}
+use Rattle.position.specs.Promises.{GivesKey}
+
+abbrev pub Spots : List ℕ → ℕ → List ℕ → Found → List ℕ → Type 0
+Spots l position buffer r buffer′ =
+    (work counts : List ℕ) → first (checkingCounts l work counts) ≡ none
+    → GivesKey l work counts position buffer (foundOf r) (workLeft l work counts) buffer′
+
+-- a key's position, or 15 where it is not stored
+unfoldable pub ranksAs : List ℕ → List ℕ → Placed
+unfolding answer tableIn rankIn storedKeys
+ranksAs l key = cond (eqb (answer (tableIn l) key) 0) (Placed.Refused Refusal.NoKey) (Placed.At (rankIn (storedKeys l) key))
