@@ -5,13 +5,15 @@ use mathlib.Core.Path.{_≡_}
 use mathlib.Core.Option.{none}
 use mathlib.Core.List.{List, _++_}
 use Rattle.head.specs.Fields.{headOf}
-use Rattle.paper.specs.Hearing.{first}
+use Rattle.paper.specs.Hearing.{Row, first}
 use Rattle.paper.specs.Answers.{rowOf}
-use Rattle.paper.specs.Given.{Given, keyIn}
+use Rattle.paper.specs.Given.{Given, alphabetIn, keyIn}
 use Rattle.paper.specs.Orders.{checking, keying}
 use Rattle.paper.specs.Calls.{workAfter}
 use Rattle.paper.specs.Accepted.{Accepted}
 use Rattle.key.specs.Hand.{lettersOf, Ready}
+use Rattle.opening.specs.declared.Opened.{Opened}
+use Rattle.opening.specs.Opened.{Decoded}
 use Rattle.asking.specs.declared.Asked.{Asked}
 
 -- what a store may count on once 10 has passed
@@ -21,7 +23,20 @@ pub record Allowed (l key : List ℕ) (r : Asked) : Type 0 where
   pub ready : Ready (r .head) (r .key)
   pub letters : lettersOf (r .key) ≡ key
 
-pub record Asks (l work : List ℕ) (given : Given) (r : Asked) (work′ : List ℕ) : Type 0 where
-  pub verdict : rowOf (r .verdict) ≡ first (checking l work ++ keying l given)
-  pub numbers : work′ ≡ workAfter l work
+-- the rows in front, then 9 and 10 of the key; and the working numbers that are left
+pub record AsksAfter (rows : List Row) (left l : List ℕ) (given : Given) (r : Asked) (work′ : List ℕ) : Type 0 where
+  pub verdict : rowOf (r .verdict) ≡ first (rows ++ keying l given)
+  pub numbers : work′ ≡ left
   pub allowed : rowOf (r .verdict) ≡ none → Allowed l (keyIn l given) r
+
+-- 1 to 8 in front
+abbrev pub Asks : List ℕ → List ℕ → Given → Asked → List ℕ → Type 0
+Asks l work given r work′ = AsksAfter (checking l work) (workAfter l work) l given r work′
+
+-- what stands in front of the key tells: which of its rows is heard, and where none is, the image opened
+pub record Fronted (rows : List Row) (left l : List ℕ) (r : Opened) (work′ codes : List ℕ) : Type 0 where
+  pub verdict : rowOf (r .verdict) ≡ first rows
+  pub numbers : work′ ≡ left
+  pub accepted : rowOf (r .verdict) ≡ none → Accepted l
+  pub head : rowOf (r .verdict) ≡ none → r .head ≡ headOf l
+  pub decoded : rowOf (r .verdict) ≡ none → Decoded (alphabetIn (headOf l) l) r codes

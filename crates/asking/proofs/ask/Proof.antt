@@ -1,7 +1,7 @@
 -- `asking::ask` meets its contract: 1 to 8 by the audit, 9 and 10 by the key in hand. Assumes nothing.
 use borrow.Author.Needs.{needs}
 use Rattle.key.proofs.Keyed.{by-letters}
-use Rattle.asking.proofs.Asking.{asks-unchecked, known-checked, asks-judged}
+use Rattle.asking.proofs.Asking.{checked-front, asks-unchecked, known-checked, asks-judged}
 use Rattle.asking.proofs.ask.Statement.{statement}
 use Rattle.asking.proofs.ask.Tie as tie
 
@@ -20,14 +20,14 @@ enum-told-2 c = search needs
 judge-requires : tie.Need-judge-requires
 judge-requires c κs =
     let checked = c .before .before .before .before .before .before in
-    known-checked (checked .check .ensures) (c .enum-told2 .given .1) .image .head-permitted
+    known-checked (checked-front (checked .check .ensures)) (c .enum-told2 .given .1) .image .head-permitted
 
 same-length : tie.Need-same-length
 same-length c = search needs
 
 returns : tie.Need-returns
 returns c =
-    asks-unchecked (c .before .before .before .before .before .before .check .ensures) _ _ (c .enum-told .given .1)
+    asks-unchecked (checked-front (c .before .before .before .before .before .before .check .ensures)) _ _ (c .enum-told .given .1)
 
 same-length-2 : tie.Need-same-length-2
 same-length-2 c = search needs
@@ -36,7 +36,7 @@ returns-2 : tie.Need-returns-2
 returns-2 c =
     let told = c .before in
     let made = told .before .before in
-    let o = made .before .before .before .before .check .ensures in
+    let o = checked-front (made .before .before .before .before .check .ensures) in
     let e = told .enum-told2 .given .1 in
     asks-judged o e (by-letters (known-checked o e) _ _ (made .of .ensures) (c .judge .ensures))
 

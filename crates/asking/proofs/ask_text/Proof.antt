@@ -3,7 +3,7 @@ use mathlib.Core.Path.{refl}
 use borrow.Author.Needs.{needs}
 use Rattle.paper.proofs.Hearing.{told-passed}
 use Rattle.key.proofs.Keyed.{by-text}
-use Rattle.asking.proofs.Asking.{asks-unchecked, known-checked, asks-judged}
+use Rattle.asking.proofs.Asking.{checked-front, asks-unchecked, known-checked, asks-judged}
 use Rattle.asking.proofs.ask_text.Statement.{statement}
 use Rattle.asking.proofs.ask_text.Tie as tie
 
@@ -24,14 +24,14 @@ of-requires c κs =
 judge-requires : tie.Need-judge-requires
 judge-requires c κs =
     let told = c .before .before .before in
-    known-checked (told .before .before .before .before .before .check .ensures) (told .enum-told2 .given .1) .image .head-permitted
+    known-checked (checked-front (told .before .before .before .before .before .check .ensures)) (told .enum-told2 .given .1) .image .head-permitted
 
 same-length : tie.Need-same-length
 same-length c = search needs
 
 returns : tie.Need-returns
 returns c =
-    asks-unchecked (c .before .before .before .before .before .check .ensures) _ _ (c .enum-told .given .1)
+    asks-unchecked (checked-front (c .before .before .before .before .before .check .ensures)) _ _ (c .enum-told .given .1)
 
 same-length-2 : tie.Need-same-length-2
 same-length-2 c = search needs
@@ -40,7 +40,7 @@ returns-2 : tie.Need-returns-2
 returns-2 c =
     let made = c .before .before in
     let told = made .before .before in
-    let o = told .before .before .before .before .before .check .ensures in
+    let o = checked-front (told .before .before .before .before .before .check .ensures) in
     let e = told .enum-told2 .given .1 in
     asks-judged o e (by-text (known-checked o e) (o .decoded (told-passed refl e) .codes) _ _ (made .of .ensures) (c .judge .ensures))
 
