@@ -109,7 +109,7 @@ module _ (l work : List ℕ) (given : Given) (value : ℕ) where
 
 -- ---- the ways out
 
-module _ {l work : List ℕ} {given : Given} {r : Asked} {work′ : List ℕ} (a : Asks l work given r work′) (value : ℕ) where
+module _ {l : List ℕ} (work : List ℕ) {given : Given} {r : Asked} {work′ : List ℕ} (a : Asks l work given r work′) (value : ℕ) where
   module _ {why : Refusal} (e : r .verdict ≡ Verdict.Refused why) where
     unasked : storeOf l work given value ≡ outcome (refusalNumbers why) (l ∷ work′ ∷ [])
     unasked = rw (a .numbers) (refuses l work given value why (told-refused (a .verdict) e))
