@@ -1,32 +1,34 @@
--- The outcome of a store behind 10, at each way out: 11, 12 or 13, the data replaced, nothing done for 0, or a new path.
-use Prim.Native.Nat.{ℕ, zero, suc, _+_, _-_, _^_, _≤_, _<_}
-use mathlib.Core.Path.{_≡_, refl, sym, _∙_, ap}
+-- What 11, 12 and 13 say of a store behind 10, at each way out of judging them, and what is heard and left where one of them is given or
+-- none is.
+use Prim.Native.Nat.{ℕ, zero, suc, _+_, _-_, _*_, _^_, _≤_, _<_}
+use mathlib.Core.Path.{_≡_, refl, sym, _∙_}
 use mathlib.Core.Logic.{_≢_}
 use mathlib.Core.Bool.{Bool, _&&_}
 use mathlib.Core.Option.{none, some}
-use mathlib.Core.List.{List, [], _∷_, _++_}
+use mathlib.Core.List.{List, [], _∷_}
 use native.Mathlib.Omega.{arith}
 use borrow.Author.Tests.{lt-ltb}
 use lib.IntN.{ℤ, pos, negsuc}
 use lib.Dec.{ltb}
 use lib.ListN.{length}
-use Rattle.trie.specs.Table.{Descent, complete, stopped, missing, valueAt}
+use Rattle.trie.specs.Table.{Descent, missing, valueAt}
 use Rattle.trie.specs.Storing.{added, changeOf}
-use Rattle.trie.proofs.Storing.{none-added}
 use Rattle.head.specs.declared.Head.{Head}
-use Rattle.head.specs.Fields.{usedLen}
+use Rattle.head.specs.Fields.{nodeWidth, usedLen}
 use Rattle.node.specs.Image.{tableOf}
-use Rattle.node.specs.Writes.{carriedOut, newNodes, totalWrite, linkWrite, dataWrite, storeWrites}
+use Rattle.node.specs.Writes.{carriedOut, storeWrites}
 use Rattle.node.proofs.Heads.{withTotal, used-more}
 use Rattle.paper.specs.declared.Refusal.{Refusal}
 use Rattle.paper.specs.declared.Stored.{Stored}
+use Rattle.paper.specs.declared.Verdict.{Verdict}
 use Rattle.paper.specs.Hearing.{Row, outcome, first}
-use Rattle.paper.specs.Answers.{saidOf, refusalNumbers, storedOf}
+use Rattle.paper.specs.Answers.{saidOf, rowOf, refusalNumbers, storedOf}
 use Rattle.paper.specs.Rows.{row11, row12, row13}
 use Rattle.paper.specs.Orders.{adding}
-use Rattle.paper.proofs.Hearing.{yes-row, first-none, first-nil, heard-refused, heard-done}
+use Rattle.paper.proofs.Hearing.{yes-row, first-none, first-nil, passed-row, heard-refused, heard-done}
 use Rattle.paper.proofs.Storing.{none-11, none-12, none-13}
-use Rattle.storing.specs.Storing.{storeAt, Extends, Builds}
+use Rattle.storing.specs.Storing.{storeAt, stoppedAt, Allowed, Space, Builds}
+use Rattle.storing.proofs.Building.{space}
 
 -- ---- the change
 
@@ -50,11 +52,79 @@ change-over zero new a b = absurd (a refl)
 change-over (suc u) zero a b = absurd (b refl)
 change-over (suc u) (suc v) a b = refl
 
--- ---- the ways out
+-- ---- 11, 12 and 13
 
 -- what 12 and 13 test where a node is new
 some-new : (k : ℕ) (b : Bool) → (ltb 0 (suc k) && b) ≡ b
 some-new k b = rw (lt-ltb 0 (suc k) (omega arith)) refl
+
+module _ (h : Head) (value len : ℕ) where
+  -- at each way out of judging
+  abbrev Judged : ℕ → Verdict → Type 0
+  Judged new v = rowOf v ≡ first (adding h value new len)
+
+  pub judged-11 : (new : ℕ) {most : ℕ} → most + 1 ≡ 256 ^ h .d → most < value → Judged new (Verdict.Refused Refusal.ValueTooGreat)
+  unfolding rowOf adding row11
+  judged-11 new m b = sym (yes-row 11 0 _ (lt-ltb (256 ^ h .d - 1) value (omega arith)))
+
+  module _ (fits : value < 256 ^ h .d) where
+    left-12 : (k : ℕ) → first (adding h value k len) ≡ first (row12 h k ∷ row13 h k len ∷ [])
+    unfolding adding
+    left-12 k = first-none _ _ (none-11 h value .1 fits)
+
+    -- no node is new
+    pub judged-none : (new : ℕ) → new ≡ 0 → Judged new Verdict.Passed
+    unfolding rowOf
+    judged-none new z =
+        rw z
+        (sym
+        (left-12 0
+        ∙ first-none _ _ (none-12 h 0 .1 (λ b. absurd (omega arith)))
+        ∙ first-none _ _ (none-13 h 0 len .1 (λ b. absurd (omega arith)))
+        ∙ first-nil))
+
+    pub judged-12 : (new : ℕ) → new ≢ 0 → {most : ℕ} → most + 1 ≡ 256 ^ h .a → most < h .g + new
+        → Judged new (Verdict.Refused Refusal.NoAddress)
+    unfolding rowOf row12
+    judged-12 zero z m b = absurd (z refl)
+    judged-12 (suc k) z m b = sym (left-12 (suc k) ∙ yes-row 12 0 _ (some-new k _ ∙ lt-ltb (256 ^ h .a - 1) (h .g + suc k) (omega arith)))
+
+    module _ (new : ℕ) (few : h .g + new < 256 ^ h .a) where
+      left-13 : first (adding h value new len) ≡ first (row13 h new len ∷ [])
+      left-13 = left-12 new ∙ first-none _ _ (none-12 h new .1 (λ _. few))
+
+      pub judged-passed : usedLen (withTotal h (h .g + new)) ≤ len → Judged new Verdict.Passed
+      unfolding rowOf
+      judged-passed b = sym (left-13 ∙ first-none _ _ (none-13 h new len .1 (λ _. rw (used-more h new) at b)) ∙ first-nil)
+
+    pub judged-13 : (new : ℕ) → new ≢ 0 → h .g + new < 256 ^ h .a → len < usedLen (withTotal h (h .g + new))
+        → Judged new (Verdict.Refused Refusal.NoRoom)
+    unfolding rowOf row13
+    judged-13 zero z few b = absurd (z refl)
+    judged-13 (suc k) z few b =
+        sym
+        (left-13 (suc k) few
+        ∙ yes-row 13 0 _ (some-new k _ ∙ lt-ltb len (usedLen h + suc k * nodeWidth h) (rw (used-more h (suc k)) at b)))
+
+  -- what an order that passed tells
+  pub record Passed (new : ℕ) : Type 0 where
+    pub fits : value < 256 ^ h .d
+    pub addresses : 0 < new → h .g + new < 256 ^ h .a
+    pub room : 0 < new → usedLen h + new * nodeWidth h ≤ len
+
+  pub passed : (new : ℕ) → first (adding h value new len) ≡ none → Passed new
+  unfolding adding
+  passed new e =
+      let after11 = passed-row (row11 h value) (row12 h new ∷ row13 h new len ∷ []) e in
+      let after12 = passed-row (row12 h new) (row13 h new len ∷ []) (after11 .1) in
+      let after13 = passed-row (row13 h new len) [] (after12 .1) in
+      record {
+        fits = none-11 h value .0 (after11 .0);
+        addresses = none-12 h new .0 (after12 .0);
+        room = none-13 h new len .0 (after13 .0);
+      }
+
+-- ---- what is heard and left
 
 module _ (h : Head) (l : List ℕ) where
   -- what is heard and left where the walk ended so
@@ -64,95 +134,32 @@ module _ (h : Head) (l : List ℕ) where
   abbrev rows : Descent → ℕ → List Row
   rows d value = adding h value (added (missing d) value) (length l)
 
-  refuses : (d : Descent) (value : ℕ) (why : Refusal) → first (rows d value) ≡ some (saidOf why) → Leaves d value (Stored.Refused why) l
+  pub refuses : (d : Descent) (value : ℕ) (why : Refusal) → first (rows d value) ≡ some (saidOf why) → Leaves d value (Stored.Refused why) l
   unfolding storeAt storedOf refusalNumbers
   refuses d value why e = sym (heard-refused _ _ _ e)
 
-  done : (d : Descent) (value : ℕ) → first (rows d value) ≡ none → {c : ℤ} {l′ : List ℕ} → c ≡ changeOf (valueAt (tableOf h l) d) value
+  pub done : (d : Descent) (value : ℕ) → first (rows d value) ≡ none → {c : ℤ} {l′ : List ℕ} → c ≡ changeOf (valueAt (tableOf h l) d) value
       → l′ ≡ carriedOut l (storeWrites h d value) → Leaves d value (Stored.Change c) l′
   unfolding storeAt storedOf
   done d value e c w = rw (c, w) (sym (heard-done _ _ _ e))
 
-  pub too-great : (d : Descent) (value : ℕ) {most : ℕ} → most + 1 ≡ 256 ^ h .d → most < value
-      → Leaves d value (Stored.Refused Refusal.ValueTooGreat) l
-  unfolding adding row11
-  too-great d value m b = refuses d value Refusal.ValueTooGreat (yes-row 11 0 _ (lt-ltb (256 ^ h .d - 1) value (omega arith)))
+-- ---- a walk that stopped at node q, with these letters left
 
-  module _ (value : ℕ) (fits : value < 256 ^ h .d) where
-    left-12 : (k : ℕ) → first (adding h value k (length l)) ≡ first (row12 h k ∷ row13 h k (length l) ∷ [])
-    unfolding adding
-    left-12 k = first-none _ _ (none-11 h value .1 fits)
+module _ (h : Head) (l : List ℕ) (q : ℕ) {left : List ℕ} (x : ℕ) (xs : List ℕ) (e : left ≡ x ∷ xs) where
+  pub none-built : (value : ℕ) → value ≡ 0 → l ≡ carriedOut l (storeWrites h (stoppedAt q left) value)
+  unfolding stoppedAt storeWrites carriedOut
+  none-built value z = rw (z, e) refl
 
-    -- no node is new
-    none-new : first (adding h value 0 (length l)) ≡ none
-    none-new =
-        left-12 0
-        ∙ first-none _ _ (none-12 h 0 .1 (λ b. absurd (omega arith)))
-        ∙ first-none _ _ (none-13 h 0 (length l) .1 (λ b. absurd (omega arith)))
-        ∙ first-nil
+  -- addresses and room for all that is missing
+  pub path-space : (value : ℕ) → value ≢ 0 → Allowed h (length l) (stoppedAt q left) value → Space h l (h .g + length left)
+  unfolding stoppedAt missing added
+  path-space zero z a = absurd (z refl)
+  path-space (suc v) z a =
+      let p = passed h (suc v) (length l) (suc (length xs)) (rw e at a) in
+      rw e (space (p .addresses (omega arith)) (rw (used-more h (suc (length xs))) (p .room (omega arith))))
 
-  -- a complete path
-  pub replaced : (q value : ℕ) → value < 256 ^ h .d → {c : ℤ} {l′ : List ℕ} → c ≡ changeOf (tableOf h l .value q) value
-      → l′ ≡ carriedOut l (dataWrite h q value ∷ []) → Leaves (complete q) value (Stored.Change c) l′
-  unfolding missing valueAt storeWrites
-  replaced q value fits c w = done (complete q) value (ap (λ (k : ℕ). first (adding h value k (length l))) (none-added value) ∙ none-new value fits) c w
-
-  -- a path that stops, and 0
-  left-alone : (q x : ℕ) (xs : List ℕ) → 0 < 256 ^ h .d → Leaves (stopped q x xs) 0 (Stored.Change (pos 0)) l
-  unfolding added valueAt storeWrites carriedOut changeOf
-  left-alone q x xs fits = done (stopped q x xs) 0 (none-new 0 fits) refl refl
-
-  -- a path that stops, and a value: a node is missing for the letter that stopped it and for each after that
-  module _ (q x : ℕ) (xs : List ℕ) (v : ℕ) (fits : suc v < 256 ^ h .d) where
-    abbrev d : Descent
-    d = stopped q x xs
-
-    abbrev total : ℕ
-    total = h .g + suc (length xs)
-
-    no-address : {most : ℕ} → most + 1 ≡ 256 ^ h .a → most < total → Leaves d (suc v) (Stored.Refused Refusal.NoAddress) l
-    unfolding missing added row12
-    no-address m b =
-        refuses d (suc v) Refusal.NoAddress
-        (left-12 (suc v) fits (suc (length xs)) ∙ yes-row 12 0 _ (some-new (length xs) _ ∙ lt-ltb (256 ^ h .a - 1) total (omega arith)))
-
-    module _ (few : total < 256 ^ h .a) where
-      left-13 : first (rows d (suc v)) ≡ first (row13 h (suc (length xs)) (length l) ∷ [])
-      unfolding missing added
-      left-13 = left-12 (suc v) fits (suc (length xs)) ∙ first-none _ _ (none-12 h (suc (length xs)) .1 (λ _. few))
-
-      no-room : length l < usedLen (withTotal h total) → Leaves d (suc v) (Stored.Refused Refusal.NoRoom) l
-      unfolding row13
-      no-room b =
-          refuses d (suc v) Refusal.NoRoom
-          (left-13 ∙ yes-row 13 0 _ (some-new (length xs) _ ∙ lt-ltb (length l) _ (rw (used-more h (suc (length xs))) at b)))
-
-      extended : {l′ : List ℕ} → usedLen (withTotal h total) ≤ length l
-          → l′ ≡ carriedOut l (newNodes h (suc (h .g)) xs (suc v) ++ (totalWrite total ∷ linkWrite h q x (suc (h .g)) ∷ []))
-          → Leaves d (suc v) (Stored.Change (pos 1)) l′
-      unfolding valueAt storeWrites changeOf
-      extended b w =
-          done d (suc v)
-          (left-13 ∙ first-none _ _ (none-13 h (suc (length xs)) (length l) .1 (λ _. rw (used-more h (suc (length xs))) at b)) ∙ first-nil) refl w
-
--- ---- the same by the letters left, which are as many as the nodes missing
-
-module _ (h : Head) (l : List ℕ) (q : ℕ) (left : List ℕ) where
-  pub extends-none : (value : ℕ) → value < 256 ^ h .d → value ≡ 0 → Extends h l q left value (Stored.Change (pos 0)) l
-  extends-none value fits z x xs e = rw z (left-alone h l q x xs (rw z at fits))
-
-  pub extends-no-address : (value : ℕ) → value < 256 ^ h .d → value ≢ 0 → {most : ℕ} → most + 1 ≡ 256 ^ h .a → most < h .g + length left
-      → Extends h l q left value (Stored.Refused Refusal.NoAddress) l
-  extends-no-address zero fits z m b x xs e = absurd (z refl)
-  extends-no-address (suc v) fits z m b x xs e = no-address h l q x xs v fits m (rw e at b)
-
-  module _ (total : ℕ) (all : total ≡ h .g + length left) (few : total < 256 ^ h .a) where
-    pub extends-no-room : (value : ℕ) → value < 256 ^ h .d → value ≢ 0 → length l < usedLen (withTotal h total)
-        → Extends h l q left value (Stored.Refused Refusal.NoRoom) l
-    extends-no-room zero fits z b x xs e = absurd (z refl)
-    extends-no-room (suc v) fits z b x xs e = no-room h l q x xs v fits (rw (all, e) at few) (rw (all, e) at b)
-
-    pub extends-done : (value : ℕ) → value < 256 ^ h .d → value ≢ 0 → usedLen (withTotal h total) ≤ length l → {l′ : List ℕ}
-        → Builds h l q left total value l′ → Extends h l q left value (Stored.Change (pos 1)) l′
-    extends-done zero fits z b w x xs e = absurd (z refl)
-    extends-done (suc v) fits z b w x xs e = extended h l q x xs v fits (rw (all, e) at few) (rw (all, e) at b) (rw (all, e) at (w x xs e))
+  pub path-built : (value : ℕ) → value ≢ 0 → {total : ℕ} {l′ : List ℕ} → total ≡ h .g + length left → Builds h l q left total value l′
+      → l′ ≡ carriedOut l (storeWrites h (stoppedAt q left) value)
+  unfolding stoppedAt storeWrites
+  path-built zero z all w = absurd (z refl)
+  path-built (suc v) z all w = w x xs e ∙ rw (all, e) refl

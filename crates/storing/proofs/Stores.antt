@@ -1,18 +1,20 @@
 -- The outcome of the whole part that follows 10. The end of the key's walk tells what there is to write; an accepted image has no bad link,
 -- so that this end is the key's descent, and the head in hand is the image's own.
-use Prim.Native.Nat.{ℕ, _^_, _≤_, _<_}
+use Prim.Native.Nat.{ℕ, zero, suc, _-_, _≤_, _<_}
 use mathlib.Core.Path.{_≡_, refl, sym, _∙_, ap}
+use mathlib.Core.Logic.{_≢_}
 use mathlib.Core.Option.{none, some}
 use mathlib.Core.List.{List, [], _∷_}
 use native.Mathlib.Omega.{arith}
 use lib.IntN.{ℤ}
 use lib.ListN.{length, drop, length-drop}
-use Rattle.trie.specs.Table.{Table, descend}
-use Rattle.trie.specs.Storing.{changeOf}
+use Rattle.trie.specs.Table.{Table, descend, missing, valueAt}
+use Rattle.trie.specs.Storing.{added, changeOf}
+use Rattle.trie.proofs.Storing.{none-added}
 use Rattle.head.specs.declared.Head.{Head}
 use Rattle.head.specs.Fields.{mostLetters, headOf}
 use Rattle.node.specs.Image.{tableOf}
-use Rattle.node.specs.Writes.{carriedOut, dataWrite}
+use Rattle.node.specs.Writes.{carriedOut, dataWrite, storeWrites}
 use Rattle.paper.specs.declared.Stored.{Stored}
 use Rattle.paper.specs.Calls.{tableIn}
 use Rattle.paper.specs.Accepted.{Accepted}
@@ -24,21 +26,51 @@ use Rattle.walk.specs.declared.Position.{Position}
 use Rattle.walk.specs.declared.Walked.{Walked}
 use Rattle.walk.specs.Descent.{atRoot, walkedFrom}
 use Rattle.walk.proofs.Descents.{Halted, walked-complete, walked-stopped, walked-bad}
-use Rattle.storing.specs.Storing.{StoresIn, endOf, stoppedAt, Ends, Extends}
-use Rattle.storing.proofs.Adding.{Leaves, replaced}
+use Rattle.storing.specs.Storing.{StoresIn, endOf, stoppedAt, Ends, Allowed}
+use Rattle.storing.proofs.Adding.{Leaves}
 
 -- ---- by how the walk ended
 
-module _ (h : Head) (l k : List ℕ) (value : ℕ) {o : Walked} where
-  pub stores-over : value < 256 ^ h .d → {q : ℕ} → o ≡ Walked.Complete q → {c : ℤ} {l′ : List ℕ}
-      → c ≡ changeOf (tableOf h l .value q) value → l′ ≡ carriedOut l (dataWrite h q value ∷ []) → Leaves h l (endOf k o) value (Stored.Change c) l′
-  unfolding endOf
-  stores-over fits {q} e c w = rw e (replaced h l q value fits c w)
+all-added : (missed value : ℕ) → value ≢ 0 → added missed value ≡ missed
+unfolding added
+all-added missed zero z = absurd (z refl)
+all-added missed (suc v) z = refl
 
-  pub stores-extended : {p : Position} → o ≡ Walked.Stopped p → (x : ℕ) (xs : List ℕ) → drop (p .depth) k ≡ x ∷ xs → (r : Stored) {l′ : List ℕ}
-      → Extends h l (p .node) (drop (p .depth) k) value r l′ → Leaves h l (endOf k o) value r l′
-  unfolding endOf stoppedAt
-  stores-extended e x xs left r extends = rw (e, left) (extends x xs left)
+-- how many nodes are new
+pub count-none : (missed value : ℕ) → value ≡ 0 → 0 ≡ added missed value
+unfolding added
+count-none missed value z = rw z refl
+
+module _ (k : List ℕ) (value : ℕ) {o : Walked} where
+  pub count-over : {q : ℕ} → o ≡ Walked.Complete q → 0 ≡ added (missing (endOf k o)) value
+  unfolding endOf missing
+  count-over e = rw e (sym (none-added value))
+
+  pub count-path : value ≢ 0 → {p : Position} → o ≡ Walked.Stopped p → (x : ℕ) (xs : List ℕ) → drop (p .depth) k ≡ x ∷ xs
+      → length k - p .depth ≡ added (missing (endOf k o)) value
+  unfolding endOf stoppedAt missing
+  count-path z {p} e x xs left =
+      sym (length-drop (p .depth) k) ∙ ap length left ∙ rw (e, left) (sym (all-added (suc (length xs)) value z))
+
+module _ (h : Head) (l k : List ℕ) (value : ℕ) {o : Walked} where
+  -- what is written
+  pub writes-over : {q : ℕ} → o ≡ Walked.Complete q → {c : ℤ} {l′ : List ℕ} → l′ ≡ carriedOut l (dataWrite h q value ∷ [])
+      → c ≡ changeOf (tableOf h l .value q) value
+      → (l′ ≡ carriedOut l (storeWrites h (endOf k o) value)) × (c ≡ changeOf (valueAt (tableOf h l) (endOf k o)) value)
+  unfolding endOf storeWrites valueAt
+  writes-over e w c = rw e (w, c)
+
+  pub writes-path : {p : Position} → o ≡ Walked.Stopped p → (x : ℕ) (xs : List ℕ) → drop (p .depth) k ≡ x ∷ xs → {c : ℤ} {l′ : List ℕ}
+      → l′ ≡ carriedOut l (storeWrites h (stoppedAt (p .node) (drop (p .depth) k)) value) → c ≡ changeOf 0 value
+      → (l′ ≡ carriedOut l (storeWrites h (endOf k o) value)) × (c ≡ changeOf (valueAt (tableOf h l) (endOf k o)) value)
+  unfolding endOf stoppedAt valueAt
+  writes-path e x xs left w c = rw (e, left) (rw left at w, c)
+
+-- what is allowed where the walk stopped
+pub allowed-path : (h : Head) (len : ℕ) (k : List ℕ) (value : ℕ) {o : Walked} {p : Position} → o ≡ Walked.Stopped p → Allowed h len (endOf k o) value
+    → Allowed h len (stoppedAt (p .node) (drop (p .depth) k)) value
+unfolding endOf
+allowed-path h len k value e a = rw e at a
 
 -- ---- the walk's end is the key's descent
 

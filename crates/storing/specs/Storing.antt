@@ -2,6 +2,7 @@
 -- answers and leaves in the image is what the whole call does, whatever working numbers were lent.
 use Prim.Native.Nat.{ℕ, suc, _+_, _^_, _≤_, _<_}
 use mathlib.Core.Path.{_≡_}
+use mathlib.Core.Option.{none}
 use mathlib.Core.List.{List, [], _∷_, _++_}
 use lib.ListN.{length, drop}
 use Rattle.trie.specs.Table.{Descent, complete, stopped, descend, valueAt, missing}
@@ -54,15 +55,14 @@ Ends h key (Walked.Complete q) = q ≤ h .g
 Ends h key (Walked.Stopped p) = Stop h key p
 Ends h key (Walked.Bad q) = ⊥
 
+-- none of 11, 12 and 13 is given, where the key's walk ended so in an image of a length
+abbrev pub Allowed : Head → ℕ → Descent → ℕ → Type 0
+Allowed h len d value = first (adding h value (added (missing d) value) len) ≡ none
+
 -- addresses up to this one, and the bytes of their nodes
 pub record Space (h : Head) (l : List ℕ) (total : ℕ) : Type 0 where
   pub addresses : total < 256 ^ h .a
   pub room : nodePlace h (total + 1) ≤ length l
-
--- where the walk stopped at node q, with these letters of the key left
-abbrev pub Extends : Head → List ℕ → ℕ → List ℕ → ℕ → Stored → List ℕ → Type 0
-Extends h l q left value r l′ =
-    (x : ℕ) (xs : List ℕ) → left ≡ x ∷ xs → outcome (storedOf r) (l′ ∷ []) ≡ storeAt h l (stopped q x xs) value
 
 -- the writes of a new path below node q, for these letters of the key
 abbrev pub Builds : Head → List ℕ → ℕ → List ℕ → ℕ → ℕ → List ℕ → Type 0

@@ -1,23 +1,26 @@
-// What a store judges once the key has passed 9 and 10, and what it writes: 11, 12 and 13, then the new nodes by rising address, the node
-// total and the link to the first of them, or the data field alone. The image has been checked.
+// What a store judges once the key has passed 9 and 10, and what it writes, as two stages: 11, 12 and 13; then the new nodes by rising address,
+// the node total and the link to the first of them, or the data field alone. The image has been checked.
 ghost use mathlib.Core.Path.{_≡_};
 ghost use Prim.Native.Nat.{suc, _+_, _-_, _≤_, _<_, _^_};
 ghost use mathlib.Core.Bool.{true};
 ghost use mathlib.Core.List.{[], _∷_};
-ghost use lib.ListN.{drop};
-ghost use Rattle.trie.specs.Storing.{changeOf};
-ghost use Rattle.head.specs.Fields.{headOf, permitted};
+ghost use lib.ListN.{length, drop};
+ghost use Rattle.trie.specs.Table.{missing, valueAt};
+ghost use Rattle.trie.specs.Storing.{added, changeOf};
+ghost use Rattle.head.specs.Fields.{headOf, mostLetters, permitted};
 ghost use Rattle.node.specs.Image.{Open, tableOf};
-ghost use Rattle.node.specs.Writes.{carriedOut, newNodes, dataWrite};
-ghost use Rattle.paper.specs.Hearing.{outcome};
-ghost use Rattle.paper.specs.Answers.{storedOf};
+ghost use Rattle.node.specs.Writes.{carriedOut, newNodes, dataWrite, storeWrites};
+ghost use Rattle.paper.specs.Hearing.{first, outcome};
+ghost use Rattle.paper.specs.Answers.{rowOf, storedOf};
+ghost use Rattle.paper.specs.Orders.{adding};
 ghost use Rattle.paper.specs.Accepted.{Accepted};
 ghost use Rattle.key.specs.Hand.{Ready, lettersOf};
-ghost use Rattle.storing.specs.Storing.{storeAt, StoresIn, Stop, endOf, Ends, Space, Extends, Builds};
+ghost use Rattle.storing.specs.Storing.{storeAt, StoresIn, Stop, stoppedAt, endOf, Ends, Allowed, Space, Builds};
 use head::Head;
 use key::Key;
 use paper::Refusal;
 use paper::Stored;
+use paper::Verdict;
 use walk::Position;
 use walk::Walked;
 
@@ -35,13 +38,69 @@ pub fn store_at(image: &mut [u8], h: Head, key: Key, walked: Walked, value: u64)
     requires { ⌜ Open h (now image) ⌝ ∗ ⌜ Ready h key ⌝ ∗ ⌜ Ends h key walked ⌝ }
     ensures { λ r. ⌜ outcome (storedOf r) (now (image .exit) ∷ []) ≡ storeAt h (now (image .entry)) (endOf (lettersOf key) walked) value ⌝ }
 {
-    if (node::greatest(h) as u64) < value {
-        return Stored::Refused(Refusal::ValueTooGreat);
+    let verdict = judge(h, image.len(), new_count(h, key, walked, value), value);
+    match verdict {
+        Verdict::Refused(why) => Stored::Refused(why),
+        Verdict::Passed => Stored::Change(write_at(image, h, key, walked, value)),
+    }
+}
+
+// How many nodes a store adds: one for each letter left where the walk stopped, and none for 0.
+pub fn new_count(h: Head, key: Key, walked: Walked, value: u64) -> usize
+    requires { ⌜ Ready h key ⌝ ∗ ⌜ Ends h key walked ⌝ }
+    ensures { λ r. ⌜ r ≡ added (missing (endOf (lettersOf key) walked)) value ⌝ ∗ ⌜ r ≤ mostLetters ⌝ }
+{
+    if value == 0 {
+        return 0;
     }
     match walked {
-        Walked::Complete(node) => Stored::Change(replace(image, h, node, value)),
+        Walked::Complete(_) => 0,
+        Walked::Stopped(at) => key.len - at.depth,
+        Walked::Bad(_) => 0,
+    }
+}
+
+// 11, 12, 13 of a store that adds so many nodes to an image of a length. 12 and 13 ask for the addresses and the room of all of them, in 64
+// bits.
+pub fn judge(h: Head, len: usize, new: usize, value: u64) -> Verdict
+    requires { ⌜ permitted h ≡ true ⌝ ∗ ⌜ new ≤ mostLetters ⌝ }
+    ensures { λ r. ⌜ rowOf r ≡ first (adding h value new len) ⌝ }
+{
+    if (node::greatest(h) as u64) < value {
+        return Verdict::Refused(Refusal::ValueTooGreat);
+    }
+    if new == 0 {
+        return Verdict::Passed;
+    }
+    let total = (h.g as u64) + (new as u64);
+    if (node::mask(h) as u64) < total {
+        return Verdict::Refused(Refusal::NoAddress);
+    }
+    let grown = Head {
+        g: total as u32,
+        n: h.n,
+        a: h.a,
+        d: h.d,
+        f: h.f,
+        min: h.min,
+        max: h.max,
+    };
+    if !grown.fits(len) {
+        return Verdict::Refused(Refusal::NoRoom);
+    }
+    Verdict::Passed
+}
+
+// The writes of a store that 11, 12 and 13 have passed, given how the key's walk ended, and the change in the number of stored keys.
+pub fn write_at(image: &mut [u8], h: Head, key: Key, walked: Walked, value: u64) -> i32
+    requires { ⌜ Open h (now image) ⌝ ∗ ⌜ Ready h key ⌝ ∗ ⌜ Ends h key walked ⌝ ∗ ⌜ Allowed h (length (now image)) (endOf (lettersOf key) walked) value ⌝ }
+    ensures { λ _. ⌜ now (image .exit) ≡ carriedOut (now (image .entry)) (storeWrites h (endOf (lettersOf key) walked) value) ⌝ }
+    ensures { λ r. ⌜ r ≡ changeOf (valueAt (tableOf h (now (image .entry))) (endOf (lettersOf key) walked)) value ⌝ }
+{
+    match walked {
+        Walked::Complete(node) => replace(image, h, node, value),
         Walked::Stopped(at) => extend(image, h, key, at, value),
-        Walked::Bad(node) => Stored::Refused(Refusal::Link(node)),
+        Walked::Bad(_) => 0,
     }
 }
 
@@ -72,33 +131,23 @@ fn change(old: u64, new: u64) -> i32
     0
 }
 
-// The path stops: a node is missing for each letter left, and none is built for 0. 12 and 13 ask for the addresses and the room of all of
-// them, in 64 bits.
-fn extend(image: &mut [u8], h: Head, key: Key, at: Position, value: u64) -> Stored
-    requires { ⌜ Open h (now image) ⌝ ∗ ⌜ Ready h key ⌝ ∗ ⌜ Stop h key at ⌝ ∗ ⌜ value < 256 ^ h .d ⌝ }
-    ensures { λ r. ⌜ Extends h (now (image .entry)) (at .node) (drop (at .depth) (lettersOf key)) value r (now (image .exit)) ⌝ }
+// The path stops: a node is missing for each letter left, and none is built for 0.
+fn extend(image: &mut [u8], h: Head, key: Key, at: Position, value: u64) -> i32
+    requires { ⌜ Open h (now image) ⌝ ∗ ⌜ Ready h key ⌝ ∗ ⌜ Stop h key at ⌝ ∗ ⌜ Allowed h (length (now image)) (stoppedAt (at .node) (drop (at .depth) (lettersOf key))) value ⌝ }
+    ensures { λ _. ⌜ now (image .exit) ≡ carriedOut (now (image .entry)) (storeWrites h (stoppedAt (at .node) (drop (at .depth) (lettersOf key))) value) ⌝ }
+    ensures { λ r. ⌜ r ≡ changeOf 0 value ⌝ }
 {
-    if value == 0 {
-        return Stored::Change(0);
+    if value != 0 {
+        build(
+            image,
+            h,
+            key,
+            at,
+            h.g + ((key.len - at.depth) as u32),
+            value,
+        );
     }
-    let total = (h.g as u64) + ((key.len - at.depth) as u64);
-    if (node::mask(h) as u64) < total {
-        return Stored::Refused(Refusal::NoAddress);
-    }
-    let grown = Head {
-        g: total as u32,
-        n: h.n,
-        a: h.a,
-        d: h.d,
-        f: h.f,
-        min: h.min,
-        max: h.max,
-    };
-    if !grown.fits(image.len()) {
-        return Stored::Refused(Refusal::NoRoom);
-    }
-    build(image, h, key, at, total as u32, value);
-    Stored::Change(1)
+    change(0, value)
 }
 
 // The writes of a new path, in their order: the new nodes, then the node total, then the link that the walk found empty.
