@@ -1,6 +1,6 @@
 // The answer that C is given, and each call's answer in its numbers. The exported functions stand in `trieff`.
 ghost use mathlib.Core.Path.{_≡_};
-ghost use Rattle.paper.specs.Answers.{refusalNumbers, doneOf, countedOf, lookedOf, storedOf, listedOf, foundOf};
+ghost use Rattle.paper.specs.Answers.{refusalNumbers, doneOf, countedOf, placedOf, lookedOf, storedOf, listedOf, foundOf};
 ghost use Rattle.paper.specs.Hearing.{doneNumbers};
 ghost use Rattle.face.specs.Face.{numbersOf};
 use paper::Counted;
@@ -8,6 +8,7 @@ use paper::Done;
 use paper::Found;
 use paper::Listed;
 use paper::Looked;
+use paper::Placed;
 use paper::Refusal;
 use paper::Stored;
 
@@ -60,6 +61,15 @@ pub fn counted(answer: Counted) -> TrieffAnswer
     match answer {
         Counted::Keys(keys) => told(0, 0, keys as u64),
         Counted::Refused(why) => refused(why),
+    }
+}
+
+pub fn placed(answer: Placed) -> TrieffAnswer
+    ensures { λ r. ⌜ numbersOf r ≡ placedOf answer ⌝ }
+{
+    match answer {
+        Placed::At(position) => told(0, 0, position as u64),
+        Placed::Refused(why) => refused(why),
     }
 }
 

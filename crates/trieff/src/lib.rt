@@ -2,6 +2,7 @@
 // that call's own. A slice comes as a pointer and a length. include/trieff.h declares all of it for C.
 ghost use Rattle.paper.specs.Given.{asLetters, asText};
 ghost use Rattle.paper.specs.Promises.{Makes, Checks, Counts, LooksUp, Stores, StoresWrites, Mends, Nexts};
+ghost use Rattle.position.specs.Promises.{WorksOut, ChecksCounts, StoresCounts, GivesKey, GivesPosition};
 ghost use Rattle.face.specs.Face.{numbersOf};
 use face::TrieffAnswer;
 use head::Head;
@@ -128,4 +129,92 @@ pub extern "C" fn trieff_next_key(
 {
     let answer = checks::next_key(image, work, letters, after, key);
     face::found(answer)
+}
+
+#[no_mangle]
+pub extern "C" fn trieff_counts(image: &[u8], work: &mut [u32], list: &mut [u32]) -> TrieffAnswer
+    ensures { λ r. ⌜ WorksOut (now (image .entry)) (now (work .entry)) (now (list .entry)) (numbersOf r) (now (work .exit)) (now (list .exit)) ⌝ }
+{
+    let answer = counts::counts(image, work, list);
+    face::done(answer)
+}
+
+#[no_mangle]
+pub extern "C" fn trieff_check_counts(
+    image: &[u8],
+    work: &mut [u32],
+    list: &[u32],
+) -> TrieffAnswer
+    ensures { λ r. ⌜ ChecksCounts (now (image .entry)) (now (work .entry)) (now (list .entry)) (numbersOf r) (now (work .exit)) ⌝ }
+{
+    let answer = counts::check_counts(image, work, list);
+    face::done(answer)
+}
+
+#[no_mangle]
+pub extern "C" fn trieff_store_counts(
+    image: &mut [u8],
+    work: &mut [u32],
+    letters: &[u8],
+    value: u32,
+    list: &mut [u32],
+) -> TrieffAnswer
+    ensures { λ r. ⌜ StoresCounts (now (image .entry)) (now (work .entry)) (asLetters (now (letters .entry))) value (now (list .entry)) (numbersOf r) (now (image .exit)) (now (work .exit)) (now (list .exit)) ⌝ }
+{
+    let answer = counts::store_counts(image, work, letters, value, list);
+    face::stored(answer)
+}
+
+#[no_mangle]
+pub extern "C" fn trieff_store_text_counts(
+    image: &mut [u8],
+    work: &mut [u32],
+    text: &[u8],
+    value: u32,
+    list: &mut [u32],
+) -> TrieffAnswer
+    ensures { λ r. ⌜ StoresCounts (now (image .entry)) (now (work .entry)) (asText (now (text .entry))) value (now (list .entry)) (numbersOf r) (now (image .exit)) (now (work .exit)) (now (list .exit)) ⌝ }
+{
+    let answer = counts::store_text_counts(image, work, text, value, list);
+    face::stored(answer)
+}
+
+#[no_mangle]
+pub extern "C" fn trieff_key_at(
+    image: &[u8],
+    work: &mut [u32],
+    list: &[u32],
+    position: u64,
+    key: &mut [u8],
+) -> TrieffAnswer
+    ensures { λ r. ⌜ GivesKey (now (image .entry)) (now (work .entry)) (now (list .entry)) position (now (key .entry)) (numbersOf r) (now (work .exit)) (now (key .exit)) ⌝ }
+{
+    let answer = jumps::key_at(image, work, list, position, key);
+    face::found(answer)
+}
+
+#[no_mangle]
+pub extern "C" fn trieff_position(
+    image: &[u8],
+    work: &mut [u32],
+    list: &[u32],
+    letters: &[u8],
+) -> TrieffAnswer
+    ensures { λ r. ⌜ GivesPosition (now (image .entry)) (now (work .entry)) (now (list .entry)) (asLetters (now (letters .entry))) (numbersOf r) (now (work .exit)) ⌝ }
+{
+    let answer = jumps::position(image, work, list, letters);
+    face::placed(answer)
+}
+
+#[no_mangle]
+pub extern "C" fn trieff_position_text(
+    image: &[u8],
+    work: &mut [u32],
+    list: &[u32],
+    text: &[u8],
+) -> TrieffAnswer
+    ensures { λ r. ⌜ GivesPosition (now (image .entry)) (now (work .entry)) (now (list .entry)) (asText (now (text .entry))) (numbersOf r) (now (work .exit)) ⌝ }
+{
+    let answer = jumps::position_text(image, work, list, text);
+    face::placed(answer)
 }

@@ -1,0 +1,41 @@
+-- `face::placed` meets its contract: each case of the answer has the numbers that are listed for it. Assumes nothing.
+use borrow.Author.Needs.{needs}
+use mathlib.Core.Path.{sym, _∙_, ap}
+use Rattle.paper.specs.Answers.{placedOf}
+use Rattle.face.proofs.placed.Statement.{statement}
+use Rattle.face.proofs.placed.Tie as tie
+
+enum-known-answer : tie.Need-enum-known-answer
+enum-known-answer c = search needs
+
+cast-told : tie.Need-cast-told
+cast-told c = search needs
+
+told-requires : tie.Need-told-requires
+told-requires c κs = search needs
+
+enum-known-answer-2 : tie.Need-enum-known-answer-2
+enum-known-answer-2 c = search needs
+
+refused-requires : tie.Need-refused-requires
+refused-requires c κs = search needs
+
+returns : tie.Need-returns
+unfolding placedOf
+returns c = c .told .ensures ∙ sym (ap placedOf (c .before .before .answer .given .1))
+
+returns-2 : tie.Need-returns-2
+unfolding placedOf
+returns-2 c = c .refused .ensures ∙ sym (ap placedOf (c .before .before .answer2 .given .1))
+
+pub placed-spec : {M : Type 1} → statement M
+placed-spec =
+    tie.close
+    (tie.spec
+    enum-known-answer
+    cast-told
+    told-requires
+    enum-known-answer-2
+    refused-requires
+    returns
+    returns-2)

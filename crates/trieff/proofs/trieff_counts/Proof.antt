@@ -1,0 +1,23 @@
+-- `trieff::trieff_counts` meets its contract: `counts::counts` does, and its answer is listed in numbers. Assumes nothing.
+use borrow.Author.Needs.{needs}
+use Rattle.face.proofs.Face.{by-numbers}
+use Rattle.trieff.proofs.trieff_counts.Statement.{statement}
+use Rattle.trieff.proofs.trieff_counts.Tie as tie
+
+counts-requires : tie.Need-counts-requires
+counts-requires c κs = search needs
+
+done-requires : tie.Need-done-requires
+done-requires c κs = search needs
+
+same-length : tie.Need-same-length
+same-length c = search needs
+
+same-length-2 : tie.Need-same-length-2
+same-length-2 c = search needs
+
+returns : tie.Need-returns
+returns c = by-numbers (c .done .ensures) (c .before .before .before .before .before .counts .ensures)
+
+pub trieff-counts-spec : {M : Type 1} → statement M
+trieff-counts-spec = tie.close (tie.spec counts-requires done-requires same-length same-length-2 returns)
