@@ -235,6 +235,16 @@ fn refusal_5(head: &Head, work_len: usize) -> Result<(), Refusal> {
     refuse_if((work_len as u64) < u64::from(head.g) + 1, 5)
 }
 
+/// "5, in its old place, also if the list is shorter than G+1"
+fn refusal_5_of_counts(head: &Head, counts_len: usize) -> Result<(), Refusal> {
+    refuse_if((counts_len as u64) < u64::from(head.g) + 1, 5)
+}
+
+/// "for a store 5 again, after 13, if the list is shorter than G+k+1"
+fn refusal_5_again(head: &Head, k: u64, counts_len: usize) -> Result<(), Refusal> {
+    refuse_if((counts_len as u64) < u64::from(head.g) + k + 1, 5)
+}
+
 /// "every link that isn't empty is at most G and greater than the address of the node it stands in"
 fn breaks_first_rule(head: &Head, node: u64, link: u64) -> bool {
     link != 0 && (link > u64::from(head.g) || link <= node)
@@ -311,6 +321,12 @@ fn refusal_14(head: &Head, key_len: usize) -> Result<(), Refusal> {
     refuse_if(key_len < head.max as usize, 14)
 }
 
+/// "25, counts differ": the place is the lowest node whose count does. Only for a list of G+1 counts or more.
+fn refusal_25(image: &[u8], head: &Head, counts: &[u32]) -> Result<(), Refusal> {
+    let fresh = fresh_counts(image, head);
+    refuse_at((0..=u64::from(head.g)).find(|node| counts[*node as usize] != fresh[*node as usize]), 25)
+}
+
 // ---- orders that several calls share ----
 
 pub fn one_to_four(image: &[u8]) -> Result<Head, Refusal> {
@@ -322,15 +338,34 @@ pub fn one_to_four(image: &[u8]) -> Result<Head, Refusal> {
     Ok(head)
 }
 
-/// "Once 5 is passed, the first G+1 of them are 0 when the call returns." The model uses no working numbers, so it clears them here.
 pub fn one_to_eight(image: &[u8], work: &mut [u32]) -> Result<Head, Refusal> {
     let head = one_to_four(image)?;
     refusal_5(&head, work.len())?;
+    six_to_eight(image, head, work)
+}
+
+/// Beside a list of counts: its length belongs to 5.
+fn one_to_eight_beside(image: &[u8], work: &mut [u32], counts: &[u32]) -> Result<Head, Refusal> {
+    let head = one_to_four(image)?;
+    refusal_5(&head, work.len())?;
+    refusal_5_of_counts(&head, counts.len())?;
+    six_to_eight(image, head, work)
+}
+
+/// "Once 5 is passed, the first G+1 of them are 0 when the call returns." The model uses no working numbers, so it clears them here.
+fn six_to_eight(image: &[u8], head: Head, work: &mut [u32]) -> Result<Head, Refusal> {
     work[..=head.g as usize].fill(0);
     refusal_6(image, &head)?;
     let standing = standing(image, &head);
     refusal_7(&head, &standing)?;
     refusal_8(&head, &standing)?;
+    Ok(head)
+}
+
+/// "every other call that takes counts, a checking call too, first compares them with fresh ones"
+fn one_to_eight_and_25(image: &[u8], work: &mut [u32], counts: &[u32]) -> Result<Head, Refusal> {
+    let head = one_to_eight_beside(image, work, counts)?;
+    refusal_25(image, &head, counts)?;
     Ok(head)
 }
 
@@ -372,6 +407,28 @@ pub fn stored_keys(image: &[u8], head: &Head) -> Vec<(Vec<u8>, u64)> {
     each_stored_key(image, head, &mut |key, value| keys.push((key.to_vec(), value)));
     keys.sort_by(|(one, _), (other, _)| if comes_before(one, other) { std::cmp::Ordering::Less } else { std::cmp::Ordering::Greater });
     keys
+}
+
+// ---- counts ----
+
+/// "one for each node: how many stored keys lie at or under it", so how many of their walks from the root pass it. Of an accepted image.
+pub fn fresh_counts(image: &[u8], head: &Head) -> Vec<u32> {
+    let mut counts = vec![0; head.g as usize + 1];
+    each_stored_key(image, head, &mut |key, _| {
+        let mut node = 0;
+        counts[node] += 1;
+        for letter in key {
+            node = link(image, head, node as u64, u64::from(*letter)) as usize;
+            counts[node] += 1;
+        }
+    });
+    counts
+}
+
+/// The counts at the front of the list; the rest keeps what it held.
+fn write_counts(counts: &mut [u32], image: &[u8]) {
+    let fresh = fresh_counts(image, &Head::read(image));
+    counts[..fresh.len()].copy_from_slice(&fresh);
 }
 
 // ---- calls ----
@@ -432,8 +489,7 @@ pub fn look_up(image: &[u8], letters: &[u8]) -> Answer {
 
 fn try_look_up(image: &[u8], letters: &[u8]) -> Result<Answer, Refusal> {
     let head = one_to_four(image)?;
-    refusal_9(&head, letters.len())?;
-    refusal_10_of_letters(&head, letters)?;
+    nine_and_ten(&head, letters)?;
     walk(image, &head, letters)
 }
 
@@ -444,8 +500,7 @@ pub fn look_up_text(image: &[u8], text: &[u8]) -> Answer {
 
 fn try_look_up_text(image: &[u8], text: &[u8]) -> Result<Answer, Refusal> {
     let head = one_to_four(image)?;
-    let letters = refusal_10_of_text(image, &head, text)?;
-    refusal_9(&head, letters.len())?;
+    let letters = ten_and_nine(image, &head, text)?;
     walk(image, &head, &letters)
 }
 
@@ -477,9 +532,13 @@ pub fn store_writes(image: &mut [u8], work: &mut [u32], letters: &[u8], value: u
 
 fn before_store(image: &[u8], work: &mut [u32], letters: &[u8]) -> Result<Head, Refusal> {
     let head = one_to_eight(image, work)?;
-    refusal_9(&head, letters.len())?;
-    refusal_10_of_letters(&head, letters)?;
+    nine_and_ten(&head, letters)?;
     Ok(head)
+}
+
+fn nine_and_ten(head: &Head, letters: &[u8]) -> Result<(), Refusal> {
+    refusal_9(head, letters.len())?;
+    refusal_10_of_letters(head, letters)
 }
 
 /// Store by text: 1 to 8, 10, 9, 11, 12, 13.
@@ -494,9 +553,15 @@ pub fn store_text_writes(image: &mut [u8], work: &mut [u32], text: &[u8], value:
 
 fn before_store_text(image: &[u8], work: &mut [u32], text: &[u8]) -> Result<(Head, Vec<u8>), Refusal> {
     let head = one_to_eight(image, work)?;
-    let letters = refusal_10_of_text(image, &head, text)?;
-    refusal_9(&head, letters.len())?;
+    let letters = ten_and_nine(image, &head, text)?;
     Ok((head, letters))
+}
+
+/// "For text, 10 stands before 9." The letters that the text names.
+fn ten_and_nine(image: &[u8], head: &Head, text: &[u8]) -> Result<Vec<u8>, Refusal> {
+    let letters = refusal_10_of_text(image, head, text)?;
+    refusal_9(head, letters.len())?;
+    Ok(letters)
 }
 
 /// How far the key's path goes in an accepted image: the last node and how many letters led there.
@@ -511,15 +576,30 @@ pub fn path(image: &[u8], head: &Head, letters: &[u8]) -> (u64, usize) {
     (node, letters.len())
 }
 
-/// What is left of a store once the check, 9 and 10 are passed: 11, 12, 13, then the writes.
-fn store_at(image: &mut [u8], head: &Head, letters: &[u8], value: u32) -> Result<Answer, Refusal> {
+/// "k is the number of nodes missing on the key's path, but 0 where the value is 0"
+pub fn new_nodes(image: &[u8], head: &Head, letters: &[u8], value: u32) -> u64 {
+    let (_, depth) = path(image, head, letters);
+    if value == 0 {
+        0
+    } else {
+        (letters.len() - depth) as u64
+    }
+}
+
+/// 11, 12, 13 of a store whose key is not refused; k.
+fn eleven_to_thirteen(image: &[u8], head: &Head, letters: &[u8], value: u32) -> Result<u64, Refusal> {
     refusal_11(head, value)?;
-    let (last, depth) = path(image, head, letters);
-    let missing = (letters.len() - depth) as u64;
-    let k = if value == 0 { 0 } else { missing };
+    let k = new_nodes(image, head, letters, value);
     refusal_12(head, k)?;
     refusal_13(head, k, image.len())?;
+    Ok(k)
+}
 
+/// What is left of a store once the check, 9 and 10 are passed: 11, 12, 13, then the writes.
+fn store_at(image: &mut [u8], head: &Head, letters: &[u8], value: u32) -> Result<Answer, Refusal> {
+    let k = eleven_to_thirteen(image, head, letters, value)?;
+    let (last, depth) = path(image, head, letters);
+    let missing = (letters.len() - depth) as u64;
     let before = if missing == 0 { data(image, head, last) } else { 0 };
     if missing == 0 {
         write_data(image, head, last, u64::from(value));
@@ -546,6 +626,15 @@ fn store_and_list(image: &mut [u8], head: &Head, letters: &[u8], value: u32, wri
         pair.copy_from_slice(&[*place as u32, *length as u32]);
     }
     Ok(Answer { length: listed.len() as u32, ..done })
+}
+
+/// The store with counts: 11, 12, 13, 5 again; "the result equals the counts worked out afresh".
+fn store_and_count(image: &mut [u8], head: &Head, letters: &[u8], value: u32, counts: &mut [u32]) -> Result<Answer, Refusal> {
+    let k = eleven_to_thirteen(image, head, letters, value)?;
+    refusal_5_again(head, k, counts.len())?;
+    let done = store_at(image, head, letters, value)?;
+    write_counts(counts, image);
+    Ok(done)
 }
 
 /// Where the writes of a store go and how many bytes each has: "first the new nodes, one write each by rising address, then G, then the old
@@ -587,6 +676,80 @@ fn try_next_key(image: &[u8], work: &mut [u32], letters: &[u8], after: bool, key
     let (found, value) = first.ok_or(Refusal { number: 15, place: 0 })?;
     key[..found.len()].copy_from_slice(&found);
     Ok(Answer { length: found.len() as u32, value, ..Answer::default() })
+}
+
+// ---- calls with counts ----
+
+/// Work out counts: 1 to 8, with 5 for either list.
+pub fn counts(image: &[u8], work: &mut [u32], counts: &mut [u32]) -> Answer {
+    answer(one_to_eight_beside(image, work, counts).map(|_| {
+        write_counts(counts, image);
+        Answer::default()
+    }))
+}
+
+/// Check with counts: 1 to 8, 25.
+pub fn check_counts(image: &[u8], work: &mut [u32], counts: &[u32]) -> Answer {
+    answer(one_to_eight_and_25(image, work, counts).map(|_| Answer::default()))
+}
+
+/// Store with counts by letters: 1 to 8, 25, 9, 10, 11, 12, 13, 5 again.
+pub fn store_counts(image: &mut [u8], work: &mut [u32], letters: &[u8], value: u32, counts: &mut [u32]) -> Answer {
+    answer(try_store_counts(image, work, letters, value, counts))
+}
+
+fn try_store_counts(image: &mut [u8], work: &mut [u32], letters: &[u8], value: u32, counts: &mut [u32]) -> Result<Answer, Refusal> {
+    let head = one_to_eight_and_25(image, work, counts)?;
+    nine_and_ten(&head, letters)?;
+    store_and_count(image, &head, letters, value, counts)
+}
+
+/// Store with counts by text: 1 to 8, 25, 10, 9, 11, 12, 13, 5 again.
+pub fn store_text_counts(image: &mut [u8], work: &mut [u32], text: &[u8], value: u32, counts: &mut [u32]) -> Answer {
+    answer(try_store_text_counts(image, work, text, value, counts))
+}
+
+fn try_store_text_counts(image: &mut [u8], work: &mut [u32], text: &[u8], value: u32, counts: &mut [u32]) -> Result<Answer, Refusal> {
+    let head = one_to_eight_and_25(image, work, counts)?;
+    let letters = ten_and_nine(image, &head, text)?;
+    store_and_count(image, &head, &letters, value, counts)
+}
+
+/// Key at a position: 1 to 8, 25, 14, 15.
+pub fn key_at(image: &[u8], work: &mut [u32], counts: &[u32], position: u64, key: &mut [u8]) -> Answer {
+    answer(try_key_at(image, work, counts, position, key))
+}
+
+fn try_key_at(image: &[u8], work: &mut [u32], counts: &[u32], position: u64, key: &mut [u8]) -> Result<Answer, Refusal> {
+    let head = one_to_eight_and_25(image, work, counts)?;
+    refusal_14(&head, key.len())?;
+    let keys = stored_keys(image, &head);
+    refuse_if(position >= keys.len() as u64, 15)?;
+    let (found, value) = &keys[position as usize];
+    key[..found.len()].copy_from_slice(found);
+    Ok(Answer { length: found.len() as u32, value: *value, ..Answer::default() })
+}
+
+/// Position of a key by letters: 1 to 8, 25, 9, 10, 15.
+pub fn position(image: &[u8], work: &mut [u32], counts: &[u32], letters: &[u8]) -> Answer {
+    answer(one_to_eight_and_25(image, work, counts).and_then(|head| {
+        nine_and_ten(&head, letters)?;
+        position_of(image, &head, letters)
+    }))
+}
+
+/// Position of a key by text: 1 to 8, 25, 10, 9, 15.
+pub fn position_text(image: &[u8], work: &mut [u32], counts: &[u32], text: &[u8]) -> Answer {
+    answer(one_to_eight_and_25(image, work, counts).and_then(|head| {
+        let letters = ten_and_nine(image, &head, text)?;
+        position_of(image, &head, &letters)
+    }))
+}
+
+fn position_of(image: &[u8], head: &Head, letters: &[u8]) -> Result<Answer, Refusal> {
+    let keys = stored_keys(image, head);
+    let position = keys.iter().position(|(key, _)| key == letters).ok_or(Refusal { number: 15, place: 0 })?;
+    Ok(Answer { value: position as u64, ..Answer::default() })
 }
 
 // ---- the listing program ----

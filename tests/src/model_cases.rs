@@ -2,6 +2,9 @@
 
 use super::*;
 
+#[path = "count_cases.rs"]
+mod counted;
+
 /// Bytes from hexadecimal; spaces are for the reader.
 fn hex(text: &str) -> Vec<u8> {
     let digits: Vec<u8> = text.chars().filter_map(|c| c.to_digit(16)).map(|digit| digit as u8).collect();
@@ -315,17 +318,24 @@ fn listing_of_the_small_file() {
     assert_eq!(listing(&with_room(p3(), LONGEST_INPUT + 1)), "refused 1 at 0\n");
 }
 
+/// Keys of 1 to 4 letters A, B and C, some of them more than once.
+fn some_keys(many: usize) -> Vec<Vec<u8>> {
+    let mut seed = 1u32;
+    let mut key = || {
+        seed = seed.wrapping_mul(1_664_525).wrapping_add(1_013_904_223);
+        let length = 1 + (seed >> 10) as usize % 4;
+        (0..length).map(|i| ((seed >> (12 + 2 * i)) % 3) as u8).collect()
+    };
+    (0..many).map(|_| key()).collect()
+}
+
 #[test]
 fn changes_add_up_to_the_number_of_keys() {
     let mut image = vec![0xEE; 5_000];
     make(&mut image, 3, 2, 2, b"ABC", 1, 4);
     let mut sum = 0;
-    let mut seed = 1u32;
-    for _ in 0..500 {
-        seed = seed.wrapping_mul(1_664_525).wrapping_add(1_013_904_223);
-        let length = 1 + (seed >> 10) as usize % 4;
-        let letters: Vec<u8> = (0..length).map(|i| ((seed >> (12 + 2 * i)) % 3) as u8).collect();
-        sum += store(&mut image, &mut [7; 400], &letters, (seed >> 28) % 3).change;
+    for (i, letters) in some_keys(500).iter().enumerate() {
+        sum += store(&mut image, &mut [7; 400], letters, i as u32 * 7 / 3 % 3).change;
         assert_eq!(count(&image, &mut [7; 400]).value, sum as u64);
     }
     assert!(sum > 20);
