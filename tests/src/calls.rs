@@ -3,6 +3,7 @@
 //! To add a call: a variant of `Call`, its row in `KINDS`, an arm in `ask_model` and in `ask_library`, and a choice in `cases::Case::draw`.
 
 use crate::model::{self, Answer, WRITES};
+use crate::positions;
 use trieff::raw;
 
 /// A call without the memory lent to it. What it is given to read (alphabet, letters or text) is lent memory too.
@@ -19,6 +20,13 @@ pub enum Call {
     StoreTextWrites { value: u32 },
     Mend,
     NextKey { after: bool },
+    Counts,
+    CheckCounts,
+    StoreCounts { value: u32 },
+    StoreTextCounts { value: u32 },
+    KeyAt { position: u64 },
+    Position,
+    PositionText,
 }
 
 pub struct Kind {
@@ -29,7 +37,7 @@ pub struct Kind {
     pub numbers: &'static [u32],
 }
 
-pub const KINDS: [Kind; 11] = [
+pub const KINDS: [Kind; 18] = [
     Kind { name: "make", given: "alphabet", numbers: &[0, 1, 2, 3, 4] },
     Kind { name: "check", given: "nothing", numbers: &[0, 1, 2, 3, 4, 5, 6, 7, 8] },
     Kind { name: "count", given: "nothing", numbers: &[0, 1, 2, 3, 4, 5, 6, 7, 8] },
@@ -41,10 +49,17 @@ pub const KINDS: [Kind; 11] = [
     Kind { name: "store_text_writes", given: "text", numbers: &[0, 1, 2, 3, 4, 5, 6, 7, 8, 9, 10, 11, 12, 13] },
     Kind { name: "mend", given: "nothing", numbers: &[0, 1, 2, 3, 4, 5, 6, 7, 8] },
     Kind { name: "next_key", given: "letters", numbers: &[0, 1, 2, 3, 4, 5, 6, 7, 8, 9, 10, 14, 15] },
+    Kind { name: "counts", given: "nothing", numbers: &[0, 1, 2, 3, 4, 5, 6, 7, 8] },
+    Kind { name: "check_counts", given: "nothing", numbers: &[0, 1, 2, 3, 4, 5, 6, 7, 8, 25] },
+    Kind { name: "store_counts", given: "letters", numbers: &[0, 1, 2, 3, 4, 5, 6, 7, 8, 9, 10, 11, 12, 13, 25] },
+    Kind { name: "store_text_counts", given: "text", numbers: &[0, 1, 2, 3, 4, 5, 6, 7, 8, 9, 10, 11, 12, 13, 25] },
+    Kind { name: "key_at", given: "nothing", numbers: &[0, 1, 2, 3, 4, 5, 6, 7, 8, 14, 15, 25] },
+    Kind { name: "position", given: "letters", numbers: &[0, 1, 2, 3, 4, 5, 6, 7, 8, 9, 10, 15, 25] },
+    Kind { name: "position_text", given: "text", numbers: &[0, 1, 2, 3, 4, 5, 6, 7, 8, 9, 10, 15, 25] },
 ];
 
 /// One more than the greatest refusal.
-pub const NUMBERS: usize = 16;
+pub const NUMBERS: usize = 26;
 
 impl Call {
     /// Its row in `KINDS`.
@@ -61,17 +76,39 @@ impl Call {
             Call::StoreTextWrites { .. } => 8,
             Call::Mend => 9,
             Call::NextKey { .. } => 10,
+            Call::Counts => 11,
+            Call::CheckCounts => 12,
+            Call::StoreCounts { .. } => 13,
+            Call::StoreTextCounts { .. } => 14,
+            Call::KeyAt { .. } => 15,
+            Call::Position => 16,
+            Call::PositionText => 17,
         }
     }
 
     /// The value that a store is given.
     pub fn stored(&self) -> Option<u32> {
         match *self {
-            Call::Store { value } | Call::StoreText { value } | Call::StoreWrites { value } | Call::StoreTextWrites { value } => {
-                Some(value)
-            }
+            Call::Store { value } | Call::StoreText { value } => Some(value),
+            Call::StoreWrites { value } | Call::StoreTextWrites { value } => Some(value),
+            Call::StoreCounts { value } | Call::StoreTextCounts { value } => Some(value),
             _ => None,
         }
+    }
+
+    /// Whether it is lent a list of counts.
+    pub fn takes_counts(&self) -> bool {
+        self.kind() >= Call::Counts.kind()
+    }
+
+    /// Whether it compares the counts lent with fresh ones.
+    pub fn compares_counts(&self) -> bool {
+        self.takes_counts() && *self != Call::Counts
+    }
+
+    /// A store with counts, by letters or by text.
+    pub fn stores_counts(&self) -> bool {
+        self.takes_counts() && self.stored().is_some()
     }
 
     /// How many numbers it is lent for its list of writes.
@@ -90,10 +127,11 @@ pub struct Lent<'a> {
     pub key: &'a mut [u8],
     pub work: &'a mut [u32],
     pub writes: &'a mut [u32],
+    pub counts: &'a mut [u32],
 }
 
 pub fn ask_model(call: Call, lent: Lent) -> Answer {
-    let Lent { image, given, key, work, writes } = lent;
+    let Lent { image, given, key, work, writes, counts } = lent;
     match call {
         Call::Make { n, a, d, min, max } => model::make(image, n, a, d, given, min, max),
         Call::Check => model::check(image, work),
@@ -106,6 +144,13 @@ pub fn ask_model(call: Call, lent: Lent) -> Answer {
         Call::StoreTextWrites { value } => model::store_text_writes(image, work, given, value, writes),
         Call::Mend => model::mend(image, work),
         Call::NextKey { after } => model::next_key(image, work, given, after, key),
+        Call::Counts => model::counts(image, work, counts),
+        Call::CheckCounts => model::check_counts(image, work, counts),
+        Call::StoreCounts { value } => model::store_counts(image, work, given, value, counts),
+        Call::StoreTextCounts { value } => model::store_text_counts(image, work, given, value, counts),
+        Call::KeyAt { position } => model::key_at(image, work, counts, position, key),
+        Call::Position => model::position(image, work, counts, given),
+        Call::PositionText => model::position_text(image, work, counts, given),
     }
 }
 
@@ -117,11 +162,13 @@ pub struct Pointers {
     pub key: (*mut u8, usize),
     pub work: (*mut u32, usize),
     pub writes: *mut u32,
+    pub counts: (*mut u32, usize),
 }
 
-/// Safe where the five pieces of memory are there, each its own.
+/// Safe where the six pieces of memory are there, each its own.
 pub unsafe fn ask_library(call: Call, lent: &Pointers) -> Answer {
     let ((image, image_len), (given, given_len), (work, work_len)) = (lent.image, lent.given, lent.work);
+    let ((counts, counts_len), (key, key_len)) = (lent.counts, lent.key);
     let raw::TrieffAnswer { number, place, length, change, value } = match call {
         Call::Make { n, a, d, min, max } => raw::trieff_make(image, image_len, n, a, d, given, given_len, min, max),
         Call::Check => raw::trieff_check(image, image_len, work, work_len),
@@ -135,7 +182,18 @@ pub unsafe fn ask_library(call: Call, lent: &Pointers) -> Answer {
             raw::trieff_store_text_writes(image, image_len, work, work_len, given, given_len, value, lent.writes)
         }
         Call::Mend => raw::trieff_mend(image, image_len, work, work_len),
-        Call::NextKey { after } => raw::trieff_next_key(image, image_len, work, work_len, given, given_len, after, lent.key.0, lent.key.1),
+        Call::NextKey { after } => raw::trieff_next_key(image, image_len, work, work_len, given, given_len, after, key, key_len),
+        Call::Counts => positions::trieff_counts(image, image_len, work, work_len, counts, counts_len),
+        Call::CheckCounts => positions::trieff_check_counts(image, image_len, work, work_len, counts, counts_len),
+        Call::StoreCounts { value } => {
+            positions::trieff_store_counts(image, image_len, work, work_len, given, given_len, value, counts, counts_len)
+        }
+        Call::StoreTextCounts { value } => {
+            positions::trieff_store_text_counts(image, image_len, work, work_len, given, given_len, value, counts, counts_len)
+        }
+        Call::KeyAt { position } => positions::trieff_key_at(image, image_len, work, work_len, counts, counts_len, position, key, key_len),
+        Call::Position => positions::trieff_position(image, image_len, work, work_len, counts, counts_len, given, given_len),
+        Call::PositionText => positions::trieff_position_text(image, image_len, work, work_len, counts, counts_len, given, given_len),
     };
     Answer { number, place, length, change, value }
 }

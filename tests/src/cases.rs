@@ -3,10 +3,11 @@
 use crate::calls::Call;
 use crate::damage::damage;
 use crate::keys;
-use crate::model::{Answer, Head, LONGEST_IMAGE};
+use crate::lists;
+use crate::model::{self, Answer, Head, LONGEST_IMAGE};
 use crate::rng::Rng;
 use crate::shapes::{self, Shape};
-use crate::twins::Asked;
+use crate::twins::{Arena, Asked};
 
 /// How a case goes.
 #[derive(Clone, Copy, PartialEq)]
@@ -15,6 +16,8 @@ enum Sort {
     Usual,
     /// A make, then stores more than other calls.
     Fresh,
+    /// Calls with counts more than others, mostly with the list that the one before left.
+    Counted,
     /// Makes alone, at every limit.
     Makes,
     /// 16,777,216 bytes, one less or one more: a few calls, for they are slow.
@@ -33,6 +36,12 @@ pub struct Case {
     rng: Rng,
     image: Vec<u8>,
     given: Vec<u8>,
+    /// The letters that `given` was made from.
+    letters: Vec<u8>,
+    /// The list of counts that the call is lent.
+    counts: Vec<u32>,
+    /// The list that the last call left that wrote one.
+    kept: Vec<u32>,
     sort: Sort,
     shape: Shape,
     /// The image from before it was damaged.
@@ -52,6 +61,7 @@ impl Case {
             131..=180 => rubbish(&mut rng),
             181..=600 => full_of_one_byte(&mut rng),
             601..=1_100 => fresh(&mut rng),
+            1_101..=1_700 => counted(&mut rng),
             _ => tree(&mut rng),
         };
         let calls = match sort {
@@ -59,7 +69,20 @@ impl Case {
             _ if image.len() > 100_000 => 12,
             _ => rng.between(24, 60),
         };
-        Case { rng, image, given: Vec::new(), sort, shape, whole: None, last_found: Vec::new(), asked: 0, calls }
+        Case {
+            rng,
+            image,
+            given: Vec::new(),
+            letters: Vec::new(),
+            counts: Vec::new(),
+            kept: Vec::new(),
+            sort,
+            shape,
+            whole: None,
+            last_found: Vec::new(),
+            asked: 0,
+            calls,
+        }
     }
 
     /// The next call, or nothing at the end of the case.
@@ -70,22 +93,33 @@ impl Case {
         self.asked += 1;
         self.damage_or_restore();
         let call = self.draw();
-        Some(Step { call, key_len: self.draw_key_len(), work_len: self.draw_work_len() })
+        let call = self.beside_counts(call);
+        Some(Step { call, key_len: self.draw_key_len(), work_len: self.draw_work_len(call) })
     }
 
     /// The call that was drawn last, with what it is lent.
     pub fn asked(&self, step: &Step) -> Asked<'_> {
-        Asked { call: step.call, image: &self.image, given: &self.given, key_len: step.key_len, work_len: step.work_len }
+        Asked {
+            call: step.call,
+            image: &self.image,
+            given: &self.given,
+            key_len: step.key_len,
+            work_len: step.work_len,
+            counts: &self.counts,
+        }
     }
 
     /// The case goes on from what the call left.
-    pub fn learn(&mut self, call: Call, answer: &Answer, image: &[u8], key: &[u8]) {
+    pub fn learn(&mut self, call: Call, answer: &Answer, left: &Arena) {
         if answer.number > 0 {
             return;
         }
-        self.image.copy_from_slice(image);
-        if let Call::NextKey { .. } = call {
-            self.last_found = key[..answer.length as usize].to_vec();
+        self.image.copy_from_slice(left.image());
+        if let Call::NextKey { .. } | Call::KeyAt { .. } = call {
+            self.last_found = left.key()[..answer.length as usize].to_vec();
+        }
+        if call == Call::Counts || call.stores_counts() {
+            self.kept = left.counts().to_vec();
         }
     }
 
@@ -93,7 +127,7 @@ impl Case {
     fn damage_or_restore(&mut self) {
         let often = match self.sort {
             Sort::Makes => return,
-            Sort::Huge => 8,
+            Sort::Huge | Sort::Counted => 8,
             Sort::Fresh => 5,
             Sort::Usual => 3,
         };
@@ -114,6 +148,7 @@ impl Case {
     /// The call, and in `given` what it is given.
     fn draw(&mut self) -> Call {
         self.given.clear();
+        self.letters.clear();
         if self.sort == Sort::Makes {
             self.draw_make_limits();
         }
@@ -122,9 +157,11 @@ impl Case {
             Sort::Makes => 0,
             _ if make_first => 0,
             Sort::Fresh if self.rng.one_in(2) => self.rng.between(12, 19),
-            Sort::Huge => self.rng.between(1, 26),
+            Sort::Counted if self.asked == 1 => 27,
+            Sort::Counted if self.rng.below(4) > 0 => self.rng.pick(&COUNTED_RUN),
+            Sort::Huge => self.rng.between(1, 44),
             _ if self.rng.one_in(60) => 0,
-            _ => self.rng.between(1, 26),
+            _ => self.rng.between(1, 44),
         };
         match choice {
             0 => self.draw_make(),
@@ -141,19 +178,85 @@ impl Case {
                 self.with_text(if choice < 18 { Call::StoreText { value } } else { Call::StoreTextWrites { value } })
             }
             20..=21 => Call::Mend,
-            _ => self.draw_next_key(),
+            22..=26 => self.draw_next_key(),
+            27..=28 => Call::Counts,
+            29..=30 => Call::CheckCounts,
+            31..=34 => {
+                let value = keys::value(&mut self.rng, &self.image);
+                self.with_letters(Call::StoreCounts { value })
+            }
+            35..=37 => {
+                let value = keys::value(&mut self.rng, &self.image);
+                self.with_text(Call::StoreTextCounts { value })
+            }
+            38..=40 => Call::KeyAt { position: 0 },
+            41..=42 => self.with_letters(Call::Position),
+            _ => self.with_text(Call::PositionText),
         }
     }
 
     fn with_letters(&mut self, call: Call) -> Call {
-        self.given = keys::letters(&mut self.rng, &self.image, &self.last_found);
+        self.letters = keys::letters(&mut self.rng, &self.image, &self.last_found);
+        self.given = self.letters.clone();
         call
     }
 
     fn with_text(&mut self, call: Call) -> Call {
-        let letters = keys::letters(&mut self.rng, &self.image, &self.last_found);
-        self.given = keys::text(&mut self.rng, &self.shape.alphabet, &letters);
+        self.letters = keys::letters(&mut self.rng, &self.image, &self.last_found);
+        self.given = keys::text(&mut self.rng, &self.shape.alphabet, &self.letters);
         call
+    }
+
+    /// Draws the list of counts for a call that takes one, and the position where it is given one.
+    fn beside_counts(&mut self, call: Call) -> Call {
+        self.counts.clear();
+        if !call.takes_counts() {
+            return call;
+        }
+        let right = lists::right(&self.image);
+        let keys = right.as_ref().map_or(3, |counts| u64::from(counts[0]));
+        self.draw_counts(call, right);
+        match call {
+            Call::KeyAt { .. } => Call::KeyAt { position: self.draw_position(keys) },
+            _ => call,
+        }
+    }
+
+    /// Right, wrong in one way, kept, or rubbish; in a length that is drawn by itself.
+    fn draw_counts(&mut self, call: Call, right: Option<Vec<u32>>) {
+        let k = right.as_ref().map_or(0, |_| self.new_nodes(call));
+        let len = self.draw_counts_len(k);
+        let keeps = self.sort == Sort::Counted && self.rng.below(8) > 0;
+        let sort = self.rng.below(12);
+        let counts = match right {
+            _ if keeps || sort == 0 => self.kept.clone(),
+            Some(right) if sort < 8 => right,
+            Some(mut right) if sort < 11 => {
+                lists::spoil(&mut self.rng, &self.image, &mut right);
+                right
+            }
+            _ => Vec::new(),
+        };
+        self.counts = lists::of_length(&mut self.rng, counts, len);
+    }
+
+    /// The k of a store in an accepted image; 0 of other calls, and where a letter is bad.
+    fn new_nodes(&self, call: Call) -> usize {
+        let head = Head::read(&self.image);
+        match call.stored() {
+            Some(value) if self.letters.iter().all(|letter| u32::from(*letter) < head.n) => {
+                model::new_nodes(&self.image, &head, &self.letters, value) as usize
+            }
+            _ => 0,
+        }
+    }
+
+    /// 0, the last, the number of keys, past that, and some that are 0 in 32 bits.
+    fn draw_position(&mut self, keys: u64) -> u64 {
+        let any = self.rng.below(keys);
+        let wraps = (1 + self.rng.below(3)) << 32 | any;
+        let last = keys.saturating_sub(1);
+        self.rng.pick(&[0, any, any, any, last, last, keys, keys + 1, wraps, u64::MAX])
     }
 
     /// At times from the key found last, or from the empty key: the listing.
@@ -225,13 +328,36 @@ impl Case {
         }
     }
 
-    fn draw_work_len(&mut self) -> usize {
+    /// G as far as it matters: where G+1 is above this, 4 comes before 5.
+    fn g(&self) -> usize {
         let g = if self.image.len() < 28 { 3 } else { Head::read(&self.image).g as usize };
-        // where G+1 is above this, 4 comes before 5
-        let g = g.min(self.image.len() / 2 + 1);
+        g.min(self.image.len() / 2 + 1)
+    }
+
+    /// Around G+1 and, for a store that adds k nodes, around G+k+1.
+    fn draw_counts_len(&mut self, k: usize) -> usize {
+        let g = self.g();
+        let more = self.rng.below(6) as usize;
+        let fewer = self.rng.below(g as u64 + 1) as usize;
+        match self.rng.below(24) {
+            0 => 0,
+            1 => g,
+            2 => fewer,
+            3..=4 => g + 1,
+            5..=6 => g + k,
+            7..=12 => g + k + 1,
+            13..=18 => g + k + 1 + more,
+            _ => g + 1 + 64 + more,
+        }
+    }
+
+    fn draw_work_len(&mut self, call: Call) -> usize {
+        let g = self.g();
         let more = self.rng.below(6) as usize;
         let fewer = self.rng.below(g as u64 + 1) as usize;
         match self.rng.below(20) {
+            // a list of counts may be short as well, and should not always be
+            0..=3 if call.takes_counts() && self.rng.below(3) > 0 => g + 1,
             0 => 0,
             1..=2 => g,
             3 => fewer,
@@ -252,6 +378,10 @@ impl Case {
     }
 }
 
+/// The choices of `draw` in a run of calls with counts: stores most, then the others, and a store
+/// or a mend after which the counts are to be worked out afresh.
+const COUNTED_RUN: [u64; 16] = [31, 32, 33, 34, 35, 36, 37, 31, 35, 38, 38, 41, 43, 29, 27, 20];
+
 // ---- how the cases begin ----
 
 fn tree(rng: &mut Rng) -> (Sort, Shape, Vec<u8>) {
@@ -267,6 +397,15 @@ fn fresh(rng: &mut Rng) -> (Sort, Shape, Vec<u8>) {
     let spare = shape.draw_spare(rng) + shape.draw_spare(rng) + shape.draw_spare(rng);
     let image = rng.rubbish(shape.head.u() as usize + spare);
     (Sort::Fresh, shape, image)
+}
+
+/// A tree with room for more, to store with counts.
+fn counted(rng: &mut Rng) -> (Sort, Shape, Vec<u8>) {
+    let (_, shape, mut image) = tree(rng);
+    let spare = shape.draw_spare(rng) + shape.draw_spare(rng);
+    let rubbish = rng.rubbish(spare);
+    image.extend(rubbish);
+    (Sort::Counted, shape, image)
 }
 
 fn makes(rng: &mut Rng) -> (Sort, Shape, Vec<u8>) {

@@ -81,6 +81,7 @@ fn has_text(key: &Key) -> bool {
 struct Reader {
     work: Vec<u32>,
     key: [u8; 64],
+    counts: Vec<u32>,
 }
 
 impl Reader {
@@ -91,6 +92,7 @@ impl Reader {
             key: (self.key.as_mut_ptr(), self.key.len()),
             work: (self.work.as_mut_ptr(), self.work.len()),
             writes: NonNull::dangling().as_ptr(),
+            counts: (self.counts.as_mut_ptr(), self.counts.len()),
         };
         unsafe { ask_library(call, &lent) }
     }
@@ -141,14 +143,14 @@ struct Worker {
 
 impl Worker {
     fn new(seed: u64, saboteur: Option<&'static Saboteur>) -> Worker {
-        let reader = Reader { work: Vec::new(), key: [0; 64] };
+        let reader = Reader { work: Vec::new(), key: [0; 64], counts: Vec::new() };
         Worker { twins: Twins::default(), rng: Rng::new(seed), reader, saboteur, done: Tried::default() }
     }
 
     /// A call compared with the model, with enough working numbers.
     fn ask(&mut self, call: Call, image: &[u8], given: &[u8]) -> Result<Answer, String> {
         let work_len = Head::read(image).g as usize + 1 + self.rng.below(2) as usize;
-        let asked = Asked { call, image, given, key_len: 0, work_len };
+        let asked = Asked { call, image, given, key_len: 0, work_len, counts: &[] };
         let outcome = self.twins.ask(&asked, &mut self.rng, self.saboteur);
         match outcome.difference {
             Some(_) if self.saboteur.is_none() => Err(report::asked(&asked) + &report::outcome(&outcome)),

@@ -92,7 +92,12 @@ struct Worker {
 
 impl Worker {
     fn ask(&mut self, call: Call, image: &[u8], given: &[u8], key_len: usize, work_len: usize) -> u32 {
-        let asked = Asked { call, image, given, key_len, work_len };
+        self.ask_beside(call, image, given, key_len, work_len, &[])
+    }
+
+    /// With a list of counts.
+    fn ask_beside(&mut self, call: Call, image: &[u8], given: &[u8], key_len: usize, work_len: usize, counts: &[u32]) -> u32 {
+        let asked = Asked { call, image, given, key_len, work_len, counts };
         let outcome = self.twins.ask(&asked, &mut self.rng, None);
         self.done.calls += 1;
         if outcome.difference.is_some() && self.done.failed < ENOUGH {

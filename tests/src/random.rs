@@ -47,18 +47,27 @@ impl Tally {
         }
     }
 
+    /// The numbers that some call may give, or gave.
+    fn columns(&self) -> Vec<usize> {
+        let allowed = |number: usize| KINDS.iter().any(|kind| kind.numbers.contains(&(number as u32)));
+        let met = |number: usize| self.numbers.iter().any(|met| met[number] > 0);
+        (0..NUMBERS).filter(|number| allowed(*number) || met(*number)).collect()
+    }
+
     /// Prints the tables; true if all that is allowed was met often, and nothing else.
     pub fn print(&self) -> bool {
         let mut good = true;
         println!("answers by call and number:");
+        let columns = self.columns();
         print!("{:18}", "");
-        (0..NUMBERS).for_each(|number| print!("{number:>8}"));
+        columns.iter().for_each(|number| print!("{number:>8}"));
         println!();
         for (kind, met) in KINDS.iter().zip(&self.numbers) {
             print!("{:18}", kind.name);
-            for (number, times) in met.iter().enumerate() {
-                let allowed = kind.numbers.contains(&(number as u32));
-                let fault = allowed != (*times >= OFTEN) && (allowed || *times > 0);
+            for number in &columns {
+                let times = met[*number];
+                let allowed = kind.numbers.contains(&(*number as u32));
+                let fault = allowed != (times >= OFTEN) && (allowed || times > 0);
                 good &= !fault;
                 print!(
                     "{:>8}",
@@ -99,7 +108,7 @@ fn run_case(seed: u64, twins: &mut Twins, tally: &mut Tally, saboteur: Option<&S
             return Err(format!("seed {seed}, call {number} of the case: {told}    replay with: tests/replay {seed}\n"));
         }
         tally.see(&Seen { asked, answer: outcome.model });
-        case.learn(step.call, &outcome.model, twins.model.image(), twins.model.key());
+        case.learn(step.call, &outcome.model, &twins.model);
     }
     tally.cases += 1;
     Ok(())
@@ -175,7 +184,7 @@ pub fn replay(seed: u64) -> bool {
             say(&format!("the image as the library leaves it:\n{}", report::hex_lines(twins.library.image())));
             return false;
         }
-        case.learn(step.call, &outcome.model, twins.model.image(), twins.model.key());
+        case.learn(step.call, &outcome.model, &twins.model);
     }
     say(&format!("seed {seed}: {number} calls, model and library agree\n"));
     true

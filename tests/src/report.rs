@@ -5,8 +5,9 @@ use crate::model::Answer;
 use crate::twins::{Asked, Outcome};
 use std::io::Write;
 
-/// Longer images are printed only so far.
+/// Longer images, and longer lists of counts, are printed only so far.
 const PRINTED: usize = 65_536;
+const PRINTED_COUNTS: usize = 300;
 
 /// Prints; a reader who has seen enough ends the program.
 pub fn say(text: &str) {
@@ -39,17 +40,25 @@ pub fn asked(asked: &Asked) -> String {
     let own = match asked.call {
         Call::Make { n, a, d, min, max } => format!(", n {n}, a {a}, d {d}, min {min}, max {max}"),
         Call::NextKey { after } => format!(", {}, key buffer of {}", if after { "after" } else { "at or after" }, asked.key_len),
+        Call::KeyAt { position } => format!(", position {position}, key buffer of {}", asked.key_len),
         _ => asked.call.stored().map_or(String::new(), |value| format!(", value {value}")),
     };
-    let given = match asked.call {
-        Call::Check | Call::Count | Call::Mend => String::new(),
+    let given = match kind.given {
+        "nothing" => String::new(),
         _ => format!(", {} of {} bytes [{}]", kind.given, asked.given.len(), hex(asked.given)),
     };
     let work = match asked.call {
         Call::Make { .. } | Call::LookUp | Call::LookUpText => String::new(),
         _ => format!(", {} working numbers", asked.work_len),
     };
-    format!("trieff_{}: image of {} bytes{work}{given}{own}\n", kind.name, asked.image.len())
+    let counts = if asked.call.takes_counts() { counts(asked.counts) } else { String::new() };
+    format!("trieff_{}: image of {} bytes{work}{counts}{given}{own}\n", kind.name, asked.image.len())
+}
+
+fn counts(counts: &[u32]) -> String {
+    let shown: Vec<String> = counts.iter().take(PRINTED_COUNTS).map(u32::to_string).collect();
+    let more = if counts.len() > PRINTED_COUNTS { ".." } else { "" };
+    format!(", {} counts [{}{more}]", counts.len(), shown.join(" "))
 }
 
 fn answer(answer: &Answer) -> String {

@@ -8,6 +8,7 @@ use crate::saboteurs::{Saboteur, Spoiled};
 use std::ops::Range;
 
 /// A call with what it is lent; key buffer and working numbers are given by their lengths, for they hold rubbish, as does a list of writes.
+/// The counts are empty where the call takes none.
 #[derive(Clone, Copy)]
 pub struct Asked<'a> {
     pub call: Call,
@@ -15,9 +16,10 @@ pub struct Asked<'a> {
     pub given: &'a [u8],
     pub key_len: usize,
     pub work_len: usize,
+    pub counts: &'a [u32],
 }
 
-/// Guard, image, guard, given, guard, key buffer, guard; and guard, working numbers, guard, list of writes, guard.
+/// Guard, image, guard, given, guard, key buffer, guard; and guard, working numbers, guard, list of writes, guard, counts, guard.
 #[derive(Clone, Default)]
 pub struct Arena {
     pub bytes: Vec<u8>,
@@ -27,6 +29,7 @@ pub struct Arena {
     pub key: Range<usize>,
     pub work: Range<usize>,
     pub writes: Range<usize>,
+    pub counts: Range<usize>,
 }
 
 impl Arena {
@@ -56,6 +59,17 @@ impl Arena {
         rng.fill(&mut self.bytes[start..]);
         self.guard(rng);
         self.lay_words(asked.work_len, asked.call.writes_len(), rng);
+        self.lay_counts(asked.counts, rng);
+    }
+
+    /// After the guard of the list of writes. The guard behind them is of numbers that look like
+    /// counts, or of any.
+    fn lay_counts(&mut self, counts: &[u32], rng: &mut Rng) {
+        let start = self.words.len();
+        self.counts = start..start + counts.len();
+        self.words.extend_from_slice(counts);
+        let rubbish = rng.next();
+        self.words.extend_from_slice(&[1, rubbish as u32, (rubbish >> 32) as u32]);
     }
 
     /// Rubbish of three sorts: any, small numbers that look like counts, and one that looks like neither. In the list of writes it rises by
@@ -81,18 +95,21 @@ impl Arena {
         self.key = other.key.clone();
         self.work = other.work.clone();
         self.writes = other.writes.clone();
+        self.counts = other.counts.clone();
     }
 
     fn lent(&mut self) -> Lent<'_> {
         let (front, key) = self.bytes.split_at_mut(self.key.start);
         let (front, given) = front.split_at_mut(self.given.start);
-        let (work, writes) = self.words.split_at_mut(self.writes.start);
+        let (words, counts) = self.words.split_at_mut(self.counts.start);
+        let (work, writes) = words.split_at_mut(self.writes.start);
         Lent {
             image: &mut front[self.image.clone()],
             given: &given[..self.given.len()],
             key: &mut key[..self.key.len()],
             work: &mut work[self.work.clone()],
             writes: &mut writes[..self.writes.len()],
+            counts: &mut counts[..self.counts.len()],
         }
     }
 
@@ -106,6 +123,7 @@ impl Arena {
             key: piece(&self.key),
             work: (unsafe { words.add(self.work.start) }, self.work.len()),
             writes: unsafe { words.add(self.writes.start) },
+            counts: (unsafe { words.add(self.counts.start) }, self.counts.len()),
         }
     }
 
@@ -125,12 +143,16 @@ impl Arena {
         &self.words[self.writes.clone()]
     }
 
+    pub fn counts(&self) -> &[u32] {
+        &self.words[self.counts.clone()]
+    }
+
     fn name_byte(&self, at: usize) -> String {
         name("byte", at, &[("image", &self.image), ("given", &self.given), ("key buffer", &self.key)])
     }
 
     fn name_word(&self, at: usize) -> String {
-        name("number", at, &[("working numbers", &self.work), ("list of writes", &self.writes)])
+        name("number", at, &[("working numbers", &self.work), ("list of writes", &self.writes), ("counts", &self.counts)])
     }
 }
 
