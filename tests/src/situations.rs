@@ -2,6 +2,7 @@
 
 use crate::calls::Call;
 use crate::damage::readable;
+use crate::lists;
 use crate::model::{self, Answer, Head};
 use crate::twins::Asked;
 
@@ -65,7 +66,11 @@ impl Seen<'_> {
     }
 
     fn by_letters(&self) -> bool {
-        matches!(self.call(), Call::Store { .. } | Call::StoreWrites { .. })
+        matches!(self.call(), Call::Store { .. } | Call::StoreWrites { .. } | Call::StoreCounts { .. })
+    }
+
+    fn by_text(&self) -> bool {
+        matches!(self.call(), Call::StoreText { .. } | Call::StoreTextWrites { .. } | Call::StoreTextCounts { .. })
     }
 
     fn is_next_key(&self) -> bool {
@@ -85,6 +90,62 @@ impl Seen<'_> {
         }
     }
 
+    fn nodes(&self) -> usize {
+        self.head().g as usize + 1
+    }
+
+    /// A call beside a list of counts that was refused with 5: whether the working numbers were enough, and whether the list was.
+    fn five_beside(&self) -> Option<(bool, bool)> {
+        if self.call().takes_counts() && self.number() == 5 {
+            Some((self.asked.work_len >= self.nodes(), self.asked.counts.len() >= self.nodes()))
+        } else {
+            None
+        }
+    }
+
+    /// A store with counts by letters that stopped at its second 5, or later: its k.
+    fn k(&self) -> Option<usize> {
+        let accepted = matches!(self.number(), 0 | 12 | 13) || self.five_beside() == Some((true, true));
+        match self.call() {
+            Call::StoreCounts { value } if accepted => {
+                Some(model::new_nodes(self.asked.image, &self.head(), self.asked.given, value) as usize)
+            }
+            _ => None,
+        }
+    }
+
+    /// Whether the list of a store with counts has so many numbers more than G+k. For k above 0.
+    fn counts_past_k(&self, more: usize) -> bool {
+        self.k().map_or(false, |k| k > 0 && self.asked.counts.len() + 1 == self.nodes() + k + more)
+    }
+
+    /// A call with counts on a small image that was refused with 25: the right counts.
+    fn differing(&self) -> Option<Vec<u32>> {
+        if self.number() == 25 && self.asked.image.len() < 300 {
+            lists::right(self.asked.image)
+        } else {
+            None
+        }
+    }
+
+    /// By how much the count at the place of 25 differs.
+    fn off(&self) -> Option<u32> {
+        let at = self.answer.place as usize;
+        self.differing().map(|right| self.asked.counts[at].wrapping_sub(right[at]))
+    }
+
+    /// The position asked for, and the number of keys; of an image whose counts are right.
+    fn position(&self) -> Option<(u64, u64)> {
+        match self.call() {
+            Call::KeyAt { position } if matches!(self.number(), 0 | 14 | 15) => Some((position, u64::from(self.asked.counts[0]))),
+            _ => None,
+        }
+    }
+
+    fn is_position(&self) -> bool {
+        matches!(self.call(), Call::Position | Call::PositionText)
+    }
+
     fn characters(&self) -> usize {
         model::characters(self.asked.given).map_or(0, |found| found.len())
     }
@@ -99,7 +160,7 @@ impl Seen<'_> {
     }
 }
 
-pub const SITUATIONS: [Situation; 61] = [
+pub const SITUATIONS: [Situation; 97] = [
     Situation { name: "1: the image is shorter than 28", met: |s| s.number() == 1 && s.image_len() < 28 },
     Situation { name: "1: the image is longer than 16,777,216", met: |s| s.number() == 1 && s.image_len() > 28 },
     Situation { name: "an image of 16,777,216 bytes, done", met: |s| s.done() && s.image_len() == 16_777_216 },
@@ -214,7 +275,108 @@ pub const SITUATIONS: [Situation; 61] = [
         name: "count: none though the root has data",
         met: |s| s.call() == Call::Count && s.done() && s.answer.value == 0 && model::data(s.asked.image, &s.head(), 0) > 0,
     },
+    Situation { name: "5 beside counts: the working numbers alone are short", met: |s| s.five_beside() == Some((false, true)) },
+    Situation { name: "5 beside counts: the list alone is short", met: |s| s.five_beside() == Some((true, false)) },
+    Situation { name: "5 beside counts: both are short", met: |s| s.five_beside() == Some((false, false)) },
+    Situation {
+        name: "5 beside counts: a list of G",
+        met: |s| s.five_beside().map_or(false, |(work, _)| work && s.asked.counts.len() + 1 == s.nodes()),
+    },
+    Situation {
+        name: "5 beside counts: the list alone is short, a link is broken too",
+        met: |s| s.five_beside() == Some((true, false)) && s.check().map_or(false, |answer| answer.number == 6),
+    },
+    Situation { name: "5 again: a list of G+k", met: |s| s.five_beside() == Some((true, true)) && s.counts_past_k(0) },
+    Situation {
+        name: "5 again: a list of G+1, two nodes or more are missing",
+        met: |s| s.five_beside() == Some((true, true)) && s.asked.counts.len() == s.nodes() && s.k() > Some(1),
+    },
+    Situation { name: "5 again: by text", met: |s| s.five_beside() == Some((true, true)) && s.by_text() },
+    Situation { name: "12: the list of counts is too short too", met: |s| s.number() == 12 && short_for_k(s) },
+    Situation { name: "13: the list of counts is too short too", met: |s| s.number() == 13 && short_for_k(s) },
+    Situation { name: "store with counts: new nodes, a list of G+k+1", met: |s| s.done() && s.counts_past_k(1) },
+    Situation {
+        name: "store with counts: new nodes, a longer list",
+        met: |s| s.done() && s.k().map_or(false, |k| k > 0 && s.asked.counts.len() > s.nodes() + k),
+    },
+    Situation { name: "store with counts: 64 new nodes", met: |s| s.done() && s.k() == Some(64) },
+    Situation { name: "store with counts: -1", met: |s| s.call().stores_counts() && s.answer.change == -1 },
+    Situation { name: "store with counts: 1 on a complete path", met: |s| s.k() == Some(0) && s.value() > 0 && s.answer.change == 1 },
+    Situation {
+        name: "store with counts: a changed value",
+        met: |s| s.call().stores_counts() && s.done() && s.answer.change == 0 && s.value() > 0,
+    },
+    Situation {
+        name: "store with counts: 0 on an incomplete path, a list of G+1",
+        met: |s| s.done() && s.k() == Some(0) && s.value() == 0 && s.missing() > 0 && s.asked.counts.len() == s.nodes(),
+    },
+    Situation { name: "25: one too high", met: |s| s.off() == Some(1) },
+    Situation { name: "25: one too low", met: |s| s.off() == Some(u32::MAX) },
+    Situation { name: "25: right in 16 bits", met: |s| s.off().map_or(false, |off| off & 0xFFFF == 0) },
+    Situation { name: "25: at G alone", met: |s| s.number() == 25 && s.answer.place == s.head().g && s.head().g > 1 },
+    Situation { name: "25: at the root alone", met: |s| s.differing().map_or(false, |right| right[1..] == s.asked.counts[1..right.len()]) },
+    Situation {
+        name: "25: at a node that no stored key passes",
+        met: |s| s.differing().map_or(false, |right| right[s.answer.place as usize] == 0 && s.answer.place > 0),
+    },
+    Situation { name: "25: at a node deeper than max", met: deeper_than_max },
+    Situation { name: "25: data that min hides is counted", met: |s| hidden_is_counted(s, |head| Head { min: 0, ..head }) },
+    Situation { name: "25: data that max hides is counted", met: |s| hidden_is_counted(s, |head| Head { max: head.max + 1, ..head }) },
+    Situation {
+        name: "25: the key of a store is refused too",
+        met: |s| s.number() == 25 && s.call().stores_counts() && s.by_letters() && model::look_up(s.asked.image, s.asked.given).number > 0,
+    },
+    Situation {
+        name: "key at: the first of two or more",
+        met: |s| s.done() && s.position().map_or(false, |(at, keys)| at == 0 && keys > 1),
+    },
+    Situation {
+        name: "key at: the last of three or more",
+        met: |s| s.done() && s.position().map_or(false, |(at, keys)| keys > 2 && at + 1 == keys),
+    },
+    Situation { name: "key at: the empty key", met: |s| s.done() && s.position().is_some() && s.answer.length == 0 },
+    Situation {
+        name: "key at: 15, the number of keys",
+        met: |s| s.number() == 15 && s.position().map_or(false, |(at, keys)| at == keys && keys > 0),
+    },
+    Situation {
+        name: "key at: 15, a position that is there in 32 bits",
+        met: |s| s.number() == 15 && s.position().map_or(false, |(at, keys)| (at & 0xFFFF_FFFF) < keys),
+    },
+    Situation { name: "key at: 14, past the end too", met: |s| s.number() == 14 && s.position().map_or(false, |(at, keys)| at >= keys) },
+    Situation { name: "position: above 2", met: |s| s.is_position() && s.done() && s.answer.value > 2 },
+    Situation { name: "position: 15 on a complete path", met: |s| not_stored(s, true) },
+    Situation { name: "position: 15 on an incomplete path", met: |s| not_stored(s, false) },
 ];
+
+fn short_for_k(s: &Seen) -> bool {
+    s.k().map_or(false, |k| s.asked.counts.len() < s.nodes() + k)
+}
+
+fn hidden_is_counted(s: &Seen, widen: fn(Head) -> Head) -> bool {
+    let wider = |right: Vec<u32>| {
+        let counts = model::fresh_counts(s.asked.image, &widen(s.head()));
+        s.asked.counts[..right.len()] == counts[..]
+    };
+    s.differing().map_or(false, wider)
+}
+
+/// The depth of the place of 25, found by climbing.
+fn deeper_than_max(s: &Seen) -> bool {
+    if s.differing().is_none() {
+        return false;
+    }
+    let (image, head) = (s.asked.image, s.head());
+    let above =
+        |node: u64| (0..node).find(|parent| (0..u64::from(head.n)).any(|letter| model::link(image, &head, *parent, letter) == node));
+    let climbed = std::iter::successors(Some(u64::from(s.answer.place)), |node| above(*node));
+    climbed.count() > head.max as usize + 1
+}
+
+fn not_stored(s: &Seen, complete: bool) -> bool {
+    let path = |letters: &[u8]| model::path(s.asked.image, &s.head(), letters).1;
+    s.call() == Call::Position && s.number() == 15 && (path(s.asked.given) == s.asked.given.len()) == complete
+}
 
 fn link_not_rising(s: &Seen) -> bool {
     let node = u64::from(s.answer.place);
