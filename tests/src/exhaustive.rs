@@ -1,8 +1,11 @@
 //! The exhaustive part: all small images with A = D = 1. Every link holds every value of its family, those that matter (0 to G+1, and 255) or
 //! all 256, and every node every data value of its family. The calls are asked with every key over the letters 0 to N (N is bad) up to length 3:
 //! on every image with N and G up to 2, refused or not; of greater families the images that are refused are asked less, as `Asks` says.
+//! The calls with counts are asked beside right, wrong and short lists; those that take a key, of accepted images alone.
 
 use crate::calls::Call;
+use crate::lists;
+use crate::model::{self, Head};
 use crate::progress::Progress;
 use crate::report;
 use crate::rng::Rng;
@@ -147,11 +150,72 @@ impl Worker {
         self.ask(Call::NextKey { after: true }, image, &key.letters, max.saturating_sub(1), g + 2);
     }
 
+    /// The counts worked out and compared, beside lists that are long enough and short. `list`: the right counts, or of a refused
+    /// image any.
+    fn ask_counts(&mut self, image: &[u8], list: &[u32]) {
+        let nodes = list.len();
+        self.ask_beside(Call::Counts, image, &[], 0, nodes, &vec![9; nodes + 1]);
+        self.ask_beside(Call::CheckCounts, image, &[], 0, nodes, list);
+        self.ask_beside(Call::CheckCounts, image, &[], 0, nodes, &list[..nodes - 1]);
+    }
+
+    /// What does not depend on spare bytes: the count of one node wrong, of each in turn, the key at every position and past the last,
+    /// and the position of every key.
+    fn ask_positions(&mut self, image: &[u8], keys: &[Key], right: &[u32], setting: &Setting) {
+        let (nodes, max) = (right.len(), setting.lengths.1 as usize);
+        let mut wrong = [right, &[1]].concat();
+        for node in 0..nodes {
+            for off in [1, u32::MAX] {
+                wrong[node] = right[node].wrapping_add(off);
+                self.ask_beside(Call::CheckCounts, image, &[], 0, nodes + 1, &wrong);
+            }
+            self.ask_beside(Call::KeyAt { position: 0 }, image, &[], max, nodes, &wrong);
+            self.ask_beside(Call::Position, image, &[0], 0, nodes, &wrong);
+            wrong[node] = right[node];
+        }
+        let many = u64::from(right[0]);
+        for position in (0..=many).chain([1 << 32, u64::MAX]) {
+            self.ask_beside(Call::KeyAt { position }, image, &[], max, nodes, right);
+        }
+        for position in [0, many] {
+            self.ask_beside(Call::KeyAt { position }, image, &[], max.saturating_sub(1), nodes, right);
+        }
+        for key in keys {
+            self.ask_beside(Call::Position, image, &key.letters, 0, nodes, right);
+            if setting.alphabet || key.letters.is_empty() {
+                self.ask_beside(Call::PositionText, image, &key.text, 0, nodes, right);
+            }
+        }
+    }
+
+    /// The stores of one key with counts, beside a list that just suffices, and one that is a number short.
+    fn ask_stores_beside(&mut self, image: &[u8], key: &Key, right: &[u32], text: bool) {
+        let nodes = right.len();
+        let (head, letters) = (Head::read(image), &key.letters);
+        let good = letters.iter().all(|letter| u32::from(*letter) < head.n);
+        let k = if good { model::new_nodes(image, &head, letters, 1) as usize } else { 0 };
+        let list = [right, &[9; 4]].concat();
+        self.ask_beside(Call::StoreCounts { value: 0 }, image, letters, 0, nodes, right);
+        self.ask_beside(Call::StoreCounts { value: 1 }, image, letters, 0, nodes, &list[..nodes + k]);
+        self.ask_beside(Call::StoreCounts { value: 1 }, image, letters, 0, nodes, &list[..nodes + k - 1]);
+        if text || letters.is_empty() {
+            self.ask_beside(Call::StoreTextCounts { value: 1 }, image, &key.text, 0, nodes, &list);
+        }
+    }
+
     fn ask_all(&mut self, image: &[u8], keys: &[Key], setting: &Setting, g: usize) {
         self.ask_without_key(image, g);
         for key in keys {
             self.ask_look_ups(image, key, setting.alphabet);
             self.ask_others(image, key, setting, g);
+        }
+        let right = lists::right(image);
+        self.ask_counts(image, right.as_ref().unwrap_or(&vec![1; g + 1]));
+        if let Some(right) = right {
+            if setting.spare == (0, 0) {
+                self.ask_positions(image, keys, &right, setting);
+            }
+            keys.iter().for_each(|key| self.ask_stores_beside(image, key, &right, setting.alphabet));
         }
     }
 
