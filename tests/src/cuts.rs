@@ -1,6 +1,7 @@
 //! Cuts: what request 1 of document 02 asks of a store that is cut short. The library's own list of its writes is carried out on the image
 //! from before, up to every cut; each image so left is mended and then asked everything. What it must answer comes from a map of last values
-//! that is kept beside the image.
+//! that is kept beside the image. Each store is made with counts too, with the list that the one before left or, after a cut, with one that is
+//! worked out afresh.
 
 use crate::calls::{ask_library, Call, Pointers};
 use crate::keys;
@@ -32,12 +33,14 @@ type Stored = BTreeMap<Vec<u8>, u64>;
 struct Held {
     image: Vec<u8>,
     stored: Stored,
+    /// Its counts, where a store with counts has left them.
+    counts: Option<Vec<u32>>,
 }
 
 impl Held {
     fn of(image: Vec<u8>) -> Held {
         let stored = model::stored_keys(&image, &Head::read(&image)).into_iter().collect();
-        Held { image, stored }
+        Held { image, stored, counts: None }
     }
 }
 
@@ -82,6 +85,8 @@ struct Reader {
     work: Vec<u32>,
     key: [u8; 64],
     counts: Vec<u32>,
+    /// Positions are asked in turn.
+    turn: usize,
 }
 
 impl Reader {
@@ -127,7 +132,37 @@ impl Reader {
             last = key;
         }
         let end = self.ask(Call::NextKey { after: !stored.is_empty() }, image, last);
-        claim(end.number == 15, || format!("after the last key comes {end:?}"))
+        claim(end.number == 15, || format!("after the last key comes {end:?}"))?;
+        self.positions(image, stored)
+    }
+
+    /// Has the library work the counts out afresh, in a list of G+1 that holds what it did.
+    fn work_out_counts(&mut self, image: &[u8]) -> Result<(), String> {
+        let nodes = Head::read(image).g as usize + 1;
+        self.work.resize(nodes, 7);
+        self.counts.resize(nodes, 7);
+        let answer = self.ask(Call::Counts, image, &[]);
+        claim(answer == Answer::default(), || format!("the call that works out counts gives {answer:?}"))
+    }
+
+    /// The counts worked out afresh are not refused. By them one of the keys is found at its position and its position by the key, or
+    /// none is found past the last.
+    fn positions(&mut self, image: &[u8], stored: &Stored) -> Result<(), String> {
+        self.work_out_counts(image)?;
+        let checked = self.ask(Call::CheckCounts, image, &[]);
+        claim(checked == Answer::default(), || format!("the check with the counts {:?} gives {checked:?}", self.counts))?;
+        claim(self.counts[0] as usize == stored.len(), || format!("the root's count is {}", self.counts[0]))?;
+        self.turn += 1;
+        let position = self.turn % (stored.len() + 1);
+        let found = self.ask(Call::KeyAt { position: position as u64 }, image, &[]);
+        let (key, value) = match stored.iter().nth(position) {
+            Some(stored) => stored,
+            None => return claim(found.number == 15, || format!("past the last position stands {found:?}")),
+        };
+        let expected = Answer { length: key.len() as u32, value: *value, ..Answer::default() };
+        claim(found == expected && self.key[..key.len()] == key[..], || format!("at position {position} stands {found:?}, not {key:?}"))?;
+        let stands = self.ask(Call::Position, image, key);
+        claim(stands == Answer { value: position as u64, ..Answer::default() }, || format!("the position of {key:?} is {stands:?}"))
     }
 }
 
@@ -136,21 +171,25 @@ struct Worker {
     twins: Twins,
     rng: Rng,
     reader: Reader,
-    /// Spoils the listed store and mend, and is to be found with no look at the model.
+    /// Spoils the listed store, the store with counts and mend, and is to be found with no look at the model.
     saboteur: Option<&'static Saboteur>,
     done: Tried,
 }
 
 impl Worker {
     fn new(seed: u64, saboteur: Option<&'static Saboteur>) -> Worker {
-        let reader = Reader { work: Vec::new(), key: [0; 64], counts: Vec::new() };
+        let reader = Reader { work: Vec::new(), key: [0; 64], counts: Vec::new(), turn: 0 };
         Worker { twins: Twins::default(), rng: Rng::new(seed), reader, saboteur, done: Tried::default() }
     }
 
-    /// A call compared with the model, with enough working numbers.
     fn ask(&mut self, call: Call, image: &[u8], given: &[u8]) -> Result<Answer, String> {
+        self.ask_beside(call, image, given, &[])
+    }
+
+    /// A call compared with the model, with enough working numbers.
+    fn ask_beside(&mut self, call: Call, image: &[u8], given: &[u8], counts: &[u32]) -> Result<Answer, String> {
         let work_len = Head::read(image).g as usize + 1 + self.rng.below(2) as usize;
-        let asked = Asked { call, image, given, key_len: 0, work_len, counts: &[] };
+        let asked = Asked { call, image, given, key_len: 0, work_len, counts };
         let outcome = self.twins.ask(&asked, &mut self.rng, self.saboteur);
         match outcome.difference {
             Some(_) if self.saboteur.is_none() => Err(report::asked(&asked) + &report::outcome(&outcome)),
@@ -178,7 +217,33 @@ impl Worker {
         let after = self.twins.library.image().to_vec();
         self.ask(Call::Store { value }, &held.image, &key.letters)?;
         claim(self.twins.library.image() == after, || "the store leaves other bytes than the listed store".to_string())?;
-        self.cuts(held, key, value, &list, &after, keys).map(Some)
+        let counts = self.store_with_counts(held, key, value, &after)?;
+        let next = self.cuts(held, key, value, &list, &after, keys)?;
+        Ok(Some(Held { counts: if next.image == after { Some(counts) } else { None }, ..next }))
+    }
+
+    /// The same store with counts, with the list that the store before left, or with one that is worked out afresh: the counts that it
+    /// leaves. They are those of the image after it, worked out afresh.
+    fn store_with_counts(&mut self, held: &Held, key: &Key, value: u32, after: &[u8]) -> Result<Vec<u32>, String> {
+        let mut list = match &held.counts {
+            Some(left) => left.clone(),
+            None => {
+                self.reader.work_out_counts(&held.image)?;
+                self.reader.counts.clone()
+            }
+        };
+        list.resize(Head::read(after).g as usize + 1, self.rng.next() as u32);
+        let answer = if has_text(key) && self.rng.one_in(2) {
+            self.ask_beside(Call::StoreTextCounts { value }, &held.image, &key.text, &list)?
+        } else {
+            self.ask_beside(Call::StoreCounts { value }, &held.image, &key.letters, &list)?
+        };
+        claim(answer.number == 0, || format!("the store with the counts {list:?} gives {answer:?}"))?;
+        claim(self.twins.library.image() == after, || "the store with counts leaves other bytes than the store".to_string())?;
+        let left = self.twins.library.counts().to_vec();
+        self.reader.work_out_counts(after)?;
+        claim(left == self.reader.counts, || format!("the store leaves the counts {left:?}, not {:?}", self.reader.counts))?;
+        Ok(left)
     }
 
     fn cuts(&mut self, held: &Held, key: &Key, value: u32, list: &[Range<usize>], after: &[u8], keys: &[Key]) -> Result<Held, String> {
@@ -204,10 +269,10 @@ impl Worker {
         }
         let whole = self.mend(landed, &stored, keys).map_err(|why| format!("all of {list:?} landed: {why}"))?;
         if left.is_empty() || self.rng.one_in(2) {
-            return Ok(Held { image: whole, stored });
+            return Ok(Held { image: whole, stored, counts: None });
         }
         let any = self.rng.below(left.len() as u64) as usize;
-        Ok(Held { image: left.swap_remove(any), stored: held.stored.clone() })
+        Ok(Held { image: left.swap_remove(any), stored: held.stored.clone(), counts: None })
     }
 
     /// The bytes of a write that land if it is the one hit: none, or if it goes to spare bytes some of them, in every way or in some.
@@ -364,7 +429,7 @@ fn begin(rng: &mut Rng) -> Held {
         let Head { n, a, d, min, max, .. } = shape.head;
         let mut image = rng.rubbish(shape.head.u() as usize + spare);
         model::make(&mut image, n, a, d, &shape.alphabet_bytes(), min, max);
-        return Held { image, stored: Stored::new() };
+        return Held { image, stored: Stored::new(), counts: None };
     }
     let most = rng.pick(&[8, 8, 8, 8, 8, 40]);
     shape.head.g = rng.between(0, most) as u32;
