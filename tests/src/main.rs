@@ -130,7 +130,7 @@ fn gate() -> bool {
     failed += listed.failed;
     if failed == 0 {
         let begun = Instant::now();
-        println!("self-test: {} saboteurs", saboteurs::SABOTEURS.len() + saboteurs::CUT_SABOTEURS.len());
+        println!("self-test: {} saboteurs", saboteurs::all().count());
         failed += random::self_test(GATE_SEED, GATE_CASES);
         failed += cuts::self_test(GATE_SEED, GATE_HISTORIES);
         println!("self-test: {:.1} s", begun.elapsed().as_secs_f64());
@@ -148,7 +148,7 @@ fn gate() -> bool {
         grouped(small.stores),
         grouped(cut.stores),
         grouped(listed.tried),
-        saboteurs::SABOTEURS.len() + saboteurs::CUT_SABOTEURS.len()
+        saboteurs::all().count()
     );
     failed == 0
 }

@@ -5,7 +5,7 @@ use crate::cases::Case;
 use crate::progress::Progress;
 use crate::report::{self, say};
 use crate::rng::Rng;
-use crate::saboteurs::{Saboteur, CUT_SABOTEURS, SABOTEURS};
+use crate::saboteurs::{self, Saboteur};
 use crate::situations::{Seen, SITUATIONS};
 use crate::twins::Twins;
 use std::sync::atomic::{AtomicU64, Ordering};
@@ -147,7 +147,7 @@ pub fn run(start: u64, cases: u64) -> (Tally, Vec<String>) {
 /// Every saboteur must be reported within the same cases. Returns how many were not.
 pub fn self_test(start: u64, cases: u64) -> usize {
     let mut missed = 0;
-    for saboteur in SABOTEURS.iter().chain(&CUT_SABOTEURS) {
+    for saboteur in saboteurs::all() {
         let mut twins = Twins::default();
         let mut tally = Tally::new();
         let caught = (0..cases).find(|index| run_case(start.wrapping_add(*index), &mut twins, &mut tally, Some(saboteur)).is_err());

@@ -99,9 +99,96 @@ impl Spoiled<'_> {
     fn restore_work(&mut self) {
         self.after.words.clone_from(&self.before.words);
     }
+
+    /// G+1 at entry, of an image that has a head.
+    fn nodes(&self) -> usize {
+        self.head().unwrap().g as usize + 1
+    }
+
+    /// The counts at return.
+    fn counts(&mut self) -> &mut [u32] {
+        &mut self.after.words[self.after.counts.clone()]
+    }
+
+    /// A node's count becomes again what it was.
+    fn restore_count(&mut self, node: usize) {
+        let at = self.after.counts.start + node;
+        self.after.words[at] = self.before.words[at];
+    }
+
+    /// A store with counts that was done: by how many nodes it raised G.
+    fn counted_store(&self) -> Option<u32> {
+        if self.call.stores_counts() && self.done() {
+            Some(self.g() - self.head().unwrap().g)
+        } else {
+            None
+        }
+    }
+
+    /// A call beside counts that stopped at its first 5, and whether the working numbers were enough, and the list.
+    fn five_beside(&self) -> Option<(bool, bool)> {
+        if self.call.takes_counts() && self.number() == 5 {
+            Some((self.before.work.len() >= self.nodes(), self.before.counts.len() >= self.nodes()))
+        } else {
+            None
+        }
+    }
+
+    /// As if a list were long enough: the check's own answer, and the working numbers that are there cleared.
+    fn pass_five(&mut self) {
+        let (nodes, start) = (self.nodes(), self.after.work.start);
+        *self.answer = model::check(self.before.image(), &mut vec![0; nodes]);
+        let end = self.after.work.end.min(start + nodes);
+        self.after.words[start..end].fill(0);
+    }
+
+    /// The stored keys at entry of an image that the call accepted.
+    fn stored_keys(&self) -> Vec<(Vec<u8>, u64)> {
+        model::stored_keys(self.before.image(), &self.head().unwrap())
+    }
+
+    /// Key at answers this key.
+    fn find(&mut self, key: &[u8], value: u64) {
+        let start = self.after.key.start;
+        self.after.bytes[start..start + key.len()].copy_from_slice(key);
+        *self.answer = Answer { length: key.len() as u32, value, ..Answer::default() };
+    }
+
+    /// Works out counts as if the image had another head.
+    fn recount(&mut self, other: Head) {
+        let counts = model::fresh_counts(self.before.image(), &other);
+        self.counts()[..counts.len()].copy_from_slice(&counts);
+    }
+
+    /// The letters of a store's key at entry, or of its text where that is well-formed and in the alphabet.
+    fn letters(&self) -> Option<Vec<u8>> {
+        let (given, head) = (self.before.given().to_vec(), self.head()?);
+        match self.call {
+            Call::StoreTextCounts { .. } => {
+                let image = self.before.image();
+                let alphabet = model::characters(&image[28..28 + head.f as usize])?;
+                let letter = |character: &&[u8]| alphabet.iter().position(|one| one == character).map(|at| at as u8);
+                model::characters(&given)?.iter().map(letter).collect()
+            }
+            _ => Some(given).filter(|letters| letters.iter().all(|letter| u32::from(*letter) < head.n)),
+        }
+    }
+
+    /// The nodes that the key's path passes at return, from the root on.
+    fn passed(&self) -> Vec<usize> {
+        let (image, head) = (self.after.image(), Head::read(self.after.image()));
+        let letters = self.letters().unwrap_or_default();
+        let far = model::path(image, &head, &letters).1;
+        (0..=far).map(|length| model::path(image, &head, &letters[..length]).0 as usize).collect()
+    }
 }
 
-pub const SABOTEURS: [Saboteur; 39] = [
+/// All of them.
+pub fn all() -> impl Iterator<Item = &'static Saboteur> {
+    SABOTEURS.iter().chain(&COUNT_SABOTEURS).chain(&CUT_SABOTEURS)
+}
+
+const SABOTEURS: [Saboteur; 39] = [
     Saboteur {
         name: "the place of 7 is one too high",
         spoil: |s| {
@@ -483,8 +570,311 @@ pub const SABOTEURS: [Saboteur; 39] = [
     },
 ];
 
+/// Those of the calls with counts.
+const COUNT_SABOTEURS: [Saboteur; 32] = [
+    Saboteur {
+        name: "the counts are compared only before G",
+        spoil: |s| {
+            if s.call == Call::CheckCounts && s.number() == 25 && s.answer.place == s.head().unwrap().g {
+                s.refuse(0);
+            }
+        },
+    },
+    Saboteur {
+        name: "the counts are compared only where stored keys are",
+        spoil: |s| {
+            if s.call == Call::CheckCounts && s.number() == 25 {
+                let (at, start) = (s.answer.place as usize, s.before.counts.start);
+                let fresh = model::fresh_counts(s.before.image(), &s.head().unwrap());
+                if fresh[at] == 0 && s.before.words[start..].iter().zip(&fresh).skip(at + 1).all(|(one, other)| one == other) {
+                    s.refuse(0);
+                }
+            }
+        },
+    },
+    Saboteur {
+        name: "a count is compared in 16 bits",
+        spoil: |s| {
+            if s.call == Call::CheckCounts && s.number() == 25 {
+                let same = |(one, other): (&u32, &u32)| one & 0xFFFF == other & 0xFFFF;
+                let fresh = model::fresh_counts(s.before.image(), &s.head().unwrap());
+                if fresh.iter().zip(s.before.counts()).all(same) {
+                    s.refuse(0);
+                }
+            }
+        },
+    },
+    Saboteur {
+        name: "a count past G is compared too",
+        spoil: |s| {
+            if s.call == Call::CheckCounts && s.done() && s.before.counts().get(s.nodes()).map_or(false, |count| *count > 0) {
+                *s.answer = Answer { number: 25, place: s.nodes() as u32, ..Answer::default() };
+            }
+        },
+    },
+    Saboteur {
+        name: "the place of 25 is the highest node that differs",
+        spoil: |s| {
+            if s.number() == 25 {
+                let fresh = model::fresh_counts(s.before.image(), &s.head().unwrap());
+                let differs = |node: &usize| fresh[*node] != s.before.counts()[*node];
+                s.answer.place = (0..fresh.len()).rev().find(differs).unwrap() as u32;
+            }
+        },
+    },
+    Saboteur {
+        name: "the counts worked out lack the last node",
+        spoil: |s| {
+            if s.call == Call::Counts && s.done() {
+                s.restore_count(s.nodes() - 1);
+            }
+        },
+    },
+    Saboteur {
+        name: "a count past G is cleared",
+        spoil: |s| {
+            let past = s.head().map_or(0, |head| head.g as usize).saturating_add(1);
+            if s.call == Call::Counts && s.done() && past < s.after.counts.len() {
+                s.counts()[past] = 0;
+            }
+        },
+    },
+    Saboteur {
+        name: "a key shorter than min is counted",
+        spoil: |s| {
+            if s.call == Call::Counts && s.done() {
+                s.recount(Head { min: 0, ..s.head().unwrap() });
+            }
+        },
+    },
+    Saboteur {
+        name: "a key longer than max is counted",
+        spoil: |s| {
+            if s.call == Call::Counts && s.done() {
+                let head = s.head().unwrap();
+                s.recount(Head { max: head.max + 1, ..head });
+            }
+        },
+    },
+    Saboteur {
+        name: "the call that works out counts answers the number of keys",
+        spoil: |s| {
+            if s.call == Call::Counts && s.done() {
+                s.answer.value = u64::from(s.counts()[0]);
+            }
+        },
+    },
+    Saboteur {
+        name: "a position by letters is one too high",
+        spoil: |s| {
+            if s.call == Call::Position && s.done() {
+                s.answer.value += 1;
+            }
+        },
+    },
+    Saboteur {
+        name: "a position by text is one too low",
+        spoil: |s| {
+            if s.call == Call::PositionText && s.done() {
+                s.answer.value = s.answer.value.saturating_sub(1);
+            }
+        },
+    },
+    Saboteur {
+        name: "a key's extensions stand before it",
+        spoil: |s| {
+            if s.call == Call::Position && s.done() {
+                let (keys, key) = (s.stored_keys(), s.before.given());
+                let under = keys.iter().filter(|(longer, _)| longer.len() > key.len() && longer.starts_with(key)).count();
+                s.answer.value += under as u64;
+            }
+        },
+    },
+    Saboteur {
+        name: "a key that is not stored has the position of the next",
+        spoil: |s| {
+            if s.call == Call::Position && s.number() == 15 {
+                let before = s.stored_keys().iter().filter(|(key, _)| model::comes_before(key, s.before.given())).count();
+                *s.answer = Answer { value: before as u64, ..Answer::default() };
+            }
+        },
+    },
+    Saboteur {
+        name: "key at answers the key before",
+        spoil: |s| {
+            if let (Call::KeyAt { position: 1.. }, true) = (s.call, s.done()) {
+                let keys = s.stored_keys();
+                let at = keys.iter().position(|(key, _)| *key == s.after.key()[..s.answer.length as usize]).unwrap();
+                let (key, value) = &keys[at - 1];
+                s.find(key, *value);
+            }
+        },
+    },
+    Saboteur {
+        name: "the position after the last is the last",
+        spoil: |s| {
+            if let (Call::KeyAt { position }, 15) = (s.call, s.number()) {
+                let keys = s.stored_keys();
+                if position == keys.len() as u64 && position > 0 {
+                    let (key, value) = &keys[keys.len() - 1];
+                    s.find(key, *value);
+                }
+            }
+        },
+    },
+    Saboteur {
+        name: "a position is read in 32 bits",
+        spoil: |s| {
+            if let (Call::KeyAt { position }, 15) = (s.call, s.number()) {
+                if let Some((key, value)) = s.stored_keys().get(position as u32 as usize) {
+                    s.find(key, *value);
+                }
+            }
+        },
+    },
+    Saboteur {
+        name: "key at clears the rest of the key buffer",
+        spoil: |s| {
+            if matches!(s.call, Call::KeyAt { .. }) && s.done() {
+                let rest = s.after.key.start + s.answer.length as usize..s.after.key.end;
+                s.after.bytes[rest].fill(0);
+            }
+        },
+    },
+    Saboteur {
+        name: "key at gives 15 before 14",
+        spoil: |s| {
+            if let (Call::KeyAt { position }, 14) = (s.call, s.number()) {
+                if position >= s.stored_keys().len() as u64 {
+                    s.refuse(15);
+                }
+            }
+        },
+    },
+    Saboteur {
+        name: "25 is given before 8",
+        spoil: |s| {
+            if s.call.compares_counts() && s.number() == 8 {
+                let fresh = model::fresh_counts(s.before.image(), &s.head().unwrap());
+                let differs = |node: &usize| fresh[*node] != s.before.counts()[*node];
+                if let Some(node) = (0..fresh.len()).find(differs) {
+                    *s.answer = Answer { number: 25, place: node as u32, ..Answer::default() };
+                }
+            }
+        },
+    },
+    Saboteur {
+        name: "a store with counts gives 9 before 25",
+        spoil: |s| {
+            if s.call.stores_counts() && s.number() == 25 {
+                let head = s.head().unwrap();
+                let lengths = head.min as usize..=head.max as usize;
+                if s.letters().map_or(false, |letters| !lengths.contains(&letters.len())) {
+                    s.refuse(9);
+                }
+            }
+        },
+    },
+    Saboteur {
+        name: "a store with counts gives 10 before 25",
+        spoil: |s| {
+            if s.call.stores_counts() && s.number() == 25 && s.letters().is_none() {
+                s.refuse(10);
+            }
+        },
+    },
+    Saboteur {
+        name: "the second 5 is given before 13",
+        spoil: |s| {
+            if s.call.stores_counts() && s.number() == 13 {
+                let head = s.head().unwrap();
+                let k = model::new_nodes(s.before.image(), &head, &s.letters().unwrap(), s.value());
+                if s.before.counts.len() < s.nodes() + k as usize {
+                    s.refuse(5);
+                }
+            }
+        },
+    },
+    Saboteur {
+        name: "5 looks at the working numbers alone",
+        spoil: |s| {
+            if s.five_beside() == Some((true, false)) {
+                s.pass_five();
+            }
+        },
+    },
+    Saboteur {
+        name: "5 looks at the counts alone",
+        spoil: |s| {
+            if s.five_beside() == Some((false, true)) {
+                s.pass_five();
+            }
+        },
+    },
+    Saboteur {
+        name: "the working numbers are cleared though the list of counts is too short",
+        spoil: |s| {
+            if s.five_beside() == Some((true, false)) {
+                let front = s.after.work.start..s.after.work.start + s.nodes();
+                s.after.words[front].fill(0);
+            }
+        },
+    },
+    Saboteur {
+        name: "the working numbers are not cleared when 25 is given",
+        spoil: |s| {
+            if s.number() == 25 {
+                s.restore_work();
+            }
+        },
+    },
+    Saboteur {
+        name: "the working numbers are not cleared at the second 5",
+        spoil: |s| {
+            if s.five_beside() == Some((true, true)) {
+                s.restore_work();
+            }
+        },
+    },
+    Saboteur {
+        name: "the check with counts mends the count that differs",
+        spoil: |s| {
+            if s.call == Call::CheckCounts && s.number() == 25 {
+                let at = s.answer.place as usize;
+                let right = model::fresh_counts(s.before.image(), &s.head().unwrap())[at];
+                s.counts()[at] = right;
+            }
+        },
+    },
+    Saboteur {
+        name: "a store that stops at its second 5 has changed the root's count",
+        spoil: |s| {
+            if s.five_beside() == Some((true, true)) {
+                s.counts()[0] += 1;
+            }
+        },
+    },
+    Saboteur {
+        name: "a store that stops at its second 5 has changed the image",
+        spoil: |s| {
+            if s.five_beside() == Some((true, true)) {
+                s.set_g(s.g() + 1);
+            }
+        },
+    },
+    Saboteur {
+        name: "a store clears the counts after the new G",
+        spoil: |s| {
+            let past = s.counted_store().map_or(usize::MAX, |_| s.g() as usize + 1);
+            if past < s.after.counts.len() {
+                s.counts()[past] = 0;
+            }
+        },
+    },
+];
+
 /// Those that the cuts must report too, by what a mended image answers and with no look at the model's own list and mend.
-pub const CUT_SABOTEURS: [Saboteur; 10] = [
+pub const CUT_SABOTEURS: [Saboteur; 16] = [
     Saboteur {
         name: "the old link is listed before G",
         spoil: |s| {
@@ -568,6 +958,58 @@ pub const CUT_SABOTEURS: [Saboteur; 10] = [
             if let Some(used) = s.used().filter(|_| s.lowered()) {
                 let spare = s.after.image.start + used..s.after.image.end;
                 s.after.bytes[spare].fill(0);
+            }
+        },
+    },
+    Saboteur {
+        name: "a store leaves the root's count",
+        spoil: |s| {
+            if s.counted_store().is_some() {
+                s.restore_count(0);
+            }
+        },
+    },
+    Saboteur {
+        name: "a store leaves the count of the node above the key's own",
+        spoil: |s| {
+            let passed = if s.counted_store().is_some() { s.passed() } else { Vec::new() };
+            if passed.len() > 2 && passed.len() == s.letters().map_or(0, |letters| letters.len() + 1) {
+                s.restore_count(passed[passed.len() - 2]);
+            }
+        },
+    },
+    Saboteur {
+        name: "a store leaves the first new node's count as it was",
+        spoil: |s| {
+            if s.counted_store() > Some(0) {
+                s.restore_count(s.nodes());
+            }
+        },
+    },
+    Saboteur {
+        name: "a store leaves the last new node's count as it was",
+        spoil: |s| {
+            if s.counted_store() > Some(0) {
+                s.restore_count(s.g() as usize);
+            }
+        },
+    },
+    Saboteur {
+        name: "a changed value is counted once more",
+        spoil: |s| {
+            if s.counted_store() == Some(0) && s.answer.change == 0 && s.value() > 0 {
+                s.passed().iter().for_each(|node| s.counts()[*node] += 1);
+            }
+        },
+    },
+    Saboteur {
+        name: "a store of 0 on an incomplete path takes one from the counts",
+        spoil: |s| {
+            if s.counted_store() == Some(0) && s.answer.change == 0 && s.value() == 0 {
+                let passed = s.passed();
+                if passed.len() <= s.letters().map_or(0, |letters| letters.len()) {
+                    passed.iter().for_each(|node| s.counts()[*node] = s.counts()[*node].wrapping_sub(1));
+                }
             }
         },
     },
