@@ -42,6 +42,8 @@ pub struct Case {
     counts: Vec<u32>,
     /// The list that the last call left that wrote one.
     kept: Vec<u32>,
+    /// The list kept was refused, so it is to be worked out afresh.
+    stale: bool,
     sort: Sort,
     shape: Shape,
     /// The image from before it was damaged.
@@ -76,6 +78,7 @@ impl Case {
             letters: Vec::new(),
             counts: Vec::new(),
             kept: Vec::new(),
+            stale: false,
             sort,
             shape,
             whole: None,
@@ -111,6 +114,7 @@ impl Case {
 
     /// The case goes on from what the call left.
     pub fn learn(&mut self, call: Call, answer: &Answer, left: &Arena) {
+        self.stale |= answer.number == 25;
         if answer.number > 0 {
             return;
         }
@@ -120,6 +124,7 @@ impl Case {
         }
         if call == Call::Counts || call.stores_counts() {
             self.kept = left.counts().to_vec();
+            self.stale = false;
         }
     }
 
@@ -157,7 +162,7 @@ impl Case {
             Sort::Makes => 0,
             _ if make_first => 0,
             Sort::Fresh if self.rng.one_in(2) => self.rng.between(12, 19),
-            Sort::Counted if self.asked == 1 => 27,
+            Sort::Counted if self.asked == 1 || (self.stale && self.rng.one_in(2)) => 27,
             Sort::Counted if self.rng.below(4) > 0 => self.rng.pick(&COUNTED_RUN),
             Sort::Huge => self.rng.between(1, 44),
             _ if self.rng.one_in(60) => 0,
