@@ -1,12 +1,15 @@
-//! The calls, each with its name, the numbers that documents 01 and 02 let it answer, and how the model and the library are asked.
+//! The calls, each with its name, the numbers that documents 01 and 02 let it answer, and how the
+//! model and the library are asked.
 //!
-//! To add a call: a variant of `Call`, its row in `KINDS`, an arm in `ask_model` and in `ask_library`, and a choice in `cases::Case::draw`.
+//! To add a call: a variant of `Call`, its row in `KINDS`, an arm in `ask_model` and in
+//! `ask_library`, and a choice in `cases::Case::draw`.
 
 use crate::model::{self, Answer, WRITES};
 use crate::positions;
 use trieff::raw;
 
-/// A call without the memory lent to it. What it is given to read (alphabet, letters or text) is lent memory too.
+/// A call without the memory lent to it. What it is given to read (alphabet, letters or text) is
+/// lent memory too.
 #[derive(Clone, Copy, Debug, PartialEq, Eq)]
 pub enum Call {
     Make { n: u32, a: u32, d: u32, min: u32, max: u32 },
@@ -43,19 +46,55 @@ pub const KINDS: [Kind; 18] = [
     Kind { name: "count", given: "nothing", numbers: &[0, 1, 2, 3, 4, 5, 6, 7, 8] },
     Kind { name: "look_up", given: "letters", numbers: &[0, 1, 2, 3, 4, 6, 9, 10] },
     Kind { name: "look_up_text", given: "text", numbers: &[0, 1, 2, 3, 4, 6, 9, 10] },
-    Kind { name: "store", given: "letters", numbers: &[0, 1, 2, 3, 4, 5, 6, 7, 8, 9, 10, 11, 12, 13] },
-    Kind { name: "store_text", given: "text", numbers: &[0, 1, 2, 3, 4, 5, 6, 7, 8, 9, 10, 11, 12, 13] },
-    Kind { name: "store_writes", given: "letters", numbers: &[0, 1, 2, 3, 4, 5, 6, 7, 8, 9, 10, 11, 12, 13] },
-    Kind { name: "store_text_writes", given: "text", numbers: &[0, 1, 2, 3, 4, 5, 6, 7, 8, 9, 10, 11, 12, 13] },
+    Kind {
+        name: "store",
+        given: "letters",
+        numbers: &[0, 1, 2, 3, 4, 5, 6, 7, 8, 9, 10, 11, 12, 13],
+    },
+    Kind {
+        name: "store_text",
+        given: "text",
+        numbers: &[0, 1, 2, 3, 4, 5, 6, 7, 8, 9, 10, 11, 12, 13],
+    },
+    Kind {
+        name: "store_writes",
+        given: "letters",
+        numbers: &[0, 1, 2, 3, 4, 5, 6, 7, 8, 9, 10, 11, 12, 13],
+    },
+    Kind {
+        name: "store_text_writes",
+        given: "text",
+        numbers: &[0, 1, 2, 3, 4, 5, 6, 7, 8, 9, 10, 11, 12, 13],
+    },
     Kind { name: "mend", given: "nothing", numbers: &[0, 1, 2, 3, 4, 5, 6, 7, 8] },
-    Kind { name: "next_key", given: "letters", numbers: &[0, 1, 2, 3, 4, 5, 6, 7, 8, 9, 10, 14, 15] },
+    Kind {
+        name: "next_key",
+        given: "letters",
+        numbers: &[0, 1, 2, 3, 4, 5, 6, 7, 8, 9, 10, 14, 15],
+    },
     Kind { name: "counts", given: "nothing", numbers: &[0, 1, 2, 3, 4, 5, 6, 7, 8] },
     Kind { name: "check_counts", given: "nothing", numbers: &[0, 1, 2, 3, 4, 5, 6, 7, 8, 25] },
-    Kind { name: "store_counts", given: "letters", numbers: &[0, 1, 2, 3, 4, 5, 6, 7, 8, 9, 10, 11, 12, 13, 25] },
-    Kind { name: "store_text_counts", given: "text", numbers: &[0, 1, 2, 3, 4, 5, 6, 7, 8, 9, 10, 11, 12, 13, 25] },
+    Kind {
+        name: "store_counts",
+        given: "letters",
+        numbers: &[0, 1, 2, 3, 4, 5, 6, 7, 8, 9, 10, 11, 12, 13, 25],
+    },
+    Kind {
+        name: "store_text_counts",
+        given: "text",
+        numbers: &[0, 1, 2, 3, 4, 5, 6, 7, 8, 9, 10, 11, 12, 13, 25],
+    },
     Kind { name: "key_at", given: "nothing", numbers: &[0, 1, 2, 3, 4, 5, 6, 7, 8, 14, 15, 25] },
-    Kind { name: "position", given: "letters", numbers: &[0, 1, 2, 3, 4, 5, 6, 7, 8, 9, 10, 15, 25] },
-    Kind { name: "position_text", given: "text", numbers: &[0, 1, 2, 3, 4, 5, 6, 7, 8, 9, 10, 15, 25] },
+    Kind {
+        name: "position",
+        given: "letters",
+        numbers: &[0, 1, 2, 3, 4, 5, 6, 7, 8, 9, 10, 15, 25],
+    },
+    Kind {
+        name: "position_text",
+        given: "text",
+        numbers: &[0, 1, 2, 3, 4, 5, 6, 7, 8, 9, 10, 15, 25],
+    },
 ];
 
 /// One more than the greatest refusal.
@@ -141,21 +180,25 @@ pub fn ask_model(call: Call, lent: Lent) -> Answer {
         Call::Store { value } => model::store(image, work, given, value),
         Call::StoreText { value } => model::store_text(image, work, given, value),
         Call::StoreWrites { value } => model::store_writes(image, work, given, value, writes),
-        Call::StoreTextWrites { value } => model::store_text_writes(image, work, given, value, writes),
+        Call::StoreTextWrites { value } => {
+            model::store_text_writes(image, work, given, value, writes)
+        }
         Call::Mend => model::mend(image, work),
         Call::NextKey { after } => model::next_key(image, work, given, after, key),
         Call::Counts => model::counts(image, work, counts),
         Call::CheckCounts => model::check_counts(image, work, counts),
         Call::StoreCounts { value } => model::store_counts(image, work, given, value, counts),
-        Call::StoreTextCounts { value } => model::store_text_counts(image, work, given, value, counts),
+        Call::StoreTextCounts { value } => {
+            model::store_text_counts(image, work, given, value, counts)
+        }
         Call::KeyAt { position } => model::key_at(image, work, counts, position, key),
         Call::Position => model::position(image, work, counts, given),
         Call::PositionText => model::position_text(image, work, counts, given),
     }
 }
 
-/// The memory lent to the library. All pointers may be written through, so that a write where none is allowed is seen and is no trap for
-/// the compiler.
+/// The memory lent to the library. All pointers may be written through, so that a write where none
+/// is allowed is seen and is no trap for the compiler.
 pub struct Pointers {
     pub image: (*mut u8, usize),
     pub given: (*mut u8, usize),
@@ -167,33 +210,68 @@ pub struct Pointers {
 
 /// Safe where the six pieces of memory are there, each its own.
 pub unsafe fn ask_library(call: Call, lent: &Pointers) -> Answer {
-    let ((image, image_len), (given, given_len), (work, work_len)) = (lent.image, lent.given, lent.work);
+    let ((image, image_len), (given, given_len), (work, work_len)) =
+        (lent.image, lent.given, lent.work);
     let ((counts, counts_len), (key, key_len)) = (lent.counts, lent.key);
     let raw::TrieffAnswer { number, place, length, change, value } = match call {
-        Call::Make { n, a, d, min, max } => raw::trieff_make(image, image_len, n, a, d, given, given_len, min, max),
+        Call::Make { n, a, d, min, max } => {
+            raw::trieff_make(image, image_len, n, a, d, given, given_len, min, max)
+        }
         Call::Check => raw::trieff_check(image, image_len, work, work_len),
         Call::Count => raw::trieff_count(image, image_len, work, work_len),
         Call::LookUp => raw::trieff_look_up(image, image_len, given, given_len),
         Call::LookUpText => raw::trieff_look_up_text(image, image_len, given, given_len),
-        Call::Store { value } => raw::trieff_store(image, image_len, work, work_len, given, given_len, value),
-        Call::StoreText { value } => raw::trieff_store_text(image, image_len, work, work_len, given, given_len, value),
-        Call::StoreWrites { value } => raw::trieff_store_writes(image, image_len, work, work_len, given, given_len, value, lent.writes),
-        Call::StoreTextWrites { value } => {
-            raw::trieff_store_text_writes(image, image_len, work, work_len, given, given_len, value, lent.writes)
+        Call::Store { value } => {
+            raw::trieff_store(image, image_len, work, work_len, given, given_len, value)
         }
+        Call::StoreText { value } => {
+            raw::trieff_store_text(image, image_len, work, work_len, given, given_len, value)
+        }
+        Call::StoreWrites { value } => raw::trieff_store_writes(
+            image,
+            image_len,
+            work,
+            work_len,
+            given,
+            given_len,
+            value,
+            lent.writes,
+        ),
+        Call::StoreTextWrites { value } => raw::trieff_store_text_writes(
+            image,
+            image_len,
+            work,
+            work_len,
+            given,
+            given_len,
+            value,
+            lent.writes,
+        ),
         Call::Mend => raw::trieff_mend(image, image_len, work, work_len),
-        Call::NextKey { after } => raw::trieff_next_key(image, image_len, work, work_len, given, given_len, after, key, key_len),
-        Call::Counts => positions::trieff_counts(image, image_len, work, work_len, counts, counts_len),
-        Call::CheckCounts => positions::trieff_check_counts(image, image_len, work, work_len, counts, counts_len),
-        Call::StoreCounts { value } => {
-            positions::trieff_store_counts(image, image_len, work, work_len, given, given_len, value, counts, counts_len)
+        Call::NextKey { after } => raw::trieff_next_key(
+            image, image_len, work, work_len, given, given_len, after, key, key_len,
+        ),
+        Call::Counts => {
+            positions::trieff_counts(image, image_len, work, work_len, counts, counts_len)
         }
-        Call::StoreTextCounts { value } => {
-            positions::trieff_store_text_counts(image, image_len, work, work_len, given, given_len, value, counts, counts_len)
+        Call::CheckCounts => {
+            positions::trieff_check_counts(image, image_len, work, work_len, counts, counts_len)
         }
-        Call::KeyAt { position } => positions::trieff_key_at(image, image_len, work, work_len, counts, counts_len, position, key, key_len),
-        Call::Position => positions::trieff_position(image, image_len, work, work_len, counts, counts_len, given, given_len),
-        Call::PositionText => positions::trieff_position_text(image, image_len, work, work_len, counts, counts_len, given, given_len),
+        Call::StoreCounts { value } => positions::trieff_store_counts(
+            image, image_len, work, work_len, given, given_len, value, counts, counts_len,
+        ),
+        Call::StoreTextCounts { value } => positions::trieff_store_text_counts(
+            image, image_len, work, work_len, given, given_len, value, counts, counts_len,
+        ),
+        Call::KeyAt { position } => positions::trieff_key_at(
+            image, image_len, work, work_len, counts, counts_len, position, key, key_len,
+        ),
+        Call::Position => positions::trieff_position(
+            image, image_len, work, work_len, counts, counts_len, given, given_len,
+        ),
+        Call::PositionText => positions::trieff_position_text(
+            image, image_len, work, work_len, counts, counts_len, given, given_len,
+        ),
     };
     Answer { number, place, length, change, value }
 }

@@ -1,4 +1,5 @@
-//! A random case: from one seed an image and a run of calls on it, of which some are asked while the image is damaged.
+//! A random case: from one seed an image and a run of calls on it, of which some are asked while
+//! the image is damaged.
 
 use crate::calls::Call;
 use crate::damage::damage;
@@ -176,11 +177,19 @@ impl Case {
             9..=11 => self.with_text(Call::LookUpText),
             12..=15 => {
                 let value = keys::value(&mut self.rng, &self.image);
-                self.with_letters(if choice < 14 { Call::Store { value } } else { Call::StoreWrites { value } })
+                self.with_letters(if choice < 14 {
+                    Call::Store { value }
+                } else {
+                    Call::StoreWrites { value }
+                })
             }
             16..=19 => {
                 let value = keys::value(&mut self.rng, &self.image);
-                self.with_text(if choice < 18 { Call::StoreText { value } } else { Call::StoreTextWrites { value } })
+                self.with_text(if choice < 18 {
+                    Call::StoreText { value }
+                } else {
+                    Call::StoreTextWrites { value }
+                })
             }
             20..=21 => Call::Mend,
             22..=26 => self.draw_next_key(),
@@ -295,8 +304,20 @@ impl Case {
         self.shape = Shape::of(&mut self.rng, n);
         let needed = self.shape.head.u() as usize;
         let any = self.rng.below(3_000) as usize;
-        let lengths =
-            [0, 27, 28, 29, 28 + self.shape.head.f as usize, needed - 1, needed - 1, needed, needed, needed + 1, needed + 100, any];
+        let lengths = [
+            0,
+            27,
+            28,
+            29,
+            28 + self.shape.head.f as usize,
+            needed - 1,
+            needed - 1,
+            needed,
+            needed,
+            needed + 1,
+            needed + 100,
+            any,
+        ];
         let length = self.rng.pick(&lengths);
         self.image = self.rng.rubbish(length);
     }
@@ -306,9 +327,16 @@ impl Case {
         match rng.below(4) {
             0 => {
                 let field = rng.below(5) as usize;
-                let limits: [&[u32]; 5] = [&[0, 257, u32::MAX], &[0, 5, u32::MAX], &[0, 5, u32::MAX], &[65, u32::MAX], &[65, u32::MAX]];
+                let limits: [&[u32]; 5] = [
+                    &[0, 257, u32::MAX],
+                    &[0, 5, u32::MAX],
+                    &[0, 5, u32::MAX],
+                    &[65, u32::MAX],
+                    &[65, u32::MAX],
+                ];
                 let next = fields[4].wrapping_add(1);
-                fields[field] = if field == 3 && rng.one_in(2) { next } else { rng.pick(limits[field]) };
+                fields[field] =
+                    if field == 3 && rng.one_in(2) { next } else { rng.pick(limits[field]) };
             }
             1 => {
                 let length = rng.pick(&[1_024, 1_025, 1_026, 2_000]);
@@ -372,7 +400,8 @@ impl Case {
     }
 
     fn draw_key_len(&mut self) -> usize {
-        let max = if self.image.len() < 28 { 3 } else { Head::read(&self.image).max.min(70) as usize };
+        let max =
+            if self.image.len() < 28 { 3 } else { Head::read(&self.image).max.min(70) as usize };
         let more = self.rng.below(20) as usize;
         match self.rng.below(12) {
             0 => 0,
@@ -449,7 +478,8 @@ fn full_of_two_bytes(rng: &mut Rng) -> (Sort, Shape, Vec<u8>) {
     (Sort::Usual, shape, image)
 }
 
-/// As long as an image may be, or a byte longer or shorter: with all nodes that fit, in one chain or in a tree, or with few.
+/// As long as an image may be, or a byte longer or shorter: with all nodes that fit, in one chain
+/// or in a tree, or with few.
 fn huge(rng: &mut Rng) -> (Sort, Shape, Vec<u8>) {
     let length = LONGEST_IMAGE + rng.below(3) as usize - 1;
     let mut shape = match rng.below(3) {

@@ -1,4 +1,5 @@
-//! Holds the model's calls with counts to document 01's small file, with the counts worked out by hand, and to next key.
+//! Holds the model's calls with counts to document 01's small file, with the counts worked out by
+//! hand, and to next key.
 
 use super::*;
 
@@ -7,7 +8,8 @@ fn p7() -> Vec<u8> {
     abc("00000005", "00010300 02000005 00000009 00000400 00000500 00000001")
 }
 
-/// A chain of A, with data at depths 0, 3 and 4, of which min 1 and max 3 hide the first and the last.
+/// A chain of A, with data at depths 0, 3 and 4, of which min 1 and max 3 hide the first and the
+/// last.
 fn hiding() -> Vec<u8> {
     abc("00000004", "01000007 02000000 03000000 04000008 00000009")
 }
@@ -60,9 +62,17 @@ fn order_of_25() {
     let mut wrong = [2, 2, 0, 1];
     work = [7; 4];
     let mut image = p3();
-    assert_eq!(store_counts(&mut image, &mut work, &[], 256, &mut wrong), refused(25, 2), "25 before 9");
+    assert_eq!(
+        store_counts(&mut image, &mut work, &[], 256, &mut wrong),
+        refused(25, 2),
+        "25 before 9"
+    );
     assert_eq!(work, [0, 0, 0, 7]);
-    assert_eq!(store_text_counts(&mut image, &mut work, b"D", 1, &mut wrong), refused(25, 2), "25 before 10");
+    assert_eq!(
+        store_text_counts(&mut image, &mut work, b"D", 1, &mut wrong),
+        refused(25, 2),
+        "25 before 10"
+    );
     assert_eq!((image, wrong), (p3(), [2, 2, 0, 1]));
     assert_eq!(key_at(&p3(), &mut work, &wrong, 9, &mut []), refused(25, 2), "25 before 14");
     assert_eq!(position(&p3(), &mut work, &wrong, &[3; 4]), refused(25, 2));
@@ -70,14 +80,26 @@ fn order_of_25() {
 }
 
 /// The store with counts by letters and by text: the counts that both leave. It stores in `image`.
-fn store_both_ways(image: &mut Vec<u8>, key: (&[u8], &[u8]), value: u32, list: &[u32], answered: Answer) -> Vec<u32> {
+fn store_both_ways(
+    image: &mut Vec<u8>,
+    key: (&[u8], &[u8]),
+    value: u32,
+    list: &[u32],
+    answered: Answer,
+) -> Vec<u32> {
     let g = Head::read(image).g as usize;
     let (mut plain, mut by_text, before) = (image.clone(), image.clone(), image.clone());
     let (mut left, mut left_by_text) = (list.to_vec(), list.to_vec());
     let mut work = [7; 8];
     assert_eq!(store_counts(image, &mut work, key.0, value, &mut left), answered);
-    assert!(work[..=g].iter().all(|number| *number == 0) && work[g + 1..].iter().all(|number| *number == 7));
-    assert_eq!(store_text_counts(&mut by_text, &mut work, key.1, value, &mut left_by_text), answered);
+    assert!(
+        work[..=g].iter().all(|number| *number == 0)
+            && work[g + 1..].iter().all(|number| *number == 7)
+    );
+    assert_eq!(
+        store_text_counts(&mut by_text, &mut work, key.1, value, &mut left_by_text),
+        answered
+    );
     if answered.number == 0 {
         assert_eq!(store(&mut plain, &mut work, key.0, value), answered);
         assert_eq!(*image, plain);
@@ -101,7 +123,8 @@ fn stores_with_counts() {
     assert_eq!(left, [2, 2, 1], "0 on an incomplete path needs no more counts");
     store_both_ways(&mut image, (&[C, C, C], b"CCC"), 1, &[2, 2, 1, 9, 9], refused(5, 0));
     store_both_ways(&mut image, (&[C, C, C], b"CCC"), 1, &[2, 2, 1], refused(5, 0));
-    let left = store_both_ways(&mut image, (&[C, C, C], b"CCC"), 1, &[2, 2, 1, 9, 9, 9, 9], changed(1));
+    let left =
+        store_both_ways(&mut image, (&[C, C, C], b"CCC"), 1, &[2, 2, 1, 9, 9, 9, 9], changed(1));
     assert_eq!(left, [3, 2, 1, 1, 1, 1, 9], "P7");
     let left = store_both_ways(&mut image, (&[B, A], b"BA"), 0, &left, changed(-1));
     assert_eq!(left, [2, 1, 0, 1, 1, 1, 9]);
@@ -121,7 +144,11 @@ fn keys_at_positions() {
     assert_eq!(key, [B, A, 7, 7]);
     for past in [2, 3, 1 << 32, u64::MAX] {
         assert_eq!(key_at(&p3(), &mut work, &[2, 2, 1], past, &mut key), refused(15, 0));
-        assert_eq!(key_at(&p3(), &mut work, &[2, 2, 1], past, &mut [7; 2]), refused(14, 0), "14 before 15");
+        assert_eq!(
+            key_at(&p3(), &mut work, &[2, 2, 1], past, &mut [7; 2]),
+            refused(14, 0),
+            "14 before 15"
+        );
     }
     assert_eq!(key, [B, A, 7, 7]);
     assert_eq!(key_at(&p7(), &mut [7; 6], &[3, 2, 1, 1, 1, 1], 2, &mut key), found(3, 1));
@@ -147,11 +174,20 @@ fn positions_of_keys() {
         assert_eq!(position(&p7(), &mut [7; 6], &list, letters), answered);
         assert_eq!(position_text(&p7(), &mut [7; 6], &list, text), answered);
     }
-    assert_eq!(position(&p7(), &mut [7; 6], &list, &[3; 4]), refused(9, 0), "letters: 9 before 10");
-    assert_eq!(position_text(&p7(), &mut [7; 6], &list, b"DDDD"), refused(10, 0), "text: 10 before 9");
+    assert_eq!(
+        position(&p7(), &mut [7; 6], &list, &[3; 4]),
+        refused(9, 0),
+        "letters: 9 before 10"
+    );
+    assert_eq!(
+        position_text(&p7(), &mut [7; 6], &list, b"DDDD"),
+        refused(10, 0),
+        "text: 10 before 9"
+    );
 }
 
-/// "the first stored key moved on by i steps of next key", for every i, and back by the key's position.
+/// "the first stored key moved on by i steps of next key", for every i, and back by the key's
+/// position.
 fn held_to_next_key(image: &[u8], list: &[u32]) {
     let (mut work, mut last, mut next, mut at) = ([7; 400], Vec::new(), [0; 4], [0; 4]);
     let mut begun = false;
@@ -167,7 +203,8 @@ fn held_to_next_key(image: &[u8], list: &[u32]) {
     assert_eq!(key_at(image, &mut work, list, u64::from(list[0]), &mut at), refused(15, 0));
 }
 
-/// "A store changes counts only on the key's path and at the new nodes", there by the store's change.
+/// "A store changes counts only on the key's path and at the new nodes", there by the store's
+/// change.
 #[test]
 fn a_store_changes_counts_on_its_path_alone() {
     let mut image = vec![0xEE; 5_000];
@@ -187,7 +224,8 @@ fn a_store_changes_counts_on_its_path_alone() {
         for node in 0..400 {
             let old = if node <= g { before[node] } else { 0 };
             let change = if passed.contains(&node) { done.change } else { 0 };
-            let right = if node <= head.g as usize { (old as i32 + change) as u32 } else { before[node] };
+            let right =
+                if node <= head.g as usize { (old as i32 + change) as u32 } else { before[node] };
             assert_eq!(list[node], right, "node {node}");
         }
         held_to_next_key(&image, &list);

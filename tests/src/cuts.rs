@@ -1,7 +1,8 @@
-//! Cuts: what request 1 of document 02 asks of a store that is cut short. The library's own list of its writes is carried out on the image
-//! from before, up to every cut; each image so left is mended and then asked everything. What it must answer comes from a map of last values
-//! that is kept beside the image. Each store is made with counts too, with the list that the one before left or, after a cut, with one that is
-//! worked out afresh.
+//! Cuts: what request 1 of document 02 asks of a store that is cut short. The library's own list
+//! of its writes is carried out on the image from before, up to every cut; each image so left is
+//! mended and then asked everything. What it must answer comes from a map of last values that is
+//! kept beside the image. Each store is made with counts too, with the list that the one before
+//! left or, after a cut, with one that is worked out afresh.
 
 use crate::calls::{ask_library, Call, Pointers};
 use crate::keys;
@@ -44,8 +45,8 @@ impl Held {
     }
 }
 
-/// What was tried: stores that were not refused, the images that their cuts left, and of these those with a write in part and those whose G
-/// was lowered.
+/// What was tried: stores that were not refused, the images that their cuts left, and of these
+/// those with a write in part and those whose G was lowered.
 #[derive(Clone, Copy, Default)]
 pub struct Tried {
     pub images: u64,
@@ -102,15 +103,32 @@ impl Reader {
         unsafe { ask_library(call, &lent) }
     }
 
-    /// Look ups by letters and, where there is text, by text. Only an image that is not mended yet may refuse them.
-    fn look_ups(&mut self, image: &[u8], stored: &Stored, keys: &[Key], mended: bool) -> Result<(), String> {
+    /// Look ups by letters and, where there is text, by text. Only an image that is not mended yet
+    /// may refuse them.
+    fn look_ups(
+        &mut self,
+        image: &[u8],
+        stored: &Stored,
+        keys: &[Key],
+        mended: bool,
+    ) -> Result<(), String> {
         for key in keys {
-            let expected = Answer { value: stored.get(&key.letters).copied().unwrap_or(0), ..Answer::default() };
+            let expected = Answer {
+                value: stored.get(&key.letters).copied().unwrap_or(0),
+                ..Answer::default()
+            };
             let by_letters = self.ask(Call::LookUp, image, &key.letters);
-            let by_text = if has_text(key) { self.ask(Call::LookUpText, image, &key.text) } else { by_letters };
+            let by_text = if has_text(key) {
+                self.ask(Call::LookUpText, image, &key.text)
+            } else {
+                by_letters
+            };
             for found in [by_letters, by_text] {
                 if found != expected && (mended || found.number == 0) {
-                    return Err(format!("mended {mended}: look up of {:?} gives {found:?}, not {expected:?}", key.letters));
+                    return Err(format!(
+                        "mended {mended}: look up of {:?} gives {found:?}, not {expected:?}",
+                        key.letters
+                    ));
                 }
             }
         }
@@ -120,15 +138,21 @@ impl Reader {
     /// Everything that a mended image answers.
     fn all(&mut self, image: &[u8], stored: &Stored, keys: &[Key]) -> Result<(), String> {
         let checked = self.ask(Call::Check, image, &[]);
-        claim(checked == Answer::default(), || format!("the check of the mended image gives {checked:?}"))?;
+        claim(checked == Answer::default(), || {
+            format!("the check of the mended image gives {checked:?}")
+        })?;
         self.look_ups(image, stored, keys, true)?;
         let counted = self.ask(Call::Count, image, &[]);
-        claim(counted == Answer { value: stored.len() as u64, ..Answer::default() }, || format!("the number of keys is {counted:?}"))?;
+        claim(counted == Answer { value: stored.len() as u64, ..Answer::default() }, || {
+            format!("the number of keys is {counted:?}")
+        })?;
         let mut last: &[u8] = &[];
         for (i, (key, value)) in stored.iter().enumerate() {
             let next = self.ask(Call::NextKey { after: i > 0 }, image, last);
             let expected = Answer { length: key.len() as u32, value: *value, ..Answer::default() };
-            claim(next == expected && self.key[..key.len()] == key[..], || format!("after {last:?} comes {next:?}, not {key:?}"))?;
+            claim(next == expected && self.key[..key.len()] == key[..], || {
+                format!("after {last:?} comes {next:?}, not {key:?}")
+            })?;
             last = key;
         }
         let end = self.ask(Call::NextKey { after: !stored.is_empty() }, image, last);
@@ -142,27 +166,41 @@ impl Reader {
         self.work.resize(nodes, 7);
         self.counts.resize(nodes, 7);
         let answer = self.ask(Call::Counts, image, &[]);
-        claim(answer == Answer::default(), || format!("the call that works out counts gives {answer:?}"))
+        claim(answer == Answer::default(), || {
+            format!("the call that works out counts gives {answer:?}")
+        })
     }
 
-    /// The counts worked out afresh are not refused. By them one of the keys is found at its position and its position by the key, or
-    /// none is found past the last.
+    /// The counts worked out afresh are not refused. By them one of the keys is found at its
+    /// position and its position by the key, or none is found past the last.
     fn positions(&mut self, image: &[u8], stored: &Stored) -> Result<(), String> {
         self.work_out_counts(image)?;
         let checked = self.ask(Call::CheckCounts, image, &[]);
-        claim(checked == Answer::default(), || format!("the check with the counts {:?} gives {checked:?}", self.counts))?;
-        claim(self.counts[0] as usize == stored.len(), || format!("the root's count is {}", self.counts[0]))?;
+        claim(checked == Answer::default(), || {
+            format!("the check with the counts {:?} gives {checked:?}", self.counts)
+        })?;
+        claim(self.counts[0] as usize == stored.len(), || {
+            format!("the root's count is {}", self.counts[0])
+        })?;
         self.turn += 1;
         let position = self.turn % (stored.len() + 1);
         let found = self.ask(Call::KeyAt { position: position as u64 }, image, &[]);
         let (key, value) = match stored.iter().nth(position) {
             Some(stored) => stored,
-            None => return claim(found.number == 15, || format!("past the last position stands {found:?}")),
+            None => {
+                return claim(found.number == 15, || {
+                    format!("past the last position stands {found:?}")
+                })
+            }
         };
         let expected = Answer { length: key.len() as u32, value: *value, ..Answer::default() };
-        claim(found == expected && self.key[..key.len()] == key[..], || format!("at position {position} stands {found:?}, not {key:?}"))?;
+        claim(found == expected && self.key[..key.len()] == key[..], || {
+            format!("at position {position} stands {found:?}, not {key:?}")
+        })?;
         let stands = self.ask(Call::Position, image, key);
-        claim(stands == Answer { value: position as u64, ..Answer::default() }, || format!("the position of {key:?} is {stands:?}"))
+        claim(stands == Answer { value: position as u64, ..Answer::default() }, || {
+            format!("the position of {key:?} is {stands:?}")
+        })
     }
 }
 
@@ -171,7 +209,8 @@ struct Worker {
     twins: Twins,
     rng: Rng,
     reader: Reader,
-    /// Spoils the listed store, the store with counts and mend, and is to be found with no look at the model.
+    /// Spoils the listed store, the store with counts and mend, and is to be found with no look at
+    /// the model.
     saboteur: Option<&'static Saboteur>,
     done: Tried,
 }
@@ -179,7 +218,13 @@ struct Worker {
 impl Worker {
     fn new(seed: u64, saboteur: Option<&'static Saboteur>) -> Worker {
         let reader = Reader { work: Vec::new(), key: [0; 64], counts: Vec::new(), turn: 0 };
-        Worker { twins: Twins::default(), rng: Rng::new(seed), reader, saboteur, done: Tried::default() }
+        Worker {
+            twins: Twins::default(),
+            rng: Rng::new(seed),
+            reader,
+            saboteur,
+            done: Tried::default(),
+        }
     }
 
     fn ask(&mut self, call: Call, image: &[u8], given: &[u8]) -> Result<Answer, String> {
@@ -187,23 +232,49 @@ impl Worker {
     }
 
     /// A call compared with the model, with enough working numbers.
-    fn ask_beside(&mut self, call: Call, image: &[u8], given: &[u8], counts: &[u32]) -> Result<Answer, String> {
+    fn ask_beside(
+        &mut self,
+        call: Call,
+        image: &[u8],
+        given: &[u8],
+        counts: &[u32],
+    ) -> Result<Answer, String> {
         let work_len = Head::read(image).g as usize + 1 + self.rng.below(2) as usize;
         let asked = Asked { call, image, given, key_len: 0, work_len, counts };
         let outcome = self.twins.ask(&asked, &mut self.rng, self.saboteur);
         match outcome.difference {
-            Some(_) if self.saboteur.is_none() => Err(report::asked(&asked) + &report::outcome(&outcome)),
+            Some(_) if self.saboteur.is_none() => {
+                Err(report::asked(&asked) + &report::outcome(&outcome))
+            }
             _ => Ok(outcome.library),
         }
     }
 
-    /// A store with all its cuts. If it is not refused: one of the mended images, and what that one holds.
-    fn store(&mut self, held: &Held, key: &Key, value: u32, keys: &[Key]) -> Result<Option<Held>, String> {
-        self.try_store(held, key, value, keys)
-            .map_err(|why| format!("store of {value} under {:?}: {why}\n    image [{}]\n", key.letters, report::hex(&held.image)))
+    /// A store with all its cuts. If it is not refused: one of the mended images, and what that
+    /// one holds.
+    fn store(
+        &mut self,
+        held: &Held,
+        key: &Key,
+        value: u32,
+        keys: &[Key],
+    ) -> Result<Option<Held>, String> {
+        self.try_store(held, key, value, keys).map_err(|why| {
+            format!(
+                "store of {value} under {:?}: {why}\n    image [{}]\n",
+                key.letters,
+                report::hex(&held.image)
+            )
+        })
     }
 
-    fn try_store(&mut self, held: &Held, key: &Key, value: u32, keys: &[Key]) -> Result<Option<Held>, String> {
+    fn try_store(
+        &mut self,
+        held: &Held,
+        key: &Key,
+        value: u32,
+        keys: &[Key],
+    ) -> Result<Option<Held>, String> {
         let answer = if has_text(key) && self.rng.one_in(2) {
             self.ask(Call::StoreTextWrites { value }, &held.image, &key.text)?
         } else {
@@ -216,15 +287,24 @@ impl Worker {
         let list = listed(self.twins.library.writes(), answer.length as usize, held.image.len())?;
         let after = self.twins.library.image().to_vec();
         self.ask(Call::Store { value }, &held.image, &key.letters)?;
-        claim(self.twins.library.image() == after, || "the store leaves other bytes than the listed store".to_string())?;
+        claim(self.twins.library.image() == after, || {
+            "the store leaves other bytes than the listed store".to_string()
+        })?;
         let counts = self.store_with_counts(held, key, value, &after)?;
         let next = self.cuts(held, key, value, &list, &after, keys)?;
         Ok(Some(Held { counts: if next.image == after { Some(counts) } else { None }, ..next }))
     }
 
-    /// The same store with counts, with the list that the store before left, or with one that is worked out afresh: the counts that it
-    /// leaves. They are those of the image after it, worked out afresh.
-    fn store_with_counts(&mut self, held: &Held, key: &Key, value: u32, after: &[u8]) -> Result<Vec<u32>, String> {
+    /// The same store with counts, with the list that the store before left, or with one that is
+    /// worked out afresh: the counts that it leaves. They are those of the image after it, worked
+    /// out afresh.
+    fn store_with_counts(
+        &mut self,
+        held: &Held,
+        key: &Key,
+        value: u32,
+        after: &[u8],
+    ) -> Result<Vec<u32>, String> {
         let mut list = match &held.counts {
             Some(left) => left.clone(),
             None => {
@@ -238,15 +318,29 @@ impl Worker {
         } else {
             self.ask_beside(Call::StoreCounts { value }, &held.image, &key.letters, &list)?
         };
-        claim(answer.number == 0, || format!("the store with the counts {list:?} gives {answer:?}"))?;
-        claim(self.twins.library.image() == after, || "the store with counts leaves other bytes than the store".to_string())?;
+        claim(answer.number == 0, || {
+            format!("the store with the counts {list:?} gives {answer:?}")
+        })?;
+        claim(self.twins.library.image() == after, || {
+            "the store with counts leaves other bytes than the store".to_string()
+        })?;
         let left = self.twins.library.counts().to_vec();
         self.reader.work_out_counts(after)?;
-        claim(left == self.reader.counts, || format!("the store leaves the counts {left:?}, not {:?}", self.reader.counts))?;
+        claim(left == self.reader.counts, || {
+            format!("the store leaves the counts {left:?}, not {:?}", self.reader.counts)
+        })?;
         Ok(left)
     }
 
-    fn cuts(&mut self, held: &Held, key: &Key, value: u32, list: &[Range<usize>], after: &[u8], keys: &[Key]) -> Result<Held, String> {
+    fn cuts(
+        &mut self,
+        held: &Held,
+        key: &Key,
+        value: u32,
+        list: &[Range<usize>],
+        after: &[u8],
+        keys: &[Key],
+    ) -> Result<Held, String> {
         let used = Head::read(&held.image).u() as usize;
         let mut landed = held.image.clone();
         let mut left = Vec::new();
@@ -255,19 +349,27 @@ impl Worker {
                 let mut image = landed.clone();
                 part.iter().for_each(|at| image[*at] = after[*at]);
                 self.done.partly += u64::from(!part.is_empty());
-                let tell = |why| format!("cut at write {i} of {list:?}, of which the bytes {part:?} landed: {why}");
+                let tell = |why| {
+                    format!(
+                        "cut at write {i} of {list:?}, of which the bytes {part:?} landed: {why}"
+                    )
+                };
                 left.push(self.mend(image, &held.stored, keys).map_err(tell)?);
             }
             landed[write.clone()].copy_from_slice(&after[write.clone()]);
         }
-        claim(landed == after, || format!("the list {list:?} carried out whole leaves other bytes than the store"))?;
+        claim(landed == after, || {
+            format!("the list {list:?} carried out whole leaves other bytes than the store")
+        })?;
         let mut stored = held.stored.clone();
         if value > 0 {
             stored.insert(key.letters.clone(), u64::from(value));
         } else {
             stored.remove(&key.letters);
         }
-        let whole = self.mend(landed, &stored, keys).map_err(|why| format!("all of {list:?} landed: {why}"))?;
+        let whole = self
+            .mend(landed, &stored, keys)
+            .map_err(|why| format!("all of {list:?} landed: {why}"))?;
         if left.is_empty() || self.rng.one_in(2) {
             return Ok(Held { image: whole, stored, counts: None });
         }
@@ -275,14 +377,22 @@ impl Worker {
         Ok(Held { image: left.swap_remove(any), stored: held.stored.clone(), counts: None })
     }
 
-    /// The bytes of a write that land if it is the one hit: none, or if it goes to spare bytes some of them, in every way or in some.
+    /// The bytes of a write that land if it is the one hit: none, or if it goes to spare bytes
+    /// some of them, in every way or in some.
     fn parts(&mut self, write: &Range<usize>, spare: bool) -> Vec<Vec<usize>> {
         let bytes: Vec<usize> = write.clone().collect();
         if !spare {
             return vec![Vec::new()];
         }
         if bytes.len() <= EVERY_PART {
-            let some = |set: usize| bytes.iter().enumerate().filter(|(i, _)| set >> i & 1 == 1).map(|(_, at)| *at).collect();
+            let some = |set: usize| {
+                bytes
+                    .iter()
+                    .enumerate()
+                    .filter(|(i, _)| set >> i & 1 == 1)
+                    .map(|(_, at)| *at)
+                    .collect()
+            };
             return (0..(1 << bytes.len()) - 1).map(some).collect();
         }
         let (first, last) = (bytes[0], bytes[bytes.len() - 1]);
@@ -312,18 +422,31 @@ impl Worker {
 fn listed(writes: &[u32], many: usize, image_len: usize) -> Result<Vec<Range<usize>>, String> {
     let range = |pair: &[u32]| pair[0] as usize..pair[0] as usize + pair[1] as usize;
     let list: Vec<Range<usize>> = writes.chunks(2).take(many).map(range).collect();
-    claim(list.len() == many && list.iter().all(|write| write.end <= image_len), || format!("{many} writes, to {list:?}"))?;
+    claim(list.len() == many && list.iter().all(|write| write.end <= image_len), || {
+        format!("{many} writes, to {list:?}")
+    })?;
     Ok(list)
 }
 
-/// Those of the keys that the image does not refuse, each once, with their text where there is an alphabet.
+/// Those of the keys that the image does not refuse, each once, with their text where there is an
+/// alphabet.
 fn keys_of(image: &[u8], mut keys: Vec<Vec<u8>>) -> Vec<Key> {
     let head = Head::read(image);
     let alphabet = model::characters(&image[28..28 + head.f as usize]).unwrap_or_default();
-    keys.retain(|key| key.len() >= head.min as usize && key.len() <= head.max as usize && key.iter().all(|l| u32::from(*l) < head.n));
+    keys.retain(|key| {
+        key.len() >= head.min as usize
+            && key.len() <= head.max as usize
+            && key.iter().all(|l| u32::from(*l) < head.n)
+    });
     keys.sort();
     keys.dedup();
-    let text = |key: &[u8]| if head.f > 0 { key.iter().flat_map(|l| alphabet[usize::from(*l)].to_vec()).collect() } else { Vec::new() };
+    let text = |key: &[u8]| {
+        if head.f > 0 {
+            key.iter().flat_map(|l| alphabet[usize::from(*l)].to_vec()).collect()
+        } else {
+            Vec::new()
+        }
+    };
     keys.into_iter().map(|letters| Key { text: text(&letters), letters }).collect()
 }
 
@@ -359,12 +482,22 @@ const FAMILIES: [Family; 14] = [
 /// Every key and these values are stored.
 const VALUES: [u32; 3] = [0, 1, 255];
 
-fn run_tree(worker: &mut Worker, family: &Family, index: usize, links: &[u8]) -> Result<(), String> {
+fn run_tree(
+    worker: &mut Worker,
+    family: &Family,
+    index: usize,
+    links: &[u8],
+) -> Result<(), String> {
     for (i, data) in small::tuples(family.data, family.g as usize + 1).enumerate() {
-        for setting in small::settings().iter().skip((index + i) % family.settings).step_by(family.settings) {
+        for setting in
+            small::settings().iter().skip((index + i) % family.settings).step_by(family.settings)
+        {
             let held = Held::of(small::image(&mut worker.rng, family.n, links, &data, setting));
             worker.done.images += 1;
-            let keys = keys_of(&held.image, small::keys(family.n).into_iter().map(|key| key.letters).collect());
+            let keys = keys_of(
+                &held.image,
+                small::keys(family.n).into_iter().map(|key| key.letters).collect(),
+            );
             for key in &keys {
                 for value in VALUES {
                     worker.store(&held, key, value, &keys)?;
@@ -385,10 +518,20 @@ pub fn run_small() -> Tried {
                 let mut worker = Worker::new(thread as u64, None);
                 let mut progress = Progress::of(thread);
                 let trees = |family: &'static Family| {
-                    small::trees(family.n as usize, family.g as usize).into_iter().enumerate().map(move |(i, links)| (family, i, links))
+                    small::trees(family.n as usize, family.g as usize)
+                        .into_iter()
+                        .enumerate()
+                        .map(move |(i, links)| (family, i, links))
                 };
-                for (family, index, links) in FAMILIES.iter().flat_map(trees).skip(thread).step_by(2) {
-                    progress.at(&format!("cuts: N {} G {} links {}", family.n, family.g, report::hex(&links)));
+                for (family, index, links) in
+                    FAMILIES.iter().flat_map(trees).skip(thread).step_by(2)
+                {
+                    progress.at(&format!(
+                        "cuts: N {} G {} links {}",
+                        family.n,
+                        family.g,
+                        report::hex(&links)
+                    ));
                     if let Err(failure) = run_tree(&mut worker, family, index, &links) {
                         print!("FAILED: cuts: {failure}");
                         worker.done.failed += 1;
@@ -437,7 +580,8 @@ fn begin(rng: &mut Rng) -> Held {
     Held::of(image)
 }
 
-/// A run of stores from one image on, each with all its cuts. It goes on from one of the images that were mended.
+/// A run of stores from one image on, each with all its cuts. It goes on from one of the images
+/// that were mended.
 fn history(worker: &mut Worker, seed: u64) -> Result<(), String> {
     let mut rng = Rng::new(seed);
     worker.rng = Rng::new(!seed);
@@ -494,19 +638,27 @@ pub fn replay(seed: u64) -> bool {
     let mut worker = Worker::new(0, None);
     let outcome = history(&mut worker, seed);
     match &outcome {
-        Ok(()) => println!("seed {seed}: {} cuts of {} stores, all mended", worker.done.cuts, worker.done.stores),
+        Ok(()) => println!(
+            "seed {seed}: {} cuts of {} stores, all mended",
+            worker.done.cuts, worker.done.stores
+        ),
         Err(failure) => print!("FAILED: cuts: {failure}"),
     }
     outcome.is_ok()
 }
 
-/// Every saboteur of the cuts must be reported within the same histories, by what the images answer alone. Returns how many were not.
+/// Every saboteur of the cuts must be reported within the same histories, by what the images
+/// answer alone. Returns how many were not.
 pub fn self_test(start: u64, histories: u64) -> usize {
     let mut missed = 0;
     for saboteur in &CUT_SABOTEURS {
         let mut worker = Worker::new(0, Some(saboteur));
-        match (0..histories).find(|index| history(&mut worker, start.wrapping_add(*index)).is_err()) {
-            Some(index) => println!("    caught in history {:>3} of the cuts: {}", index + 1, saboteur.name),
+        match (0..histories)
+            .find(|index| history(&mut worker, start.wrapping_add(*index)).is_err())
+        {
+            Some(index) => {
+                println!("    caught in history {:>3} of the cuts: {}", index + 1, saboteur.name)
+            }
             None => {
                 missed += 1;
                 println!("    NOT CAUGHT by the cuts: {}", saboteur.name);

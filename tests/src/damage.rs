@@ -32,7 +32,10 @@ pub fn readable(image: &[u8]) -> Option<Head> {
         return None;
     }
     let head = Head::read(image);
-    let widths = (1..=256).contains(&head.n) && (1..=4).contains(&head.a) && (1..=4).contains(&head.d) && head.f <= 1_024;
+    let widths = (1..=256).contains(&head.n)
+        && (1..=4).contains(&head.a)
+        && (1..=4).contains(&head.d)
+        && head.f <= 1_024;
     if widths && head.u() <= image.len() as u128 {
         Some(head)
     } else {
@@ -44,11 +47,43 @@ fn head_field(rng: &mut Rng, image: &mut [u8]) {
     let Head { g, n, a, d, f, min, max } = Head::read(image);
     let field = rng.below(7);
     let values = match field {
-        0 => vec![0, g.wrapping_add(1), g.wrapping_sub(1), 254, 255, 256, 65_535, u32::MAX, u32::MAX - 1, 0x7FFF_FFFF, 0x8000_0000],
-        1 => vec![0, 1, n.wrapping_add(1), n.wrapping_sub(1), 255, 256, 257, 512, 0x0100_0000 | n, u32::MAX],
+        0 => vec![
+            0,
+            g.wrapping_add(1),
+            g.wrapping_sub(1),
+            254,
+            255,
+            256,
+            65_535,
+            u32::MAX,
+            u32::MAX - 1,
+            0x7FFF_FFFF,
+            0x8000_0000,
+        ],
+        1 => vec![
+            0,
+            1,
+            n.wrapping_add(1),
+            n.wrapping_sub(1),
+            255,
+            256,
+            257,
+            512,
+            0x0100_0000 | n,
+            u32::MAX,
+        ],
         2 => vec![0, 1, 2, 3, 4, 5, a | 256, u32::MAX],
         3 => vec![0, 1, 2, 3, 4, 5, 8, d | 256, u32::MAX],
-        4 => vec![0, f.wrapping_add(1), f.wrapping_sub(1), 1_024, 1_025, u32::MAX, u32::MAX - 27, u32::MAX - 28],
+        4 => vec![
+            0,
+            f.wrapping_add(1),
+            f.wrapping_sub(1),
+            1_024,
+            1_025,
+            u32::MAX,
+            u32::MAX - 27,
+            u32::MAX - 28,
+        ],
         5 => vec![0, max, max.wrapping_add(1), min.wrapping_add(1), 64, 65, u32::MAX],
         _ => vec![0, min, min.wrapping_sub(1), max.wrapping_add(1), 63, 64, 65, 256, u32::MAX],
     };
@@ -72,7 +107,11 @@ fn wrapping_g(rng: &mut Rng, image: &mut [u8]) {
     let body = rng.pick(&[0, 1, room, any]) as u32;
     // nodes * odd = body in 32 - twos bits, so nodes * W = body << twos in 32
     let low = body.wrapping_mul(inverse);
-    let nodes = if twos > 0 { (low & (u32::MAX >> twos)) | ((rng.next() as u32) << (32 - twos)) } else { low };
+    let nodes = if twos > 0 {
+        (low & (u32::MAX >> twos)) | ((rng.next() as u32) << (32 - twos))
+    } else {
+        low
+    };
     write_number(&mut image[0..4], u64::from(nodes.wrapping_sub(1)));
 }
 
@@ -85,7 +124,10 @@ fn alphabet(rng: &mut Rng, image: &mut [u8]) {
     let at = rng.below(f as u64) as usize;
     match rng.below(4) {
         0 => bytes[at] = rng.next() as u8,
-        1 => bytes[at] = rng.pick(&[0x80, 0xBF, 0xC0, 0xC1, 0xC2, 0xE0, 0xED, 0xF0, 0xF4, 0xF5, 0xFF, 0x41]),
+        1 => {
+            bytes[at] =
+                rng.pick(&[0x80, 0xBF, 0xC0, 0xC1, 0xC2, 0xE0, 0xED, 0xF0, 0xF4, 0xF5, 0xFF, 0x41])
+        }
         2 => {
             let from = rng.below(f as u64) as usize;
             let len = rng.between(1, 4) as usize;
@@ -112,7 +154,20 @@ fn length(rng: &mut Rng, image: &mut Vec<u8>) {
     let head = Head::read(image);
     let (f, u) = (u128::from(head.f), head.u());
     let half = image.len() as u128 / 2;
-    let wanted = rng.pick(&[0, 1, 27, 28, 29, 28 + f - 1.min(f), 28 + f, 28 + f + 1, u - 1, u, u + 1, half]);
+    let wanted = rng.pick(&[
+        0,
+        1,
+        27,
+        28,
+        29,
+        28 + f - 1.min(f),
+        28 + f,
+        28 + f + 1,
+        u - 1,
+        u,
+        u + 1,
+        half,
+    ]);
     let wanted = wanted.min(image.len() as u128 + 2_000).min(LONGEST_IMAGE as u128 + 1) as usize;
     let rubbish = rng.rubbish(wanted.saturating_sub(image.len()));
     image.truncate(wanted);
@@ -158,7 +213,9 @@ fn some_node(rng: &mut Rng, image: &[u8], head: &Head) -> u64 {
     let mut node = 0;
     for _ in 0..rng.below(u64::from(head.max).min(8) + 1) {
         match taken_letter(rng, image, head, node) {
-            Some(letter) if link(image, head, node, letter) <= u64::from(head.g) => node = link(image, head, node, letter),
+            Some(letter) if link(image, head, node, letter) <= u64::from(head.g) => {
+                node = link(image, head, node, letter)
+            }
             _ => break,
         }
     }
@@ -176,16 +233,19 @@ pub fn taken_letter(rng: &mut Rng, image: &[u8], head: &Head, node: u64) -> Opti
 fn tear(rng: &mut Rng, image: &mut [u8], head: &Head) {
     let node = some_node(rng, image, head);
     let any = rng.below(u64::from(head.n));
-    let letter = if rng.one_in(3) { any } else { taken_letter(rng, image, head, node).unwrap_or(any) };
+    let letter =
+        if rng.one_in(3) { any } else { taken_letter(rng, image, head, node).unwrap_or(any) };
     let g = u64::from(head.g);
     let most = greatest(head.a);
     let (near, far) = (rng.below(g + 2), rng.below(most));
-    let address = rng.pick(&[0, 0, node, node.saturating_sub(1), 1, g, g + 1, g + 2, most, near, far]);
+    let address =
+        rng.pick(&[0, 0, node, node.saturating_sub(1), 1, g, g + 1, g + 2, most, near, far]);
     let at = head.link_at(node, letter);
     write_number(&mut image[at..at + head.a as usize], address.min(most));
 }
 
-/// A link becomes 0, so that its address stands in none. Nodes before that address may link past it.
+/// A link becomes 0, so that its address stands in none. Nodes before that address may link past
+/// it.
 fn empty_link(rng: &mut Rng, image: &mut [u8], head: &Head) {
     let node = some_node(rng, image, head);
     if let Some(letter) = taken_letter(rng, image, head, node) {
@@ -207,8 +267,8 @@ fn copy_link(rng: &mut Rng, image: &mut [u8], head: &Head) {
     image.copy_within(start..start + head.a as usize, at);
 }
 
-/// G some nodes higher, where there is room, as after a cut before the old link: the first of them stands in no link, and perhaps no link
-/// could hold it; each other mostly in the one before.
+/// G some nodes higher, where there is room, as after a cut before the old link: the first of them
+/// stands in no link, and perhaps no link could hold it; each other mostly in the one before.
 fn unlinked_nodes(rng: &mut Rng, image: &mut [u8], head: &Head) {
     let (first, many) = (u64::from(head.g) + 1, rng.pick(&[1, 1, 2, 3]));
     let (start, end) = (head.node(first) as usize, head.node(first + many) as usize);
@@ -225,7 +285,8 @@ fn unlinked_nodes(rng: &mut Rng, image: &mut [u8], head: &Head) {
     write_number(&mut image[..4], first + many - 1);
 }
 
-/// Bytes that are no well-formed character, in each way: overlong, surrogate, past the end, stray, cut.
+/// Bytes that are no well-formed character, in each way: overlong, surrogate, past the end, stray,
+/// cut.
 pub const ILL_FORMED: [&[u8]; 20] = [
     &[0xC0, 0x80],
     &[0xC1, 0xBF],

@@ -1,7 +1,9 @@
-//! The exhaustive part: all small images with A = D = 1. Every link holds every value of its family, those that matter (0 to G+1, and 255) or
-//! all 256, and every node every data value of its family. The calls are asked with every key over the letters 0 to N (N is bad) up to length 3:
-//! on every image with N and G up to 2, refused or not; of greater families the images that are refused are asked less, as `Asks` says.
-//! The calls with counts are asked beside right, wrong and short lists; those that take a key, of accepted images alone.
+//! The exhaustive part: all small images with A = D = 1. Every link holds every value of its
+//! family, those that matter (0 to G+1, and 255) or all 256, and every node every data value of
+//! its family. The calls are asked with every key over the letters 0 to N (N is bad) up to length
+//! 3: on every image with N and G up to 2, refused or not; of greater families the images that are
+//! refused are asked less, as `Asks` says. The calls with counts are asked beside right, wrong and
+//! short lists; those that take a key, of accepted images alone.
 
 use crate::calls::Call;
 use crate::lists;
@@ -16,7 +18,8 @@ use std::sync::Mutex;
 /// After so many failures the run stops.
 const ENOUGH: usize = 5;
 
-/// How much is asked of the images that the check refuses. Those that it accepts are asked everything.
+/// How much is asked of the images that the check refuses. Those that it accepts are asked
+/// everything.
 #[derive(Clone, Copy, PartialEq)]
 enum Asks {
     /// Every call with every key.
@@ -94,12 +97,27 @@ struct Worker {
 }
 
 impl Worker {
-    fn ask(&mut self, call: Call, image: &[u8], given: &[u8], key_len: usize, work_len: usize) -> u32 {
+    fn ask(
+        &mut self,
+        call: Call,
+        image: &[u8],
+        given: &[u8],
+        key_len: usize,
+        work_len: usize,
+    ) -> u32 {
         self.ask_beside(call, image, given, key_len, work_len, &[])
     }
 
     /// With a list of counts.
-    fn ask_beside(&mut self, call: Call, image: &[u8], given: &[u8], key_len: usize, work_len: usize, counts: &[u32]) -> u32 {
+    fn ask_beside(
+        &mut self,
+        call: Call,
+        image: &[u8],
+        given: &[u8],
+        key_len: usize,
+        work_len: usize,
+        counts: &[u32],
+    ) -> u32 {
         let asked = Asked { call, image, given, key_len, work_len, counts };
         let outcome = self.twins.ask(&asked, &mut self.rng, None);
         self.done.calls += 1;
@@ -150,8 +168,8 @@ impl Worker {
         self.ask(Call::NextKey { after: true }, image, &key.letters, max.saturating_sub(1), g + 2);
     }
 
-    /// The counts worked out and compared, beside lists that are long enough and short. `list`: the right counts, or of a refused
-    /// image any.
+    /// The counts worked out and compared, beside lists that are long enough and short. `list`:
+    /// the right counts, or of a refused image any.
     fn ask_counts(&mut self, image: &[u8], list: &[u32]) {
         let nodes = list.len();
         self.ask_beside(Call::Counts, image, &[], 0, nodes, &vec![9; nodes + 1]);
@@ -159,8 +177,8 @@ impl Worker {
         self.ask_beside(Call::CheckCounts, image, &[], 0, nodes, &list[..nodes - 1]);
     }
 
-    /// What does not depend on spare bytes: the count of one node wrong, of each in turn, the key at every position and past the last,
-    /// and the position of every key.
+    /// What does not depend on spare bytes: the count of one node wrong, of each in turn, the key
+    /// at every position and past the last, and the position of every key.
     fn ask_positions(&mut self, image: &[u8], keys: &[Key], right: &[u32], setting: &Setting) {
         let (nodes, max) = (right.len(), setting.lengths.1 as usize);
         let mut wrong = [right, &[1]].concat();
@@ -178,7 +196,14 @@ impl Worker {
             self.ask_beside(Call::KeyAt { position }, image, &[], max, nodes, right);
         }
         for position in [0, many] {
-            self.ask_beside(Call::KeyAt { position }, image, &[], max.saturating_sub(1), nodes, right);
+            self.ask_beside(
+                Call::KeyAt { position },
+                image,
+                &[],
+                max.saturating_sub(1),
+                nodes,
+                right,
+            );
         }
         for key in keys {
             self.ask_beside(Call::Position, image, &key.letters, 0, nodes, right);
@@ -188,7 +213,8 @@ impl Worker {
         }
     }
 
-    /// The stores of one key with counts, beside a list that just suffices, and one that is a number short.
+    /// The stores of one key with counts, beside a list that just suffices, and one that is a
+    /// number short.
     fn ask_stores_beside(&mut self, image: &[u8], key: &Key, right: &[u32], text: bool) {
         let nodes = right.len();
         let (head, letters) = (Head::read(image), &key.letters);
@@ -196,8 +222,22 @@ impl Worker {
         let k = if good { model::new_nodes(image, &head, letters, 1) as usize } else { 0 };
         let list = [right, &[9; 4]].concat();
         self.ask_beside(Call::StoreCounts { value: 0 }, image, letters, 0, nodes, right);
-        self.ask_beside(Call::StoreCounts { value: 1 }, image, letters, 0, nodes, &list[..nodes + k]);
-        self.ask_beside(Call::StoreCounts { value: 1 }, image, letters, 0, nodes, &list[..nodes + k - 1]);
+        self.ask_beside(
+            Call::StoreCounts { value: 1 },
+            image,
+            letters,
+            0,
+            nodes,
+            &list[..nodes + k],
+        );
+        self.ask_beside(
+            Call::StoreCounts { value: 1 },
+            image,
+            letters,
+            0,
+            nodes,
+            &list[..nodes + k - 1],
+        );
         if text || letters.is_empty() {
             self.ask_beside(Call::StoreTextCounts { value: 1 }, image, &key.text, 0, nodes, &list);
         }
@@ -215,12 +255,21 @@ impl Worker {
             if setting.spare == (0, 0) {
                 self.ask_positions(image, keys, &right, setting);
             }
-            keys.iter().for_each(|key| self.ask_stores_beside(image, key, &right, setting.alphabet));
+            keys.iter()
+                .for_each(|key| self.ask_stores_beside(image, key, &right, setting.alphabet));
         }
     }
 
-    /// One pattern of links with all data and, where it is accepted, in all settings of the family.
-    fn try_links(&mut self, family: &Family, links: &[u8], index: usize, keys: &[Key], settings: &[Setting]) {
+    /// One pattern of links with all data and, where it is accepted, in all settings of the
+    /// family.
+    fn try_links(
+        &mut self,
+        family: &Family,
+        links: &[u8],
+        index: usize,
+        keys: &[Key],
+        settings: &[Setting],
+    ) {
         let g = family.g as usize;
         let turn = |i: usize| &settings[(index + i) % settings.len()];
         let first = self.image(family, links, &[1; 5], turn(0));
@@ -257,7 +306,12 @@ fn patterns(family: &Family) -> Box<dyn Iterator<Item = Vec<u8>>> {
 fn run_family(worker: &mut Worker, family: &Family, thread: usize, progress: &mut Progress) {
     let (keys, settings) = (keys(family.n), settings());
     for (index, links) in patterns(family).enumerate().skip(thread).step_by(2) {
-        progress.at(&format!("exhaustive: N {} G {} links {}", family.n, family.g, report::hex(&links)));
+        progress.at(&format!(
+            "exhaustive: N {} G {} links {}",
+            family.n,
+            family.g,
+            report::hex(&links)
+        ));
         worker.try_links(family, &links, index, &keys, &settings);
         if worker.done.failed >= ENOUGH {
             break;
@@ -272,7 +326,11 @@ pub fn run() -> Exhausted {
         for thread in 0..2 {
             let tried = &tried;
             scope.spawn(move || {
-                let mut worker = Worker { twins: Twins::default(), rng: Rng::new(thread as u64), done: Exhausted::default() };
+                let mut worker = Worker {
+                    twins: Twins::default(),
+                    rng: Rng::new(thread as u64),
+                    done: Exhausted::default(),
+                };
                 let mut progress = Progress::of(thread);
                 for (i, family) in FAMILIES.iter().enumerate() {
                     run_family(&mut worker, family, thread, &mut progress);
@@ -289,7 +347,10 @@ pub fn run() -> Exhausted {
     let mut all = Exhausted::default();
     for (family, tried) in FAMILIES.iter().zip(tried.into_inner().unwrap()) {
         let every = if family.links.is_empty() { "" } else { ", every byte" };
-        println!("exhaustive: N {} G {}{every}: {} images, {} calls", family.n, family.g, tried.images, tried.calls);
+        println!(
+            "exhaustive: N {} G {}{every}: {} images, {} calls",
+            family.n, family.g, tried.images, tried.calls
+        );
         all.add(&tried);
     }
     all

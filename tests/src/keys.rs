@@ -1,4 +1,5 @@
-//! Keys by letters and by text: on the tree's paths and off them, at every limit and past it, ill-formed in every way.
+//! Keys by letters and by text: on the tree's paths and off them, at every limit and past it,
+//! ill-formed in every way.
 
 use crate::damage::{readable, taken_letter, ILL_FORMED};
 use crate::model::{greatest, link, Head};
@@ -54,7 +55,9 @@ fn walked(rng: &mut Rng, image: &[u8], length: u64, min: u64) -> Vec<u8> {
             break;
         }
         node = match (node, &head, taken) {
-            (Some(node), Some(head), Some(letter)) => Some(link(image, head, node, letter)).filter(|next| *next <= u64::from(head.g)),
+            (Some(node), Some(head), Some(letter)) => {
+                Some(link(image, head, node, letter)).filter(|next| *next <= u64::from(head.g))
+            }
             _ => None,
         };
         letters.push(taken.unwrap_or_else(|| rng.below(n)) as u8);

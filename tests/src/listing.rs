@@ -1,5 +1,5 @@
-//! The listing program, as a child process, against the lines that document 01 asks for: cases with the text written out by hand, then
-//! random images against the model's listing.
+//! The listing program, as a child process, against the lines that document 01 asks for: cases
+//! with the text written out by hand, then random images against the model's listing.
 
 use crate::damage::damage;
 use crate::model::{self, write_number, LISTING_WORK, LONGEST_INPUT};
@@ -72,9 +72,22 @@ impl Listed {
         let fault = match written {
             Ok(lines) if lines == expected.as_bytes() => return,
             Ok(lines) => {
-                let at = lines.iter().zip(expected.as_bytes()).take_while(|(its, ours)| its == ours).count();
-                let around = |bytes: &[u8]| String::from_utf8_lossy(&bytes[at.saturating_sub(60)..bytes.len().min(at + 60)]).into_owned();
-                format!("byte {at} differs\n  expected there: {:?}\n  written there: {:?}", around(expected.as_bytes()), around(&lines))
+                let at = lines
+                    .iter()
+                    .zip(expected.as_bytes())
+                    .take_while(|(its, ours)| its == ours)
+                    .count();
+                let around = |bytes: &[u8]| {
+                    String::from_utf8_lossy(
+                        &bytes[at.saturating_sub(60)..bytes.len().min(at + 60)],
+                    )
+                    .into_owned()
+                };
+                format!(
+                    "byte {at} differs\n  expected there: {:?}\n  written there: {:?}",
+                    around(expected.as_bytes()),
+                    around(&lines)
+                )
             }
             Err(fault) => fault,
         };
@@ -97,9 +110,17 @@ impl Listed {
         match (std::fs::read(path("trieff")), std::fs::read_to_string(path("txt"))) {
             (Ok(image), Ok(text)) => {
                 self.case(name, &image, &text);
-                self.compare(&format!("{name} from its file"), written_of_file(&path("trieff")), &text);
+                self.compare(
+                    &format!("{name} from its file"),
+                    written_of_file(&path("trieff")),
+                    &text,
+                );
                 let parts = (11.min(image.len()), 5_011.min(image.len()));
-                self.hold(&format!("{name} in pieces"), &[&image[..parts.0], &image[parts.0..parts.1], &image[parts.1..]], &text);
+                self.hold(
+                    &format!("{name} in pieces"),
+                    &[&image[..parts.0], &image[parts.0..parts.1], &image[parts.1..]],
+                    &text,
+                );
             }
             _ => {
                 self.failed += 1;
@@ -157,7 +178,8 @@ fn deep() -> (Vec<u8>, String) {
     (with_head([64, 256, 1, 1, 0, 0, 64], &body), lines)
 }
 
-/// The full tree of two letters with 8,191 nodes, node q with the value q + 1; the root's is hidden.
+/// The full tree of two letters with 8,191 nodes, node q with the value q + 1; the root's is
+/// hidden.
 fn full_tree() -> (Vec<u8>, String) {
     let mut body = Vec::new();
     for node in 0..=8_190u16 {
@@ -170,7 +192,8 @@ fn full_tree() -> (Vec<u8>, String) {
         }
         if node < 4_095 {
             for letter in 0..2 {
-                let longer = if key.is_empty() { letter.to_string() } else { format!("{key}.{letter}") };
+                let longer =
+                    if key.is_empty() { letter.to_string() } else { format!("{key}.{letter}") };
                 below(2 * node + 1 + letter, &longer, lines);
             }
         }
@@ -194,13 +217,29 @@ fn small_cases(listed: &mut Listed) {
     listed.case("27 bytes", &p3_of(43)[..27], "refused 1 at 0\n");
     listed.case("28 bytes", &p3_of(43)[..28], "refused 4 at 0\n");
     listed.case("N = 257", &with_head([0, 257, 1, 1, 0, 0, 0], &[0; 300]), "refused 2 at 0\n");
-    listed.case("alphabet C0 80", &with_head([0, 1, 1, 1, 2, 0, 0], &[0xC0, 0x80, 0, 0]), "refused 3 at 0\n");
-    listed.case("the empty key", &with_head([0, 1, 1, 4, 0, 0, 0], &[0, 255, 255, 255, 255]), "entries 1\n- 4294967295\n");
-    listed.case("hidden data", &with_head([1, 2, 1, 1, 0, 1, 1], &[1, 0, 7, 0, 0, 0]), "entries 0\n");
+    listed.case(
+        "alphabet C0 80",
+        &with_head([0, 1, 1, 1, 2, 0, 0], &[0xC0, 0x80, 0, 0]),
+        "refused 3 at 0\n",
+    );
+    listed.case(
+        "the empty key",
+        &with_head([0, 1, 1, 4, 0, 0, 0], &[0, 255, 255, 255, 255]),
+        "entries 1\n- 4294967295\n",
+    );
+    listed.case(
+        "hidden data",
+        &with_head([1, 2, 1, 1, 0, 1, 1], &[1, 0, 7, 0, 0, 0]),
+        "entries 0\n",
+    );
     let mut last_letter = vec![0; 2 * 257];
     last_letter[255..257].copy_from_slice(&[1, 7]);
     last_letter[513] = 9;
-    listed.case("the last letter", &with_head([1, 256, 1, 1, 0, 0, 1], &last_letter), "entries 2\n- 7\n255 9\n");
+    listed.case(
+        "the last letter",
+        &with_head([1, 256, 1, 1, 0, 0, 1], &last_letter),
+        "entries 2\n- 7\n255 9\n",
+    );
 }
 
 /// The limits of the program: 65,536 bytes and one more, 16,384 nodes and one more.
@@ -209,7 +248,11 @@ fn limits(listed: &mut Listed) {
     listed.case("65,537 bytes", &p3_of(LONGEST_INPUT + 1), "refused 1 at 0\n");
     listed.case("a million bytes", &p3_of(1_000_000), "refused 1 at 0\n");
     let broken = abc(1, &[0; 4]);
-    listed.case("65,537 bytes, and broken", &[broken, vec![0; LONGEST_INPUT]].concat(), "refused 1 at 0\n");
+    listed.case(
+        "65,537 bytes, and broken",
+        &[broken, vec![0; LONGEST_INPUT]].concat(),
+        "refused 1 at 0\n",
+    );
     let most = LISTING_WORK as u32;
     let all_data = "entries 4\n- 1\n0 1\n0.0 1\n0.0.0 1\n";
     listed.case("16,384 nodes", &chain(most - 1, 2), all_data);
@@ -224,7 +267,11 @@ fn limits(listed: &mut Listed) {
     listed.case("long lines", &image, &lines);
     let (image, lines) = full_tree();
     listed.case("many lines", &image, &lines);
-    listed.hold("many lines in pieces", &[&image[..1], &image[1..28], &image[28..40_000], &image[40_000..]], &lines);
+    listed.hold(
+        "many lines in pieces",
+        &[&image[..1], &image[1..28], &image[28..40_000], &image[40_000..]],
+        &lines,
+    );
 }
 
 /// An image for the program: mostly small; some near its limits of length and nodes.
@@ -261,9 +308,16 @@ pub fn run(start: u64) -> Listed {
         let expected = model::listing(&image);
         refused += u64::from(expected.starts_with("refused"));
         let short = &image[..image.len().min(2_000)];
-        listed.hold(&format!("random image {seed} of {} bytes [{}]", image.len(), report::hex(short)), &[&image], &expected);
+        listed.hold(
+            &format!("random image {seed} of {} bytes [{}]", image.len(), report::hex(short)),
+            &[&image],
+            &expected,
+        );
     }
-    println!("listing: {} tried, {RANDOM} of them random images, of which {refused} are refused", listed.tried);
+    println!(
+        "listing: {} tried, {RANDOM} of them random images, of which {refused} are refused",
+        listed.tried
+    );
     if refused.min(RANDOM - refused) < RANDOM / 5 {
         listed.failed += 1;
         println!("FAILED: listing: too few random images are refused, or too few accepted");

@@ -35,7 +35,10 @@ pub fn spoil(rng: &mut Rng, image: &[u8], counts: &mut [u32]) {
     match rng.below(9) {
         0 => counts[any] = counts[any].wrapping_add(1),
         1 => counts[any] = counts[any].wrapping_sub(1),
-        2 => counts[any] = rng.pick(&[0, u32::MAX, counts[any] ^ 0x0001_0000, counts[any] ^ 0x8000_0000]),
+        2 => {
+            counts[any] =
+                rng.pick(&[0, u32::MAX, counts[any] ^ 0x0001_0000, counts[any] ^ 0x8000_0000])
+        }
         3 => counts[last] ^= 1,
         4 => count_where_none_is(rng, counts),
         5 => recount(image, &Head { min: 0, ..head }, counts),

@@ -1,4 +1,5 @@
-//! The judge: compares libtrieff.a and the listing program with a model written from documents 01 and 02 alone. README.md tells how.
+//! The judge: compares libtrieff.a and the listing program with a model written from documents 01
+//! and 02 alone. README.md tells how.
 
 mod calls;
 mod cases;
@@ -28,7 +29,8 @@ const GATE_SEED: u64 = 20_240_601;
 const GATE_CASES: u64 = 26_000;
 const GATE_CALLS: u64 = 1_000_000;
 const LONG_CASES: u64 = 10 * GATE_CASES;
-/// These histories leave more than a million images that were cut; the long ones make more than a million stores.
+/// These histories leave more than a million images that were cut; the long ones make more than a
+/// million stores.
 const GATE_HISTORIES: u64 = 16_000;
 const GATE_CUTS: u64 = 1_000_000;
 const LONG_HISTORIES: u64 = 250_000;
@@ -60,7 +62,9 @@ fn number(word: &str) -> u64 {
 
 /// From the clock and the process: for a run that was not run before.
 fn fresh_seed() -> u64 {
-    let since = std::time::SystemTime::now().duration_since(std::time::UNIX_EPOCH).map_or(0, |since| since.as_nanos() as u64);
+    let since = std::time::SystemTime::now()
+        .duration_since(std::time::UNIX_EPOCH)
+        .map_or(0, |since| since.as_nanos() as u64);
     rng::Rng::new(since ^ (u64::from(std::process::id()) << 40)).next() >> 16
 }
 
@@ -97,9 +101,11 @@ fn random_cuts(seed: u64, histories: u64) -> cuts::Tried {
 
 fn told(sort: &str, tried: &cuts::Tried, begun: Instant) {
     let cuts::Tried { images, stores, cuts, partly, lowered, .. } = *tried;
-    let [images, stores, cuts, partly, lowered] = [images, stores, cuts, partly, lowered].map(grouped);
+    let [images, stores, cuts, partly, lowered] =
+        [images, stores, cuts, partly, lowered].map(grouped);
     println!(
-        "cuts: {stores} stores from {images} {sort} images on, {cuts} images mended, {partly} with a write in part, {lowered} with G lowered, \
+        "cuts: {stores} stores from {images} {sort} images on, {cuts} images mended, \
+         {partly} with a write in part, {lowered} with G lowered, \
          in {:.1} s",
         begun.elapsed().as_secs_f64()
     );
@@ -135,10 +141,13 @@ fn gate() -> bool {
         failed += cuts::self_test(GATE_SEED, GATE_HISTORIES);
         println!("self-test: {:.1} s", begun.elapsed().as_secs_f64());
     } else {
-        println!("self-test: left out, since a case that fails by itself shows nothing of a saboteur");
+        println!(
+            "self-test: left out, since a case that fails by itself shows nothing of a saboteur"
+        );
     }
     println!(
-        "tests: {} random calls, {} exhaustive calls on {} images, {} and {} cuts of {} small and {} random stores, {} listings, {} saboteurs: \
+        "tests: {} random calls, {} exhaustive calls on {} images, {} and {} cuts of {} small \
+         and {} random stores, {} listings, {} saboteurs: \
          {failed} failed",
         grouped(tally.calls),
         grouped(exhausted.calls),

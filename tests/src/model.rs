@@ -1,6 +1,8 @@
-//! The model: every call as documents 01 and 02 word it, in their order, plain rather than quick. It knows nothing of the library.
+//! The model: every call as documents 01 and 02 word it, in their order, plain rather than quick.
+//! It knows nothing of the library.
 //!
-//! A refusal is one function, named by its number. A call is the list of its refusals in its order, then what it does when it is done.
+//! A refusal is one function, named by its number. A call is the list of its refusals in its
+//! order, then what it does when it is done.
 
 use std::collections::BTreeSet;
 
@@ -92,11 +94,21 @@ impl Head {
     /// Of an image that has 28 bytes or more.
     pub fn read(image: &[u8]) -> Head {
         let field = |i: usize| read_number(&image[4 * i..4 * i + 4]) as u32;
-        Head { g: field(0), n: field(1), a: field(2), d: field(3), f: field(4), min: field(5), max: field(6) }
+        Head {
+            g: field(0),
+            n: field(1),
+            a: field(2),
+            d: field(3),
+            f: field(4),
+            min: field(5),
+            max: field(6),
+        }
     }
 
     pub fn write(&self, image: &mut [u8]) {
-        for (i, field) in [self.g, self.n, self.a, self.d, self.f, self.min, self.max].iter().enumerate() {
+        for (i, field) in
+            [self.g, self.n, self.a, self.d, self.f, self.min, self.max].iter().enumerate()
+        {
             write_number(&mut image[4 * i..4 * i + 4], u64::from(*field));
         }
     }
@@ -245,13 +257,17 @@ fn refusal_5_again(head: &Head, k: u64, counts_len: usize) -> Result<(), Refusal
     refuse_if((counts_len as u64) < u64::from(head.g) + k + 1, 5)
 }
 
-/// "every link that isn't empty is at most G and greater than the address of the node it stands in"
+/// "every link that isn't empty is at most G and greater than the address of the node it stands
+/// in"
 fn breaks_first_rule(head: &Head, node: u64, link: u64) -> bool {
     link != 0 && (link > u64::from(head.g) || link <= node)
 }
 
 fn refusal_6(image: &[u8], head: &Head) -> Result<(), Refusal> {
-    let holds_one = |node: &u64| (0..u64::from(head.n)).any(|letter| breaks_first_rule(head, *node, link(image, head, *node, letter)));
+    let holds_one = |node: &u64| {
+        (0..u64::from(head.n))
+            .any(|letter| breaks_first_rule(head, *node, link(image, head, *node, letter)))
+    };
     refuse_at((0..=u64::from(head.g)).find(holds_one), 6)
 }
 
@@ -321,10 +337,14 @@ fn refusal_14(head: &Head, key_len: usize) -> Result<(), Refusal> {
     refuse_if(key_len < head.max as usize, 14)
 }
 
-/// "25, counts differ": the place is the lowest node whose count does. Only for a list of G+1 counts or more.
+/// "25, counts differ": the place is the lowest node whose count does. Only for a list of G+1
+/// counts or more.
 fn refusal_25(image: &[u8], head: &Head, counts: &[u32]) -> Result<(), Refusal> {
     let fresh = fresh_counts(image, head);
-    refuse_at((0..=u64::from(head.g)).find(|node| counts[*node as usize] != fresh[*node as usize]), 25)
+    refuse_at(
+        (0..=u64::from(head.g)).find(|node| counts[*node as usize] != fresh[*node as usize]),
+        25,
+    )
 }
 
 // ---- orders that several calls share ----
@@ -352,7 +372,8 @@ fn one_to_eight_beside(image: &[u8], work: &mut [u32], counts: &[u32]) -> Result
     six_to_eight(image, head, work)
 }
 
-/// "Once 5 is passed, the first G+1 of them are 0 when the call returns." The model uses no working numbers, so it clears them here.
+/// "Once 5 is passed, the first G+1 of them are 0 when the call returns." The model uses no
+/// working numbers, so it clears them here.
 fn six_to_eight(image: &[u8], head: Head, work: &mut [u32]) -> Result<Head, Refusal> {
     work[..=head.g as usize].fill(0);
     refusal_6(image, &head)?;
@@ -376,7 +397,13 @@ fn each_stored_key(image: &[u8], head: &Head, met: &mut dyn FnMut(&[u8], u64)) {
     each_below(image, head, 0, &mut Vec::new(), met);
 }
 
-fn each_below(image: &[u8], head: &Head, node: u64, key: &mut Vec<u8>, met: &mut dyn FnMut(&[u8], u64)) {
+fn each_below(
+    image: &[u8],
+    head: &Head,
+    node: u64,
+    key: &mut Vec<u8>,
+    met: &mut dyn FnMut(&[u8], u64),
+) {
     let value = data(image, head, node);
     if key.len() >= head.min as usize && key.len() <= head.max as usize && value != 0 {
         met(key, value);
@@ -405,13 +432,20 @@ pub fn comes_before(one: &[u8], other: &[u8]) -> bool {
 pub fn stored_keys(image: &[u8], head: &Head) -> Vec<(Vec<u8>, u64)> {
     let mut keys = Vec::new();
     each_stored_key(image, head, &mut |key, value| keys.push((key.to_vec(), value)));
-    keys.sort_by(|(one, _), (other, _)| if comes_before(one, other) { std::cmp::Ordering::Less } else { std::cmp::Ordering::Greater });
+    keys.sort_by(|(one, _), (other, _)| {
+        if comes_before(one, other) {
+            std::cmp::Ordering::Less
+        } else {
+            std::cmp::Ordering::Greater
+        }
+    });
     keys
 }
 
 // ---- counts ----
 
-/// "one for each node: how many stored keys lie at or under it", so how many of their walks from the root pass it. Of an accepted image.
+/// "one for each node: how many stored keys lie at or under it", so how many of their walks from
+/// the root pass it. Of an accepted image.
 pub fn fresh_counts(image: &[u8], head: &Head) -> Vec<u32> {
     let mut counts = vec![0; head.g as usize + 1];
     each_stored_key(image, head, &mut |key, _| {
@@ -434,11 +468,27 @@ fn write_counts(counts: &mut [u32], image: &[u8]) {
 // ---- calls ----
 
 /// Make: 1, 2, 3, 4, for G = 0, with F the length of the alphabet given.
-pub fn make(image: &mut [u8], n: u32, a: u32, d: u32, alphabet: &[u8], min: u32, max: u32) -> Answer {
+pub fn make(
+    image: &mut [u8],
+    n: u32,
+    a: u32,
+    d: u32,
+    alphabet: &[u8],
+    min: u32,
+    max: u32,
+) -> Answer {
     answer(try_make(image, n, a, d, alphabet, min, max))
 }
 
-fn try_make(image: &mut [u8], n: u32, a: u32, d: u32, alphabet: &[u8], min: u32, max: u32) -> Result<Answer, Refusal> {
+fn try_make(
+    image: &mut [u8],
+    n: u32,
+    a: u32,
+    d: u32,
+    alphabet: &[u8],
+    min: u32,
+    max: u32,
+) -> Result<Answer, Refusal> {
     refusal_1(image.len())?;
     // an F that no field holds is above 1,024 like any other
     let f = alphabet.len().min(u32::MAX as usize) as u32;
@@ -457,8 +507,8 @@ pub fn check(image: &[u8], work: &mut [u32]) -> Answer {
     answer(one_to_eight(image, work).map(|_| Answer::default()))
 }
 
-/// Mend: "if the check answers 8 at p, and the image with G set to p-1 is accepted, G becomes p-1 and the answer is 0; otherwise nothing
-/// changes and the check's answer is returned".
+/// Mend: "if the check answers 8 at p, and the image with G set to p-1 is accepted, G becomes p-1
+/// and the answer is 0; otherwise nothing changes and the check's answer is returned".
 pub fn mend(image: &mut [u8], work: &mut [u32]) -> Answer {
     let answered = check(image, work);
     if answered.number == 8 {
@@ -522,12 +572,23 @@ fn walk(image: &[u8], head: &Head, letters: &[u8]) -> Result<Answer, Refusal> {
 
 /// Store by letters: 1 to 8, 9, 10, 11, 12, 13.
 pub fn store(image: &mut [u8], work: &mut [u32], letters: &[u8], value: u32) -> Answer {
-    answer(before_store(image, work, letters).and_then(|head| store_at(image, &head, letters, value)))
+    answer(
+        before_store(image, work, letters).and_then(|head| store_at(image, &head, letters, value)),
+    )
 }
 
 /// Store by letters with its writes listed: the same.
-pub fn store_writes(image: &mut [u8], work: &mut [u32], letters: &[u8], value: u32, writes: &mut [u32]) -> Answer {
-    answer(before_store(image, work, letters).and_then(|head| store_and_list(image, &head, letters, value, writes)))
+pub fn store_writes(
+    image: &mut [u8],
+    work: &mut [u32],
+    letters: &[u8],
+    value: u32,
+    writes: &mut [u32],
+) -> Answer {
+    answer(
+        before_store(image, work, letters)
+            .and_then(|head| store_and_list(image, &head, letters, value, writes)),
+    )
 }
 
 fn before_store(image: &[u8], work: &mut [u32], letters: &[u8]) -> Result<Head, Refusal> {
@@ -543,15 +604,31 @@ fn nine_and_ten(head: &Head, letters: &[u8]) -> Result<(), Refusal> {
 
 /// Store by text: 1 to 8, 10, 9, 11, 12, 13.
 pub fn store_text(image: &mut [u8], work: &mut [u32], text: &[u8], value: u32) -> Answer {
-    answer(before_store_text(image, work, text).and_then(|(head, letters)| store_at(image, &head, &letters, value)))
+    answer(
+        before_store_text(image, work, text)
+            .and_then(|(head, letters)| store_at(image, &head, &letters, value)),
+    )
 }
 
 /// Store by text with its writes listed: the same.
-pub fn store_text_writes(image: &mut [u8], work: &mut [u32], text: &[u8], value: u32, writes: &mut [u32]) -> Answer {
-    answer(before_store_text(image, work, text).and_then(|(head, letters)| store_and_list(image, &head, &letters, value, writes)))
+pub fn store_text_writes(
+    image: &mut [u8],
+    work: &mut [u32],
+    text: &[u8],
+    value: u32,
+    writes: &mut [u32],
+) -> Answer {
+    answer(
+        before_store_text(image, work, text)
+            .and_then(|(head, letters)| store_and_list(image, &head, &letters, value, writes)),
+    )
 }
 
-fn before_store_text(image: &[u8], work: &mut [u32], text: &[u8]) -> Result<(Head, Vec<u8>), Refusal> {
+fn before_store_text(
+    image: &[u8],
+    work: &mut [u32],
+    text: &[u8],
+) -> Result<(Head, Vec<u8>), Refusal> {
     let head = one_to_eight(image, work)?;
     let letters = ten_and_nine(image, &head, text)?;
     Ok((head, letters))
@@ -587,7 +664,12 @@ pub fn new_nodes(image: &[u8], head: &Head, letters: &[u8], value: u32) -> u64 {
 }
 
 /// 11, 12, 13 of a store whose key is not refused; k.
-fn eleven_to_thirteen(image: &[u8], head: &Head, letters: &[u8], value: u32) -> Result<u64, Refusal> {
+fn eleven_to_thirteen(
+    image: &[u8],
+    head: &Head,
+    letters: &[u8],
+    value: u32,
+) -> Result<u64, Refusal> {
     refusal_11(head, value)?;
     let k = new_nodes(image, head, letters, value);
     refusal_12(head, k)?;
@@ -619,7 +701,13 @@ fn store_at(image: &mut [u8], head: &Head, letters: &[u8], value: u32) -> Result
 }
 
 /// The store, and its list at the front of the numbers lent; a refusal leaves them all.
-fn store_and_list(image: &mut [u8], head: &Head, letters: &[u8], value: u32, writes: &mut [u32]) -> Result<Answer, Refusal> {
+fn store_and_list(
+    image: &mut [u8],
+    head: &Head,
+    letters: &[u8],
+    value: u32,
+    writes: &mut [u32],
+) -> Result<Answer, Refusal> {
     let listed = list(image, head, letters, value);
     let done = store_at(image, head, letters, value)?;
     for (pair, (place, length)) in writes.chunks_mut(2).zip(&listed) {
@@ -629,7 +717,13 @@ fn store_and_list(image: &mut [u8], head: &Head, letters: &[u8], value: u32, wri
 }
 
 /// The store with counts: 11, 12, 13, 5 again; "the result equals the counts worked out afresh".
-fn store_and_count(image: &mut [u8], head: &Head, letters: &[u8], value: u32, counts: &mut [u32]) -> Result<Answer, Refusal> {
+fn store_and_count(
+    image: &mut [u8],
+    head: &Head,
+    letters: &[u8],
+    value: u32,
+    counts: &mut [u32],
+) -> Result<Answer, Refusal> {
     let k = eleven_to_thirteen(image, head, letters, value)?;
     refusal_5_again(head, k, counts.len())?;
     let done = store_at(image, head, letters, value)?;
@@ -637,8 +731,8 @@ fn store_and_count(image: &mut [u8], head: &Head, letters: &[u8], value: u32, co
     Ok(done)
 }
 
-/// Where the writes of a store go and how many bytes each has: "first the new nodes, one write each by rising address, then G, then the old
-/// link; for a complete path, the data field alone".
+/// Where the writes of a store go and how many bytes each has: "first the new nodes, one write
+/// each by rising address, then G, then the old link; for a complete path, the data field alone".
 fn list(image: &[u8], head: &Head, letters: &[u8], value: u32) -> Vec<(usize, usize)> {
     let (last, depth) = path(image, head, letters);
     let k = (letters.len() - depth) as u64;
@@ -649,18 +743,31 @@ fn list(image: &[u8], head: &Head, letters: &[u8], value: u32) -> Vec<(usize, us
         return Vec::new();
     }
     let new = u64::from(head.g) + 1;
-    let mut writes: Vec<(usize, usize)> = (new..new + k).map(|node| (head.node(node) as usize, head.w() as usize)).collect();
+    let mut writes: Vec<(usize, usize)> =
+        (new..new + k).map(|node| (head.node(node) as usize, head.w() as usize)).collect();
     writes.push((0, 4));
     writes.push((head.link_at(last, u64::from(letters[depth])), head.a as usize));
     writes
 }
 
 /// Next key: 1 to 8, 9 (longer than max), 10, 14, 15. `after`: else "at or after".
-pub fn next_key(image: &[u8], work: &mut [u32], letters: &[u8], after: bool, key: &mut [u8]) -> Answer {
+pub fn next_key(
+    image: &[u8],
+    work: &mut [u32],
+    letters: &[u8],
+    after: bool,
+    key: &mut [u8],
+) -> Answer {
     answer(try_next_key(image, work, letters, after, key))
 }
 
-fn try_next_key(image: &[u8], work: &mut [u32], letters: &[u8], after: bool, key: &mut [u8]) -> Result<Answer, Refusal> {
+fn try_next_key(
+    image: &[u8],
+    work: &mut [u32],
+    letters: &[u8],
+    after: bool,
+    key: &mut [u8],
+) -> Result<Answer, Refusal> {
     let head = one_to_eight(image, work)?;
     refusal_9_of_next_key(&head, letters.len())?;
     refusal_10_of_letters(&head, letters)?;
@@ -694,33 +801,69 @@ pub fn check_counts(image: &[u8], work: &mut [u32], counts: &[u32]) -> Answer {
 }
 
 /// Store with counts by letters: 1 to 8, 25, 9, 10, 11, 12, 13, 5 again.
-pub fn store_counts(image: &mut [u8], work: &mut [u32], letters: &[u8], value: u32, counts: &mut [u32]) -> Answer {
+pub fn store_counts(
+    image: &mut [u8],
+    work: &mut [u32],
+    letters: &[u8],
+    value: u32,
+    counts: &mut [u32],
+) -> Answer {
     answer(try_store_counts(image, work, letters, value, counts))
 }
 
-fn try_store_counts(image: &mut [u8], work: &mut [u32], letters: &[u8], value: u32, counts: &mut [u32]) -> Result<Answer, Refusal> {
+fn try_store_counts(
+    image: &mut [u8],
+    work: &mut [u32],
+    letters: &[u8],
+    value: u32,
+    counts: &mut [u32],
+) -> Result<Answer, Refusal> {
     let head = one_to_eight_and_25(image, work, counts)?;
     nine_and_ten(&head, letters)?;
     store_and_count(image, &head, letters, value, counts)
 }
 
 /// Store with counts by text: 1 to 8, 25, 10, 9, 11, 12, 13, 5 again.
-pub fn store_text_counts(image: &mut [u8], work: &mut [u32], text: &[u8], value: u32, counts: &mut [u32]) -> Answer {
+pub fn store_text_counts(
+    image: &mut [u8],
+    work: &mut [u32],
+    text: &[u8],
+    value: u32,
+    counts: &mut [u32],
+) -> Answer {
     answer(try_store_text_counts(image, work, text, value, counts))
 }
 
-fn try_store_text_counts(image: &mut [u8], work: &mut [u32], text: &[u8], value: u32, counts: &mut [u32]) -> Result<Answer, Refusal> {
+fn try_store_text_counts(
+    image: &mut [u8],
+    work: &mut [u32],
+    text: &[u8],
+    value: u32,
+    counts: &mut [u32],
+) -> Result<Answer, Refusal> {
     let head = one_to_eight_and_25(image, work, counts)?;
     let letters = ten_and_nine(image, &head, text)?;
     store_and_count(image, &head, &letters, value, counts)
 }
 
 /// Key at a position: 1 to 8, 25, 14, 15.
-pub fn key_at(image: &[u8], work: &mut [u32], counts: &[u32], position: u64, key: &mut [u8]) -> Answer {
+pub fn key_at(
+    image: &[u8],
+    work: &mut [u32],
+    counts: &[u32],
+    position: u64,
+    key: &mut [u8],
+) -> Answer {
     answer(try_key_at(image, work, counts, position, key))
 }
 
-fn try_key_at(image: &[u8], work: &mut [u32], counts: &[u32], position: u64, key: &mut [u8]) -> Result<Answer, Refusal> {
+fn try_key_at(
+    image: &[u8],
+    work: &mut [u32],
+    counts: &[u32],
+    position: u64,
+    key: &mut [u8],
+) -> Result<Answer, Refusal> {
     let head = one_to_eight_and_25(image, work, counts)?;
     refusal_14(&head, key.len())?;
     let keys = stored_keys(image, &head);
@@ -748,7 +891,8 @@ pub fn position_text(image: &[u8], work: &mut [u32], counts: &[u32], text: &[u8]
 
 fn position_of(image: &[u8], head: &Head, letters: &[u8]) -> Result<Answer, Refusal> {
     let keys = stored_keys(image, head);
-    let position = keys.iter().position(|(key, _)| key == letters).ok_or(Refusal { number: 15, place: 0 })?;
+    let position =
+        keys.iter().position(|(key, _)| key == letters).ok_or(Refusal { number: 15, place: 0 })?;
     Ok(Answer { value: position as u64, ..Answer::default() })
 }
 

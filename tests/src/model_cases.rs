@@ -1,4 +1,5 @@
-//! Holds the model to document 01's cases, and to their lists and cuts, with the bytes written out by hand, and to the UTF-8 table.
+//! Holds the model to document 01's cases, and to their lists and cuts, with the bytes written out
+//! by hand, and to the UTF-8 table.
 
 use super::*;
 
@@ -7,7 +8,8 @@ mod counted;
 
 /// Bytes from hexadecimal; spaces are for the reader.
 fn hex(text: &str) -> Vec<u8> {
-    let digits: Vec<u8> = text.chars().filter_map(|c| c.to_digit(16)).map(|digit| digit as u8).collect();
+    let digits: Vec<u8> =
+        text.chars().filter_map(|c| c.to_digit(16)).map(|digit| digit as u8).collect();
     digits.chunks(2).map(|pair| pair[0] * 16 + pair[1]).collect()
 }
 
@@ -75,8 +77,13 @@ fn p2_and_p3_store() {
 
 #[test]
 fn p4_look_up() {
-    let keys: [(&[u8], &[u8], u64); 5] =
-        [(&[B, A], b"BA", 9), (&[B], b"B", 5), (&[A], b"A", 0), (&[B, B], b"BB", 0), (&[B, A, C], b"BAC", 0)];
+    let keys: [(&[u8], &[u8], u64); 5] = [
+        (&[B, A], b"BA", 9),
+        (&[B], b"B", 5),
+        (&[A], b"A", 0),
+        (&[B, B], b"BB", 0),
+        (&[B, A, C], b"BAC", 0),
+    ];
     for (letters, text, found) in keys {
         assert_eq!(look_up(&p3(), letters), value(found));
         assert_eq!(look_up_text(&p3(), text), value(found));
@@ -146,7 +153,11 @@ fn p12_next_key() {
     assert_eq!(key, [B, A, 7, 7]);
     assert_eq!(next_key(&p3(), &mut work, &[B, A], true, &mut key), refused(15, 0));
     assert_eq!(key, [B, A, 7, 7]);
-    assert_eq!(next_key(&p3(), &mut work, &[B, A], true, &mut [7; 2]), refused(14, 0), "14 before 15");
+    assert_eq!(
+        next_key(&p3(), &mut work, &[B, A], true, &mut [7; 2]),
+        refused(14, 0),
+        "14 before 15"
+    );
 }
 
 fn listed(length: u32, change: i32) -> Answer {
@@ -164,8 +175,16 @@ fn list_of(writes: &[(u32, u32)]) -> [u32; WRITES] {
 }
 
 /// Asks both listed stores and the store: the image that all three leave.
-fn store_all_ways(image: &[u8], letters: &[u8], text: &[u8], value: u32, answered: Answer, list: &[(u32, u32)]) -> Vec<u8> {
-    let (mut plain, mut by_letters, mut by_text) = (image.to_vec(), image.to_vec(), image.to_vec());
+fn store_all_ways(
+    image: &[u8],
+    letters: &[u8],
+    text: &[u8],
+    value: u32,
+    answered: Answer,
+    list: &[(u32, u32)],
+) -> Vec<u8> {
+    let (mut plain, mut by_letters, mut by_text) =
+        (image.to_vec(), image.to_vec(), image.to_vec());
     let mut writes = [7; WRITES];
     assert_eq!(store(&mut plain, &mut [7; 6], letters, value), Answer { length: 0, ..answered });
     assert_eq!(store_writes(&mut by_letters, &mut [7; 6], letters, value, &mut writes), answered);
@@ -180,7 +199,14 @@ fn store_all_ways(image: &[u8], letters: &[u8], text: &[u8], value: u32, answere
 fn lists_of_p2_p3_p6_p7() {
     assert_eq!(WRITES, 132);
     let image = with_room(abc("00000000", "00000000"), 50);
-    let image = store_all_ways(&image, &[B, A], b"BA", 9, listed(4, 1), &[(35, 4), (39, 4), (0, 4), (32, 1)]);
+    let image = store_all_ways(
+        &image,
+        &[B, A],
+        b"BA",
+        9,
+        listed(4, 1),
+        &[(35, 4), (39, 4), (0, 4), (32, 1)],
+    );
     assert_eq!(image, with_room(p2(), 50));
     let image = store_all_ways(&image, &[B], b"B", 5, listed(1, 1), &[(38, 1)]);
     assert_eq!(image, with_room(p3(), 50));
@@ -189,7 +215,14 @@ fn lists_of_p2_p3_p6_p7() {
     store_all_ways(&image, &[A, B, C], b"ABC", 0, listed(0, 0), &[]);
     store_all_ways(&image, &[B, A], b"BA", 0, listed(1, -1), &[(42, 1)]);
     store_all_ways(&with_room(p3(), 54), &[C, C, C], b"CCC", 1, refused(13, 0), &[]);
-    store_all_ways(&with_room(p3(), 55), &[C, C, C], b"CCC", 1, listed(5, 1), &[(43, 4), (47, 4), (51, 4), (0, 4), (33, 1)]);
+    store_all_ways(
+        &with_room(p3(), 55),
+        &[C, C, C],
+        b"CCC",
+        1,
+        listed(5, 1),
+        &[(43, 4), (47, 4), (51, 4), (0, 4), (33, 1)],
+    );
 }
 
 #[test]
@@ -209,7 +242,10 @@ fn p7_cut_at_each_write() {
         let mut image = abc(g, &format!("{before} {nodes}"));
         assert_eq!(mend(&mut image, &mut [7; 6]), Answer::default());
         assert_eq!(image, abc("00000002", &format!("{before} {nodes}")));
-        assert_eq!((look_up(&image, &[C, C, C]), count(&image, &mut [7; 3])), (value(0), value(2)));
+        assert_eq!(
+            (look_up(&image, &[C, C, C]), count(&image, &mut [7; 3])),
+            (value(0), value(2))
+        );
     }
     let whole = abc("00000005", "00010300 02000005 00000009 00000400 00000500 00000001");
     let mut image = whole.clone();
@@ -255,7 +291,11 @@ fn run_alphabets() {
     assert_eq!(made(2, b"AA"), refused(3, 0));
     assert_eq!(made(1, b"AB"), refused(3, 0), "more than N characters");
     assert_eq!(made(3, b"AB"), refused(3, 0), "fewer than N characters");
-    assert_eq!(make(&mut [0; 28], 2, 1, 1, b"AA", 0, 0), refused(3, 0), "3 before 4, on the alphabet given");
+    assert_eq!(
+        make(&mut [0; 28], 2, 1, 1, b"AA", 0, 0),
+        refused(3, 0),
+        "3 before 4, on the alphabet given"
+    );
 }
 
 #[test]
@@ -312,7 +352,10 @@ fn order_of_6_7_8() {
 fn listing_of_the_small_file() {
     assert_eq!(listing(&p3()), "entries 2\n1 5\n1.0 9\n");
     assert_eq!(listing(&abc("00000001", "00010100 00000000")), "refused 7 at 1\n");
-    assert_eq!(listing(&hex("00000000 00000001 00000001 00000001 00000000 00000000 00000000 0007")), "entries 1\n- 7\n");
+    assert_eq!(
+        listing(&hex("00000000 00000001 00000001 00000001 00000000 00000000 00000000 0007")),
+        "entries 1\n- 7\n"
+    );
     assert_eq!(listing(&[]), "refused 1 at 0\n");
     assert_eq!(listing(&with_room(p3(), LONGEST_INPUT)), "entries 2\n1 5\n1.0 9\n");
     assert_eq!(listing(&with_room(p3(), LONGEST_INPUT + 1)), "refused 1 at 0\n");
@@ -363,7 +406,10 @@ fn utf8_of_one_two_and_three_bytes() {
 
 #[test]
 fn utf8_of_four_bytes() {
-    let bounds = [0x00, 0x7F, 0x80, 0x81, 0x8F, 0x90, 0x91, 0x9F, 0xA0, 0xBE, 0xBF, 0xC0, 0xC2, 0xE0, 0xF0, 0xFF];
+    let bounds = [
+        0x00, 0x7F, 0x80, 0x81, 0x8F, 0x90, 0x91, 0x9F, 0xA0, 0xBE, 0xBF, 0xC0, 0xC2, 0xE0, 0xF0,
+        0xFF,
+    ];
     for first in 0..=255 {
         for second in 0..=255 {
             for third in bounds {

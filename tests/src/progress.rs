@@ -1,4 +1,5 @@
-//! Notes where each thread is, so that a call that never returns or kills the judge can be found: `tests/run` prints the notes then.
+//! Notes where each thread is, so that a call that never returns or kills the judge can be found:
+//! `tests/run` prints the notes then.
 
 use std::fs::File;
 use std::os::unix::fs::FileExt;
@@ -9,7 +10,9 @@ pub struct Progress(Option<File>);
 impl Progress {
     /// In the folder that JUDGE_NOTES names; without it nothing is noted.
     pub fn of(thread: usize) -> Progress {
-        Progress(std::env::var_os("JUDGE_NOTES").and_then(|folder| File::create(Path::new(&folder).join(format!("thread{thread}"))).ok()))
+        Progress(std::env::var_os("JUDGE_NOTES").and_then(|folder| {
+            File::create(Path::new(&folder).join(format!("thread{thread}"))).ok()
+        }))
     }
 
     pub fn at(&mut self, note: &str) {

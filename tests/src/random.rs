@@ -1,4 +1,5 @@
-//! The random part: cases by their seeds, in two threads, each call compared; and the self-test with the saboteurs.
+//! The random part: cases by their seeds, in two threads, each call compared; and the self-test
+//! with the saboteurs.
 
 use crate::calls::{KINDS, NUMBERS};
 use crate::cases::Case;
@@ -27,7 +28,12 @@ pub struct Tally {
 
 impl Tally {
     pub fn new() -> Tally {
-        Tally { cases: 0, calls: 0, numbers: [[0; NUMBERS]; KINDS.len()], situations: [0; SITUATIONS.len()] }
+        Tally {
+            cases: 0,
+            calls: 0,
+            numbers: [[0; NUMBERS]; KINDS.len()],
+            situations: [0; SITUATIONS.len()],
+        }
     }
 
     fn see(&mut self, seen: &Seen) {
@@ -42,14 +48,17 @@ impl Tally {
         self.cases += other.cases;
         self.calls += other.calls;
         let theirs = other.numbers.iter().flatten().chain(&other.situations);
-        for (mine, its) in self.numbers.iter_mut().flatten().chain(&mut self.situations).zip(theirs) {
+        for (mine, its) in
+            self.numbers.iter_mut().flatten().chain(&mut self.situations).zip(theirs)
+        {
             *mine += its;
         }
     }
 
     /// The numbers that some call may give, or gave.
     fn columns(&self) -> Vec<usize> {
-        let allowed = |number: usize| KINDS.iter().any(|kind| kind.numbers.contains(&(number as u32)));
+        let allowed =
+            |number: usize| KINDS.iter().any(|kind| kind.numbers.contains(&(number as u32)));
         let met = |number: usize| self.numbers.iter().any(|met| met[number] > 0);
         (0..NUMBERS).filter(|number| allowed(*number) || met(*number)).collect()
     }
@@ -85,7 +94,11 @@ impl Tally {
         println!("situations:");
         for (situation, times) in SITUATIONS.iter().zip(&self.situations) {
             good &= *times >= SITUATION_OFTEN;
-            println!("{:>10}  {}", if *times >= SITUATION_OFTEN { times.to_string() } else { format!("!{times}") }, situation.name);
+            println!(
+                "{:>10}  {}",
+                if *times >= SITUATION_OFTEN { times.to_string() } else { format!("!{times}") },
+                situation.name
+            );
         }
         if !good {
             println!("an entry marked ! was met too seldom, or is not allowed");
@@ -95,7 +108,12 @@ impl Tally {
 }
 
 /// Runs the case; the first difference ends it and is told.
-fn run_case(seed: u64, twins: &mut Twins, tally: &mut Tally, saboteur: Option<&Saboteur>) -> Result<(), String> {
+fn run_case(
+    seed: u64,
+    twins: &mut Twins,
+    tally: &mut Tally,
+    saboteur: Option<&Saboteur>,
+) -> Result<(), String> {
     let mut case = Case::new(seed);
     let mut guards = Rng::new(!seed);
     let mut number = 0;
@@ -105,7 +123,10 @@ fn run_case(seed: u64, twins: &mut Twins, tally: &mut Tally, saboteur: Option<&S
         let outcome = twins.ask(&asked, &mut guards, saboteur);
         if outcome.difference.is_some() {
             let told = report::asked(&asked) + &report::outcome(&outcome);
-            return Err(format!("seed {seed}, call {number} of the case: {told}    replay with: tests/replay {seed}\n"));
+            return Err(format!(
+                "seed {seed}, call {number} of the case: {told}    \
+                 replay with: tests/replay {seed}\n"
+            ));
         }
         tally.see(&Seen { asked, answer: outcome.model });
         case.learn(step.call, &outcome.model, &twins.model);
@@ -150,7 +171,9 @@ pub fn self_test(start: u64, cases: u64) -> usize {
     for saboteur in saboteurs::all() {
         let mut twins = Twins::default();
         let mut tally = Tally::new();
-        let caught = (0..cases).find(|index| run_case(start.wrapping_add(*index), &mut twins, &mut tally, Some(saboteur)).is_err());
+        let caught = (0..cases).find(|index| {
+            run_case(start.wrapping_add(*index), &mut twins, &mut tally, Some(saboteur)).is_err()
+        });
         match caught {
             Some(index) => println!("    caught in case {:>6}: {}", index + 1, saboteur.name),
             None => {
@@ -180,8 +203,14 @@ pub fn replay(seed: u64) -> bool {
         let outcome = twins.ask(&asked, &mut guards, None);
         say(&report::outcome(&outcome));
         if outcome.difference.is_some() {
-            say(&format!("the image as the model leaves it:\n{}", report::hex_lines(twins.model.image())));
-            say(&format!("the image as the library leaves it:\n{}", report::hex_lines(twins.library.image())));
+            say(&format!(
+                "the image as the model leaves it:\n{}",
+                report::hex_lines(twins.model.image())
+            ));
+            say(&format!(
+                "the image as the library leaves it:\n{}",
+                report::hex_lines(twins.library.image())
+            ));
             return false;
         }
         case.learn(step.call, &outcome.model, &twins.model);

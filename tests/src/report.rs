@@ -26,7 +26,13 @@ pub fn hex_lines(bytes: &[u8]) -> String {
     let mut lines: String = shown
         .chunks(32)
         .enumerate()
-        .map(|(i, line)| format!("    {:>6}  {}\n", 32 * i, line.chunks(4).map(hex).collect::<Vec<_>>().join(" ")))
+        .map(|(i, line)| {
+            format!(
+                "    {:>6}  {}\n",
+                32 * i,
+                line.chunks(4).map(hex).collect::<Vec<_>>().join(" ")
+            )
+        })
         .collect();
     if shown.len() < bytes.len() {
         lines += &format!("    and {} bytes more\n", bytes.len() - shown.len());
@@ -39,8 +45,14 @@ pub fn asked(asked: &Asked) -> String {
     let kind = &KINDS[asked.call.kind()];
     let own = match asked.call {
         Call::Make { n, a, d, min, max } => format!(", n {n}, a {a}, d {d}, min {min}, max {max}"),
-        Call::NextKey { after } => format!(", {}, key buffer of {}", if after { "after" } else { "at or after" }, asked.key_len),
-        Call::KeyAt { position } => format!(", position {position}, key buffer of {}", asked.key_len),
+        Call::NextKey { after } => format!(
+            ", {}, key buffer of {}",
+            if after { "after" } else { "at or after" },
+            asked.key_len
+        ),
+        Call::KeyAt { position } => {
+            format!(", position {position}, key buffer of {}", asked.key_len)
+        }
         _ => asked.call.stored().map_or(String::new(), |value| format!(", value {value}")),
     };
     let given = match kind.given {
@@ -52,7 +64,11 @@ pub fn asked(asked: &Asked) -> String {
         _ => format!(", {} working numbers", asked.work_len),
     };
     let counts = if asked.call.takes_counts() { counts(asked.counts) } else { String::new() };
-    format!("trieff_{}: image of {} bytes{work}{counts}{given}{own}\n", kind.name, asked.image.len())
+    format!(
+        "trieff_{}: image of {} bytes{work}{counts}{given}{own}\n",
+        kind.name,
+        asked.image.len()
+    )
 }
 
 fn counts(counts: &[u32]) -> String {
@@ -67,7 +83,11 @@ fn answer(answer: &Answer) -> String {
 }
 
 pub fn outcome(outcome: &Outcome) -> String {
-    let both = format!("    model:   {}\n    library: {}\n", answer(&outcome.model), answer(&outcome.library));
+    let both = format!(
+        "    model:   {}\n    library: {}\n",
+        answer(&outcome.model),
+        answer(&outcome.library)
+    );
     match &outcome.difference {
         Some(difference) => both + &format!("    DIFFERENT: {difference}\n"),
         None => both,

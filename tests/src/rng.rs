@@ -1,4 +1,5 @@
-//! Random numbers from a seed: splitmix64. The same seed gives the same numbers for ever, since a case is named by its seed.
+//! Random numbers from a seed: splitmix64. The same seed gives the same numbers for ever, since a
+//! case is named by its seed.
 
 pub struct Rng(u64);
 

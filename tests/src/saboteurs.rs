@@ -1,4 +1,5 @@
-//! Saboteurs: each spoils what the library did in one small way. The judge must report every one of them, else it is no judge.
+//! Saboteurs: each spoils what the library did in one small way. The judge must report every one
+//! of them, else it is no judge.
 
 use crate::calls::Call;
 use crate::model::{self, Answer, Head};
@@ -125,16 +126,21 @@ impl Spoiled<'_> {
         }
     }
 
-    /// A call beside counts that stopped at its first 5, and whether the working numbers were enough, and the list.
+    /// A call beside counts that stopped at its first 5, and whether the working numbers were
+    /// enough, and the list.
     fn five_beside(&self) -> Option<(bool, bool)> {
         if self.call.takes_counts() && self.number() == 5 {
-            Some((self.before.work.len() >= self.nodes(), self.before.counts.len() >= self.nodes()))
+            Some((
+                self.before.work.len() >= self.nodes(),
+                self.before.counts.len() >= self.nodes(),
+            ))
         } else {
             None
         }
     }
 
-    /// As if a list were long enough: the check's own answer, and the working numbers that are there cleared.
+    /// As if a list were long enough: the check's own answer, and the working numbers that are
+    /// there cleared.
     fn pass_five(&mut self) {
         let (nodes, start) = (self.nodes(), self.after.work.start);
         *self.answer = model::check(self.before.image(), &mut vec![0; nodes]);
@@ -160,17 +166,21 @@ impl Spoiled<'_> {
         self.counts()[..counts.len()].copy_from_slice(&counts);
     }
 
-    /// The letters of a store's key at entry, or of its text where that is well-formed and in the alphabet.
+    /// The letters of a store's key at entry, or of its text where that is well-formed and in the
+    /// alphabet.
     fn letters(&self) -> Option<Vec<u8>> {
         let (given, head) = (self.before.given().to_vec(), self.head()?);
         match self.call {
             Call::StoreTextCounts { .. } => {
                 let image = self.before.image();
                 let alphabet = model::characters(&image[28..28 + head.f as usize])?;
-                let letter = |character: &&[u8]| alphabet.iter().position(|one| one == character).map(|at| at as u8);
+                let letter = |character: &&[u8]| {
+                    alphabet.iter().position(|one| one == character).map(|at| at as u8)
+                };
                 model::characters(&given)?.iter().map(letter).collect()
             }
-            _ => Some(given).filter(|letters| letters.iter().all(|letter| u32::from(*letter) < head.n)),
+            _ => Some(given)
+                .filter(|letters| letters.iter().all(|letter| u32::from(*letter) < head.n)),
         }
     }
 
@@ -211,8 +221,11 @@ const SABOTEURS: [Saboteur; 39] = [
             if s.number() == 7 {
                 let head = s.head().unwrap();
                 let stands = |address: u64| {
-                    let links =
-                        |node: u64| (0..u64::from(head.n)).any(|letter| model::link(s.before.image(), &head, node, letter) == address);
+                    let links = |node: u64| {
+                        (0..u64::from(head.n)).any(|letter| {
+                            model::link(s.before.image(), &head, node, letter) == address
+                        })
+                    };
                     (0..=u64::from(head.g)).any(links)
                 };
                 if let Some(place) = (1..=u64::from(head.g)).find(|address| !stands(*address)) {
@@ -314,7 +327,10 @@ const SABOTEURS: [Saboteur; 39] = [
     Saboteur {
         name: "the last spare byte is changed by a store",
         spoil: |s| {
-            if s.is_store() && s.done() && s.used().map_or(false, |used| used < s.after.image.len()) {
+            if s.is_store()
+                && s.done()
+                && s.used().map_or(false, |used| used < s.after.image.len())
+            {
                 let at = s.after.image.end - 1;
                 s.after.bytes[at] ^= 0x80;
             }
@@ -471,7 +487,8 @@ const SABOTEURS: [Saboteur; 39] = [
         name: "for text 9 stands before 10",
         spoil: |s| {
             if s.call == Call::LookUpText && s.number() == 10 {
-                let characters = model::characters(s.before.given()).map(|found| found.len() as u32);
+                let characters =
+                    model::characters(s.before.given()).map(|found| found.len() as u32);
                 if characters.map_or(false, |length| length > s.head().unwrap().max) {
                     s.refuse(9);
                 }
@@ -496,7 +513,9 @@ const SABOTEURS: [Saboteur; 39] = [
                 let head = s.head().unwrap();
                 let longer = |more: u32| {
                     let bytes = s.before.image().get(28..28 + (head.f + more) as usize);
-                    bytes.and_then(model::characters).map_or(false, |found| found.len() == head.n as usize)
+                    bytes
+                        .and_then(model::characters)
+                        .map_or(false, |found| found.len() == head.n as usize)
                 };
                 if (1..=3).any(longer) {
                     s.refuse(4);
@@ -575,7 +594,10 @@ const COUNT_SABOTEURS: [Saboteur; 32] = [
     Saboteur {
         name: "the counts are compared only before G",
         spoil: |s| {
-            if s.call == Call::CheckCounts && s.number() == 25 && s.answer.place == s.head().unwrap().g {
+            if s.call == Call::CheckCounts
+                && s.number() == 25
+                && s.answer.place == s.head().unwrap().g
+            {
                 s.refuse(0);
             }
         },
@@ -586,7 +608,13 @@ const COUNT_SABOTEURS: [Saboteur; 32] = [
             if s.call == Call::CheckCounts && s.number() == 25 {
                 let (at, start) = (s.answer.place as usize, s.before.counts.start);
                 let fresh = model::fresh_counts(s.before.image(), &s.head().unwrap());
-                if fresh[at] == 0 && s.before.words[start..].iter().zip(&fresh).skip(at + 1).all(|(one, other)| one == other) {
+                if fresh[at] == 0
+                    && s.before.words[start..]
+                        .iter()
+                        .zip(&fresh)
+                        .skip(at + 1)
+                        .all(|(one, other)| one == other)
+                {
                     s.refuse(0);
                 }
             }
@@ -607,7 +635,10 @@ const COUNT_SABOTEURS: [Saboteur; 32] = [
     Saboteur {
         name: "a count past G is compared too",
         spoil: |s| {
-            if s.call == Call::CheckCounts && s.done() && s.before.counts().get(s.nodes()).map_or(false, |count| *count > 0) {
+            if s.call == Call::CheckCounts
+                && s.done()
+                && s.before.counts().get(s.nodes()).map_or(false, |count| *count > 0)
+            {
                 *s.answer = Answer { number: 25, place: s.nodes() as u32, ..Answer::default() };
             }
         },
@@ -685,7 +716,10 @@ const COUNT_SABOTEURS: [Saboteur; 32] = [
         spoil: |s| {
             if s.call == Call::Position && s.done() {
                 let (keys, key) = (s.stored_keys(), s.before.given());
-                let under = keys.iter().filter(|(longer, _)| longer.len() > key.len() && longer.starts_with(key)).count();
+                let under = keys
+                    .iter()
+                    .filter(|(longer, _)| longer.len() > key.len() && longer.starts_with(key))
+                    .count();
                 s.answer.value += under as u64;
             }
         },
@@ -694,7 +728,11 @@ const COUNT_SABOTEURS: [Saboteur; 32] = [
         name: "a key that is not stored has the position of the next",
         spoil: |s| {
             if s.call == Call::Position && s.number() == 15 {
-                let before = s.stored_keys().iter().filter(|(key, _)| model::comes_before(key, s.before.given())).count();
+                let before = s
+                    .stored_keys()
+                    .iter()
+                    .filter(|(key, _)| model::comes_before(key, s.before.given()))
+                    .count();
                 *s.answer = Answer { value: before as u64, ..Answer::default() };
             }
         },
@@ -704,7 +742,10 @@ const COUNT_SABOTEURS: [Saboteur; 32] = [
         spoil: |s| {
             if let (Call::KeyAt { position: 1.. }, true) = (s.call, s.done()) {
                 let keys = s.stored_keys();
-                let at = keys.iter().position(|(key, _)| *key == s.after.key()[..s.answer.length as usize]).unwrap();
+                let at = keys
+                    .iter()
+                    .position(|(key, _)| *key == s.after.key()[..s.answer.length as usize])
+                    .unwrap();
                 let (key, value) = &keys[at - 1];
                 s.find(key, *value);
             }
@@ -788,7 +829,8 @@ const COUNT_SABOTEURS: [Saboteur; 32] = [
         spoil: |s| {
             if s.call.stores_counts() && s.number() == 13 {
                 let head = s.head().unwrap();
-                let k = model::new_nodes(s.before.image(), &head, &s.letters().unwrap(), s.value());
+                let k =
+                    model::new_nodes(s.before.image(), &head, &s.letters().unwrap(), s.value());
                 if s.before.counts.len() < s.nodes() + k as usize {
                     s.refuse(5);
                 }
@@ -873,7 +915,8 @@ const COUNT_SABOTEURS: [Saboteur; 32] = [
     },
 ];
 
-/// Those that the cuts must report too, by what a mended image answers and with no look at the model's own list and mend.
+/// Those that the cuts must report too, by what a mended image answers and with no look at the
+/// model's own list and mend.
 pub const CUT_SABOTEURS: [Saboteur; 16] = [
     Saboteur {
         name: "the old link is listed before G",
@@ -973,7 +1016,9 @@ pub const CUT_SABOTEURS: [Saboteur; 16] = [
         name: "a store leaves the count of the node above the key's own",
         spoil: |s| {
             let passed = if s.counted_store().is_some() { s.passed() } else { Vec::new() };
-            if passed.len() > 2 && passed.len() == s.letters().map_or(0, |letters| letters.len() + 1) {
+            if passed.len() > 2
+                && passed.len() == s.letters().map_or(0, |letters| letters.len() + 1)
+            {
                 s.restore_count(passed[passed.len() - 2]);
             }
         },
@@ -1008,7 +1053,9 @@ pub const CUT_SABOTEURS: [Saboteur; 16] = [
             if s.counted_store() == Some(0) && s.answer.change == 0 && s.value() == 0 {
                 let passed = s.passed();
                 if passed.len() <= s.letters().map_or(0, |letters| letters.len()) {
-                    passed.iter().for_each(|node| s.counts()[*node] = s.counts()[*node].wrapping_sub(1));
+                    passed
+                        .iter()
+                        .for_each(|node| s.counts()[*node] = s.counts()[*node].wrapping_sub(1));
                 }
             }
         },

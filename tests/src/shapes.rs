@@ -1,4 +1,5 @@
-//! Images that the check accepts, of many shapes: alphabets, heads, trees with rising addresses, spare bytes.
+//! Images that the check accepts, of many shapes: alphabets, heads, trees with rising addresses,
+//! spare bytes.
 
 use crate::model::{greatest, write_number, Head};
 use crate::rng::Rng;
@@ -40,7 +41,15 @@ impl Shape {
         let (min, max) = lengths(rng);
         let alphabet = if rng.one_in(4) { Vec::new() } else { alphabet(rng, n as usize) };
         let f = alphabet.iter().map(|character| character.len() as u32).sum();
-        let head = Head { g: 0, n, a: rng.between(1, 4) as u32, d: rng.between(1, 4) as u32, f, min, max };
+        let head = Head {
+            g: 0,
+            n,
+            a: rng.between(1, 4) as u32,
+            d: rng.between(1, 4) as u32,
+            f,
+            min,
+            max,
+        };
         Shape { head, alphabet }
     }
 
@@ -61,7 +70,8 @@ impl Shape {
         (bytes / self.head.w() as u64).clamp(1, greatest(self.head.a) + 1)
     }
 
-    /// A G for an image of mostly small size; at times all addresses that one byte holds are taken, or nearly.
+    /// A G for an image of mostly small size; at times all addresses that one byte holds are
+    /// taken, or nearly.
     pub fn draw_g(&mut self, rng: &mut Rng) {
         let budget = rng.pick(&[60, 200, 200, 600, 600, 2_000, 6_000]);
         let most = self.nodes_in(budget) - 1;
@@ -75,7 +85,14 @@ impl Shape {
         let mut image = vec![0; head.u() as usize];
         head.write(&mut image);
         image[28..28 + head.f as usize].copy_from_slice(&self.alphabet_bytes());
-        let growth = rng.pick(&[Growth::Chain, Growth::Deep, Growth::Deep, Growth::Bushy, Growth::Bushy, Growth::Flat]);
+        let growth = rng.pick(&[
+            Growth::Chain,
+            Growth::Deep,
+            Growth::Deep,
+            Growth::Bushy,
+            Growth::Bushy,
+            Growth::Flat,
+        ]);
         for address in 1..=u64::from(head.g) {
             let at = self.free_link(rng, &image, growth, address);
             write_number(&mut image[at..at + head.a as usize], address);
@@ -91,7 +108,8 @@ impl Shape {
         image
     }
 
-    /// An empty link in a node below `address`: where the next node may hang. The node before has none taken, so there is one.
+    /// An empty link in a node below `address`: where the next node may hang. The node before has
+    /// none taken, so there is one.
     fn free_link(&self, rng: &mut Rng, image: &[u8], growth: Growth, address: u64) -> usize {
         let head = &self.head;
         let mut tries = 0;
@@ -126,7 +144,22 @@ impl Shape {
 }
 
 fn lengths(rng: &mut Rng) -> (u32, u32) {
-    let fixed = [(0, 0), (0, 1), (1, 1), (1, 3), (0, 3), (2, 2), (0, 64), (1, 64), (64, 64), (63, 64), (2, 5), (3, 8), (0, 5), (1, 10)];
+    let fixed = [
+        (0, 0),
+        (0, 1),
+        (1, 1),
+        (1, 3),
+        (0, 3),
+        (2, 2),
+        (0, 64),
+        (1, 64),
+        (64, 64),
+        (63, 64),
+        (2, 5),
+        (3, 8),
+        (0, 5),
+        (1, 10),
+    ];
     if rng.one_in(4) {
         let max = rng.below(13) as u32;
         (rng.below(u64::from(max) + 1) as u32, max)
@@ -144,8 +177,8 @@ pub fn value(rng: &mut Rng, d: u32) -> u64 {
 
 /// Characters at the ends of the table's rows, and the two that text tools like least.
 const BOUNDARIES: [u32; 20] = [
-    0x00, 0x0A, 0x41, 0x7F, 0x80, 0xBF, 0x7FF, 0x800, 0xFFF, 0x1000, 0xCFFF, 0xD000, 0xD7FF, 0xE000, 0xFFFF, 0x10000, 0x3FFFF, 0x40000,
-    0xFFFFF, 0x10FFFF,
+    0x00, 0x0A, 0x41, 0x7F, 0x80, 0xBF, 0x7FF, 0x800, 0xFFF, 0x1000, 0xCFFF, 0xD000, 0xD7FF,
+    0xE000, 0xFFFF, 0x10000, 0x3FFFF, 0x40000, 0xFFFFF, 0x10FFFF,
 ];
 
 /// One character: of so many bytes, or at a boundary (0), or near a boundary (5).

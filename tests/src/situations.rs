@@ -1,4 +1,5 @@
-//! Situations that the random cases must meet beyond each number of each call. A run that never met one of them fails.
+//! Situations that the random cases must meet beyond each number of each call. A run that never
+//! met one of them fails.
 
 use crate::calls::Call;
 use crate::damage::readable;
@@ -52,7 +53,8 @@ impl Seen<'_> {
         self.call().writes_len() > 0 && self.done() && self.answer.length == writes
     }
 
-    /// A mend that was done: the address that stood in no link, or 0 where the image was accepted as it was.
+    /// A mend that was done: the address that stood in no link, or 0 where the image was accepted
+    /// as it was.
     fn mended_at(&self) -> Option<u32> {
         if self.call() == Call::Mend && self.done() {
             self.check().map(|answer| answer.place)
@@ -66,11 +68,17 @@ impl Seen<'_> {
     }
 
     fn by_letters(&self) -> bool {
-        matches!(self.call(), Call::Store { .. } | Call::StoreWrites { .. } | Call::StoreCounts { .. })
+        matches!(
+            self.call(),
+            Call::Store { .. } | Call::StoreWrites { .. } | Call::StoreCounts { .. }
+        )
     }
 
     fn by_text(&self) -> bool {
-        matches!(self.call(), Call::StoreText { .. } | Call::StoreTextWrites { .. } | Call::StoreTextCounts { .. })
+        matches!(
+            self.call(),
+            Call::StoreText { .. } | Call::StoreTextWrites { .. } | Call::StoreTextCounts { .. }
+        )
     }
 
     fn is_next_key(&self) -> bool {
@@ -84,7 +92,8 @@ impl Seen<'_> {
     /// How many nodes the path of a store by letters lacks.
     fn missing(&self) -> usize {
         if self.by_letters() && matches!(self.number(), 0 | 11 | 12 | 13) {
-            self.asked.given.len() - model::path(self.asked.image, &self.head(), self.asked.given).1
+            self.asked.given.len()
+                - model::path(self.asked.image, &self.head(), self.asked.given).1
         } else {
             0
         }
@@ -94,7 +103,8 @@ impl Seen<'_> {
         self.head().g as usize + 1
     }
 
-    /// A call beside a list of counts that was refused with 5: whether the working numbers were enough, and whether the list was.
+    /// A call beside a list of counts that was refused with 5: whether the working numbers were
+    /// enough, and whether the list was.
     fn five_beside(&self) -> Option<(bool, bool)> {
         if self.call().takes_counts() && self.number() == 5 {
             Some((self.asked.work_len >= self.nodes(), self.asked.counts.len() >= self.nodes()))
@@ -105,10 +115,12 @@ impl Seen<'_> {
 
     /// A store with counts by letters that stopped at its second 5, or later: its k.
     fn k(&self) -> Option<usize> {
-        let accepted = matches!(self.number(), 0 | 12 | 13) || self.five_beside() == Some((true, true));
+        let accepted =
+            matches!(self.number(), 0 | 12 | 13) || self.five_beside() == Some((true, true));
         match self.call() {
             Call::StoreCounts { value } if accepted => {
-                Some(model::new_nodes(self.asked.image, &self.head(), self.asked.given, value) as usize)
+                Some(model::new_nodes(self.asked.image, &self.head(), self.asked.given, value)
+                    as usize)
             }
             _ => None,
         }
@@ -137,7 +149,9 @@ impl Seen<'_> {
     /// The position asked for, and the number of keys; of an image whose counts are right.
     fn position(&self) -> Option<(u64, u64)> {
         match self.call() {
-            Call::KeyAt { position } if matches!(self.number(), 0 | 14 | 15) => Some((position, u64::from(self.asked.counts[0]))),
+            Call::KeyAt { position } if matches!(self.number(), 0 | 14 | 15) => {
+                Some((position, u64::from(self.asked.counts[0])))
+            }
             _ => None,
         }
     }
@@ -161,34 +175,81 @@ impl Seen<'_> {
 }
 
 pub const SITUATIONS: [Situation; 97] = [
-    Situation { name: "1: the image is shorter than 28", met: |s| s.number() == 1 && s.image_len() < 28 },
-    Situation { name: "1: the image is longer than 16,777,216", met: |s| s.number() == 1 && s.image_len() > 28 },
-    Situation { name: "an image of 16,777,216 bytes, done", met: |s| s.done() && s.image_len() == 16_777_216 },
-    Situation { name: "a chain of four million nodes, done", met: |s| s.done() && s.head().g > 4_000_000 && !s.is_make() },
-    Situation { name: "2: F above 1,024 in a short image", met: |s| s.number() == 2 && !s.is_make() && s.head().f > 1_024 },
-    Situation { name: "2: min above max", met: |s| s.number() == 2 && !s.is_make() && s.head().min > s.head().max },
-    Situation { name: "3: the last character is cut at F, its missing bytes follow", met: cut_at_f },
-    Situation { name: "3: U exceeds the length too", met: |s| s.number() == 3 && !s.is_make() && s.head().u() > s.image_len() },
+    Situation {
+        name: "1: the image is shorter than 28",
+        met: |s| s.number() == 1 && s.image_len() < 28,
+    },
+    Situation {
+        name: "1: the image is longer than 16,777,216",
+        met: |s| s.number() == 1 && s.image_len() > 28,
+    },
+    Situation {
+        name: "an image of 16,777,216 bytes, done",
+        met: |s| s.done() && s.image_len() == 16_777_216,
+    },
+    Situation {
+        name: "a chain of four million nodes, done",
+        met: |s| s.done() && s.head().g > 4_000_000 && !s.is_make(),
+    },
+    Situation {
+        name: "2: F above 1,024 in a short image",
+        met: |s| s.number() == 2 && !s.is_make() && s.head().f > 1_024,
+    },
+    Situation {
+        name: "2: min above max",
+        met: |s| s.number() == 2 && !s.is_make() && s.head().min > s.head().max,
+    },
+    Situation {
+        name: "3: the last character is cut at F, its missing bytes follow",
+        met: cut_at_f,
+    },
+    Situation {
+        name: "3: U exceeds the length too",
+        met: |s| s.number() == 3 && !s.is_make() && s.head().u() > s.image_len(),
+    },
     Situation {
         name: "4: the F bytes are not all inside",
         met: |s| s.number() == 4 && !s.is_make() && s.image_len() < 28 + u128::from(s.head().f),
     },
-    Situation { name: "4: one byte is missing", met: |s| s.number() == 4 && !s.is_make() && s.head().u() == s.image_len() + 1 },
+    Situation {
+        name: "4: one byte is missing",
+        met: |s| s.number() == 4 && !s.is_make() && s.head().u() == s.image_len() + 1,
+    },
     Situation {
         name: "4: U in 32 bits lies inside the image",
-        met: |s| s.number() == 4 && !s.is_make() && u128::from(s.head().u() as u32) <= s.image_len(),
+        met: |s| {
+            s.number() == 4 && !s.is_make() && u128::from(s.head().u() as u32) <= s.image_len()
+        },
     },
-    Situation { name: "4: G is FFFFFFFF", met: |s| s.number() == 4 && !s.is_make() && s.head().g == u32::MAX },
-    Situation { name: "5: G working numbers", met: |s| s.number() == 5 && s.asked.work_len as u64 == u64::from(s.head().g) },
-    Situation { name: "5: a link is broken too", met: |s| s.number() == 5 && s.check().map_or(false, |answer| answer.number == 6) },
+    Situation {
+        name: "4: G is FFFFFFFF",
+        met: |s| s.number() == 4 && !s.is_make() && s.head().g == u32::MAX,
+    },
+    Situation {
+        name: "5: G working numbers",
+        met: |s| s.number() == 5 && s.asked.work_len as u64 == u64::from(s.head().g),
+    },
+    Situation {
+        name: "5: a link is broken too",
+        met: |s| s.number() == 5 && s.check().map_or(false, |answer| answer.number == 6),
+    },
     Situation { name: "6: a link to the node itself or lower", met: link_not_rising },
     Situation {
         name: "8: an address that A bytes cannot hold",
         met: |s| s.number() == 8 && u64::from(s.head().g) > model::greatest(s.head().a),
     },
-    Situation { name: "look up: found", met: |s| s.is_look_up() && s.done() && s.answer.value > 0 },
-    Situation { name: "look up: absent", met: |s| s.is_look_up() && s.done() && s.answer.value == 0 },
-    Situation { name: "look up: the empty key found", met: |s| s.is_look_up() && s.answer.value > 0 && s.asked.given.is_empty() },
+    Situation {
+        name: "look up: found",
+        met: |s| s.is_look_up() && s.done() && s.answer.value > 0,
+    },
+    Situation {
+        name: "look up: absent",
+        met: |s| s.is_look_up() && s.done() && s.answer.value == 0,
+    },
+    Situation {
+        name: "look up: the empty key found",
+        met: |s| s.is_look_up() && s.answer.value > 0 && s.asked.given.is_empty(),
+    },
     Situation {
         name: "look up: a key of 64 letters found",
         met: |s| s.call() == Call::LookUp && s.answer.value > 0 && s.asked.given.len() == 64,
@@ -199,12 +260,21 @@ pub const SITUATIONS: [Situation; 97] = [
     },
     Situation {
         name: "look up: another place of 6 than the check",
-        met: |s| s.is_look_up() && s.number() == 6 && s.check().map_or(false, |a| a.number == 6 && a.place != s.answer.place),
+        met: |s| {
+            s.is_look_up()
+                && s.number() == 6
+                && s.check().map_or(false, |a| a.number == 6 && a.place != s.answer.place)
+        },
     },
-    Situation { name: "9: shorter than min", met: |s| s.number() == 9 && (s.asked.given.len() as u32) < s.head().min },
+    Situation {
+        name: "9: shorter than min",
+        met: |s| s.number() == 9 && (s.asked.given.len() as u32) < s.head().min,
+    },
     Situation {
         name: "9: a letter is bad too",
-        met: |s| s.number() == 9 && s.asked.given.iter().any(|letter| u32::from(*letter) >= s.head().n),
+        met: |s| {
+            s.number() == 9 && s.asked.given.iter().any(|letter| u32::from(*letter) >= s.head().n)
+        },
     },
     Situation {
         name: "9: a text of more than 64 characters",
@@ -212,119 +282,269 @@ pub const SITUATIONS: [Situation; 97] = [
     },
     Situation {
         name: "10: a text longer than max too",
-        met: |s| s.number() == 10 && s.call() == Call::LookUpText && s.characters() as u32 > s.head().max,
+        met: |s| {
+            s.number() == 10
+                && s.call() == Call::LookUpText
+                && s.characters() as u32 > s.head().max
+        },
     },
-    Situation { name: "10: text, well-formed, a character outside the alphabet", met: text_outside },
+    Situation {
+        name: "10: text, well-formed, a character outside the alphabet",
+        met: text_outside,
+    },
     Situation { name: "10: text, ill-formed", met: bad_text },
-    Situation { name: "10: text, F is 0", met: |s| s.number() == 10 && s.call() == Call::LookUpText && s.head().f == 0 },
-    Situation { name: "text: the empty text where F is 0, done", met: |s| s.call() == Call::LookUpText && s.done() && s.head().f == 0 },
-    Situation { name: "N is 256: letter 255 done", met: |s| s.call() == Call::LookUp && s.done() && s.asked.given.contains(&255) },
-    Situation { name: "F is 1,024: done", met: |s| s.done() && !s.is_make() && s.head().f == 1_024 },
-    Situation { name: "11: the path is complete", met: |s| s.number() == 11 && s.by_letters() && s.missing() == 0 },
-    Situation { name: "12: there is room", met: |s| s.number() == 12 && s.head().u() + 64 * s.head().w() <= s.image_len() },
-    Situation { name: "12: there is no room either", met: |s| s.number() == 12 && s.head().u() + s.head().w() > s.image_len() },
-    Situation { name: "12: one of two addresses is left", met: |s| s.number() == 12 && s.missing() == 2 && s.head().g == 254 },
+    Situation {
+        name: "10: text, F is 0",
+        met: |s| s.number() == 10 && s.call() == Call::LookUpText && s.head().f == 0,
+    },
+    Situation {
+        name: "text: the empty text where F is 0, done",
+        met: |s| s.call() == Call::LookUpText && s.done() && s.head().f == 0,
+    },
+    Situation {
+        name: "N is 256: letter 255 done",
+        met: |s| s.call() == Call::LookUp && s.done() && s.asked.given.contains(&255),
+    },
+    Situation {
+        name: "F is 1,024: done",
+        met: |s| s.done() && !s.is_make() && s.head().f == 1_024,
+    },
+    Situation {
+        name: "11: the path is complete",
+        met: |s| s.number() == 11 && s.by_letters() && s.missing() == 0,
+    },
+    Situation {
+        name: "12: there is room",
+        met: |s| s.number() == 12 && s.head().u() + 64 * s.head().w() <= s.image_len(),
+    },
+    Situation {
+        name: "12: there is no room either",
+        met: |s| s.number() == 12 && s.head().u() + s.head().w() > s.image_len(),
+    },
+    Situation {
+        name: "12: one of two addresses is left",
+        met: |s| s.number() == 12 && s.missing() == 2 && s.head().g == 254,
+    },
     Situation { name: "12: A is 2", met: |s| s.number() == 12 && s.head().a == 2 },
-    Situation { name: "13: there is room for one node", met: |s| s.number() == 13 && s.head().u() + s.head().w() <= s.image_len() },
+    Situation {
+        name: "13: there is room for one node",
+        met: |s| s.number() == 13 && s.head().u() + s.head().w() <= s.image_len(),
+    },
     Situation {
         name: "store: exact room for two nodes or more",
-        met: |s| s.missing() > 1 && s.answer.change == 1 && s.head().u() + s.missing() as u128 * s.head().w() == s.image_len(),
+        met: |s| {
+            s.missing() > 1
+                && s.answer.change == 1
+                && s.head().u() + s.missing() as u128 * s.head().w() == s.image_len()
+        },
     },
     Situation {
         name: "store: the last address of one byte is given",
-        met: |s| s.done() && s.missing() > 0 && s.value() > 0 && s.head().a == 1 && s.missing() as u32 + s.head().g == 255,
+        met: |s| {
+            s.done()
+                && s.missing() > 0
+                && s.value() > 0
+                && s.head().a == 1
+                && s.missing() as u32 + s.head().g == 255
+        },
     },
-    Situation { name: "store: 64 new nodes", met: |s| s.done() && s.missing() == 64 && s.value() > 0 },
+    Situation {
+        name: "store: 64 new nodes",
+        met: |s| s.done() && s.missing() == 64 && s.value() > 0,
+    },
     Situation {
         name: "store: 0 on an incomplete path, full image",
         met: |s| s.done() && s.missing() > 0 && s.value() == 0 && s.head().u() == s.image_len(),
     },
     Situation { name: "store: -1", met: |s| s.answer.change == -1 },
-    Situation { name: "store: a changed value", met: |s| s.is_store() && s.done() && s.answer.change == 0 && s.value() > 0 },
-    Situation { name: "store: 1 on a complete path", met: |s| s.by_letters() && s.answer.change == 1 && s.missing() == 0 },
-    Situation { name: "store: FFFFFFFF", met: |s| s.is_store() && s.done() && s.value() == u32::MAX },
+    Situation {
+        name: "store: a changed value",
+        met: |s| s.is_store() && s.done() && s.answer.change == 0 && s.value() > 0,
+    },
+    Situation {
+        name: "store: 1 on a complete path",
+        met: |s| s.by_letters() && s.answer.change == 1 && s.missing() == 0,
+    },
+    Situation {
+        name: "store: FFFFFFFF",
+        met: |s| s.is_store() && s.done() && s.value() == u32::MAX,
+    },
     Situation { name: "list: no write", met: |s| s.lists(0) },
     Situation { name: "list: one write", met: |s| s.lists(1) },
     Situation {
         name: "list: one write, of the value already there",
         met: |s| {
-            s.lists(1) && s.by_letters() && s.value() > 0 && model::look_up(s.asked.image, s.asked.given).value == u64::from(s.value())
+            s.lists(1)
+                && s.by_letters()
+                && s.value() > 0
+                && model::look_up(s.asked.image, s.asked.given).value == u64::from(s.value())
         },
     },
     Situation { name: "list: three writes", met: |s| s.lists(3) },
     Situation { name: "list: 66 writes", met: |s| s.lists(66) },
     Situation { name: "mend: accepted as it is", met: |s| s.mended_at() == Some(0) },
-    Situation { name: "mend: G lowered by one", met: |s| s.mended_at().map_or(false, |p| p == s.head().g && p > 0) },
-    Situation { name: "mend: G lowered by more", met: |s| s.mended_at().map_or(false, |p| p < s.head().g && p > 0) },
+    Situation {
+        name: "mend: G lowered by one",
+        met: |s| s.mended_at().map_or(false, |p| p == s.head().g && p > 0),
+    },
+    Situation {
+        name: "mend: G lowered by more",
+        met: |s| s.mended_at().map_or(false, |p| p < s.head().g && p > 0),
+    },
     Situation { name: "mend: G lowered to 0", met: |s| s.mended_at() == Some(1) },
     Situation {
         name: "mend: G lowered, with more working numbers than needed",
-        met: |s| s.mended_at().map_or(false, |p| p > 0) && s.asked.work_len as u64 > u64::from(s.head().g) + 1,
+        met: |s| {
+            s.mended_at().map_or(false, |p| p > 0)
+                && s.asked.work_len as u64 > u64::from(s.head().g) + 1
+        },
     },
-    Situation { name: "mend: 8 stays, for a node before the gap links past it", met: |s| s.call() == Call::Mend && s.number() == 8 },
+    Situation {
+        name: "mend: 8 stays, for a node before the gap links past it",
+        met: |s| s.call() == Call::Mend && s.number() == 8,
+    },
     Situation {
         name: "next key: the key given is shorter than min",
         met: |s| s.is_next_key() && s.done() && (s.asked.given.len() as u32) < s.head().min,
     },
-    Situation { name: "next key: the empty key found", met: |s| s.is_next_key() && s.done() && s.answer.length == 0 },
+    Situation {
+        name: "next key: the empty key found",
+        met: |s| s.is_next_key() && s.done() && s.answer.length == 0,
+    },
     Situation {
         name: "next key: shorter than the key given",
         met: |s| s.is_next_key() && s.done() && (s.answer.length as usize) < s.asked.given.len(),
     },
     Situation {
         name: "count: none though the root has data",
-        met: |s| s.call() == Call::Count && s.done() && s.answer.value == 0 && model::data(s.asked.image, &s.head(), 0) > 0,
+        met: |s| {
+            s.call() == Call::Count
+                && s.done()
+                && s.answer.value == 0
+                && model::data(s.asked.image, &s.head(), 0) > 0
+        },
     },
-    Situation { name: "5 beside counts: the working numbers alone are short", met: |s| s.five_beside() == Some((false, true)) },
-    Situation { name: "5 beside counts: the list alone is short", met: |s| s.five_beside() == Some((true, false)) },
-    Situation { name: "5 beside counts: both are short", met: |s| s.five_beside() == Some((false, false)) },
+    Situation {
+        name: "5 beside counts: the working numbers alone are short",
+        met: |s| s.five_beside() == Some((false, true)),
+    },
+    Situation {
+        name: "5 beside counts: the list alone is short",
+        met: |s| s.five_beside() == Some((true, false)),
+    },
+    Situation {
+        name: "5 beside counts: both are short",
+        met: |s| s.five_beside() == Some((false, false)),
+    },
     Situation {
         name: "5 beside counts: a list of G",
-        met: |s| s.five_beside().map_or(false, |(work, _)| work && s.asked.counts.len() + 1 == s.nodes()),
+        met: |s| {
+            s.five_beside()
+                .map_or(false, |(work, _)| work && s.asked.counts.len() + 1 == s.nodes())
+        },
     },
     Situation {
         name: "5 beside counts: the list alone is short, a link is broken too",
-        met: |s| s.five_beside() == Some((true, false)) && s.check().map_or(false, |answer| answer.number == 6),
+        met: |s| {
+            s.five_beside() == Some((true, false))
+                && s.check().map_or(false, |answer| answer.number == 6)
+        },
     },
-    Situation { name: "5 again: a list of G+k", met: |s| s.five_beside() == Some((true, true)) && s.counts_past_k(0) },
+    Situation {
+        name: "5 again: a list of G+k",
+        met: |s| s.five_beside() == Some((true, true)) && s.counts_past_k(0),
+    },
     Situation {
         name: "5 again: a list of G+1, two nodes or more are missing",
-        met: |s| s.five_beside() == Some((true, true)) && s.asked.counts.len() == s.nodes() && s.k() > Some(1),
+        met: |s| {
+            s.five_beside() == Some((true, true))
+                && s.asked.counts.len() == s.nodes()
+                && s.k() > Some(1)
+        },
     },
-    Situation { name: "5 again: by text", met: |s| s.five_beside() == Some((true, true)) && s.by_text() },
-    Situation { name: "12: the list of counts is too short too", met: |s| s.number() == 12 && short_for_k(s) },
-    Situation { name: "13: the list of counts is too short too", met: |s| s.number() == 13 && short_for_k(s) },
-    Situation { name: "store with counts: new nodes, a list of G+k+1", met: |s| s.done() && s.counts_past_k(1) },
+    Situation {
+        name: "5 again: by text",
+        met: |s| s.five_beside() == Some((true, true)) && s.by_text(),
+    },
+    Situation {
+        name: "12: the list of counts is too short too",
+        met: |s| s.number() == 12 && short_for_k(s),
+    },
+    Situation {
+        name: "13: the list of counts is too short too",
+        met: |s| s.number() == 13 && short_for_k(s),
+    },
+    Situation {
+        name: "store with counts: new nodes, a list of G+k+1",
+        met: |s| s.done() && s.counts_past_k(1),
+    },
     Situation {
         name: "store with counts: new nodes, a longer list",
-        met: |s| s.done() && s.k().map_or(false, |k| k > 0 && s.asked.counts.len() > s.nodes() + k),
+        met: |s| {
+            s.done() && s.k().map_or(false, |k| k > 0 && s.asked.counts.len() > s.nodes() + k)
+        },
     },
     Situation { name: "store with counts: 64 new nodes", met: |s| s.done() && s.k() == Some(64) },
-    Situation { name: "store with counts: -1", met: |s| s.call().stores_counts() && s.answer.change == -1 },
-    Situation { name: "store with counts: 1 on a complete path", met: |s| s.k() == Some(0) && s.value() > 0 && s.answer.change == 1 },
+    Situation {
+        name: "store with counts: -1",
+        met: |s| s.call().stores_counts() && s.answer.change == -1,
+    },
+    Situation {
+        name: "store with counts: 1 on a complete path",
+        met: |s| s.k() == Some(0) && s.value() > 0 && s.answer.change == 1,
+    },
     Situation {
         name: "store with counts: a changed value",
         met: |s| s.call().stores_counts() && s.done() && s.answer.change == 0 && s.value() > 0,
     },
     Situation {
         name: "store with counts: 0 on an incomplete path, a list of G+1",
-        met: |s| s.done() && s.k() == Some(0) && s.value() == 0 && s.missing() > 0 && s.asked.counts.len() == s.nodes(),
+        met: |s| {
+            s.done()
+                && s.k() == Some(0)
+                && s.value() == 0
+                && s.missing() > 0
+                && s.asked.counts.len() == s.nodes()
+        },
     },
     Situation { name: "25: one too high", met: |s| s.off() == Some(1) },
     Situation { name: "25: one too low", met: |s| s.off() == Some(u32::MAX) },
-    Situation { name: "25: right in 16 bits", met: |s| s.off().map_or(false, |off| off & 0xFFFF == 0) },
-    Situation { name: "25: at G alone", met: |s| s.number() == 25 && s.answer.place == s.head().g && s.head().g > 1 },
-    Situation { name: "25: at the root alone", met: |s| s.differing().map_or(false, |right| right[1..] == s.asked.counts[1..right.len()]) },
+    Situation {
+        name: "25: right in 16 bits",
+        met: |s| s.off().map_or(false, |off| off & 0xFFFF == 0),
+    },
+    Situation {
+        name: "25: at G alone",
+        met: |s| s.number() == 25 && s.answer.place == s.head().g && s.head().g > 1,
+    },
+    Situation {
+        name: "25: at the root alone",
+        met: |s| s.differing().map_or(false, |right| right[1..] == s.asked.counts[1..right.len()]),
+    },
     Situation {
         name: "25: at a node that no stored key passes",
-        met: |s| s.differing().map_or(false, |right| right[s.answer.place as usize] == 0 && s.answer.place > 0),
+        met: |s| {
+            s.differing()
+                .map_or(false, |right| right[s.answer.place as usize] == 0 && s.answer.place > 0)
+        },
     },
     Situation { name: "25: at a node deeper than max", met: deeper_than_max },
-    Situation { name: "25: data that min hides is counted", met: |s| hidden_is_counted(s, |head| Head { min: 0, ..head }) },
-    Situation { name: "25: data that max hides is counted", met: |s| hidden_is_counted(s, |head| Head { max: head.max + 1, ..head }) },
+    Situation {
+        name: "25: data that min hides is counted",
+        met: |s| hidden_is_counted(s, |head| Head { min: 0, ..head }),
+    },
+    Situation {
+        name: "25: data that max hides is counted",
+        met: |s| hidden_is_counted(s, |head| Head { max: head.max + 1, ..head }),
+    },
     Situation {
         name: "25: the key of a store is refused too",
-        met: |s| s.number() == 25 && s.call().stores_counts() && s.by_letters() && model::look_up(s.asked.image, s.asked.given).number > 0,
+        met: |s| {
+            s.number() == 25
+                && s.call().stores_counts()
+                && s.by_letters()
+                && model::look_up(s.asked.image, s.asked.given).number > 0
+        },
     },
     Situation {
         name: "key at: the first of two or more",
@@ -334,17 +554,30 @@ pub const SITUATIONS: [Situation; 97] = [
         name: "key at: the last of three or more",
         met: |s| s.done() && s.position().map_or(false, |(at, keys)| keys > 2 && at + 1 == keys),
     },
-    Situation { name: "key at: the empty key", met: |s| s.done() && s.position().is_some() && s.answer.length == 0 },
+    Situation {
+        name: "key at: the empty key",
+        met: |s| s.done() && s.position().is_some() && s.answer.length == 0,
+    },
     Situation {
         name: "key at: 15, the number of keys",
-        met: |s| s.number() == 15 && s.position().map_or(false, |(at, keys)| at == keys && keys > 0),
+        met: |s| {
+            s.number() == 15 && s.position().map_or(false, |(at, keys)| at == keys && keys > 0)
+        },
     },
     Situation {
         name: "key at: 15, a position that is there in 32 bits",
-        met: |s| s.number() == 15 && s.position().map_or(false, |(at, keys)| (at & 0xFFFF_FFFF) < keys),
+        met: |s| {
+            s.number() == 15 && s.position().map_or(false, |(at, keys)| (at & 0xFFFF_FFFF) < keys)
+        },
     },
-    Situation { name: "key at: 14, past the end too", met: |s| s.number() == 14 && s.position().map_or(false, |(at, keys)| at >= keys) },
-    Situation { name: "position: above 2", met: |s| s.is_position() && s.done() && s.answer.value > 2 },
+    Situation {
+        name: "key at: 14, past the end too",
+        met: |s| s.number() == 14 && s.position().map_or(false, |(at, keys)| at >= keys),
+    },
+    Situation {
+        name: "position: above 2",
+        met: |s| s.is_position() && s.done() && s.answer.value > 2,
+    },
     Situation { name: "position: 15 on a complete path", met: |s| not_stored(s, true) },
     Situation { name: "position: 15 on an incomplete path", met: |s| not_stored(s, false) },
 ];
@@ -367,24 +600,34 @@ fn deeper_than_max(s: &Seen) -> bool {
         return false;
     }
     let (image, head) = (s.asked.image, s.head());
-    let above =
-        |node: u64| (0..node).find(|parent| (0..u64::from(head.n)).any(|letter| model::link(image, &head, *parent, letter) == node));
+    let above = |node: u64| {
+        (0..node).find(|parent| {
+            (0..u64::from(head.n)).any(|letter| model::link(image, &head, *parent, letter) == node)
+        })
+    };
     let climbed = std::iter::successors(Some(u64::from(s.answer.place)), |node| above(*node));
     climbed.count() > head.max as usize + 1
 }
 
 fn not_stored(s: &Seen, complete: bool) -> bool {
     let path = |letters: &[u8]| model::path(s.asked.image, &s.head(), letters).1;
-    s.call() == Call::Position && s.number() == 15 && (path(s.asked.given) == s.asked.given.len()) == complete
+    s.call() == Call::Position
+        && s.number() == 15
+        && (path(s.asked.given) == s.asked.given.len()) == complete
 }
 
 fn link_not_rising(s: &Seen) -> bool {
     let node = u64::from(s.answer.place);
-    s.number() == 6 && (0..u64::from(s.head().n)).any(|letter| (1..=node).contains(&model::link(s.asked.image, &s.head(), node, letter)))
+    s.number() == 6
+        && (0..u64::from(s.head().n)).any(|letter| {
+            (1..=node).contains(&model::link(s.asked.image, &s.head(), node, letter))
+        })
 }
 
 fn bad_text(s: &Seen) -> bool {
-    s.number() == 10 && matches!(s.call(), Call::LookUpText | Call::StoreText { .. }) && model::characters(s.asked.given).is_none()
+    s.number() == 10
+        && matches!(s.call(), Call::LookUpText | Call::StoreText { .. })
+        && model::characters(s.asked.given).is_none()
 }
 
 fn text_outside(s: &Seen) -> bool {

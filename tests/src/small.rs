@@ -1,4 +1,5 @@
-//! Small images with A = D = 1, and the keys that go with them: what the exhaustive part and the cuts have in common.
+//! Small images with A = D = 1, and the keys that go with them: what the exhaustive part and the
+//! cuts have in common.
 
 use crate::model::Head;
 use crate::rng::Rng;
@@ -25,7 +26,8 @@ pub fn settings() -> Vec<Setting> {
     all
 }
 
-/// Letters of one, two and three bytes; the last is outside every alphabet and shares a byte with a letter.
+/// Letters of one, two and three bytes; the last is outside every alphabet and shares a byte with
+/// a letter.
 pub const CHARACTERS: [&str; 3] = ["A", "é", "€"];
 const OUTSIDE: &str = "ê";
 
@@ -40,16 +42,31 @@ pub fn keys(n: u32) -> Vec<Key> {
     let mut all: Vec<Vec<u8>> = vec![Vec::new()];
     let mut longest = all.clone();
     for _ in 0..3 {
-        longest = longest.iter().flat_map(|key| (0..=n as u8).map(move |letter| [key.as_slice(), &[letter]].concat())).collect();
+        longest = longest
+            .iter()
+            .flat_map(|key| (0..=n as u8).map(move |letter| [key.as_slice(), &[letter]].concat()))
+            .collect();
         all.extend(longest.clone());
     }
-    let character = |letter: &u8| if u32::from(*letter) < n { CHARACTERS[usize::from(*letter)] } else { OUTSIDE };
-    all.into_iter().map(|letters| Key { text: letters.iter().map(character).collect::<String>().into_bytes(), letters }).collect()
+    let character = |letter: &u8| {
+        if u32::from(*letter) < n {
+            CHARACTERS[usize::from(*letter)]
+        } else {
+            OUTSIDE
+        }
+    };
+    all.into_iter()
+        .map(|letters| Key {
+            text: letters.iter().map(character).collect::<String>().into_bytes(),
+            letters,
+        })
+        .collect()
 }
 
 /// The image of so many links in a node, with rubbish in its spare bytes.
 pub fn image(rng: &mut Rng, n: u32, links: &[u8], data: &[u8], setting: &Setting) -> Vec<u8> {
-    let alphabet: String = if setting.alphabet { CHARACTERS[..n as usize].concat() } else { String::new() };
+    let alphabet: String =
+        if setting.alphabet { CHARACTERS[..n as usize].concat() } else { String::new() };
     let (min, max) = setting.lengths;
     let g = (links.len() / n as usize) as u32 - 1;
     let head = Head { g, n, a: 1, d: 1, f: alphabet.len() as u32, min, max };

@@ -1,5 +1,6 @@
-//! Lays the memory lent to a call between guards, twice with the same content: one for the library, one for the model. After the call the
-//! two must be the same in every byte, so also in the guards, in what was lent to be read only, and in all that a call must not touch.
+//! Lays the memory lent to a call between guards, twice with the same content: one for the
+//! library, one for the model. After the call the two must be the same in every byte, so also in
+//! the guards, in what was lent to be read only, and in all that a call must not touch.
 
 use crate::calls::{ask_library, ask_model, Call, Lent, Pointers};
 use crate::model::Answer;
@@ -7,8 +8,8 @@ use crate::rng::Rng;
 use crate::saboteurs::{Saboteur, Spoiled};
 use std::ops::Range;
 
-/// A call with what it is lent; key buffer and working numbers are given by their lengths, for they hold rubbish, as does a list of writes.
-/// The counts are empty where the call takes none.
+/// A call with what it is lent; key buffer and working numbers are given by their lengths, for
+/// they hold rubbish, as does a list of writes. The counts are empty where the call takes none.
 #[derive(Clone, Copy)]
 pub struct Asked<'a> {
     pub call: Call,
@@ -19,7 +20,8 @@ pub struct Asked<'a> {
     pub counts: &'a [u32],
 }
 
-/// Guard, image, guard, given, guard, key buffer, guard; and guard, working numbers, guard, list of writes, guard, counts, guard.
+/// Guard, image, guard, given, guard, key buffer, guard; and guard, working numbers, guard, list
+/// of writes, guard, counts, guard.
 #[derive(Clone, Default)]
 pub struct Arena {
     pub bytes: Vec<u8>,
@@ -33,7 +35,8 @@ pub struct Arena {
 }
 
 impl Arena {
-    /// Guards are of 9 to 16 bytes, so that buffers start at odd addresses as well as at even ones.
+    /// Guards are of 9 to 16 bytes, so that buffers start at odd addresses as well as at even
+    /// ones.
     fn guard(&mut self, rng: &mut Rng) {
         let len = 9 + rng.below(8) as usize;
         self.bytes.extend_from_slice(&rng.next().to_le_bytes());
@@ -72,8 +75,8 @@ impl Arena {
         self.words.extend_from_slice(&[1, rubbish as u32, (rubbish >> 32) as u32]);
     }
 
-    /// Rubbish of three sorts: any, small numbers that look like counts, and one that looks like neither. In the list of writes it rises by
-    /// steps, for that is quick.
+    /// Rubbish of three sorts: any, small numbers that look like counts, and one that looks like
+    /// neither. In the list of writes it rises by steps, for that is quick.
     fn lay_words(&mut self, work_len: usize, writes_len: usize, rng: &mut Rng) {
         let start = 2 + rng.below(3) as usize;
         self.work = start..start + work_len;
@@ -83,7 +86,8 @@ impl Arena {
         let mask = rng.pick(&[u32::MAX, u32::MAX, 1, 3]);
         self.words.extend((0..start).map(|_| (rng.next() >> 20) as u32 & mask));
         let (first, step) = (rng.next() as u32, rng.next() as u32);
-        self.words.extend((0..writes_len as u32 + 3).map(|i| first.wrapping_add(i.wrapping_mul(step))));
+        self.words
+            .extend((0..writes_len as u32 + 3).map(|i| first.wrapping_add(i.wrapping_mul(step))));
     }
 
     /// As `clone`, in the memory that is there.
@@ -148,11 +152,23 @@ impl Arena {
     }
 
     fn name_byte(&self, at: usize) -> String {
-        name("byte", at, &[("image", &self.image), ("given", &self.given), ("key buffer", &self.key)])
+        name(
+            "byte",
+            at,
+            &[("image", &self.image), ("given", &self.given), ("key buffer", &self.key)],
+        )
     }
 
     fn name_word(&self, at: usize) -> String {
-        name("number", at, &[("working numbers", &self.work), ("list of writes", &self.writes), ("counts", &self.counts)])
+        name(
+            "number",
+            at,
+            &[
+                ("working numbers", &self.work),
+                ("list of writes", &self.writes),
+                ("counts", &self.counts),
+            ],
+        )
     }
 }
 
@@ -161,9 +177,16 @@ fn name(what: &str, at: usize, pieces: &[(&str, &Range<usize>)]) -> String {
     if let Some((name, range)) = pieces.iter().find(|(_, range)| range.contains(&at)) {
         return format!("{what} {} of the {name}", at - range.start);
     }
-    let before = pieces.iter().filter(|(_, range)| at < range.start).map(|(name, range)| (range.start - at, "before", name));
-    let after = pieces.iter().filter(|(_, range)| at >= range.end).map(|(name, range)| (at - range.end + 1, "after", name));
-    let (far, side, name) = before.chain(after).min_by_key(|(far, _, _)| *far).expect("every guard has a neighbour");
+    let before = pieces
+        .iter()
+        .filter(|(_, range)| at < range.start)
+        .map(|(name, range)| (range.start - at, "before", name));
+    let after = pieces
+        .iter()
+        .filter(|(_, range)| at >= range.end)
+        .map(|(name, range)| (at - range.end + 1, "after", name));
+    let (far, side, name) =
+        before.chain(after).min_by_key(|(far, _, _)| *far).expect("every guard has a neighbour");
     format!("guard {what} {far} {side} the {name}")
 }
 
@@ -190,7 +213,12 @@ impl Twins {
         let mut library = unsafe { ask_library(asked.call, &pointers) };
         let model = ask_model(asked.call, self.model.lent());
         if let (Some(saboteur), Some(before)) = (saboteur, before) {
-            (saboteur.spoil)(&mut Spoiled { call: asked.call, before: &before, after: &mut self.library, answer: &mut library });
+            (saboteur.spoil)(&mut Spoiled {
+                call: asked.call,
+                before: &before,
+                after: &mut self.library,
+                answer: &mut library,
+            });
         }
         let difference = self.difference(&model, &library);
         Outcome { model, library, difference }
@@ -199,7 +227,8 @@ impl Twins {
     /// The answers, then the first byte, then the first number.
     fn difference(&self, model: &Answer, library: &Answer) -> Option<String> {
         let answers = if model != library { Some("the answers".to_string()) } else { None };
-        let found: Vec<String> = [answers, self.first_byte(), self.first_word()].into_iter().flatten().collect();
+        let found: Vec<String> =
+            [answers, self.first_byte(), self.first_word()].into_iter().flatten().collect();
         if found.is_empty() {
             None
         } else {
@@ -213,7 +242,12 @@ impl Twins {
             return None;
         }
         let at = (0..ours.len()).find(|at| ours[*at] != its[*at])?;
-        Some(format!("{}: model {:02X}, library {:02X}", self.model.name_byte(at), ours[at], its[at]))
+        Some(format!(
+            "{}: model {:02X}, library {:02X}",
+            self.model.name_byte(at),
+            ours[at],
+            its[at]
+        ))
     }
 
     fn first_word(&self) -> Option<String> {
