@@ -5,7 +5,6 @@
 //! `ask_library`, and a choice in `cases::Case::draw`.
 
 use crate::model::{self, Answer, WRITES};
-use crate::positions;
 use trieff::raw;
 
 /// A call without the memory lent to it. What it is given to read (alphabet, letters or text) is
@@ -251,25 +250,23 @@ pub unsafe fn ask_library(call: Call, lent: &Pointers) -> Answer {
         Call::NextKey { after } => raw::trieff_next_key(
             image, image_len, work, work_len, given, given_len, after, key, key_len,
         ),
-        Call::Counts => {
-            positions::trieff_counts(image, image_len, work, work_len, counts, counts_len)
-        }
+        Call::Counts => raw::trieff_counts(image, image_len, work, work_len, counts, counts_len),
         Call::CheckCounts => {
-            positions::trieff_check_counts(image, image_len, work, work_len, counts, counts_len)
+            raw::trieff_check_counts(image, image_len, work, work_len, counts, counts_len)
         }
-        Call::StoreCounts { value } => positions::trieff_store_counts(
+        Call::StoreCounts { value } => raw::trieff_store_counts(
             image, image_len, work, work_len, given, given_len, value, counts, counts_len,
         ),
-        Call::StoreTextCounts { value } => positions::trieff_store_text_counts(
+        Call::StoreTextCounts { value } => raw::trieff_store_text_counts(
             image, image_len, work, work_len, given, given_len, value, counts, counts_len,
         ),
-        Call::KeyAt { position } => positions::trieff_key_at(
+        Call::KeyAt { position } => raw::trieff_key_at(
             image, image_len, work, work_len, counts, counts_len, position, key, key_len,
         ),
-        Call::Position => positions::trieff_position(
+        Call::Position => raw::trieff_position(
             image, image_len, work, work_len, counts, counts_len, given, given_len,
         ),
-        Call::PositionText => positions::trieff_position_text(
+        Call::PositionText => raw::trieff_position_text(
             image, image_len, work, work_len, counts, counts_len, given, given_len,
         ),
     };

@@ -10,7 +10,6 @@ mod keys;
 mod listing;
 mod lists;
 mod model;
-mod positions;
 mod progress;
 mod random;
 mod report;
