@@ -1,1 +1,2 @@
-
+mod Spots
+mod Places

@@ -81,7 +81,7 @@ fn spot(image: &[u8], h: Head, counts: &[u32], position: u64, buffer: &mut [u8])
     let mut path = [0u8; Head::MAX_MOST as usize];
     let spot = ranking::key_at(image, h, counts, position as u32, &mut path);
     let length = spot.length;
-    field::lay(buffer, 0, &path[0..length]);
+    field::lay(buffer, 0, &path[..length]);
     Found::Key {
         length: length as u32,
         value: spot.value,
