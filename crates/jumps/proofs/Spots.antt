@@ -34,9 +34,9 @@ use Rattle.position.specs.Orders.{checkingCounts, gettingKey}
 use Rattle.position.specs.Calls.{workLeft, placedKey, keyAtOf}
 use Rattle.position.specs.Promises.{GivesKey}
 use Rattle.position.proofs.Plain.{counts-checked}
-use Rattle.position.proofs.Right.{none-25}
 use Rattle.opening.specs.declared.Opened.{Opened}
 use Rattle.comparing.specs.Comparing.{Compared}
+use Rattle.asking_counts.proofs.Asking.{compared-right}
 use Rattle.ranking.specs.declared.Spot.{Spot}
 use Rattle.ranking.specs.Ranking.{Spotted}
 use Rattle.ranking.proofs.Below.{Counted, counted}
@@ -159,12 +159,6 @@ module _ (l : List ℕ) (position : ℕ) (buffer : List ℕ) {h : Head} (same : 
       missing l work counts position buffer compared (rw same at room) (at-none (storedKeys l) position past)
 
 -- ---- the ways out of the whole call
-
--- an order that passed 25 has compared the counts
-pub compared-right : (l work counts : List ℕ) → first (checkingCounts l work counts) ≡ none → RightCounts l counts
-compared-right l work counts e =
-    let c = counts-checked l work counts e in
-    record { long = c .listed; each = none-25 l counts .0 (c .same) }
 
 module _ {l work counts : List ℕ} {r : Opened} {work′ codes : List ℕ} (o : Compared l work counts r work′ codes) where
   -- what is asked behind 25
