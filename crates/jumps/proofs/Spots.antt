@@ -39,7 +39,7 @@ use Rattle.comparing.specs.Comparing.{Compared}
 use Rattle.asking_counts.proofs.Asking.{compared-right}
 use Rattle.ranking.specs.declared.Spot.{Spot}
 use Rattle.ranking.specs.Ranking.{Spotted}
-use Rattle.ranking.proofs.Below.{Counted, counted}
+use Rattle.ranking.proofs.Below.{Counted}
 use Rattle.jumps.specs.Jumps.{Spots}
 
 -- ---- over the rows

@@ -1,5 +1,5 @@
--- 02, Ask 7: what a jump tells once the counts have been compared. Where that part of the order has passed, what is answered and left in the buffer is
--- what the whole call does, whatever working numbers were lent.
+-- 02, Ask 7: what a jump tells once the counts have been compared. Where that part of the order has passed, what is answered and left in the
+-- buffer is what the whole call does, whatever working numbers were lent.
 use Prim.Native.Nat.{ℕ}
 use mathlib.Core.Path.{_≡_}
 use mathlib.Core.Bool.{cond}

@@ -1,5 +1,5 @@
--- `jumps::spot` meets its contract: 14 here, 15 by the count of the root, the key by the way through the image; the buffer is written only where there
--- is a key. Assumes nothing.
+-- `jumps::spot` meets its contract: 14 here, 15 by the count of the root, the key by the way through the image; the buffer is written only
+-- where there is a key. Assumes nothing.
 use native.Mathlib.Omega.{arith}
 use borrow.Author.Needs.{needs}
 use Rattle.ranking.proofs.Below.{Counted, counted}
