@@ -67,7 +67,8 @@ module _ (h : Head) (l k : List ℕ) (value : ℕ) {o : Walked} where
   writes-path e x xs left w c = rw (e, left) (rw left at w, c)
 
 -- what is allowed where the walk stopped
-pub allowed-path : (h : Head) (len : ℕ) (k : List ℕ) (value : ℕ) {o : Walked} {p : Position} → o ≡ Walked.Stopped p → Allowed h len (endOf k o) value
+pub allowed-path : (h : Head) (len : ℕ) (k : List ℕ) (value : ℕ) {o : Walked} {p : Position} → o ≡ Walked.Stopped p
+    → Allowed h len (endOf k o) value
     → Allowed h len (stoppedAt (p .node) (drop (p .depth) k)) value
 unfolding endOf
 allowed-path h len k value e a = rw e at a

@@ -54,7 +54,9 @@ returns-3 c =
     )
 
 returns-4 : tie.Need-returns-4
-returns-4 c = let start = c .before .before .before in absurd (subst (Ends (start .args .h) (start .args .key)) (c .enum-told2 .given .1) (start .pre .1))
+returns-4 c =
+    let start = c .before .before .before in
+    absurd (subst (Ends (start .args .h) (start .args .key)) (c .enum-told2 .given .1) (start .pre .1))
 
 pub new-count-spec : {M : Type 1} → statement M
 new-count-spec =

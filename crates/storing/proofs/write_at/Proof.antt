@@ -46,7 +46,8 @@ extend-requires c κs =
     let start = told .before .before .before in
     let a = start .args in
     let p = start .pre in
-    (p .0, (p .1 .0, (subst (Ends (a .h) (a .key)) (told .walked2 .given .1) (p .1 .1 .0), allowed-path (a .h) _ (lettersOf (a .key)) _ (told .walked2 .given .1) (p .1 .1 .1))))
+    let stop = subst (Ends (a .h) (a .key)) (told .walked2 .given .1) (p .1 .1 .0) in
+    (p .0, (p .1 .0, (stop, allowed-path (a .h) _ (lettersOf (a .key)) _ (told .walked2 .given .1) (p .1 .1 .1))))
 
 returns : tie.Need-returns
 returns c =
