@@ -33,7 +33,7 @@ pub fn check_counts(image: &[u8], work: &mut [u32], list: &[u32]) -> Done
     let compared = comparing::compare(image, work, list, &mut codes);
     let verdict = compared.verdict;
     match verdict {
-        Verdict::Refused(why) => Done::Refused(why),
+        Verdict::Refused(rule) => Done::Refused(rule),
         Verdict::Passed => Done::Done,
     }
 }
