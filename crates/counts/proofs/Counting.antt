@@ -1,5 +1,5 @@
--- The outcome of working counts out and of checking them, at each way out: the verdict is what is heard of the call's rows, and where nothing is
--- heard the counts stand at the front of the list.
+-- The outcome of working counts out and of checking them, at each way out: the verdict is what is heard of the call's rows, and where
+-- nothing is heard the counts stand at the front of the list.
 use Prim.Native.Nat.{ℕ, _+_, _≤_}
 use mathlib.Core.Path.{_≡_, refl, sym, _∙_, ap, ap₂}
 use mathlib.Core.List.{List, [], _∷_}
@@ -48,7 +48,8 @@ module _ {l work counts : List ℕ} {r : Opened} {work′ codes : List ℕ} (o :
   left-too : (n : Numbers) → outcome n (work′ ∷ []) ≡ outcome n (workLeft l work counts ∷ [])
   left-too n = ap (λ (w : List ℕ). outcome n (w ∷ [])) (o .numbers)
 
-  pub check-counts-refused : {why : Refusal} → r .verdict ≡ Verdict.Refused why → ChecksCounts l work counts (doneOf (Done.Refused why)) work′
+  pub check-counts-refused : {why : Refusal} → r .verdict ≡ Verdict.Refused why
+      → ChecksCounts l work counts (doneOf (Done.Refused why)) work′
   unfolding checkCountsOf doneOf refusalNumbers
   check-counts-refused e = left-too _ ∙ sym (heard-refused _ _ _ (told-refused (o .verdict) e))
 

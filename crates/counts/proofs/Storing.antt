@@ -1,5 +1,5 @@
--- The outcome of a store with counts, at each way out: refused in front of 11, or what stands behind 10, with the counts kept. It is said once for
--- a key given by letters or by text.
+-- The outcome of a store with counts, at each way out: refused in front of 11, or what stands behind 10. It is said once for a key given by
+-- letters or by text.
 use Prim.Native.Nat.{ℕ}
 use mathlib.Core.Path.{_≡_, refl, sym, _∙_, ap}
 use mathlib.Core.Bool.{true}
@@ -107,7 +107,8 @@ module _ {l : List ℕ} (work counts : List ℕ) {given : Given} {r : Asked} {wo
         let b = store-asks a e in
         (b .0, (b .1 .0, (b .1 .1, (asked-length work counts a e, asked-right work counts a e))))
 
-    pub store-counts-passed : (value : ℕ) (s : Stored) {l′ counts′ : List ℕ} → StoresCounted l (lettersOf (r .key)) value counts s l′ counts′
+    pub store-counts-passed : (value : ℕ) (s : Stored) {l′ counts′ : List ℕ}
+        → StoresCounted l (lettersOf (r .key)) value counts s l′ counts′
         → StoresCounts l work given value counts (storedOf s) l′ work′ counts′
     store-counts-passed value s g =
         let same = a .allowed (told-passed refl e) .letters in

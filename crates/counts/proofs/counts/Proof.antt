@@ -1,5 +1,5 @@
--- `counts::counts` meets its contract: 1 to 8 with 5 for either list by the check, and in an image that passed them the counts by the weighing.
--- Assumes nothing.
+-- `counts::counts` meets its contract: 1 to 8 with 5 for either list by the check, and in an image that passed them the counts by the
+-- weighing. Assumes nothing.
 use borrow.Author.Needs.{needs}
 use Rattle.counts.proofs.Counting.{counts-refused, weigh-asks, counts-done}
 use Rattle.counts.proofs.counts.Statement.{statement}
@@ -42,7 +42,8 @@ returns-2 c =
     let told = weighed .before .before in
     let front = told .before .before .before .before in
     let a = front .before .before .before .before .before .before .args in
-    counts-done (a .image .now) (a .work .now) (a .list .now) (front .check-both .ensures) (told .enum-told .given .1) (weighed .weigh .ensures)
+    let o = front .check-both .ensures in
+    counts-done (a .image .now) (a .work .now) (a .list .now) o (told .enum-told .given .1) (weighed .weigh .ensures)
 
 pub counts-spec : {M : Type 1} → statement M
 counts-spec =
