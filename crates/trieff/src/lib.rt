@@ -140,11 +140,7 @@ pub extern "C" fn trieff_counts(image: &[u8], work: &mut [u32], list: &mut [u32]
 }
 
 #[no_mangle]
-pub extern "C" fn trieff_check_counts(
-    image: &[u8],
-    work: &mut [u32],
-    list: &[u32],
-) -> TrieffAnswer
+pub extern "C" fn trieff_check_counts(image: &[u8], work: &mut [u32], list: &[u32]) -> TrieffAnswer
     ensures { λ r. ⌜ ChecksCounts (now (image .entry)) (now (work .entry)) (now (list .entry)) (numbersOf r) (now (work .exit)) ⌝ }
 {
     let answer = counts::check_counts(image, work, list);
