@@ -49,7 +49,15 @@ pub fn data(image: &[u8], h: Head, q: u32) -> u64
     requires { ⌜ Open h (now image) ⌝ ∗ ⌜ q ≤ h .g ⌝ }
     ensures { λ r. ⌜ r ≡ tableOf h (now (image .entry)) .value q ⌝ }
 {
-    field::tail(image, data_place(h, q) + (h.d as usize), ones(h.d)) as u64
+    data_by(image, h, greatest(h), q) as u64
+}
+
+// The data of node q, by the mask of its bytes, which is the greatest value that they hold. A reader of many nodes makes it once.
+pub fn data_by(image: &[u8], h: Head, mask: u32, q: u32) -> u32
+    requires { ⌜ Open h (now image) ⌝ ∗ ⌜ mask + 1 ≡ 256 ^ h .d ⌝ ∗ ⌜ q ≤ h .g ⌝ }
+    ensures { λ r. ⌜ r ≡ tableOf h (now (image .entry)) .value q ⌝ }
+{
+    field::tail(image, data_place(h, q) + (h.d as usize), mask)
 }
 
 // Writes the link for letter i of node q: on the table, node c is linked there.

@@ -19,7 +19,7 @@ use Rattle.position.specs.Counts.{row25, row5again}
 unfoldable pub usable : List ℕ → List ℕ → List ℕ
 usable work counts = take (length counts) work
 
--- working the counts out: "its 5 for either list", and never 25
+-- working the counts out: 1 to 8, with 5 for either list, and never 25
 unfoldable pub workingOut : List ℕ → List ℕ → List ℕ → List Row
 unfolding checking usable
 workingOut l work counts = checking l (usable work counts)

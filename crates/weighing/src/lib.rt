@@ -6,10 +6,10 @@ ghost use lib.ListN.{length, getD};
 ghost use Rattle.trie.specs.Rules.{Within};
 ghost use Rattle.trie.specs.Keys.{ownKey, keysUnder};
 ghost use Rattle.head.specs.Fields.{headOf};
-ghost use Rattle.node.specs.Image.{Open, Masks, tableOf};
+ghost use Rattle.node.specs.Image.{Open, tableOf};
 ghost use Rattle.paper.specs.Accepted.{Accepted};
 ghost use Rattle.position.specs.Calls.{worked};
-ghost use Rattle.weighing.specs.Weighing.{Weighed, Fits};
+ghost use Rattle.weighing.specs.Weighing.{Reading, Weighed, Fits};
 use head::Head;
 
 // Writes the counts of the nodes 0 to G to the front of a list; the rest of it keeps what it held.
@@ -18,7 +18,8 @@ pub fn weigh(image: &[u8], h: Head, list: &mut [u32])
     ensures { λ _. ⌜ now (list .exit) ≡ worked (now (image .entry)) (now (list .entry)) ⌝ }
 {
     audit::clear(list, (h.g as usize) + 1);
-    let own = if bearing::own_value(image, h, 0, 0) == 0 {
+    let ones = node::greatest(h);
+    let own = if bearing::own_field(image, h, ones, 0, 0) == 0 {
         0
     } else {
         1
@@ -27,7 +28,7 @@ pub fn weigh(image: &[u8], h: Head, list: &mut [u32])
         list[0] = own;
         return;
     }
-    weighed(image, h, node::mask(h), 0, 0, own, list);
+    weighed(image, h, node::mask(h), ones, 0, 0, own, list);
 }
 
 // The stored keys at or under a node at a depth, of which `own` are its own; they are added to its count, and so for every node under it.
@@ -36,12 +37,13 @@ fn weighed(
     image: &[u8],
     h: Head,
     mask: u32,
+    ones: u32,
     node: u32,
     depth: usize,
     own: u32,
     list: &mut [u32],
 ) -> u32
-    requires { ⌜ Open h (now image) ⌝ ∗ ⌜ Within (tableOf h (now image)) (h .g) ⌝ ∗ ⌜ Masks h mask ⌝ }
+    requires { ⌜ Open h (now image) ⌝ ∗ ⌜ Within (tableOf h (now image)) (h .g) ⌝ ∗ ⌜ Reading h mask ones ⌝ }
     requires { ⌜ node ≤ h .g ⌝ ∗ ⌜ depth < h .max ⌝ ∗ ⌜ h .g + 1 ≤ length (now list) ⌝ }
     requires { ⌜ own ≡ length (ownKey (tableOf h (now image)) (h .min - depth) node) ⌝ ∗ ⌜ Fits h (now image) node depth (now list) ⌝ }
     ensures { λ r. ⌜ r ≡ length (keysUnder (tableOf h (now (image .entry))) (h .n) (h .min - depth) (h .max - depth) node) ⌝ }
@@ -53,7 +55,7 @@ fn weighed(
         if c == 0 {
             continue;
         }
-        let one = if bearing::own_value(image, h, c, depth + 1) == 0 {
+        let one = if bearing::own_field(image, h, ones, c, depth + 1) == 0 {
             0
         } else {
             1
@@ -63,7 +65,7 @@ fn weighed(
             sum += one;
             continue;
         }
-        sum += weighed(image, h, mask, c, depth + 1, one, list);
+        sum += weighed(image, h, mask, ones, c, depth + 1, one, list);
     }
     list[node as usize] = list[node as usize] + sum;
     sum

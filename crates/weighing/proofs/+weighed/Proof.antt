@@ -17,13 +17,13 @@ use Rattle.weighing.proofs.weighed.Reads as weighed
 use Rattle.weighing.proofs.weighed.Kinds as weighed-kinds
 use Rattle.weighing.proofs.+weighed.Lts-weighed as lts
 use Rattle.bearing.proofs.fruitless.Reads as fruitless-reads
-use Rattle.bearing.proofs.own_value.Reads as own-value-reads
+use Rattle.bearing.proofs.own_field.Reads as own-field-reads
 use Rattle.node.proofs.link.Reads as link-reads
 use Rattle.weighing.proofs.+weighed.{statement}
 use Rattle.weighing.proofs.+weighed.Tie.{close}
 
 abbrev μ-weighed : Measures 2 weighed-kinds.ps ℕ
-μ-weighed κs a = a .1 .0 .max - a .1 .1 .1 .1 .0
+μ-weighed κs a = a .1 .0 .max - a .1 .1 .1 .1 .1 .0
 
 abbrev at : ℕ → In 2 weighed-kinds.ps
 at t = and 2 weighed-kinds.ps (is 2 weighed-kinds.ps μ-weighed t) weighed.Pre
@@ -32,18 +32,18 @@ abbrev under : ℕ → In 2 weighed-kinds.ps
 under t = and 2 weighed-kinds.ps (falls 2 weighed-kinds.ps _<_ μ-weighed t) weighed.Pre
 
 abbrev Inv-loop : lts.InvT-loop
-Inv-loop image h mask node depth own list₀ sum₀ i₀ i-end list sum i = Weighing h image node depth list₀ list sum i
+Inv-loop image h mask ones node depth own list₀ sum₀ i₀ i-end list sum i = Weighing h image node depth list₀ list sum i
 
 abbrev μ-loop : lts.MeasureT-loop
-μ-loop image h mask node depth own list₀ sum₀ i₀ i-end list sum i = h .n - i
+μ-loop image h mask ones node depth own list₀ sum₀ i₀ i-end list sum i = h .n - i
 
 -- what the callees ask and ensure
 abbrev claims : ℕ → lts.Claims
 claims t = (
   link-reads.Asked,
   link-reads.Learnt,
-  own-value-reads.Asked,
-  own-value-reads.Learnt,
+  own-field-reads.Asked,
+  own-field-reads.Learnt,
   fruitless-reads.Asked,
   fruitless-reads.Learnt,
   under t,
@@ -101,11 +101,13 @@ onto t c =
 deeper : (t : ℕ) (c : lts.Start (claims t) (at t) weighed.Post Inv-loop μ-loop) → c .args .depth + 1 < 2 ^ 64
 deeper t c = omega (arith, c .pre .1 .1 .1 .1 .1 .0, bounds (c .args .h) (c .pre .1 .0 .head-permitted))
 
-add-own-value : (t : ℕ) → lts.Need-add-own-value (claims t) (at t) weighed.Post Inv-loop μ-loop
-add-own-value t c = omega (arith, deeper t (c .before .before .before .before .before .before))
+add-own-field : (t : ℕ) → lts.Need-add-own-field (claims t) (at t) weighed.Post Inv-loop μ-loop
+add-own-field t c = omega (arith, deeper t (c .before .before .before .before .before .before))
 
-own-value-requires : (t : ℕ) → lts.Need-own-value-requires (claims t) (at t) weighed.Post Inv-loop μ-loop
-own-value-requires t c κs = (c .before .before .before .before .before .before .pre .1 .0, inside t (c .before))
+own-field-requires : (t : ℕ) → lts.Need-own-field-requires (claims t) (at t) weighed.Post Inv-loop μ-loop
+own-field-requires t c κs =
+    let p = c .before .before .before .before .before .before .pre .1 in
+    (p .0, (p .1 .1 .0 .values, inside t (c .before)))
 
 -- the child's own key
 own-counted : (t : ℕ) (c : lts.Joined2 (claims t) (at t) weighed.Post Inv-loop μ-loop)
@@ -117,8 +119,8 @@ own-counted t c =
     let found = own .before .before in
     let a = found .before .before .before .before .before .args in
     let table = tableOf (a .h) (a .image .now) in
-    ⊎-elim (λ w. omega (arith, w .1, owned-none (a .h) table (found .link .result) (a .depth + 1) (own .own-value .ensures) (w .0 .taken)))
-    (λ w. omega (arith, w .1, owned-one (a .h) table (found .link .result) (a .depth + 1) (own .own-value .ensures) (w .0 .left)))
+    ⊎-elim (λ w. omega (arith, w .1, owned-none (a .h) table (found .link .result) (a .depth + 1) (own .own-field .ensures) (w .0 .taken)))
+    (λ w. omega (arith, w .1, owned-one (a .h) table (found .link .result) (a .depth + 1) (own .own-field .ensures) (w .0 .left)))
     (c .if2 .came)
 
 add-fruitless : (t : ℕ) → lts.Need-add-fruitless (claims t) (at t) weighed.Post Inv-loop μ-loop
@@ -244,8 +246,8 @@ pub +weighed-spec : {M : Type 1} → statement M
     (add-i t)
     (loop-less t)
     (loop-again t)
-    (add-own-value t)
-    (own-value-requires t)
+    (add-own-field t)
+    (own-field-requires t)
     (add-fruitless t)
     (fruitless-requires t)
     (cast-list t)
