@@ -1,6 +1,6 @@
 -- 01, "Walking, storing, listing": "A stored key is one with length in min..max whose data is not 0". What that makes of a node at a depth,
 -- the length of the key that ends there.
-use Prim.Native.Nat.{ℕ, _-_, _<_}
+use Prim.Native.Nat.{ℕ, _+_, _-_, _^_, _<_}
 use mathlib.Core.Path.{_≡_}
 use mathlib.Core.Bool.{Bool, true, false, cond}
 use mathlib.Core.List.{[]}
@@ -8,6 +8,7 @@ use lib.Dec.{ltb}
 use Rattle.trie.specs.Table.{Table}
 use Rattle.trie.specs.Beyond.{keysFrom}
 use Rattle.head.specs.declared.Head.{Head}
+use Rattle.node.specs.Image.{Masks}
 
 -- the data of a node at a depth, where a key of so many letters is long enough to be stored
 unfoldable pub ownValue : Head → Table → ℕ → ℕ → ℕ
@@ -17,3 +18,8 @@ ownValue h t q depth = cond (ltb depth (h .min)) 0 (t .value q)
 pub record Bearing (h : Head) (t : Table) (q depth : ℕ) (fruitless : Bool) : Type 0 where
   pub nothing : fruitless ≡ true → (x : ℕ) → keysFrom t (h .n) (h .min - depth) (h .max - depth) q x ≡ []
   pub deep : fruitless ≡ false → depth < h .max
+
+-- the masks by which a walk that meets many nodes reads their links and their data
+pub record Reading (h : Head) (mask ones : ℕ) : Type 0 where
+  pub links : Masks h mask
+  pub values : ones + 1 ≡ 256 ^ h .d

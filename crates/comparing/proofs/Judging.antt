@@ -27,7 +27,7 @@ use Rattle.position.specs.Calls.{workLeft, worked}
 use Rattle.position.proofs.Plain.{both-lent, work-left}
 use Rattle.position.proofs.Right.{counts-length, worked-length, worked-right}
 use Rattle.opening.specs.declared.Opened.{Opened}
-use Rattle.audit.proofs.Clearing.{cleared-rest}
+use Rattle.audit.proofs.Clearing.{cleared-rest, cleared-again}
 use Rattle.audit.proofs.Seeking.{lowest-same}
 use Rattle.comparing.specs.Comparing.{CheckedBoth, Compared}
 
@@ -89,6 +89,10 @@ module _ (l work counts : List ℕ) {r : Opened} {work₁ codes : List ℕ} (o :
     long-work =
         omega
         (arith, ap length cleared, length-append (replicate {A = ℕ} (headOf l .g + 1) 0) (drop (headOf l .g + 1) work), length-replicate {A = ℕ} (headOf l .g + 1) 0)
+
+    -- what the check left begins with zeros, so that the counts can be added up there
+    pub zeros-work : work₁ ≡ replicate (headOf l .g + 1) 0 ++ drop (headOf l .g + 1) work₁
+    zeros-work = cleared-again (headOf l .g + 1) work cleared
 
     -- the fresh counts stand in front of the working numbers
     module _ {fresh : List ℕ} (weighed : fresh ≡ worked l work₁) where

@@ -48,7 +48,7 @@ pub fn compare(
         Verdict::Passed => {
             let h = checked.head;
             let nodes = (h.g as usize) + 1;
-            weighing::weigh(image, h, work);
+            weighing::add_up(image, h, work);
             let differs = first_different(work, counts, nodes);
             audit::clear(work, nodes);
             Opened {

@@ -5,7 +5,8 @@ ghost use lib.ListN.{length};
 ghost use Rattle.trie.specs.Rules.{Within};
 ghost use Rattle.trie.specs.Keys.{listing};
 ghost use Rattle.trie.specs.Beyond.{keysFrom};
-ghost use Rattle.node.specs.Image.{Open, Masks, tableOf};
+ghost use Rattle.node.specs.Image.{Open, tableOf};
+ghost use Rattle.bearing.specs.Bearing.{Reading};
 use head::Head;
 
 // The number of stored keys.
@@ -14,7 +15,8 @@ pub fn count(image: &[u8], h: Head) -> u32
     requires { ⌜ length (listing (tableOf h (now image)) (h .n) (h .min) (h .max)) < 2 ^ 32 ⌝ }
     ensures { λ r. ⌜ r ≡ length (listing (tableOf h (now (image .entry))) (h .n) (h .min) (h .max)) ⌝ }
 {
-    let own = if bearing::own_value(image, h, 0, 0) == 0 {
+    let ones = node::greatest(h);
+    let own = if bearing::own_field(image, h, ones, 0, 0) == 0 {
         0
     } else {
         1
@@ -22,13 +24,13 @@ pub fn count(image: &[u8], h: Head) -> u32
     if bearing::fruitless(image, h, 0, 0) {
         return own;
     }
-    counted(image, h, node::mask(h), 0, 0, own)
+    counted(image, h, node::mask(h), ones, 0, 0, own)
 }
 
 // The stored keys below a node at a depth, its own left out, counted onto those counted before. It calls itself on each child; the depth
 // left to max falls.
-fn counted(image: &[u8], h: Head, mask: u32, node: u32, depth: usize, before: u32) -> u32
-    requires { ⌜ Open h (now image) ⌝ ∗ ⌜ Within (tableOf h (now image)) (h .g) ⌝ ∗ ⌜ Masks h mask ⌝ }
+fn counted(image: &[u8], h: Head, mask: u32, ones: u32, node: u32, depth: usize, before: u32) -> u32
+    requires { ⌜ Open h (now image) ⌝ ∗ ⌜ Within (tableOf h (now image)) (h .g) ⌝ ∗ ⌜ Reading h mask ones ⌝ }
     requires { ⌜ node ≤ h .g ⌝ ∗ ⌜ depth < h .max ⌝ }
     requires { ⌜ before + length (keysFrom (tableOf h (now image)) (h .n) (h .min - depth) (h .max - depth) node 0) < 2 ^ 32 ⌝ }
     ensures { λ r. ⌜ r ≡ before + length (keysFrom (tableOf h (now (image .entry))) (h .n) (h .min - depth) (h .max - depth) node 0) ⌝ }
@@ -39,13 +41,13 @@ fn counted(image: &[u8], h: Head, mask: u32, node: u32, depth: usize, before: u3
         if c == 0 {
             continue;
         }
-        if bearing::own_value(image, h, c, depth + 1) != 0 {
+        if bearing::own_field(image, h, ones, c, depth + 1) != 0 {
             sum += 1;
         }
         if bearing::fruitless(image, h, c, depth + 1) {
             continue;
         }
-        sum = counted(image, h, mask, c, depth + 1, sum);
+        sum = counted(image, h, mask, ones, c, depth + 1, sum);
     }
     sum
 }

@@ -13,6 +13,7 @@ use Rattle.head.specs.declared.Head.{Head}
 use Rattle.head.specs.Fields.{headOf}
 use Rattle.node.specs.Image.{tableOf}
 use Rattle.bearing.specs.Bearing.{Bearing}
+use Rattle.audit.proofs.Clearing.{cleared-rest, cleared-again}
 use Rattle.counting.proofs.Counting.{owned}
 use Rattle.passing.proofs.Weights.{weight-count}
 use Rattle.passing.proofs.Reached.{count-few, count-outside, each-length, each-at}
@@ -144,3 +145,18 @@ module _ {l : List ℕ} (a : Accepted l) where
     leaf-worked {own} room e b z =
         let blank : own ≡ getD start 0 0 + own = omega (arith, start-front 0 (omega arith)) in
         ap (set start 0) blank ∙ weighed-worked room (weighed-leaf h l 0 0 start e b z (omega (arith, start-length room)))
+
+  -- a list that was cleared in front has room as before, begins with zeros, and is worked out as it was before
+  module _ {h : Head} (same : h ≡ headOf l) (list : List ℕ) {start : List ℕ} (clear : start ≡ replicate (h .g + 1) 0 ++ drop (h .g + 1) list)
+      (room : h .g + 1 ≤ length list) where
+    pub cleared-room : h .g + 1 ≤ length start
+    cleared-room = omega (arith, room, start-length same list clear room)
+
+    pub cleared-start : start ≡ replicate (h .g + 1) 0 ++ drop (h .g + 1) start
+    cleared-start = cleared-again (h .g + 1) list clear
+
+    pub cleared-worked : worked l start ≡ worked l list
+    cleared-worked =
+        counts-front same start cleared-start cleared-room
+        ∙ ap (countsIn l ++_) (cleared-rest (h .g + 1) list clear)
+        ∙ sym (counts-front same list clear room)

@@ -4,13 +4,8 @@ use mathlib.Core.Path.{_≡_}
 use mathlib.Core.List.{List}
 use lib.ListN.{length, getD}
 use Rattle.head.specs.declared.Head.{Head}
-use Rattle.node.specs.Image.{Masks, tableOf}
+use Rattle.node.specs.Image.{tableOf}
 use Rattle.passing.specs.Weights.{weightAt}
-
--- the masks by which a node's links and its data are read
-pub record Reading (h : Head) (mask ones : ℕ) : Type 0 where
-  pub links : Masks h mask
-  pub values : ones + 1 ≡ 256 ^ h .d
 
 -- what the nodes at or under p, at this depth, add to the count of node q
 abbrev pub weight : Head → List ℕ → ℕ → ℕ → ℕ → ℕ

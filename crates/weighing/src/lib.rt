@@ -2,14 +2,16 @@
 // every node that it meets adds what lies at or under it to its own count.
 ghost use mathlib.Core.Path.{_≡_};
 ghost use Prim.Native.Nat.{ℕ, _+_, _-_, _^_, _≤_, _<_};
-ghost use lib.ListN.{length, getD};
+ghost use mathlib.Core.List.{_++_};
+ghost use lib.ListN.{length, drop, replicate};
 ghost use Rattle.trie.specs.Rules.{Within};
 ghost use Rattle.trie.specs.Keys.{ownKey, keysUnder};
 ghost use Rattle.head.specs.Fields.{headOf};
 ghost use Rattle.node.specs.Image.{Open, tableOf};
 ghost use Rattle.paper.specs.Accepted.{Accepted};
 ghost use Rattle.position.specs.Calls.{worked};
-ghost use Rattle.weighing.specs.Weighing.{Reading, Weighed, Fits};
+ghost use Rattle.bearing.specs.Bearing.{Reading};
+ghost use Rattle.weighing.specs.Weighing.{Weighed, Fits};
 use head::Head;
 
 // Writes the counts of the nodes 0 to G to the front of a list; the rest of it keeps what it held.
@@ -18,6 +20,15 @@ pub fn weigh(image: &[u8], h: Head, list: &mut [u32])
     ensures { λ _. ⌜ now (list .exit) ≡ worked (now (image .entry)) (now (list .entry)) ⌝ }
 {
     audit::clear(list, (h.g as usize) + 1);
+    add_up(image, h, list);
+}
+
+// The same, for a list whose first G+1 numbers are 0.
+pub fn add_up(image: &[u8], h: Head, list: &mut [u32])
+    requires { ⌜ Accepted (now image) ⌝ ∗ ⌜ h ≡ headOf (now image) ⌝ ∗ ⌜ h .g + 1 ≤ length (now list) ⌝ }
+    requires { ⌜ now list ≡ replicate (h .g + 1) 0 ++ drop (h .g + 1) (now list) ⌝ }
+    ensures { λ _. ⌜ now (list .exit) ≡ worked (now (image .entry)) (now (list .entry)) ⌝ }
+{
     let ones = node::greatest(h);
     let own = if bearing::own_field(image, h, ones, 0, 0) == 0 {
         0

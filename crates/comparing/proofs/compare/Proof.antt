@@ -4,7 +4,7 @@ use mathlib.Core.Path.{ap}
 use native.Mathlib.Omega.{arith}
 use borrow.Author.Needs.{needs}
 use Rattle.head.specs.declared.Head.{Head}
-use Rattle.comparing.proofs.Judging.{compared-refused, compared-accepted, compared-head, long-counts, long-work, fresh-long, compared}
+use Rattle.comparing.proofs.Judging.{compared-refused, compared-accepted, compared-head, long-counts, long-work, zeros-work, fresh-long, compared}
 use Rattle.comparing.proofs.compare.Statement.{statement}
 use Rattle.comparing.proofs.compare.Tie as tie
 
@@ -23,8 +23,8 @@ cast-nodes c = search needs
 add-nodes : tie.Need-add-nodes
 add-nodes c = search needs
 
-weigh-requires : tie.Need-weigh-requires
-weigh-requires c κs =
+add-up-requires : tie.Need-add-up-requires
+add-up-requires c κs =
     let told = c .before .before .before in
     let front = told .before .before .before .before in
     let a = front .before .before .before .before .before .before .args in
@@ -32,7 +32,13 @@ weigh-requires c κs =
     let e = told .enum-told2 .given .1 in
     let same = compared-head (a .image .now) (a .work .now) (a .counts .now) o e in (
       compared-accepted (a .image .now) (a .work .now) (a .counts .now) o e,
-      (same, rw same (long-work (a .image .now) (a .work .now) (a .counts .now) o e)),
+      (
+        same,
+        (
+          rw same (long-work (a .image .now) (a .work .now) (a .counts .now) o e),
+          rw same (zeros-work (a .image .now) (a .work .now) (a .counts .now) o e),
+        ),
+      ),
     )
 
 first-different-requires : tie.Need-first-different-requires
@@ -43,7 +49,7 @@ first-different-requires c κs =
     let o = front .check-both .ensures in
     let e = told .enum-told2 .given .1 in
     let same = ap (λ (h : Head). h .g) (compared-head (a .image .now) (a .work .now) (a .counts .now) o e) in (
-      omega (arith, same, long-work (a .image .now) (a .work .now) (a .counts .now) o e, fresh-long (a .image .now) (a .work .now) (a .counts .now) o e (c .before .before .before .weigh .ensures)),
+      omega (arith, same, long-work (a .image .now) (a .work .now) (a .counts .now) o e, fresh-long (a .image .now) (a .work .now) (a .counts .now) o e (c .before .before .before .add-up .ensures)),
       omega (arith, same, long-counts (a .image .now) (a .work .now) (a .counts .now) o e),
     )
 
@@ -55,7 +61,7 @@ clear-requires c κs =
     let o = front .check-both .ensures in
     let e = told .enum-told2 .given .1 in
     let same = ap (λ (h : Head). h .g) (compared-head (a .image .now) (a .work .now) (a .counts .now) o e) in
-    omega (arith, same, long-work (a .image .now) (a .work .now) (a .counts .now) o e, fresh-long (a .image .now) (a .work .now) (a .counts .now) o e (c .before .before .before .before .before .weigh .ensures))
+    omega (arith, same, long-work (a .image .now) (a .work .now) (a .counts .now) o e, fresh-long (a .image .now) (a .work .now) (a .counts .now) o e (c .before .before .before .before .before .add-up .ensures))
 
 judge-requires : tie.Need-judge-requires
 judge-requires c κs = search needs
@@ -80,7 +86,7 @@ returns-2 c =
     let o = front .check-both .ensures in
     let e = told .enum-told2 .given .1 in
     let nodes = ap (λ (h : Head). h .g + 1) (compared-head (a .image .now) (a .work .now) (a .counts .now) o e) in
-    compared (a .image .now) (a .work .now) (a .counts .now) o e (c .before .before .before .before .before .before .before .before .before .weigh .ensures) nodes (c .before .before .before .before .before .first-different .ensures) (c .judge .ensures)
+    compared (a .image .now) (a .work .now) (a .counts .now) o e (c .before .before .before .before .before .before .before .before .before .add-up .ensures) nodes (c .before .before .before .before .before .first-different .ensures) (c .judge .ensures)
     (c .before .before .before .clear .ensures)
 
 pub compare-spec : {M : Type 1} → statement M
@@ -92,7 +98,7 @@ compare-spec =
     enum-told-2
     cast-nodes
     add-nodes
-    weigh-requires
+    add-up-requires
     first-different-requires
     clear-requires
     judge-requires

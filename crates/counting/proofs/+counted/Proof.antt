@@ -15,12 +15,12 @@ use Rattle.counting.proofs.counted.Kinds as counted-kinds
 use Rattle.counting.proofs.+counted.Lts-counted as lts
 use Rattle.node.proofs.link.Reads as link-reads
 use Rattle.bearing.proofs.fruitless.Reads as fruitless-reads
-use Rattle.bearing.proofs.own_value.Reads as own-value-reads
+use Rattle.bearing.proofs.own_field.Reads as own-field-reads
 use Rattle.counting.proofs.+counted.{statement}
 use Rattle.counting.proofs.+counted.Tie.{close}
 
 abbrev μ-counted : Measures 1 counted-kinds.ps ℕ
-μ-counted κs a = a .1 .0 .max - a .1 .1 .1 .1 .0
+μ-counted κs a = a .1 .0 .max - a .1 .1 .1 .1 .1 .0
 
 abbrev at : ℕ → In 1 counted-kinds.ps
 at t = and 1 counted-kinds.ps (is 1 counted-kinds.ps μ-counted t) counted.Pre
@@ -29,19 +29,19 @@ abbrev under : ℕ → In 1 counted-kinds.ps
 under t = and 1 counted-kinds.ps (falls 1 counted-kinds.ps _<_ μ-counted t) counted.Pre
 
 abbrev Inv-loop : lts.InvT-loop
-Inv-loop image h mask node depth before sum₀ i₀ i-end sum i =
+Inv-loop image h mask ones node depth before sum₀ i₀ i-end sum i =
     sum + left h (tableOf h image) node depth i ≡ before + left h (tableOf h image) node depth 0
 
 abbrev μ-loop : lts.MeasureT-loop
-μ-loop image h mask node depth before sum₀ i₀ i-end sum i = h .n - i
+μ-loop image h mask ones node depth before sum₀ i₀ i-end sum i = h .n - i
 
 -- what the callees ask and ensure
 abbrev claims : ℕ → lts.Claims
 claims t = (
   link-reads.Asked,
   link-reads.Learnt,
-  own-value-reads.Asked,
-  own-value-reads.Learnt,
+  own-field-reads.Asked,
+  own-field-reads.Learnt,
   fruitless-reads.Asked,
   fruitless-reads.Learnt,
   under t,
@@ -92,11 +92,11 @@ inside t c =
     let start = loop .before .before in
     omega (arith, c .link .ensures, start .pre .1 .1 .0 (start .args .node) (loop .loop .i))
 
-add-own-value : (t : ℕ) → lts.Need-add-own-value (claims t) (at t) counted.Post Inv-loop μ-loop
-add-own-value t c = let start = c .before .before .before .before .before in omega (arith, bounds (start .args .h) (start .pre .1 .0 .head-permitted))
+add-own-field : (t : ℕ) → lts.Need-add-own-field (claims t) (at t) counted.Post Inv-loop μ-loop
+add-own-field t c = let start = c .before .before .before .before .before in omega (arith, bounds (start .args .h) (start .pre .1 .0 .head-permitted))
 
-own-value-requires : (t : ℕ) → lts.Need-own-value-requires (claims t) (at t) counted.Post Inv-loop μ-loop
-own-value-requires t c κs = (c .before .before .before .before .before .pre .1 .0, inside t (c .before))
+own-field-requires : (t : ℕ) → lts.Need-own-field-requires (claims t) (at t) counted.Post Inv-loop μ-loop
+own-field-requires t c κs = let p = c .before .before .before .before .before .pre .1 in (p .0, (p .1 .1 .0 .values, inside t (c .before)))
 
 add-sum : (t : ℕ) → lts.Need-add-sum (claims t) (at t) counted.Post Inv-loop μ-loop
 add-sum t c =
@@ -105,7 +105,7 @@ add-sum t c =
     let loop = found .before .before in
     let start = loop .before .before in
     let a = start .args in
-    omega (arith, start .pre .1, loop .loop .inv, by-link t (own .before), owned-one (a .h) (tableOf (a .h) (a .image .now)) (found .link .result) (a .depth + 1) (own .own-value .ensures) (c .if2 .taken))
+    omega (arith, start .pre .1, loop .loop .inv, by-link t (own .before), owned-one (a .h) (tableOf (a .h) (a .image .now)) (found .link .result) (a .depth + 1) (own .own-field .ensures) (c .if2 .taken))
 
 -- the child's own key is counted
 own-counted : (t : ℕ) (c : lts.Joined2 (claims t) (at t) counted.Post Inv-loop μ-loop)
@@ -118,8 +118,8 @@ own-counted t c =
     let found = own .before .before in
     let a = found .before .before .before .before .args in
     let table = tableOf (a .h) (a .image .now) in
-    ⊎-elim (λ w. omega (arith, w .1, owned-one (a .h) table (found .link .result) (a .depth + 1) (own .own-value .ensures) (w .0 .taken)))
-    (λ w. omega (arith, w .1, owned-none (a .h) table (found .link .result) (a .depth + 1) (own .own-value .ensures) (w .0 .left)))
+    ⊎-elim (λ w. omega (arith, w .1, owned-one (a .h) table (found .link .result) (a .depth + 1) (own .own-field .ensures) (w .0 .taken)))
+    (λ w. omega (arith, w .1, owned-none (a .h) table (found .link .result) (a .depth + 1) (own .own-field .ensures) (w .0 .left)))
     (c .if2 .came)
 
 add-fruitless : (t : ℕ) → lts.Need-add-fruitless (claims t) (at t) counted.Post Inv-loop μ-loop
@@ -194,8 +194,8 @@ pub +counted-spec : {M : Type 1} → statement M
     (add-i t)
     (loop-less t)
     (loop-again t)
-    (add-own-value t)
-    (own-value-requires t)
+    (add-own-field t)
+    (own-field-requires t)
     (add-sum t)
     (add-fruitless t)
     (fruitless-requires t)

@@ -8,14 +8,17 @@ use Rattle.counting.proofs.Counting.{owned, owned-none, owned-one, list
 use Rattle.counting.proofs.count.Statement.{statement}
 use Rattle.counting.proofs.count.Tie as tie
 
-own-value-requires : tie.Need-own-value-requires
-own-value-requires c κs = search needs
+greatest-requires : tie.Need-greatest-requires
+greatest-requires c κs = search needs
+
+own-field-requires : tie.Need-own-field-requires
+own-field-requires c κs = search needs
 
 -- the root's own key is counted
-own-counted : (c : tie.Joined1) → (let a = c .before .before .before .args in c .if1 .own ≡ owned (a .h) (tableOf (a .h) (a .image .now)) 0 0)
+own-counted : (c : tie.Joined1) → (let a = c .before .before .before .before .args in c .if1 .own ≡ owned (a .h) (tableOf (a .h) (a .image .now)) 0 0)
 own-counted c =
-    let a = c .before .before .before .args in
-    let e = c .before .own-value .ensures in
+    let a = c .before .before .before .before .args in
+    let e = c .before .own-field .ensures in
     ⊎-elim (λ w. omega (arith, w .1, owned-none (a .h) (tableOf (a .h) (a .image .now)) 0 0 e (w .0 .taken)))
     (λ w. omega (arith, w .1, owned-one (a .h) (tableOf (a .h) (a .image .now)) 0 0 e (w .0 .left)))
     (c .if1 .came)
@@ -26,7 +29,7 @@ fruitless-requires c κs = search needs
 returns : tie.Need-returns
 returns c =
     let own = c .before .before in
-    let a = own .before .before .before .args in
+    let a = own .before .before .before .before .args in
     let t = tableOf (a .h) (a .image .now) in
     omega (arith, own-counted own, listed (a .h) t, left-fruitless (a .h) t 0 0 0 (c .before .fruitless .ensures) (c .if2 .taken))
 
@@ -37,16 +40,16 @@ counted-requires : tie.Need-counted-requires
 counted-requires c κs =
     let fruitful = c .before in
     let own = fruitful .before .before in
-    let start = own .before .before .before in
+    let start = own .before .before .before .before in
     let p = start .pre in
     let deep = fruitful .before .fruitless .ensures .deep (fruitful .if2 .left) in
-    (p .0, (p .1 .0, (c .mask .ensures, (omega arith, (deep, omega (arith, p .1 .1, own-counted own, listed (start .args .h) (tableOf (start .args .h) (start .args .image .now))))))))
+    (p .0, (p .1 .0, (record { links = c .mask .ensures; values = own .before .before .greatest .ensures }, (omega arith, (deep, omega (arith, p .1 .1, own-counted own, listed (start .args .h) (tableOf (start .args .h) (start .args .image .now))))))))
 
 returns-2 : tie.Need-returns-2
 returns-2 c =
     let own = c .before .before .before .before in
-    let a = own .before .before .before .args in
+    let a = own .before .before .before .before .args in
     omega (arith, c .counted .ensures, own-counted own, listed (a .h) (tableOf (a .h) (a .image .now)))
 
 pub count-spec : {M : Type 1} → statement M
-count-spec = tie.close (tie.spec own-value-requires fruitless-requires returns mask-requires counted-requires returns-2)
+count-spec = tie.close (tie.spec greatest-requires own-field-requires fruitless-requires returns mask-requires counted-requires returns-2)
