@@ -1,29 +1,32 @@
--- What stands in front of every store, at each way out: the rows in front of the key refused, or the key judged. It is said once for a key given
--- by letters or by text, and for whatever rows stand in front: 1 to 8, or those with 25.
+-- The key's part at each way out: a row in front of the key is heard, or the key is judged. It is said once for whatever rows stand in front, 1 to
+-- 8 or those with 25; what the check tells is such a front.
 use Prim.Native.Nat.{ℕ}
-use mathlib.Core.Path.{_≡_, refl, sym, _∙_}
-use mathlib.Core.Option.{none}
+use mathlib.Core.Path.{_≡_, refl, sym, _∙_, ap}
+use mathlib.Core.Option.{Option, none}
 use mathlib.Core.List.{List}
 use native.Mathlib.Omega.{arith}
+use lib.ListN.{take}
 use Rattle.head.specs.Fields.{headOf}
+use Rattle.alphabet.specs.Letters.{keyOfText}
 use Rattle.paper.specs.declared.Refusal.{Refusal}
 use Rattle.paper.specs.declared.Verdict.{Verdict}
-use Rattle.paper.specs.Hearing.{Row}
+use Rattle.paper.specs.Hearing.{Row, first}
 use Rattle.paper.specs.Answers.{rowOf}
-use Rattle.paper.specs.Given.{Given}
-use Rattle.paper.specs.Orders.{checking, keying}
+use Rattle.paper.specs.Given.{Given, asLetters, asText}
+use Rattle.paper.specs.Orders.{byLetters, byText, checking, keying}
 use Rattle.paper.specs.Accepted.{Accepted}
 use Rattle.paper.proofs.Hearing.{first-part, second-part, told-refused, told-passed}
 use Rattle.paper.proofs.Known.{Known, known}
 use Rattle.paper.specs.Calls.{workAfter}
 use Rattle.paper.proofs.Checking.{accepted-opens, check-accepts}
 use Rattle.key.specs.declared.Key.{Key}
-use Rattle.key.specs.Hand.{Ready}
-use Rattle.key.proofs.Keyed.{Keyed}
+use Rattle.key.specs.declared.Typed.{Typed}
+use Rattle.key.specs.Hand.{inHand, Holds, typedAs, Ready}
+use Rattle.key.proofs.Keyed.{Keyed, by-letters, by-text}
 use Rattle.opening.specs.declared.Opened.{Opened}
 use Rattle.audit.specs.Audit.{Checked}
 use Rattle.asking.specs.declared.Asked.{Asked}
-use Rattle.asking.specs.Asked.{AsksAfter, Fronted}
+use Rattle.asking.specs.Asked.{AsksAfter, Fronted, Judgeable, AsksBehind}
 
 -- a verdict that tells of no row
 row-passed : (v : Verdict) → rowOf v ≡ none → v ≡ Verdict.Passed
@@ -49,31 +52,52 @@ checked-front {l} {work} o =
       decoded = o .decoded;
     }
 
-module _ {rows : List Row} {left l : List ℕ} {r : Opened} {work′ codes : List ℕ} (o : Fronted rows left l r work′ codes) where
-  pub asks-unchecked : (given : Given) (hand : Key) {why : Refusal} → r .verdict ≡ Verdict.Refused why
-      → AsksAfter rows left l given (record { verdict = r .verdict; head = r .head; key = hand }) work′
-  asks-unchecked given hand e =
-      let refused = told-refused (o .verdict) e in
-      record {
-        verdict = o .verdict ∙ refused ∙ sym (first-part rows (keying l given) refused);
-        numbers = o .numbers;
-        allowed = λ f. absurd (row-refused (r .verdict) e f);
-      }
+module _ {rows : List Row} {left l : List ℕ} {front : Opened} {work′ codes : List ℕ} (o : Fronted rows left l front work′ codes) where
+  known-front : rowOf (front .verdict) ≡ none → Known l (front .head)
+  known-front e = known (accepted-opens (o .accepted e)) (o .head e)
 
-  pub known-checked : r .verdict ≡ Verdict.Passed → Known l (r .head)
-  known-checked e = let passed = told-passed refl e in known (accepted-opens (o .accepted passed)) (o .head passed)
+  -- the key may be judged
+  pub front-judgeable : Judgeable front
+  front-judgeable = record { head = λ e. known-front e .image .head-permitted; count = λ e. o .decoded e .count }
 
-  pub asks-judged : r .verdict ≡ Verdict.Passed → {given : Given} {hand : Key} {v : Verdict} → Keyed l (r .head) given hand v
-      → AsksAfter rows left l given (record { verdict = v; head = r .head; key = hand }) work′
+  asks-judged : front .verdict ≡ Verdict.Passed → {given : Given} {hand : Key} {v : Verdict} → Keyed l (front .head) given hand v
+      → AsksAfter rows left l given (record { verdict = v; head = front .head; key = hand }) work′
   asks-judged e {given} {v = v} j =
-      let front = told-passed refl e in
+      let passed = told-passed refl e in
       record {
         verdict = j .told ∙ sym (second-part rows (keying l given) (told-passed (o .verdict) e));
         numbers = o .numbers;
         allowed = λ f.
             let p = row-passed v f in
-            record { accepted = o .accepted front; head = o .head front; ready = j .ready p; letters = j .same p };
+            record { accepted = o .accepted passed; head = o .head passed; ready = j .ready p; letters = j .same p };
       }
+
+-- ---- the key's part at each way out, whatever stood in front
+
+module _ {front : Opened} where
+  pub behind-refused : {codes : List ℕ} {given : Given} {r : Asked} {why : Refusal} → front .verdict ≡ Verdict.Refused why
+      → r .verdict ≡ front .verdict → AsksBehind front codes given r
+  behind-refused {given = given} {r = r} e same rows left l work′ o =
+      let refused = told-refused (o .verdict) e in
+      record {
+        verdict = ap rowOf same ∙ o .verdict ∙ refused ∙ sym (first-part rows (keying l given) refused);
+        numbers = o .numbers;
+        allowed = λ f. absurd (row-refused (r .verdict) (same ∙ e) f);
+      }
+
+  module _ (e : front .verdict ≡ Verdict.Passed) where
+    pub behind-letters : {codes : List ℕ} (key : List ℕ) {hand : Key} (v : Verdict) → hand ≡ inHand key
+        → ((k : List ℕ) → Holds hand k → rowOf v ≡ first (byLetters (front .head) k))
+        → AsksBehind front codes (asLetters key) (record { verdict = v; head = front .head; key = hand })
+    behind-letters key v made told rows left l work′ o =
+        asks-judged o e (by-letters (known-front o (told-passed refl e)) key v made told)
+
+    pub behind-text : {codes : List ℕ} (text : List ℕ) {t : Typed} (v : Verdict) → t ≡ typedAs (keyOfText (take (front .count) codes) text)
+        → ((named : Option (List ℕ)) → t ≡ typedAs named → rowOf v ≡ first (byText (front .head) named))
+        → AsksBehind front codes (asText text) (record { verdict = v; head = front .head; key = t .key })
+    behind-text text v made told rows left l work′ o =
+        let passed = told-passed refl e in
+        asks-judged o e (by-text (known-front o passed) (o .decoded passed .codes) text v made told)
 
 -- what a store asks for
 pub store-asks : {rows : List Row} {left l : List ℕ} {given : Given} {r : Asked} {work′ : List ℕ} → AsksAfter rows left l given r work′

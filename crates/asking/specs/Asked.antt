@@ -1,10 +1,11 @@
 -- 01, "store: 1 to 8, 9, 10, 11, 12, 13": the part in front of 11. It tells what is heard of it and, where nothing is, the key in hand, and it
 -- leaves the working numbers as the whole call does.
-use Prim.Native.Nat.{ℕ}
+use Prim.Native.Nat.{ℕ, _≤_}
 use mathlib.Core.Path.{_≡_}
+use mathlib.Core.Bool.{true}
 use mathlib.Core.Option.{none}
 use mathlib.Core.List.{List, _++_}
-use Rattle.head.specs.Fields.{headOf}
+use Rattle.head.specs.Fields.{headOf, mostLinks, permitted}
 use Rattle.paper.specs.Hearing.{Row, first}
 use Rattle.paper.specs.Answers.{rowOf}
 use Rattle.paper.specs.Given.{Given, alphabetIn, keyIn}
@@ -40,3 +41,13 @@ pub record Fronted (rows : List Row) (left l : List ℕ) (r : Opened) (work′ c
   pub accepted : rowOf (r .verdict) ≡ none → Accepted l
   pub head : rowOf (r .verdict) ≡ none → r .head ≡ headOf l
   pub decoded : rowOf (r .verdict) ≡ none → Decoded (alphabetIn (headOf l) l) r codes
+
+-- what the judging of a key needs where nothing in front of it is heard
+pub record Judgeable (front : Opened) : Type 0 where
+  pub head : rowOf (front .verdict) ≡ none → permitted (front .head) ≡ true
+  pub count : rowOf (front .verdict) ≡ none → front .count ≤ mostLinks
+
+-- the key's part, after whatever rows stood in front of it
+abbrev pub AsksBehind : Opened → List ℕ → Given → Asked → Type 0
+AsksBehind front codes given r =
+    (rows : List Row) (left l work′ : List ℕ) → Fronted rows left l front work′ codes → AsksAfter rows left l given r work′

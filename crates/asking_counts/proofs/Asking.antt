@@ -1,18 +1,16 @@
--- What the comparing tells is what stands in front of the key; from there on `asking`'s laws serve. Where all of it has passed, the counts are right and
--- the key's length is allowed.
+-- What the comparing tells is what stands in front of the key; from there on `asking` serves. Where all of it has passed, the counts are right
+-- and the key's length is allowed.
 use Prim.Native.Nat.{ℕ}
-use mathlib.Core.Path.{_≡_, refl, sym, _∙_, ap}
+use mathlib.Core.Path.{_≡_, refl, sym, _∙_}
 use mathlib.Core.Bool.{true}
 use mathlib.Core.Option.{none}
 use mathlib.Core.List.{List}
 use lib.ListN.{length}
 use Rattle.field.specs.Range.{between}
-use Rattle.head.specs.Fields.{headOf}
 use Rattle.paper.specs.declared.Verdict.{Verdict}
 use Rattle.paper.specs.Hearing.{first}
-use Rattle.paper.specs.Given.{Given, keyIn}
+use Rattle.paper.specs.Given.{Given}
 use Rattle.paper.specs.Orders.{keying}
-use Rattle.paper.specs.Accepted.{Accepted}
 use Rattle.paper.proofs.Hearing.{passed-parts, told-passed}
 use Rattle.paper.proofs.Checking.{accepted-opens}
 use Rattle.paper.proofs.Looking.{given-fit}

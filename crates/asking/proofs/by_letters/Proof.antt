@@ -1,0 +1,36 @@
+-- `asking::by_letters` meets its contract: what the front refused is told, and behind a front that passed the key in hand is judged. Assumes
+-- nothing.
+use mathlib.Core.Path.{refl}
+use borrow.Author.Needs.{needs}
+use Rattle.paper.proofs.Hearing.{told-passed}
+use Rattle.asking.proofs.Asking.{behind-refused, behind-letters}
+use Rattle.asking.proofs.by_letters.Statement.{statement}
+use Rattle.asking.proofs.by_letters.Tie as tie
+
+enum-told : tie.Need-enum-told
+enum-told c = search needs
+
+unjudged-requires : tie.Need-unjudged-requires
+unjudged-requires c κs = search needs
+
+enum-told-2 : tie.Need-enum-told-2
+enum-told-2 c = search needs
+
+of-requires : tie.Need-of-requires
+of-requires c κs = search needs
+
+judge-requires : tie.Need-judge-requires
+judge-requires c κs =
+    let told = c .before in
+    told .before .before .before .before .pre .head (told-passed refl (told .enum-told2 .given .1))
+
+returns : tie.Need-returns
+returns c codes = behind-refused (c .before .enum-told .given .1) (c .unjudged .ensures)
+
+returns-2 : tie.Need-returns-2
+returns-2 c codes =
+    let made = c .before in
+    behind-letters (made .before .enum-told2 .given .1) _ _ (made .of .ensures) (c .judge .ensures)
+
+pub by-letters-spec : {M : Type 1} → statement M
+by-letters-spec = tie.close (tie.spec enum-told unjudged-requires enum-told-2 of-requires judge-requires returns returns-2)
