@@ -23,16 +23,24 @@ use Rattle.comparing.specs.Comparing.{CheckedBoth, Alike}
 pub record Same (fresh counts : List ℕ) (same : Bool) (q : ℕ) : Type 0 where
   pub told : same ≡ true → Alike fresh counts q
 
+pub same-start : {fresh counts : List ℕ} {from q : ℕ} → q ≤ from → Alike fresh counts from → Same fresh counts true q
+same-start low a = record { told = λ e r b. a r (omega arith) }
+
 pub same-none : (fresh counts : List ℕ) → Same fresh counts true 0
 same-none fresh counts = record { told = λ e q b. absurd (omega arith) }
 
 module _ {fresh counts : List ℕ} {same : Bool} {q : ℕ} (p : Same fresh counts same q) where
-  pub same-more : Same fresh counts (same && eqb (getD counts q 0) (getD fresh q 0)) (q + 1)
-  same-more = record { told = λ e r b. go e r b (ℕ-discrete r q) }
+  -- one number more
+  pub same-more : {next : ℕ} → next ≤ q + 1 → Same fresh counts (same && eqb (getD counts q 0) (getD fresh q 0)) next
+  same-more {next} near = record { told = λ e r b. go e r b (ℕ-discrete r q) }
     where
-      go : (same && eqb (getD counts q 0) (getD fresh q 0)) ≡ true → (r : ℕ) → r < q + 1 → Dec (r ≡ q) → getD counts r 0 ≡ getD fresh r 0
+      go : (same && eqb (getD counts q 0) (getD fresh q 0)) ≡ true → (r : ℕ) → r < next → Dec (r ≡ q) → getD counts r 0 ≡ getD fresh r 0
       go e r b (yes here) = rw here (eqb-true _ _ (both same _ e .1))
       go e r b (no other) = p .told (both same _ e .0) r (omega arith)
+
+  -- a part more
+  pub same-part : {part : Bool} {next : ℕ} → (part ≡ true → Alike fresh counts q → Alike fresh counts next) → Same fresh counts (same && part) next
+  same-part {part} on = record { told = λ e. on (both same part e .1) (p .told (both same part e .0)) }
 
   pub same-all : {nodes : ℕ} → nodes ≤ q → same ≡ true → Alike fresh counts nodes
   same-all high e r b = p .told e r (omega arith)

@@ -1,7 +1,7 @@
 // The check of an image with counts beside it: 1 to 8, with 5 for either list, and 25. Neither function has a `requires`.
 ghost use mathlib.Core.Path.{_≡_};
 ghost use mathlib.Core.Bool.{true, not};
-ghost use Prim.Native.Nat.{_^_, _≤_, min};
+ghost use Prim.Native.Nat.{_+_, _^_, _≤_, min};
 ghost use lib.ListN.{length, getD};
 ghost use lib.Dec.{ltb, eqb};
 ghost use Rattle.trie.specs.Lowest.{lowest};
@@ -71,7 +71,7 @@ fn judge(differs: usize, nodes: usize) -> Verdict
     Verdict::Passed
 }
 
-// The lowest of the first `nodes` nodes whose two numbers differ, `nodes` where none does. The first loop has no early exit, so that it runs
+// The lowest of the first `nodes` nodes whose two numbers differ, `nodes` where none does. `alike` has no early exit, so that it runs
 // over several numbers at once.
 fn first_different(fresh: &[u32], counts: &[u32], nodes: usize) -> usize
     requires { ⌜ nodes ≤ length (now fresh) ⌝ ∗ ⌜ nodes ≤ length (now counts) ⌝ }
@@ -90,16 +90,31 @@ fn first_different(fresh: &[u32], counts: &[u32], nodes: usize) -> usize
     nodes
 }
 
-// Are the first `nodes` numbers of the two lists the same? The loop has no early exit; "no" promises nothing.
+// Are the first `nodes` numbers of the two lists the same? "No" promises nothing. They are held against each other in parts of 128, a length
+// that the compiler knows, so that each part is straight code.
 fn alike(fresh: &[u32], counts: &[u32], nodes: usize) -> bool
     requires { ⌜ nodes ≤ length (now fresh) ⌝ ∗ ⌜ nodes ≤ length (now counts) ⌝ }
     ensures { λ r. ⌜ (r ≡ true → Alike (now (fresh .entry)) (now (counts .entry)) nodes) ⌝ }
 {
     let mut same = true;
     let mut q: usize = 0;
-    while q < nodes {
-        same = same & (counts[q] == fresh[q]);
-        q += 1;
+    while nodes - q >= 128 {
+        same = same & alike_part(fresh, counts, q, 128);
+        q += 128;
+    }
+    same & alike_part(fresh, counts, q, nodes - q)
+}
+
+// Are the `many` numbers after the first `from` the same too? The loop has no early exit.
+fn alike_part(fresh: &[u32], counts: &[u32], from: usize, many: usize) -> bool
+    requires { ⌜ from + many ≤ length (now fresh) ⌝ ∗ ⌜ from + many ≤ length (now counts) ⌝ }
+    ensures { λ r. ⌜ (r ≡ true → Alike (now (fresh .entry)) (now (counts .entry)) from → Alike (now (fresh .entry)) (now (counts .entry)) (from + many)) ⌝ }
+{
+    let mut same = true;
+    let mut i: usize = 0;
+    while i < many {
+        same = same & (counts[from + i] == fresh[from + i]);
+        i += 1;
     }
     same
 }
