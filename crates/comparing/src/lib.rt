@@ -90,17 +90,19 @@ fn first_different(fresh: &[u32], counts: &[u32], nodes: usize) -> usize
     nodes
 }
 
-// Are the first `nodes` numbers of the two lists the same? "No" promises nothing. They are held against each other in parts of 128, a length
-// that the compiler knows, so that each part is straight code.
+// How many numbers are held against each other at a time: a length that the compiler knows, so that they are compared by straight code.
+const PART: usize = 128;
+
+// Are the first `nodes` numbers of the two lists the same? "No" promises nothing.
 fn alike(fresh: &[u32], counts: &[u32], nodes: usize) -> bool
     requires { ⌜ nodes ≤ length (now fresh) ⌝ ∗ ⌜ nodes ≤ length (now counts) ⌝ }
     ensures { λ r. ⌜ (r ≡ true → Alike (now (fresh .entry)) (now (counts .entry)) nodes) ⌝ }
 {
     let mut same = true;
     let mut q: usize = 0;
-    while nodes - q >= 128 {
-        same = same & alike_part(fresh, counts, q, 128);
-        q += 128;
+    while nodes - q >= PART {
+        same = same & alike_part(fresh, counts, q, PART);
+        q += PART;
     }
     same & alike_part(fresh, counts, q, nodes - q)
 }
