@@ -53,8 +53,8 @@ static void call_position_text(void)
 static void call_nothing(void) { heard = (trieff_answer){0}; }
 
 /* The image before the call: fresh, with the key stored, or cut between G and the link, which is
-   the second of the root's two. With counts: fresh, or with the key stored and the empty key too,
-   so that the long key has position 1. */
+   the second of the root's two. With counts: with the key stored, so that comparing goes down all
+   levels, and the empty key too, so that the long key has position 1. */
 static void whole(void)
 {
     call_make();
@@ -66,11 +66,6 @@ static void cut(void)
     image[28 + 2 + 1] = 0;
 }
 
-static void counted(void)
-{
-    call_make();
-    call_counts();
-}
 static void whole_counted(void)
 {
     whole();
@@ -110,8 +105,8 @@ int main(void)
         {"next_key", whole, call_next_key, NEXT_MOST, DEEP, 7},
         {"counts", whole, call_counts, COUNTS_MOST, 0, 0},
         {"check_counts", whole_counted, call_check_counts, COUNTS_MOST, 0, 0},
-        {"store_counts", counted, call_store_counts, COUNTS_MOST, 0, 0},
-        {"store_text_counts", counted, call_store_text_counts, COUNTS_MOST, 0, 0},
+        {"store_counts", whole_counted, call_store_counts, COUNTS_MOST, 0, 0},
+        {"store_text_counts", whole_counted, call_store_text_counts, COUNTS_MOST, 0, 0},
         {"key_at", whole_counted, call_key_at, COUNTS_MOST, DEEP, 7},
         {"position", whole_counted, call_position, COUNTS_MOST, 0, 1},
         {"position_text", whole_counted, call_position_text, COUNTS_MOST, 0, 1},
