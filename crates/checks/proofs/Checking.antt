@@ -22,7 +22,7 @@ use Rattle.paper.proofs.Hearing.{first-part, heard-refused, heard-done, told-re
 use Rattle.opening.specs.declared.Opened.{Opened}
 use Rattle.audit.specs.Audit.{Checked}
 use Rattle.audit.proofs.Verdicts.{checked-accepted, checked-head}
-use Rattle.bearing.proofs.Walkable.{Walkable, walkable}
+use Rattle.depths.proofs.Walkable.{Walkable, walkable}
 use Rattle.seeking.specs.Seeking.{Sought}
 use Rattle.seeking.proofs.Seeking.{refuses}
 

@@ -11,8 +11,8 @@ use Rattle.trie.specs.Table.{Table}
 use Rattle.trie.specs.Keys.{ownKey, listing}
 use Rattle.trie.proofs.Beyond.{under-split, from-none, from-empty}
 use Rattle.head.specs.declared.Head.{Head}
-use Rattle.bearing.specs.Bearing.{ownValue, Bearing}
-use Rattle.bearing.proofs.Links.{own-empty, own-full, from, from-link}
+use Rattle.depths.specs.Bearing.{ownValue, Bearing}
+use Rattle.depths.proofs.Links.{own-empty, own-full, from, from-link}
 
 module _ (h : Head) (t : Table) where
   -- how many keys are still to come from letter i on, and how many are a node's own

@@ -9,7 +9,7 @@ ghost use Rattle.lines.specs.Lines.{entryRoom};
 use head::Head;
 use libc::STDIN_FILENO;
 use libc::STDOUT_FILENO;
-use order::Search;
+use traversal::Search;
 use paper::Verdict;
 
 // The longest image that is read, and the lines that are written at a time.
@@ -56,11 +56,11 @@ fn list(image: &[u8], h: Head)
     let mut nodes = [0u32; Head::PATH_MOST as usize];
     let mut left = counting::count(image, h);
     let head = lines::entries(&mut out, 0, left);
-    let root = order::start(image, h, &mut nodes);
+    let root = traversal::start(image, h, &mut nodes);
     let mut end = root_line(&mut out, head, root);
     let mut len: usize = 0;
     while 0 < left {
-        let found = order::onward(image, h, len, &mut path, &mut nodes);
+        let found = traversal::onward(image, h, len, &mut path, &mut nodes);
         let Search::Found { length, value } = found else {
             break;
         };

@@ -21,11 +21,11 @@ use Rattle.paper.specs.Calls.{tableIn, storedKeys}
 use Rattle.paper.proofs.Hearing.{told-refused, told-passed}
 use Rattle.opening.specs.declared.Opened.{Opened}
 use Rattle.audit.specs.Audit.{Checked}
-use Rattle.bearing.proofs.Walkable.{Walkable}
-use Rattle.order.specs.declared.Search.{Search}
-use Rattle.order.specs.Search.{sought, Told}
-use Rattle.order.proofs.Searching.{was-missing, was-found}
-use Rattle.order.proofs.Walking.{met, Walking}
+use Rattle.depths.proofs.Walkable.{Walkable}
+use Rattle.traversal.specs.declared.Search.{Search}
+use Rattle.traversal.specs.Search.{sought, Told}
+use Rattle.traversal.proofs.Searching.{was-missing, was-found}
+use Rattle.traversal.proofs.Walking.{met, Walking}
 use Rattle.measure.specs.Walk.{walked, walkedBy, checkedWalk}
 
 module _ (h : Head) (l : List ℕ) where

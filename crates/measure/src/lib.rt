@@ -6,7 +6,7 @@ ghost use Rattle.paper.specs.Accepted.{Accepted};
 ghost use Rattle.paper.specs.Calls.{workAfter};
 ghost use Rattle.measure.specs.Walk.{walked, checkedWalk};
 use head::Head;
-use order::Search;
+use traversal::Search;
 use paper::Verdict;
 
 // A check, then the walk of a listing, without its lines: how many stored keys it meets besides the root's, 0 for an image that is refused.
@@ -33,11 +33,11 @@ fn walk(image: &[u8], h: Head) -> u64
 {
     let mut path = [0u8; Head::MAX_MOST as usize];
     let mut nodes = [0u32; Head::PATH_MOST as usize];
-    order::start(image, h, &mut nodes);
+    traversal::start(image, h, &mut nodes);
     let mut met: u64 = 0;
     let mut len: usize = 0;
     loop {
-        let found = order::onward(image, h, len, &mut path, &mut nodes);
+        let found = traversal::onward(image, h, len, &mut path, &mut nodes);
         let Search::Found { length, .. } = found else {
             return met;
         };

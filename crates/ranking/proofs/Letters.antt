@@ -14,7 +14,7 @@ use Rattle.trie.proofs.Beyond.{from-none, from-empty, from-on}
 use Rattle.trie.proofs.Walk.{follow-empty, follow-on}
 use Rattle.head.specs.declared.Head.{Head}
 use Rattle.node.specs.Image.{tableOf}
-use Rattle.bearing.proofs.Links.{from}
+use Rattle.depths.proofs.Links.{from}
 use Rattle.passing.specs.Passing.{keyAt, rankIn}
 use Rattle.passing.specs.Weights.{sumFrom}
 use Rattle.passing.proofs.Ranks.{at-left, at-right, at-map, rank-few, rank-append, rank-lower, rank-same, rank-higher}

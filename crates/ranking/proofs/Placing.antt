@@ -15,8 +15,8 @@ use Rattle.trie.proofs.Walk.{descend-nil, descend-empty, descend-append, answer
 use Rattle.trie.proofs.Beyond.{under-split}
 use Rattle.head.specs.declared.Head.{Head}
 use Rattle.node.specs.Image.{tableOf}
-use Rattle.bearing.specs.Bearing.{ownValue}
-use Rattle.bearing.proofs.Links.{own-empty, own-full, own-data}
+use Rattle.depths.specs.Bearing.{ownValue}
+use Rattle.depths.proofs.Links.{own-empty, own-full, own-data}
 use Rattle.passing.specs.Passing.{rankIn}
 use Rattle.passing.proofs.Ranks.{rank-nil, rank-few, rank-append, rank-own}
 use Rattle.paper.specs.Calls.{tableIn, storedKeys}

@@ -16,8 +16,8 @@ use Rattle.trie.proofs.Walk.{descend-nil, answer-complete}
 use Rattle.trie.proofs.Beyond.{under-split, from-shallow}
 use Rattle.head.specs.declared.Head.{Head}
 use Rattle.node.specs.Image.{tableOf}
-use Rattle.bearing.specs.Bearing.{ownValue}
-use Rattle.bearing.proofs.Links.{own-empty, own-full, own-long, own-data}
+use Rattle.depths.specs.Bearing.{ownValue}
+use Rattle.depths.proofs.Links.{own-empty, own-full, own-long, own-data}
 use Rattle.passing.specs.Passing.{keyAt}
 use Rattle.passing.proofs.Ranks.{at-right}
 use Rattle.paper.specs.Calls.{storedKeys}

@@ -45,7 +45,7 @@ pub fn key_at(image: &[u8], h: Head, counts: &[u32], position: u32, path: &mut [
     let mut depth: usize = 0;
     let mut left = position;
     loop {
-        let value = bearing::own_value(image, h, node, depth);
+        let value = depths::own_value(image, h, node, depth);
         if value != 0 {
             if left == 0 {
                 return Spot {
@@ -119,14 +119,14 @@ pub fn rank(image: &[u8], h: Head, counts: &[u32], key: Key) -> Ranked
         if c == 0 {
             return Ranked::Missing;
         }
-        if bearing::own_value(image, h, node, depth) != 0 {
+        if depths::own_value(image, h, node, depth) != 0 {
             before += 1;
         }
         before = passed(image, h, mask, counts, node, depth, letter, before);
         node = c;
         depth += 1;
     }
-    if bearing::own_value(image, h, node, depth) == 0 {
+    if depths::own_value(image, h, node, depth) == 0 {
         return Ranked::Missing;
     }
     Ranked::At(before)

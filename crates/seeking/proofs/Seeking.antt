@@ -29,11 +29,11 @@ use Rattle.key.specs.declared.Key.{Key}
 use Rattle.key.specs.Hand.{inHand, Holds, lettersOf, Ready}
 use Rattle.key.proofs.Hand.{hand-holds}
 use Rattle.key.proofs.Judging.{next-ready}
-use Rattle.order.specs.declared.Search.{Search}
-use Rattle.order.specs.Search.{sought, toldOf, Room, Told}
-use Rattle.order.proofs.Searching.{was-missing, was-found}
-use Rattle.bearing.proofs.Walkable.{Walkable, walkable}
-use Rattle.order.proofs.Walking.{met}
+use Rattle.traversal.specs.declared.Search.{Search}
+use Rattle.traversal.specs.Search.{sought, toldOf, Room, Told}
+use Rattle.traversal.proofs.Searching.{was-missing, was-found}
+use Rattle.depths.proofs.Walkable.{Walkable, walkable}
+use Rattle.traversal.proofs.Walking.{met}
 use Rattle.seeking.specs.Seeking.{Sought}
 
 -- ---- over the rows

@@ -5,7 +5,7 @@ ghost use Rattle.paper.specs.Accepted.{Accepted};
 ghost use Rattle.seeking.specs.Seeking.{Sought};
 use head::Head;
 use key::Key;
-use order::Search;
+use traversal::Search;
 use paper::Found;
 use paper::Refusal;
 use paper::Verdict;
@@ -27,7 +27,7 @@ pub fn sought(image: &[u8], h: Head, letters: &[u8], after: bool, buffer: &mut [
             }
             let mut path = [0u8; Head::MAX_MOST as usize];
             let mut nodes = [0u32; Head::PATH_MOST as usize];
-            let found = order::next(image, h, key, after, &mut path, &mut nodes);
+            let found = traversal::next(image, h, key, after, &mut path, &mut nodes);
             match found {
                 Search::Missing => Found::Refused(Refusal::NoKey),
                 Search::Found { length, value } => {

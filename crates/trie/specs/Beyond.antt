@@ -1,5 +1,5 @@
 -- What of a listing is still to come when a search has got so far: the keys below a node from a letter on, and the keys behind a path
--- that has been walked. The searches of `order` are stated with these; the listing itself is `Keys.keysUnder`.
+-- that has been walked. The searches of `traversal` are stated with these; the listing itself is `Keys.keysUnder`.
 use Prim.Native.Nat.{ℕ, zero, suc, pred, _-_}
 use mathlib.Core.Option.{Option, none, some}
 use mathlib.Core.List.{List, [], _∷_, _++_, map}

@@ -12,7 +12,7 @@ use lib.Seq.{sets-eq, ext-getD, getD-append-add, getD-drop}
 use Rattle.head.specs.declared.Head.{Head}
 use Rattle.head.specs.Fields.{headOf}
 use Rattle.node.specs.Image.{tableOf}
-use Rattle.bearing.specs.Bearing.{Bearing}
+use Rattle.depths.specs.Bearing.{Bearing}
 use Rattle.audit.proofs.Clearing.{cleared-rest, cleared-again}
 use Rattle.counting.proofs.Counting.{owned}
 use Rattle.passing.proofs.Weights.{weight-count}

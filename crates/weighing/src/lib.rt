@@ -10,7 +10,7 @@ ghost use Rattle.head.specs.Fields.{headOf};
 ghost use Rattle.node.specs.Image.{Open, tableOf};
 ghost use Rattle.paper.specs.Accepted.{Accepted};
 ghost use Rattle.position.specs.Calls.{worked};
-ghost use Rattle.bearing.specs.Bearing.{Reading};
+ghost use Rattle.depths.specs.Bearing.{Reading};
 ghost use Rattle.weighing.specs.Weighing.{Weighed, Fits};
 use head::Head;
 
@@ -30,12 +30,12 @@ pub fn add_up(image: &[u8], h: Head, list: &mut [u32])
     ensures { λ _. ⌜ now (list .exit) ≡ worked (now (image .entry)) (now (list .entry)) ⌝ }
 {
     let ones = node::greatest(h);
-    let own = if bearing::own_field(image, h, ones, 0, 0) == 0 {
+    let own = if depths::own_field(image, h, ones, 0, 0) == 0 {
         0
     } else {
         1
     };
-    if bearing::fruitless(image, h, 0, 0) {
+    if depths::fruitless(image, h, 0, 0) {
         list[0] = own;
         return;
     }
@@ -66,12 +66,12 @@ fn weighed(
         if c == 0 {
             continue;
         }
-        let one = if bearing::own_field(image, h, ones, c, depth + 1) == 0 {
+        let one = if depths::own_field(image, h, ones, c, depth + 1) == 0 {
             0
         } else {
             1
         };
-        if bearing::fruitless(image, h, c, depth + 1) {
+        if depths::fruitless(image, h, c, depth + 1) {
             list[c as usize] = list[c as usize] + one;
             sum += one;
             continue;

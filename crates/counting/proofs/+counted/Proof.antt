@@ -14,8 +14,8 @@ use Rattle.counting.proofs.counted.Reads as counted
 use Rattle.counting.proofs.counted.Kinds as counted-kinds
 use Rattle.counting.proofs.+counted.Lts-counted as lts
 use Rattle.node.proofs.link.Reads as link-reads
-use Rattle.bearing.proofs.fruitless.Reads as fruitless-reads
-use Rattle.bearing.proofs.own_field.Reads as own-field-reads
+use Rattle.depths.proofs.fruitless.Reads as fruitless-reads
+use Rattle.depths.proofs.own_field.Reads as own-field-reads
 use Rattle.counting.proofs.+counted.{statement}
 use Rattle.counting.proofs.+counted.Tie.{close}
 

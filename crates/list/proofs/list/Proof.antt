@@ -8,8 +8,8 @@ use lib.ListN.{length}
 use lib.Seq.{length-take-le}
 use Rattle.lines.proofs.Laying.{laid-long}
 use Rattle.lines.proofs.Texts.{entries-long}
-use Rattle.bearing.proofs.Walkable.{Walkable, walkable, short}
-use Rattle.order.proofs.Walking.{met, Walking, walks-on}
+use Rattle.depths.proofs.Walkable.{Walkable, walkable, short}
+use Rattle.traversal.proofs.Walking.{met, Walking, walks-on}
 use Rattle.list.proofs.list.Statement.{statement}
 use Rattle.list.proofs.list.Tie as tie
 

@@ -2,8 +2,8 @@
 use native.Mathlib.Omega.{arith}
 use borrow.Author.Needs.{needs}
 use lib.ListN.{take}
-use Rattle.bearing.proofs.Walkable.{walkable}
-use Rattle.order.proofs.Walking.{walks-on}
+use Rattle.depths.proofs.Walkable.{walkable}
+use Rattle.traversal.proofs.Walking.{walks-on}
 use Rattle.measure.proofs.Meeting.{toCome, Meeting, meeting-start, meeting-few, meeting-end, meeting-less, meeting-on}
 use Rattle.measure.proofs.walk.Statement.{statement}
 use Rattle.measure.proofs.walk.Tie as tie

@@ -3,8 +3,8 @@
 use mathlib.Core.Path.{refl}
 use native.Mathlib.Omega.{arith}
 use borrow.Author.Needs.{needs}
-use Rattle.bearing.proofs.Walkable.{short}
-use Rattle.order.proofs.Walking.{has-room, met}
+use Rattle.depths.proofs.Walkable.{short}
+use Rattle.traversal.proofs.Walking.{has-room, met}
 use Rattle.seeking.proofs.Seeking.{head-permitted, Behind, behind, found-within, found-front, found-room}
 use Rattle.seeking.proofs.Seeking.{sought-unkeyed, sought-short, sought-missing, sought-found}
 use Rattle.seeking.proofs.sought.Statement.{statement}

@@ -16,8 +16,8 @@ use Rattle.weighing.proofs.Weighing.{Onto, weighing-leaf, weighing-chil
 use Rattle.weighing.proofs.weighed.Reads as weighed
 use Rattle.weighing.proofs.weighed.Kinds as weighed-kinds
 use Rattle.weighing.proofs.+weighed.Lts-weighed as lts
-use Rattle.bearing.proofs.fruitless.Reads as fruitless-reads
-use Rattle.bearing.proofs.own_field.Reads as own-field-reads
+use Rattle.depths.proofs.fruitless.Reads as fruitless-reads
+use Rattle.depths.proofs.own_field.Reads as own-field-reads
 use Rattle.node.proofs.link.Reads as link-reads
 use Rattle.weighing.proofs.+weighed.{statement}
 use Rattle.weighing.proofs.+weighed.Tie.{close}

@@ -4,7 +4,7 @@ use mathlib.Core.Logic.{⊎-elim}
 use native.Mathlib.Omega.{arith}
 use borrow.Author.Needs.{needs}
 use Rattle.node.specs.Image.{tableOf}
-use Rattle.bearing.proofs.Walkable.{Walkable, walkable}
+use Rattle.depths.proofs.Walkable.{Walkable, walkable}
 use Rattle.counting.proofs.Counting.{owned, owned-none, owned-one}
 use Rattle.weighing.proofs.Working.{start-length, fits-start, leaf-worked, weighed-worked}
 use Rattle.weighing.proofs.add_up.Statement.{statement}

@@ -1,0 +1,38 @@
+// What stands at a node at a depth: the data of the key that ends there, and whether a longer key can lie below it. The search for the next
+// key and the count both ask this of every node that they meet.
+ghost use mathlib.Core.Path.{_≡_};
+ghost use Prim.Native.Nat.{_+_, _^_, _≤_};
+ghost use Rattle.node.specs.Image.{Open, tableOf};
+ghost use Rattle.depths.specs.Bearing.{ownValue, Bearing};
+use head::Head;
+
+// The data of a node at a depth, 0 where keys of that length are too short to be stored.
+pub fn own_value(image: &[u8], h: Head, node: u32, depth: usize) -> u64
+    requires { ⌜ Open h (now image) ⌝ ∗ ⌜ node ≤ h .g ⌝ }
+    ensures { λ r. ⌜ r ≡ ownValue h (tableOf h (now (image .entry))) node depth ⌝ }
+{
+    own_field(image, h, node::greatest(h), node, depth) as u64
+}
+
+// The same, by the mask of the data's bytes: a walk that meets many nodes makes it once.
+pub fn own_field(image: &[u8], h: Head, mask: u32, node: u32, depth: usize) -> u32
+    requires { ⌜ Open h (now image) ⌝ ∗ ⌜ mask + 1 ≡ 256 ^ h .d ⌝ ∗ ⌜ node ≤ h .g ⌝ }
+    ensures { λ r. ⌜ r ≡ ownValue h (tableOf h (now (image .entry))) node depth ⌝ }
+{
+    if depth < (h.min as usize) {
+        return 0;
+    }
+    node::data_by(image, h, mask, node)
+}
+
+// Whether no key lies below a node at a depth: no letter may follow, or all its links are empty. Asked of each child before a search goes
+// there, it spares a call where a key ends, as most do at a node without links.
+pub fn fruitless(image: &[u8], h: Head, node: u32, depth: usize) -> bool
+    requires { ⌜ Open h (now image) ⌝ ∗ ⌜ node ≤ h .g ⌝ }
+    ensures { λ r. ⌜ Bearing h (tableOf h (now (image .entry))) node depth r ⌝ }
+{
+    if (h.max as usize) <= depth {
+        return true;
+    }
+    node::childless(image, h, node)
+}

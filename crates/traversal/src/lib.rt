@@ -1,0 +1,190 @@
+// The stored keys of an image in order: the first at or after a key, and the one after that. A caller has checked the image once; from then
+// on every function here walks without a second check. The search remembers the path of the key that it found, letters and nodes, so
+// that the key after it is found from there and a whole listing is one walk through the image.
+ghost use mathlib.Core.Path.{_≡_};
+ghost use mathlib.Core.Bool.{true};
+ghost use mathlib.Core.List.{List};
+ghost use Prim.Native.Nat.{ℕ, _≤_, _<_};
+ghost use lib.ListN.{length, getD, take};
+ghost use Rattle.trie.specs.Rules.{Within};
+ghost use Rattle.trie.specs.Beyond.{firstOf};
+ghost use Rattle.node.specs.Image.{Open, Masks, tableOf};
+ghost use Rattle.key.specs.Hand.{Ready, lettersOf};
+ghost use Rattle.depths.specs.Bearing.{ownValue};
+ghost use Rattle.traversal.specs.Search.{ahead, coming, Room, Along, Kept, Followed, sought, Told};
+use head::Head;
+use key::Key;
+
+// A search found a key of so many letters, which stand at the front of the path, or there is none.
+pub enum Search {
+    Found { length: usize, value: u64 },
+    Missing,
+}
+
+// The first stored key at or after the key in hand, or after it. Its letters are at the front of the path then, and the nodes are those
+// on its way from the root on.
+pub fn next(
+    image: &[u8],
+    h: Head,
+    key: Key,
+    after: bool,
+    path: &mut [u8],
+    nodes: &mut [u32],
+) -> Search
+    requires { ⌜ Open h (now image) ⌝ ∗ ⌜ Within (tableOf h (now image)) (h .g) ⌝ }
+    requires { ⌜ Ready h key ⌝ ∗ ⌜ key .len ≤ h .max ⌝ ∗ ⌜ Room h (now path) (now nodes) ⌝ }
+    ensures { λ r. ⌜ Told h (now (image .entry)) (sought h (now (image .entry)) after (lettersOf key)) r (now (path .exit)) (now (nodes .exit)) ⌝ }
+    ensures { λ r. ⌜ Room h (now (path .exit)) (now (nodes .exit)) ⌝ }
+{
+    let mask = node::mask(h);
+    let depth = along(image, h, mask, key, path, nodes);
+    if depth < key.len {
+        let letters = key.letters;
+        return climb(
+            image,
+            h,
+            mask,
+            depth,
+            (letters[depth] as u32) + 1,
+            path,
+            nodes,
+        );
+    }
+    if !after {
+        let value = depths::own_value(image, h, nodes[depth], depth);
+        if value != 0 {
+            return Search::Found {
+                length: depth,
+                value,
+            };
+        }
+    }
+    climb(image, h, mask, depth, 0, path, nodes)
+}
+
+// The first stored key after the one whose letters are the first `len` of the path, with its nodes. Over a whole listing each link is
+// looked at once.
+pub fn onward(image: &[u8], h: Head, len: usize, path: &mut [u8], nodes: &mut [u32]) -> Search
+    requires { ⌜ Open h (now image) ⌝ ∗ ⌜ Within (tableOf h (now image)) (h .g) ⌝ }
+    requires { ⌜ len ≤ h .max ⌝ ∗ ⌜ Room h (now path) (now nodes) ⌝ ∗ ⌜ Along h (now image) len (now path) (now nodes) ⌝ }
+    ensures { λ r. ⌜ Told h (now (image .entry)) (sought h (now (image .entry)) true (take len (now (path .entry)))) r (now (path .exit)) (now (nodes .exit)) ⌝ }
+    ensures { λ r. ⌜ Room h (now (path .exit)) (now (nodes .exit)) ⌝ }
+{
+    climb(image, h, node::mask(h), len, 0, path, nodes)
+}
+
+// The root's own value, where the empty key is stored, else 0: the front of a listing. `onward` goes on from there with no letters.
+pub fn start(image: &[u8], h: Head, nodes: &mut [u32]) -> u64
+    requires { ⌜ Open h (now image) ⌝ ∗ ⌜ 0 < length (now nodes) ⌝ }
+    ensures { λ r. ⌜ r ≡ ownValue h (tableOf h (now (image .entry))) 0 0 ⌝ }
+    ensures { λ r. ⌜ ((path : List ℕ) → Along h (now (image .entry)) 0 path (now (nodes .exit))) ⌝ }
+{
+    nodes[0] = 0;
+    depths::own_value(image, h, 0, 0)
+}
+
+// Follows a key as far as its links go, and answers how far that is.
+fn along(image: &[u8], h: Head, mask: u32, key: Key, path: &mut [u8], nodes: &mut [u32]) -> usize
+    requires { ⌜ Open h (now image) ⌝ ∗ ⌜ Within (tableOf h (now image)) (h .g) ⌝ ∗ ⌜ Masks h mask ⌝ }
+    requires { ⌜ Ready h key ⌝ ∗ ⌜ key .len ≤ h .max ⌝ ∗ ⌜ Room h (now path) (now nodes) ⌝ }
+    ensures { λ r. ⌜ Followed h (now (image .entry)) (lettersOf key) (now (path .exit)) (now (nodes .exit)) r ⌝ }
+{
+    let letters = key.letters;
+    let len = key.len;
+    nodes[0] = 0;
+    let mut node: u32 = 0;
+    let mut depth: usize = 0;
+    while depth < len {
+        let letter = letters[depth];
+        let c = node::link(image, h, mask, node, letter as u32);
+        if c == 0 {
+            return depth;
+        }
+        path[depth] = letter;
+        nodes[depth + 1] = c;
+        node = c;
+        depth += 1;
+    }
+    depth
+}
+
+// The first stored key below the path's end from a letter on or, where there is none, behind the letter taken at each node on the way up.
+// Only a node from whose first letter on is sought can be fruitless: by every other a key led on.
+fn climb(
+    image: &[u8],
+    h: Head,
+    mask: u32,
+    end: usize,
+    first: u32,
+    path: &mut [u8],
+    nodes: &mut [u32],
+) -> Search
+    requires { ⌜ Open h (now image) ⌝ ∗ ⌜ Within (tableOf h (now image)) (h .g) ⌝ ∗ ⌜ Masks h mask ⌝ }
+    requires { ⌜ end ≤ h .max ⌝ ∗ ⌜ (0 < first → end < h .max) ⌝ }
+    requires { ⌜ Room h (now path) (now nodes) ⌝ ∗ ⌜ Along h (now image) end (now path) (now nodes) ⌝ }
+    ensures { λ r. ⌜ Told h (now (image .entry)) (firstOf (coming h (now (image .entry)) (now (path .entry)) end first)) r (now (path .exit)) (now (nodes .exit)) ⌝ }
+{
+    let mut depth = end;
+    let mut from = first;
+    loop {
+        let barren = if from == 0 {
+            depths::fruitless(image, h, nodes[depth], depth)
+        } else {
+            false
+        };
+        if !barren {
+            let found = below(image, h, mask, nodes[depth], depth, from, path, nodes);
+            if let Search::Found { .. } = found {
+                return found;
+            }
+        }
+        if depth == 0 {
+            return Search::Missing;
+        }
+        depth -= 1;
+        from = (path[depth] as u32) + 1;
+    }
+}
+
+// The first stored key below a node at a depth whose next letter is `from` or a later one. It calls itself on each child; the depth left to
+// max falls.
+fn below(
+    image: &[u8],
+    h: Head,
+    mask: u32,
+    node: u32,
+    depth: usize,
+    from: u32,
+    path: &mut [u8],
+    nodes: &mut [u32],
+) -> Search
+    requires { ⌜ Open h (now image) ⌝ ∗ ⌜ Within (tableOf h (now image)) (h .g) ⌝ ∗ ⌜ Masks h mask ⌝ }
+    requires { ⌜ depth < h .max ⌝ ∗ ⌜ Room h (now path) (now nodes) ⌝ }
+    requires { ⌜ Along h (now image) depth (now path) (now nodes) ⌝ ∗ ⌜ node ≡ getD (now nodes) depth 0 ⌝ }
+    ensures { λ r. ⌜ Told h (now (image .entry)) (firstOf (ahead h (now (image .entry)) (now (path .entry)) depth node from)) r (now (path .exit)) (now (nodes .exit)) ⌝ }
+    ensures { λ r. ⌜ Kept depth (now (path .entry)) (now (nodes .entry)) (now (path .exit)) (now (nodes .exit)) ⌝ }
+{
+    for i in from..h.n {
+        let c = node::link(image, h, mask, node, i);
+        if c == 0 {
+            continue;
+        }
+        path[depth] = i as u8;
+        nodes[depth + 1] = c;
+        let value = depths::own_value(image, h, c, depth + 1);
+        if value != 0 {
+            return Search::Found {
+                length: depth + 1,
+                value,
+            };
+        }
+        if depths::fruitless(image, h, c, depth + 1) {
+            continue;
+        }
+        let deeper = below(image, h, mask, c, depth + 1, 0, path, nodes);
+        if let Search::Found { .. } = deeper {
+            return deeper;
+        }
+    }
+    Search::Missing
+}
