@@ -2,4 +2,4 @@
 -- `Spelling` on the key that a text names and on a loop over the text. For this crate's own proofs: `Loops`.
 pub mod Alphabets
 pub mod Spelling
-mod Loops
+mod AlphabetLoops

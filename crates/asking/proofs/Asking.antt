@@ -18,7 +18,7 @@ use Rattle.paper.specs.Accepted.{Accepted}
 use Rattle.paper.proofs.Hearing.{first-part, second-part, told-refused, told-passed}
 use Rattle.paper.proofs.Known.{Known, known}
 use Rattle.paper.specs.Calls.{workAfter}
-use Rattle.paper.proofs.Checking.{accepted-opens, check-accepts}
+use Rattle.paper.proofs.CheckCall.{accepted-opens, check-accepts}
 use Rattle.key.specs.declared.Key.{Key}
 use Rattle.key.specs.declared.Typed.{Typed}
 use Rattle.key.specs.Hand.{inHand, Holds, typedAs, Ready}

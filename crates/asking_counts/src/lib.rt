@@ -1,7 +1,7 @@
 // What stands in front of a store with counts and of a key's position: 1 to 8, 25, then 9 and 10 of the key given. Neither function has a
 // `requires`. The comparing stands in front, and the key's part is `asking`'s.
 ghost use Rattle.paper.specs.Given.{asLetters, asText};
-ghost use Rattle.asking_counts.specs.Asked.{AsksCounts};
+ghost use Rattle.asking_counts.specs.AskedCounts.{AsksCounts};
 use asking::Asked;
 use head::Head;
 

@@ -1,4 +1,4 @@
 pub mod Clearing
-pub mod Seeking
+pub mod LowestFound
 pub mod Tallying
 pub mod Verdicts

@@ -17,7 +17,7 @@ use Rattle.node.specs.Image.{tableOf}
 use Rattle.paper.specs.Rows.{badLink, holdsBad, timesIn, times}
 use Rattle.paper.proofs.Linking.{link-within, holds-bad}
 use Rattle.audit.specs.Audit.{Kept, LinksCounted, Tallied, Tally, BadFrom}
-use Rattle.audit.proofs.Seeking.{Seeking, seeking-none, seeking-more, seeking-found, seeking-all}
+use Rattle.audit.proofs.LowestFound.{Seeking, seeking-none, seeking-more, seeking-found, seeking-all}
 
 -- ---- the working numbers from G+1 on
 

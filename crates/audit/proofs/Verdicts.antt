@@ -25,12 +25,12 @@ use Rattle.paper.specs.Orders.{openingOf, linking, checking}
 use Rattle.paper.specs.Calls.{clearedBy, workAfter}
 use Rattle.paper.specs.Accepted.{Accepted}
 use Rattle.paper.proofs.Hearing.{is-given, not-given, first-nil, first-some, first-none, first-part, second-part, told-refused, told-passed}
-use Rattle.paper.proofs.Checking.{check-accepts}
+use Rattle.paper.proofs.CheckCall.{check-accepts}
 use Rattle.opening.specs.declared.Opened.{Opened}
 use Rattle.opening.specs.Opened.{Opens}
 use Rattle.audit.specs.Audit.{Checked, Audited, LinksJudged, BadFrom, Tally, AllOnce, FoundFrom}
 use Rattle.audit.proofs.Clearing.{cleared-rest}
-use Rattle.audit.proofs.Seeking.{lowest-same}
+use Rattle.audit.proofs.LowestFound.{lowest-same}
 
 -- ---- 6 to 8
 

@@ -1,1 +1,1 @@
-mod Checking
+mod CheckReturns

@@ -11,7 +11,7 @@ use Rattle.trie.specs.Table.{Table}
 use Rattle.trie.specs.Keys.{ownKey, listing}
 use Rattle.trie.proofs.Beyond.{under-split, from-none, from-empty}
 use Rattle.head.specs.declared.Head.{Head}
-use Rattle.depths.specs.Bearing.{ownValue, Bearing}
+use Rattle.depths.specs.Depths.{ownValue, Bearing}
 use Rattle.depths.proofs.Links.{own-empty, own-full, from, from-link}
 
 module _ (h : Head) (t : Table) where

@@ -6,7 +6,7 @@ ghost use Rattle.trie.specs.Rules.{Within};
 ghost use Rattle.trie.specs.Keys.{listing};
 ghost use Rattle.trie.specs.Beyond.{keysFrom};
 ghost use Rattle.node.specs.Image.{Open, tableOf};
-ghost use Rattle.depths.specs.Bearing.{Reading};
+ghost use Rattle.depths.specs.Depths.{Reading};
 use head::Head;
 
 // The number of stored keys.

@@ -1,2 +1,2 @@
-mod Counting
-mod Storing
+mod CountsReturns
+mod StoreCountsReturns

@@ -22,9 +22,9 @@ use Rattle.paper.specs.Hearing.{Outcome, outcome, doneNumbers}
 use Rattle.paper.specs.Given.{Given, keyIn}
 use Rattle.paper.specs.Calls.{tableIn, workAfter, writesIn, storedImage, storeOf, withList, storeWritesOf}
 use Rattle.paper.specs.Granted.{Granted}
-use Rattle.paper.proofs.Storing.{store-granted, store-leaves}
-use Rattle.cuts.specs.Answers.{readBack}
-use Rattle.cuts.proofs.Listed.{read-back}
+use Rattle.paper.proofs.StoreCall.{store-granted, store-leaves}
+use Rattle.cuts.specs.Mended.{readBack}
+use Rattle.cuts.proofs.Noted.{read-back}
 
 -- ---- how many they are
 

@@ -14,7 +14,7 @@ use Rattle.paper.specs.Rows.{row1, row2, row3, row4, row6, row7, row8}
 use Rattle.paper.specs.Calls.{tableIn, writesIn, storedImage, mendOf}
 use Rattle.paper.specs.Cases.{file}
 use Rattle.cuts.specs.Cut.{cutAfter}
-use Rattle.cuts.specs.Answers.{mendedImage, readBack}
+use Rattle.cuts.specs.Mended.{mendedImage, readBack}
 
 abbrev odd : ℕ → Bool
 odd p = eqb (p % 2) 1

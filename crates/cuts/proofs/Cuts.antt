@@ -15,7 +15,7 @@ use lib.Seq.{length-sets}
 use lib.IntN.{pos}
 use borrow.Author.Tests.{eq-eqb}
 use Rattle.field.specs.Field.{digits, putField}
-use Rattle.field.proofs.Laid.{getD-outside}
+use Rattle.field.proofs.Sets.{getD-outside}
 use Rattle.trie.specs.Table.{Table, Descent, complete, stopped, descend}
 use Rattle.trie.specs.Storing.{grow}
 use Rattle.trie.proofs.Walk.{complete-within, where-stopped}
@@ -26,11 +26,11 @@ use Rattle.head.proofs.Permitted.{bounds, addresses-fit}
 use Rattle.head.proofs.Places.{place-le, place-least}
 use Rattle.node.specs.Image.{linkPlace, dataPlace, tableOf}
 use Rattle.node.specs.Writes.{Write, carriedOut, newNodes, totalWrite, linkWrite, dataWrite, storeWrites}
-use Rattle.node.proofs.Places.{link-from, link-inside, data-inside, inside-used}
+use Rattle.node.proofs.FieldPlaces.{link-from, link-inside, data-inside, inside-used}
 use Rattle.node.proofs.Tables.{table-bytes}
 use Rattle.node.proofs.Writes.{table-link}
 use Rattle.node.proofs.Heads.{withTotal, child-kept, used-total}
-use Rattle.node.proofs.Storing.{Storable, length-carried, carried-append, new-head}
+use Rattle.node.proofs.StoreOnTable.{Storable, length-carried, carried-append, new-head}
 use Rattle.paper.specs.Hearing.{Numbers, Outcome, outcome, first, refusedNumbers, doneNumbers}
 use Rattle.paper.specs.Answers.{said}
 use Rattle.paper.specs.Orders.{openingOf, checking}
@@ -40,15 +40,15 @@ use Rattle.paper.specs.Accepted.{Accepted}
 use Rattle.paper.specs.Granted.{Granted}
 use Rattle.paper.proofs.Hearing.{heard-done}
 use Rattle.paper.proofs.Linking.{Unlinked}
-use Rattle.paper.proofs.Checking.{accepted-opens, accepted-checks}
-use Rattle.paper.proofs.Storing.{able, accepted-again, store-granted}
-use Rattle.paper.proofs.Mending.{accepted-exactly, mend-kept, mend-lowered}
+use Rattle.paper.proofs.CheckCall.{accepted-opens, accepted-checks}
+use Rattle.paper.proofs.StoreCall.{able, accepted-again, store-granted}
+use Rattle.paper.proofs.MendCall.{accepted-exactly, mend-kept, mend-lowered}
 use Rattle.cuts.specs.Cut.{hit, cutAfter}
-use Rattle.cuts.specs.Answers.{MendsTo}
-use Rattle.cuts.proofs.Lists.{From, from-before, length-cut, carried-before, cut-before-all, cut-append, cut-whole, hit-none}
+use Rattle.cuts.specs.Mended.{MendsTo}
+use Rattle.cuts.proofs.WriteLists.{From, from-before, length-cut, carried-before, cut-before-all, cut-append, cut-whole, hit-none}
 use Rattle.seen.specs.Seen.{seenIn}
 use Rattle.seen.proofs.Seen.{before-used, opens-same, seen-same, seen-below, same-answers, same-accepted}
-use Rattle.cuts.proofs.Unlinked.{check-unlinked}
+use Rattle.cuts.proofs.OneLinkShort.{check-unlinked}
 
 -- ---- an image that looks as an accepted one does
 

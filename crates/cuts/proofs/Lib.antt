@@ -1,8 +1,8 @@
 pub mod Callers
 pub mod Computed
-pub mod Counts
+pub mod Recounts
 pub mod Cuts
-pub mod Listed
-pub mod Lists
-pub mod Mending
-pub mod Unlinked
+pub mod Noted
+pub mod WriteLists
+pub mod AfterMending
+pub mod OneLinkShort

@@ -13,7 +13,7 @@ use Rattle.trie.specs.Keys.{ownKey}
 use Rattle.trie.specs.Beyond.{keysFrom}
 use Rattle.trie.proofs.Beyond.{own-none, own-short, own-there, under-split, from-shallow, from-childless, from-on}
 use Rattle.head.specs.declared.Head.{Head}
-use Rattle.depths.specs.Bearing.{ownValue, Bearing}
+use Rattle.depths.specs.Depths.{ownValue, Bearing}
 
 module _ (h : Head) (t : Table) where
   -- ---- the node's own key

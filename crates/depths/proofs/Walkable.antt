@@ -13,8 +13,8 @@ use Rattle.head.proofs.Permitted.{bounds}
 use Rattle.node.specs.Image.{Open, tableOf}
 use Rattle.paper.specs.Calls.{tableIn, storedKeys}
 use Rattle.paper.specs.Accepted.{Accepted}
-use Rattle.paper.proofs.Checking.{accepted-open, accepted-linked}
-use Rattle.paper.proofs.Nexting.{counted-fits}
+use Rattle.paper.proofs.CheckCall.{accepted-open, accepted-linked}
+use Rattle.paper.proofs.NextKeyCall.{counted-fits}
 
 -- what an image that was accepted gives a walk
 pub record Walkable (h : Head) (l : List ℕ) : Type 0 where

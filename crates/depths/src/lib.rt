@@ -3,7 +3,7 @@
 ghost use mathlib.Core.Path.{_≡_};
 ghost use Prim.Native.Nat.{_+_, _^_, _≤_};
 ghost use Rattle.node.specs.Image.{Open, tableOf};
-ghost use Rattle.depths.specs.Bearing.{ownValue, Bearing};
+ghost use Rattle.depths.specs.Depths.{ownValue, Bearing};
 use head::Head;
 
 // The data of a node at a depth, 0 where keys of that length are too short to be stored.

@@ -9,8 +9,8 @@ use mathlib.Core.List.{List, _++_}
 use lib.ListN.{length, getD}
 use lib.Seq.{sets, length-sets}
 use Rattle.field.specs.Field.{Bytes, fieldAt, digits, putField}
-use Rattle.field.proofs.Laid.{getD-outside, getD-inside, sets-append}
-use Rattle.field.proofs.Fields.{field-same, field-outside, field-digits, length-digits, read-written-fits, written-back}
+use Rattle.field.proofs.Sets.{getD-outside, getD-inside, sets-append}
+use Rattle.field.proofs.Field.{field-same, field-outside, field-digits, length-digits, read-written-fits, written-back}
 use Rattle.head.specs.declared.Head.{Head}
 use Rattle.head.specs.Fields.{headOf, headBytes, fieldsLen, totalAt, totalLen, putTotal}
 use Rattle.head.proofs.Permitted.{Bounds}

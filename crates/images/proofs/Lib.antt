@@ -1,2 +1,2 @@
-mod Making
-mod Mending
+mod MakeReturns
+mod MendReturns

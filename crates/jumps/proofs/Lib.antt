@@ -1,2 +1,2 @@
-mod Spots
-mod Places
+mod KeyAtReturns
+mod PositionReturns

@@ -12,7 +12,7 @@ use lib.ListN.{length, getD, take, drop, set, replicate}
 use lib.Seq.{length-take-le, take-all, take-suc, drop-cons, getD-take}
 use borrow.Author.Tests.{leb-true, leb-false}
 use Rattle.trie.specs.Table.{Letters}
-use Rattle.trie.proofs.Letters.{letters-at}
+use Rattle.trie.proofs.LettersBelow.{letters-at}
 use Rattle.head.specs.Fields.{mostLetters}
 use Rattle.key.specs.declared.Key.{Key}
 use Rattle.key.specs.Hand.{padded, inHand, Holds, lettersOf}

@@ -15,7 +15,7 @@ use Rattle.head.specs.declared.Head.{Head}
 use Rattle.head.specs.Fields.{permitted, mostLetters}
 use Rattle.head.proofs.Permitted.{bounds}
 use Rattle.trie.specs.Table.{Letters}
-use Rattle.trie.proofs.Letters.{letters-at, letters-of}
+use Rattle.trie.proofs.LettersBelow.{letters-at, letters-of}
 use Rattle.alphabet.specs.Letters.{lettersIn, keyOfText}
 use Rattle.paper.specs.Hearing.{Row, given, first}
 use Rattle.paper.specs.Answers.{said}

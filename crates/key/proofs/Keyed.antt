@@ -15,7 +15,7 @@ use Rattle.paper.specs.Given.{Given, asLetters, asText, alphabetIn, meantBy, me
 use Rattle.paper.specs.Orders.{byLetters, byText, keyingBy, keying}
 use Rattle.paper.proofs.Hearing.{told-passed}
 use Rattle.paper.proofs.Known.{Known}
-use Rattle.paper.proofs.Looking.{alphabet-most}
+use Rattle.paper.proofs.LookUpCall.{alphabet-most}
 use Rattle.key.specs.declared.Key.{Key}
 use Rattle.key.specs.declared.Typed.{Typed}
 use Rattle.key.specs.Hand.{inHand, Holds, typedAs, lettersOf, Ready}

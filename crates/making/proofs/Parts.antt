@@ -8,7 +8,7 @@ use Rattle.field.specs.Field.{cleared}
 use Rattle.head.specs.declared.Head.{Head}
 use Rattle.head.specs.Fields.{fieldsLen, headBytes, nodeWidth}
 use Rattle.paper.specs.Calls.{freshImage}
-use Rattle.paper.proofs.Fresh.{parts}
+use Rattle.paper.proofs.MakeCall.{parts}
 
 -- the image after the head, after the alphabet and after the root
 pub written : (h : Head) (alphabet image : List ℕ) {headed lettered rooted : List ℕ} {w : ℕ} → headed ≡ sets image 0 (headBytes h)

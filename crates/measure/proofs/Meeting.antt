@@ -10,7 +10,7 @@ use lib.ListN.{length, take}
 use Rattle.trie.specs.Keys.{listing, meets, sift}
 use Rattle.trie.specs.Beyond.{firstOf}
 use Rattle.trie.proofs.Listing.{keysUnder-ascending}
-use Rattle.trie.proofs.Sift.{first-sift, sift-length}
+use Rattle.trie.proofs.Filter.{first-sift, sift-length}
 use Rattle.trie.proofs.InTurn.{sift-next}
 use Rattle.head.specs.declared.Head.{Head}
 use Rattle.head.specs.Fields.{mostLetters, mostPath, headOf}
@@ -26,7 +26,7 @@ use Rattle.traversal.specs.declared.Search.{Search}
 use Rattle.traversal.specs.Search.{sought, Told}
 use Rattle.traversal.proofs.Searching.{was-missing, was-found}
 use Rattle.traversal.proofs.Walking.{met, Walking}
-use Rattle.measure.specs.Walk.{walked, walkedBy, checkedWalk}
+use Rattle.measure.specs.KeysMet.{walked, walkedBy, checkedWalk}
 
 module _ (h : Head) (l : List ℕ) where
   abbrev keys : List (List ℕ)

@@ -4,7 +4,7 @@ ghost use mathlib.Core.Path.{_≡_};
 ghost use Rattle.head.specs.Fields.{headOf};
 ghost use Rattle.paper.specs.Accepted.{Accepted};
 ghost use Rattle.paper.specs.Calls.{workAfter};
-ghost use Rattle.measure.specs.Walk.{walked, checkedWalk};
+ghost use Rattle.measure.specs.KeysMet.{walked, checkedWalk};
 use head::Head;
 use traversal::Search;
 use paper::Verdict;

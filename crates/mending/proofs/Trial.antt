@@ -12,7 +12,7 @@ use Rattle.paper.specs.declared.Refusal.{Refusal}
 use Rattle.paper.specs.declared.Verdict.{Verdict}
 use Rattle.opening.specs.declared.Opened.{Opened}
 use Rattle.audit.specs.Audit.{Checked}
-use Rattle.mending.specs.Mending.{Lowers}
+use Rattle.mending.specs.Trial.{Lowers}
 
 one-verdict : {why : Refusal} → Verdict.Passed ≢ Verdict.Refused why
 one-verdict e = let z : _≡_ {A = ℕ} 0 1 = cc in absurd (omega arith)

@@ -1,1 +1,1 @@
-pub mod Mending
+pub mod Trial

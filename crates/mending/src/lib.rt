@@ -2,7 +2,7 @@
 ghost use Prim.Native.Nat.{_+_, _≤_};
 ghost use lib.ListN.{length};
 ghost use Rattle.head.specs.Fields.{totalAt, totalLen};
-ghost use Rattle.mending.specs.Mending.{Lowers};
+ghost use Rattle.mending.specs.Trial.{Lowers};
 use head::Head;
 use paper::Verdict;
 

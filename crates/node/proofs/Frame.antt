@@ -11,8 +11,8 @@ use mathlib.Core.List.{List, [], _∷_}
 use lib.ListN.{length, getD, replicate, length-replicate}
 use lib.Seq.{sets}
 use Rattle.field.specs.Field.{digits, putField, cleared}
-use Rattle.field.proofs.Laid.{getD-outside}
-use Rattle.field.proofs.Fields.{length-digits}
+use Rattle.field.proofs.Sets.{getD-outside}
+use Rattle.field.proofs.Field.{length-digits}
 use Rattle.trie.specs.Table.{Descent, Letters, complete, stopped, missing}
 use Rattle.trie.specs.Storing.{added}
 use Rattle.head.specs.declared.Head.{Head}
@@ -21,10 +21,10 @@ use Rattle.head.proofs.Places.{place-add, place-least, used-le}
 use Rattle.node.specs.Image.{linkPlace, dataPlace}
 use Rattle.node.specs.Writes.{carriedOut, pathNode, newNodes, totalWrite, linkWrite, dataWrite, storeWrites}
 use Rattle.node.specs.Frame.{Among, Touched, data-of-key, node-total, one-link, new-nodes}
-use Rattle.node.proofs.Places.{link-inside, data-inside, inside-least, inside-used, link-from}
+use Rattle.node.proofs.FieldPlaces.{link-inside, data-inside, inside-least, inside-used, link-from}
 use Rattle.node.proofs.Heads.{withTotal, used-more}
 use Rattle.node.proofs.Nodes.{path-node, last-node}
-use Rattle.node.proofs.Storing.{carried-append}
+use Rattle.node.proofs.StoreOnTable.{carried-append}
 
 -- where a key's walk can end: at a node there is, and what is left of the key are letters there are
 abbrev pub EndsIn : Head → Descent → Type 0

@@ -10,14 +10,14 @@ use mathlib.Core.List.{List, [], _∷_, _++_, append-nil}
 use lib.ListN.{length, getD, replicate, length-append, length-replicate, getD-replicate, replicate-append-replicate}
 use lib.Seq.{sets}
 use Rattle.field.specs.Field.{Zeros, digits, putField, cleared}
-use Rattle.field.proofs.Laid.{getD-inside, sets-append, sets-comm, sets-over}
-use Rattle.field.proofs.Fields.{field-blank, length-digits}
+use Rattle.field.proofs.Sets.{getD-inside, sets-append, sets-comm, sets-over}
+use Rattle.field.proofs.Field.{field-blank, length-digits}
 use Rattle.head.specs.declared.Head.{Head}
 use Rattle.head.specs.Fields.{nodeWidth, nodePlace}
 use Rattle.head.proofs.Places.{place-add}
 use Rattle.node.specs.Image.{linkPlace, dataPlace, tableOf}
 use Rattle.node.specs.Writes.{Write, lastNode, pathNode, newNodes}
-use Rattle.node.proofs.Places.{link-from, link-to, data-from, data-inside}
+use Rattle.node.proofs.FieldPlaces.{link-from, link-to, data-from, data-inside}
 use Rattle.node.proofs.Tables.{table-eq, child-in, value-in, framed}
 use Rattle.node.proofs.Heads.{withTotal, child-kept, value-kept}
 

@@ -9,14 +9,14 @@ use mathlib.Core.List.{List}
 use lib.Dec.{leb, ltb}
 use lib.ListN.{getD}
 use Rattle.field.specs.Field.{fieldAt}
-use Rattle.field.proofs.Fields.{field-same}
+use Rattle.field.proofs.Field.{field-same}
 use Rattle.field.proofs.Range.{both}
 use Rattle.trie.specs.Table.{Table}
 use Rattle.trie.specs.Rules.{Framed}
 use Rattle.head.specs.declared.Head.{Head}
 use Rattle.head.specs.Fields.{fieldsLen, usedLen}
 use Rattle.node.specs.Image.{linkPlace, dataPlace, tableOf}
-use Rattle.node.proofs.Places.{Inside, link-inside, data-inside, inside-least, inside-used}
+use Rattle.node.proofs.FieldPlaces.{Inside, link-inside, data-inside, inside-least, inside-used}
 
 -- tables with equal entries are equal
 pub table-eq : (s t : Table) → ((q i : ℕ) → s .child q i ≡ t .child q i) → ((q : ℕ) → s .value q ≡ t .value q) → s ≡ t

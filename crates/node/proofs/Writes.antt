@@ -9,7 +9,7 @@ use mathlib.Core.List.{List}
 use lib.ListN.{length}
 use lib.Seq.{sets}
 use Rattle.field.specs.Field.{fieldAt, digits, putField}
-use Rattle.field.proofs.Fields.{field-outside, length-digits, read-written-fits}
+use Rattle.field.proofs.Field.{field-outside, length-digits, read-written-fits}
 use Rattle.trie.specs.Table.{Table}
 use Rattle.trie.specs.Storing.{put, grow}
 use Rattle.trie.proofs.Grow.{grow-child, grow-child-other}
@@ -17,7 +17,7 @@ use Rattle.trie.proofs.Put.{put-value, put-value-other}
 use Rattle.head.specs.declared.Head.{Head}
 use Rattle.head.specs.Fields.{fieldsLen, totalAt, totalLen, putTotal, usedLen}
 use Rattle.node.specs.Image.{linkPlace, dataPlace, tableOf}
-use Rattle.node.proofs.Places.{inside-least, inside-used, link-inside, data-inside, Apart, links-apart, link-data-apart, data-apart}
+use Rattle.node.proofs.FieldPlaces.{inside-least, inside-used, link-inside, data-inside, Apart, links-apart, link-data-apart, data-apart}
 use Rattle.node.proofs.Tables.{table-eq, child-in, value-in, child-same, value-same, table-same}
 
 -- a write into the head or the alphabet, or after what is used

@@ -25,13 +25,13 @@ use Rattle.paper.specs.Orders.{adding}
 use Rattle.paper.specs.Calls.{tableIn, writesIn, withList}
 use Rattle.paper.specs.Accepted.{Accepted}
 use Rattle.paper.proofs.Hearing.{not-given}
-use Rattle.paper.proofs.Storing.{none-13}
+use Rattle.paper.proofs.StoreCall.{none-13}
 use Rattle.paper.proofs.Unique.{refusal-said}
 use Rattle.walk.specs.declared.Walked.{Walked}
 use Rattle.walk.specs.Descent.{atRoot, walkedFrom}
-use Rattle.storing.specs.Storing.{storeAt, endOf}
+use Rattle.storing.specs.StoreStage.{storeAt, endOf}
 use Rattle.storing.proofs.Adding.{Leaves}
-use Rattle.storing.proofs.Stores.{in-hand, stores}
+use Rattle.storing.proofs.StoreStage.{in-hand, stores}
 use Rattle.noting.specs.Noting.{ListsIn, Lists}
 
 -- ---- the list behind the store's outcome

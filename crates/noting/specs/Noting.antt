@@ -13,7 +13,7 @@ use Rattle.paper.specs.declared.Listed.{Listed}
 use Rattle.paper.specs.Hearing.{outcome}
 use Rattle.paper.specs.Answers.{listedOf}
 use Rattle.paper.specs.Calls.{tableIn, writesIn, withList}
-use Rattle.storing.specs.Storing.{storeAt}
+use Rattle.storing.specs.StoreStage.{storeAt}
 
 -- the walk is the key's own, as in `storing`'s StoresIn; the list follows the image
 abbrev pub ListsIn : List ℕ → List ℕ → ℕ → List ℕ → Listed → List ℕ → List ℕ → Type 0

@@ -11,7 +11,7 @@ ghost use Rattle.trie.specs.Storing.{added};
 ghost use Rattle.head.specs.Fields.{mostWrites, headOf, longestImage, permitted, nodeWidth, usedLen};
 ghost use Rattle.paper.specs.Accepted.{Accepted};
 ghost use Rattle.key.specs.Hand.{Ready, lettersOf};
-ghost use Rattle.storing.specs.Storing.{Stop, endOf, stoppedAt, Ends};
+ghost use Rattle.storing.specs.StoreStage.{Stop, endOf, stoppedAt, Ends};
 ghost use Rattle.noting.specs.Noting.{ListsIn, Lists};
 use head::Head;
 use key::Key;

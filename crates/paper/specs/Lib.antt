@@ -5,7 +5,7 @@ pub mod Cases
 pub mod Given
 pub mod Granted
 pub mod Hearing
-pub mod InTurn
+pub mod Repeated
 pub mod Orders
 pub mod Promises
 pub mod Rows

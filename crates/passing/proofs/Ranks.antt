@@ -12,9 +12,9 @@ use lib.ListN.{length, length-append, length-map}
 use Rattle.trie.specs.Table.{Table}
 use Rattle.trie.specs.Keys.{ownKey, before, meets, firstMeeting, sift, Ascending}
 use Rattle.trie.specs.Beyond.{firstOf}
-use Rattle.trie.proofs.Order.{before-cons, before-lower, before-irrefl, before-asym}
+use Rattle.trie.proofs.Before.{before-cons, before-lower, before-irrefl, before-asym}
 use Rattle.trie.proofs.Listing.{own-cases}
-use Rattle.trie.proofs.Sift.{sift-in, sift-out, sift-append, sift-map, sift-none, sift-every, sift-length, sift-all, first-sift}
+use Rattle.trie.proofs.Filter.{sift-in, sift-out, sift-append, sift-map, sift-none, sift-every, sift-length, sift-all, first-sift}
 use Rattle.passing.specs.Passing.{keyAt, rankIn}
 
 -- The key at a position.

@@ -9,8 +9,8 @@ use lib.ListN.{length, length-append, length-map, getD}
 use Rattle.trie.specs.Table.{Table, complete, descend, valueAt}
 use Rattle.trie.specs.Keys.{keysUnder, listing, before, sift, Ascending}
 use Rattle.trie.specs.Rules.{Within, Linked}
-use Rattle.trie.proofs.Order.{before-cons}
-use Rattle.trie.proofs.Sift.{sift-none, sift-length, sift-holds, sift-ascending}
+use Rattle.trie.proofs.Before.{before-cons}
+use Rattle.trie.proofs.Filter.{sift-none, sift-length, sift-holds, sift-ascending}
 use Rattle.trie.proofs.Walk.{descend-append}
 use Rattle.trie.proofs.Listing.{under-listed, keysUnder-holds, keysUnder-ascending, same-keys}
 use Rattle.passing.specs.Passing.{passes, countAt, oneForEach}

@@ -15,7 +15,7 @@ use Rattle.trie.specs.Rules.{Framed, Linked}
 use Rattle.trie.specs.Storing.{stored}
 use Rattle.trie.proofs.Walk.{Walk, end, on, walk, follow-on, answer-stopped, where-stopped}
 use Rattle.trie.proofs.Listing.{listing-holds, keysUnder-ascending}
-use Rattle.trie.proofs.Sift.{sift-holds, sift-ascending}
+use Rattle.trie.proofs.Filter.{sift-holds, sift-ascending}
 use Rattle.trie.proofs.Count.{Alike, one-more, same-but, listed-others, stored-alike}
 use Rattle.trie.proofs.Storing.{stored-child, stored-answer}
 use Rattle.passing.specs.Passing.{passes, countAt, one}

@@ -18,7 +18,7 @@ use Rattle.trie.specs.Beyond.{keysFrom}
 use Rattle.trie.proofs.Walk.{descend-nil, follow-empty, follow-on}
 use Rattle.trie.proofs.Listing.{under, own-cases}
 use Rattle.trie.proofs.Beyond.{under-split}
-use Rattle.trie.proofs.Sift.{sift-append, sift-map, sift-none, sift-every}
+use Rattle.trie.proofs.Filter.{sift-append, sift-map, sift-none, sift-every}
 use Rattle.passing.specs.Passing.{passes, countAt}
 use Rattle.passing.specs.Weights.{sumFrom, weightAt, weightFrom}
 use Rattle.passing.proofs.Passing.{passes-here, passes-nil, passes-link, never-again, child-reached}

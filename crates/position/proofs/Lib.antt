@@ -1,6 +1,6 @@
 pub mod Plain
 pub mod Positions
 pub mod Right
-pub mod Stores
+pub mod StoreCounts
 mod Tabulated
 pub mod Unique

@@ -26,9 +26,9 @@ use Rattle.paper.specs.Calls.{tableIn, clearedBy, workAfter, storedImage, store
 use Rattle.paper.specs.Accepted.{Accepted}
 use Rattle.paper.proofs.Hearing.{first-nil, no-row, second-part, passed-row, passed-parts, heard-done, kept-lent}
 use Rattle.paper.proofs.Numbers.{AllSay, end, _then_, given-says, lowest-says, parts-say, first-says, none-heard}
-use Rattle.paper.proofs.Checking.{accepted-opens, checked, check-accepts, accepted-checks, checking-says, checkNumbers}
+use Rattle.paper.proofs.CheckCall.{accepted-opens, checked, check-accepts, accepted-checks, checking-says, checkNumbers}
 use Rattle.paper.proofs.Keying.{given-says-key}
-use Rattle.paper.proofs.Storing.{valued, valued-says}
+use Rattle.paper.proofs.StoreCall.{valued, valued-says}
 use Rattle.position.specs.Counts.{countIn, row25, row5again}
 use Rattle.position.specs.Orders.{usable, workingOut, checkingCounts, storingCounts}
 use Rattle.position.specs.Calls.{workLeft, worked, storeCountsOf}

@@ -25,15 +25,15 @@ use Rattle.paper.specs.Rows.{isNone, row14, row15}
 use Rattle.paper.specs.Given.{Given, alphabetIn, meantIn, keyIn}
 use Rattle.paper.specs.Orders.{checking, keying, byNext}
 use Rattle.paper.specs.Calls.{tableIn, workAfter, storedKeys, nextIn, foundIn, nextKeyOf}
-use Rattle.paper.specs.InTurn.{keyLeft, keyHeard}
+use Rattle.paper.specs.Repeated.{keyLeft, keyHeard}
 use Rattle.paper.specs.Accepted.{Accepted}
 use Rattle.paper.specs.Granted.{Fit}
 use Rattle.paper.proofs.Hearing.{was-false, first-nil, yes-row, no-row, second-part, passed-row, passed-parts, heard-refused, heard-done}
 use Rattle.paper.proofs.Numbers.{AllSay, end, _then_, given-says, parts-say, first-says, none-heard}
 use Rattle.paper.proofs.Keying.{Askable, askable-passes, fit-given, given-says-key}
-use Rattle.paper.proofs.Checking.{accepted-opens, accepted-checks}
-use Rattle.paper.proofs.Looking.{given-fit}
-use Rattle.paper.proofs.Nexting.{stored-exactly, stored-ascending, stored-askable, front, leaves-none, leaves-some}
+use Rattle.paper.proofs.CheckCall.{accepted-opens, accepted-checks}
+use Rattle.paper.proofs.LookUpCall.{given-fit}
+use Rattle.paper.proofs.NextKeyCall.{stored-exactly, stored-ascending, stored-askable, front, leaves-none, leaves-some}
 use Rattle.position.specs.Counts.{RightCounts}
 use Rattle.position.specs.Orders.{workingOut, checkingCounts, gettingKey, ifStored, gettingPosition}
 use Rattle.position.specs.Calls.{workLeft, placedKey, keyAtOf, positionOf}

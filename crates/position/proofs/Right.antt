@@ -23,7 +23,7 @@ use Rattle.paper.specs.Calls.{workAfter}
 use Rattle.paper.specs.Accepted.{Accepted}
 use Rattle.paper.proofs.Hearing.{untrue, first-nil, first-none, second-part, heard-done, kept-lent}
 use Rattle.paper.proofs.Numbers.{first-says, none-heard}
-use Rattle.paper.proofs.Checking.{checked, check-accepts, accepted-checks, checking-says}
+use Rattle.paper.proofs.CheckCall.{checked, check-accepts, accepted-checks, checking-says}
 use Rattle.paper.proofs.Linking.{lowest-passed, passed-lowest}
 use Rattle.position.specs.Counts.{countIn, countsIn, row25, RightCounts}
 use Rattle.position.specs.Orders.{usable, workingOut, checkingCounts}

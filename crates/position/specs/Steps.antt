@@ -5,7 +5,7 @@ use mathlib.Core.Bool.{true, false}
 use mathlib.Core.Option.{Option, none, some}
 use mathlib.Core.List.{List, []}
 use Rattle.paper.specs.Calls.{nextKeyOf}
-use Rattle.paper.specs.InTurn.{keyHeard}
+use Rattle.paper.specs.Repeated.{keyHeard}
 
 -- one step on from a key, where there is one
 unfoldable pub stepOn : List ℕ → List ℕ → List ℕ → Option (List ℕ) → Option (List ℕ)

@@ -17,11 +17,11 @@ use Rattle.passing.specs.Passing.{countAt}
 use Rattle.passing.proofs.Reached.{count-reached}
 use Rattle.paper.specs.Calls.{tableIn, storedKeys}
 use Rattle.paper.specs.Accepted.{Accepted}
-use Rattle.paper.proofs.Checking.{accepted-open, accepted-linked}
-use Rattle.paper.proofs.Nexting.{counted-fits}
+use Rattle.paper.proofs.CheckCall.{accepted-open, accepted-linked}
+use Rattle.paper.proofs.NextKeyCall.{counted-fits}
 use Rattle.position.specs.Counts.{RightCounts, countIn}
 use Rattle.ranking.specs.Ranking.{Below}
-use Rattle.ranking.proofs.Letters.{by-child}
+use Rattle.ranking.proofs.ByLetter.{by-child}
 
 -- the keys at or under a node at a depth
 abbrev pub held : Head → List ℕ → ℕ → ℕ → List (List ℕ)

@@ -1,4 +1,4 @@
 pub mod Below
-pub mod Letters
+pub mod ByLetter
 pub mod Placing
 pub mod Spotting

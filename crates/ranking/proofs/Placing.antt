@@ -15,14 +15,14 @@ use Rattle.trie.proofs.Walk.{descend-nil, descend-empty, descend-append, answer
 use Rattle.trie.proofs.Beyond.{under-split}
 use Rattle.head.specs.declared.Head.{Head}
 use Rattle.node.specs.Image.{tableOf}
-use Rattle.depths.specs.Bearing.{ownValue}
+use Rattle.depths.specs.Depths.{ownValue}
 use Rattle.depths.proofs.Links.{own-empty, own-full, own-data}
 use Rattle.passing.specs.Passing.{rankIn}
 use Rattle.passing.proofs.Ranks.{rank-nil, rank-few, rank-append, rank-own}
 use Rattle.paper.specs.Calls.{tableIn, storedKeys}
 use Rattle.ranking.specs.declared.Ranked.{Ranked}
 use Rattle.ranking.specs.Ranking.{rankedOf, underLetter, Below, lower, Room}
-use Rattle.ranking.proofs.Letters.{onward, by-child, rank-letters}
+use Rattle.ranking.proofs.ByLetter.{onward, by-child, rank-letters}
 use Rattle.ranking.proofs.Below.{Counted, held, within, one-more, below}
 
 pub record Placing (h : Head) (l k : List ℕ) (node depth passed : ℕ) : Type 0 where

@@ -16,14 +16,14 @@ use Rattle.trie.proofs.Walk.{descend-nil, answer-complete}
 use Rattle.trie.proofs.Beyond.{under-split, from-shallow}
 use Rattle.head.specs.declared.Head.{Head}
 use Rattle.node.specs.Image.{tableOf}
-use Rattle.depths.specs.Bearing.{ownValue}
+use Rattle.depths.specs.Depths.{ownValue}
 use Rattle.depths.proofs.Links.{own-empty, own-full, own-long, own-data}
 use Rattle.passing.specs.Passing.{keyAt}
 use Rattle.passing.proofs.Ranks.{at-right}
 use Rattle.paper.specs.Calls.{storedKeys}
 use Rattle.ranking.specs.declared.Branch.{Branch}
 use Rattle.ranking.specs.Ranking.{Spotted, underLetter, Below, Branches}
-use Rattle.ranking.proofs.Letters.{onward, by-child}
+use Rattle.ranking.proofs.ByLetter.{onward, by-child}
 use Rattle.ranking.proofs.Below.{Counted, held, within, one-more, below}
 
 pub record Spotting (h : Head) (l : List ℕ) (position : ℕ) (path₀ path : List ℕ) (node depth left : ℕ) : Type 0 where

@@ -29,11 +29,11 @@ use Rattle.paper.specs.Calls.{tableIn, workAfter, freshHead, freshImage, makeOf
 use Rattle.paper.specs.Accepted.{Accepted}
 use Rattle.paper.specs.Granted.{Fit, Granted}
 use Rattle.paper.proofs.Hearing.{heard-done, heard-alike}
-use Rattle.paper.proofs.Checking.{accepted-opens, accepted-checks, check-exactly, accepted-linked}
-use Rattle.paper.proofs.Looking.{given-fit}
-use Rattle.paper.proofs.Storing.{accepted-again, stored-head, stored-alphabet, stored-table, stored-change, looks-up-accepted, keying-total, granted, store-granted, store-leaves, store-passed}
-use Rattle.paper.proofs.Mending.{mend-kept, eight}
-use Rattle.paper.proofs.Fresh.{Made, make-done, fresh-head, fresh-alphabet, fresh-accepted, fresh-answers, fresh-keys}
+use Rattle.paper.proofs.CheckCall.{accepted-opens, accepted-checks, check-exactly, accepted-linked}
+use Rattle.paper.proofs.LookUpCall.{given-fit}
+use Rattle.paper.proofs.StoreCall.{accepted-again, stored-head, stored-alphabet, stored-table, stored-change, looks-up-accepted, keying-total, granted, store-granted, store-leaves, store-passed}
+use Rattle.paper.proofs.MendCall.{mend-kept, eight}
+use Rattle.paper.proofs.MakeCall.{Made, make-done, fresh-head, fresh-alphabet, fresh-accepted, fresh-answers, fresh-keys}
 use Rattle.position.specs.Calls.{worked, storeCountsOf}
 use Rattle.position.specs.Orders.{workingOut, checkingCounts, gettingKey, gettingPosition}
 use Rattle.position.proofs.Plain.{store-counts-plain, store-counts-kept}

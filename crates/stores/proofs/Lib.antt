@@ -1,1 +1,1 @@
-mod Storing
+mod StoreReturns

@@ -26,8 +26,8 @@ use Rattle.paper.specs.Answers.{saidOf, rowOf, refusalNumbers, storedOf}
 use Rattle.paper.specs.Rows.{row11, row12, row13}
 use Rattle.paper.specs.Orders.{adding}
 use Rattle.paper.proofs.Hearing.{yes-row, first-none, first-nil, passed-row, heard-refused, heard-done}
-use Rattle.paper.proofs.Storing.{none-11, none-12, none-13}
-use Rattle.storing.specs.Storing.{storeAt, stoppedAt, Allowed, Space, Builds}
+use Rattle.paper.proofs.StoreCall.{none-11, none-12, none-13}
+use Rattle.storing.specs.StoreStage.{storeAt, stoppedAt, Allowed, Space, Builds}
 use Rattle.storing.proofs.Building.{space}
 
 -- ---- the change

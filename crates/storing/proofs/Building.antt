@@ -10,8 +10,8 @@ use Rattle.head.specs.Fields.{putTotal, nodeWidth, nodePlace, usedLen}
 use Rattle.head.proofs.Places.{place-le}
 use Rattle.node.specs.Writes.{carriedOut, pathWrite, lastWrite, newNodes, totalWrite, linkWrite}
 use Rattle.node.proofs.Heads.{withTotal}
-use Rattle.node.proofs.Storing.{length-carried, carried-append}
-use Rattle.storing.specs.Storing.{Space, Builds}
+use Rattle.node.proofs.StoreOnTable.{length-carried, carried-append}
+use Rattle.storing.specs.StoreStage.{Space, Builds}
 
 -- what 12 and 13 leave
 pub space : {h : Head} {l : List ℕ} {total : ℕ} → total < 256 ^ h .a → usedLen (withTotal h total) ≤ length l → Space h l total

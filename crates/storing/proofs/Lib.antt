@@ -1,3 +1,3 @@
 pub mod Adding
 pub mod Building
-pub mod Stores
+pub mod StoreStage

@@ -15,7 +15,7 @@ ghost use Rattle.paper.specs.Answers.{rowOf, storedOf};
 ghost use Rattle.paper.specs.Orders.{adding};
 ghost use Rattle.paper.specs.Accepted.{Accepted};
 ghost use Rattle.key.specs.Hand.{Ready, lettersOf};
-ghost use Rattle.storing.specs.Storing.{storeAt, StoresIn, Stop, stoppedAt, endOf, Ends, Allowed, Space, Builds};
+ghost use Rattle.storing.specs.StoreStage.{storeAt, StoresIn, Stop, stoppedAt, endOf, Ends, Allowed, Space, Builds};
 use head::Head;
 use key::Key;
 use paper::Refusal;

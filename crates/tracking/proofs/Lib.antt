@@ -1,3 +1,3 @@
-pub mod Counts
+pub mod PathCounts
 pub mod Shifting
 pub mod Tracking

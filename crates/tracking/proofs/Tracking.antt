@@ -31,19 +31,19 @@ use Rattle.paper.specs.Calls.{tableIn, storedImage}
 use Rattle.paper.specs.Accepted.{Accepted}
 use Rattle.paper.specs.Granted.{Granted}
 use Rattle.paper.proofs.Hearing.{yes-row, no-row, first-nil, first-part, second-part, heard-refused, heard-done}
-use Rattle.paper.proofs.Checking.{head-open}
-use Rattle.paper.proofs.Storing.{stored-head, accepted-again}
+use Rattle.paper.proofs.CheckCall.{head-open}
+use Rattle.paper.proofs.StoreCall.{stored-head, accepted-again}
 use Rattle.position.specs.Counts.{row5again, RightCounts}
 use Rattle.position.specs.Calls.{worked}
 use Rattle.key.specs.declared.Key.{Key}
 use Rattle.key.specs.Hand.{Ready, lettersOf}
 use Rattle.walk.specs.declared.Walked.{Walked}
 use Rattle.walk.specs.Descent.{atRoot, walkedFrom}
-use Rattle.storing.specs.Storing.{endOf}
+use Rattle.storing.specs.StoreStage.{endOf}
 use Rattle.storing.proofs.Adding.{passed}
-use Rattle.storing.proofs.Stores.{in-hand}
+use Rattle.storing.proofs.StoreStage.{in-hand}
 use Rattle.tracking.specs.Tracking.{addingCounts, storeCounted, StoresCounted, Whole, gainOf, lossOf, Room, Shifted, Cleared}
-use Rattle.tracking.proofs.Counts.{whole, room, kept}
+use Rattle.tracking.proofs.PathCounts.{whole, room, kept}
 
 -- what a store has in hand once its key has been walked: the image's head, the key, and how many nodes are new
 pub record Hand (l : List ℕ) (h : Head) (key : Key) (o : Walked) (value new : ℕ) : Type 0 where

@@ -16,7 +16,7 @@ use Rattle.trie.proofs.Beyond.{beyond-nil, beyond-up, beyond-found}
 use Rattle.head.specs.declared.Head.{Head}
 use Rattle.node.specs.Image.{tableOf}
 use Rattle.traversal.specs.declared.Search.{Search}
-use Rattle.depths.specs.Bearing.{Bearing}
+use Rattle.depths.specs.Depths.{Bearing}
 use Rattle.traversal.specs.Search.{ahead, coming, Room, Along, Kept, Told}
 use Rattle.depths.proofs.Links.{from}
 use Rattle.traversal.proofs.Paths.{room-kept, kept-all, kept-front, kept-letter, along-root, along-kept, along-less, along-last}

@@ -8,7 +8,7 @@ use mathlib.Core.Path.{_≡_, refl, sym, _∙_, ap}
 use lib.ListN.{length, getD, take, set, length-set}
 use lib.Seq.{take-suc, take-suc-set, getD-set-same}
 use Rattle.trie.specs.Table.{Letters}
-use Rattle.trie.proofs.Letters.{letters-at}
+use Rattle.trie.proofs.LettersBelow.{letters-at}
 use Rattle.head.specs.declared.Head.{Head}
 use Rattle.node.specs.Image.{tableOf}
 use Rattle.traversal.specs.Search.{Room, Along, Followed}

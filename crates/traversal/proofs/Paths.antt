@@ -11,7 +11,7 @@ use lib.ListN.{length, getD, take, drop, set, take-append-drop}
 use lib.Seq.{take-suc, take-take, take-set-le, take-suc-set, getD-take, getD-set-same}
 use Rattle.trie.specs.Table.{complete, descend, Letters}
 use Rattle.trie.specs.Rules.{Within}
-use Rattle.trie.proofs.Letters.{letters-before}
+use Rattle.trie.proofs.LettersBelow.{letters-before}
 use Rattle.trie.proofs.Walk.{descend-nil, descend-empty, descend-on, descend-append, complete-within}
 use Rattle.head.specs.declared.Head.{Head}
 use Rattle.node.specs.Image.{tableOf}

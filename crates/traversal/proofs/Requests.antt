@@ -15,7 +15,7 @@ use Rattle.trie.proofs.Beyond.{meets-after-path, meets-at-none, meets-at-own, m
 use Rattle.head.specs.declared.Head.{Head}
 use Rattle.node.specs.Image.{tableOf}
 use Rattle.traversal.specs.declared.Search.{Search}
-use Rattle.depths.specs.Bearing.{ownValue}
+use Rattle.depths.specs.Depths.{ownValue}
 use Rattle.traversal.specs.Search.{coming, Room, Along, Followed, sought, Told}
 use Rattle.depths.proofs.Links.{own-empty, own-long, own-data}
 use Rattle.traversal.proofs.Searching.{told-same, told-here}

@@ -17,7 +17,7 @@ use Rattle.trie.proofs.Walk.{answer-complete}
 use Rattle.head.specs.declared.Head.{Head}
 use Rattle.node.specs.Image.{tableOf}
 use Rattle.traversal.specs.declared.Search.{Search}
-use Rattle.depths.specs.Bearing.{ownValue, Bearing}
+use Rattle.depths.specs.Depths.{ownValue, Bearing}
 use Rattle.traversal.specs.Search.{ahead, Room, Along, Kept, Reached, toldOf, Told}
 use Rattle.depths.proofs.Links.{own-data, own-long, own-empty, own-full, from, from-link}
 use Rattle.traversal.proofs.Paths.{room-kept, kept-all, kept-set, kept-below, kept-end, along-kept, along-more}

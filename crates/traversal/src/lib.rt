@@ -10,7 +10,7 @@ ghost use Rattle.trie.specs.Rules.{Within};
 ghost use Rattle.trie.specs.Beyond.{firstOf};
 ghost use Rattle.node.specs.Image.{Open, Masks, tableOf};
 ghost use Rattle.key.specs.Hand.{Ready, lettersOf};
-ghost use Rattle.depths.specs.Bearing.{ownValue};
+ghost use Rattle.depths.specs.Depths.{ownValue};
 ghost use Rattle.traversal.specs.Search.{ahead, coming, Room, Along, Kept, Followed, sought, Told};
 use head::Head;
 use key::Key;

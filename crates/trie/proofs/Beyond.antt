@@ -14,9 +14,9 @@ use lib.ListN.{length, length-append}
 use Rattle.trie.specs.Table.{Table, complete, descend, Letters}
 use Rattle.trie.specs.Keys.{present, ownKey, byLetter, keysUnder, firstMeeting, meets, sift}
 use Rattle.trie.specs.Beyond.{firstOf, keysFrom, beyond}
-use Rattle.trie.proofs.Letters.{letters-before, letters-after}
-use Rattle.trie.proofs.Order.{meets-empty, meets-lower, meets-cons, meets-higher, meets-none, meets-letter}
-use Rattle.trie.proofs.Sift.{sift-append, sift-map, sift-none, sift-every, sift-all, first-sift}
+use Rattle.trie.proofs.LettersBelow.{letters-before, letters-after}
+use Rattle.trie.proofs.Before.{meets-empty, meets-lower, meets-cons, meets-higher, meets-none, meets-letter}
+use Rattle.trie.proofs.Filter.{sift-append, sift-map, sift-none, sift-every, sift-all, first-sift}
 use Rattle.trie.proofs.Listing.{under, byLetter-cases, own-cases, follow-cases}
 use Rattle.trie.proofs.Walk.{Walk, end, on, walk, follow-empty, follow-on}
 

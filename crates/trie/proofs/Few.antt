@@ -11,8 +11,8 @@ use borrow.Author.Tests.{eqb-true, eqb-false, not-true, not-false}
 use Rattle.trie.specs.Table.{Table, Descent, complete, stopped, descend}
 use Rattle.trie.specs.Keys.{listing, sift, Ascending}
 use Rattle.trie.specs.Rules.{Linked}
-use Rattle.trie.proofs.Order.{before-apart}
-use Rattle.trie.proofs.Sift.{by-test, sift-every, sift-holds, sift-ascending}
+use Rattle.trie.proofs.Before.{before-apart}
+use Rattle.trie.proofs.Filter.{by-test, sift-every, sift-holds, sift-ascending}
 use Rattle.trie.proofs.Listing.{under-listed, keysUnder-ascending}
 use Rattle.trie.proofs.Walk.{one-key, complete-within}
 

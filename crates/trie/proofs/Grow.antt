@@ -14,7 +14,7 @@ use borrow.Author.Tests.{eq-eqb, eqb-true}
 use Rattle.trie.specs.Table.{Table, Descent, complete, stopped, descend, valueAt, answer, Letters}
 use Rattle.trie.specs.Rules.{Linked}
 use Rattle.trie.specs.Storing.{grow, growPath}
-use Rattle.trie.proofs.Letters.{letters-after}
+use Rattle.trie.proofs.LettersBelow.{letters-after}
 use Rattle.trie.proofs.Walk.{Walk, end, stop, on, walk, descended, where-stopped, stopped-within}
 use Rattle.trie.proofs.Walk.{descend-nil, descend-empty, descend-on, descend-append}
 

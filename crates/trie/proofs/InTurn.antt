@@ -9,8 +9,8 @@ use mathlib.Core.Path.{_≡_, refl, sym, _∙_, ap, subst}
 use lib.ListN.{length, drop-of-length-le}
 use Rattle.trie.specs.Keys.{before, meets, firstMeeting, sift, withKey, inTurn, Ascending}
 use Rattle.trie.specs.Beyond.{firstOf}
-use Rattle.trie.proofs.Order.{before-irrefl, before-trans, before-asym}
-use Rattle.trie.proofs.Sift.{by-test, sift-in, sift-out, sift-every, sift-holds, sift-length, first-sift}
+use Rattle.trie.proofs.Before.{before-irrefl, before-trans, before-asym}
+use Rattle.trie.proofs.Filter.{by-test, sift-in, sift-out, sift-every, sift-holds, sift-length, first-sift}
 
 -- the keys after the first one that comes after k
 pub sift-next : (keys : List (List ℕ)) (k : List ℕ) {m : List ℕ} {ms : List (List ℕ)} → Ascending keys

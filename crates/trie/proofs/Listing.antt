@@ -15,7 +15,7 @@ use Rattle.trie.specs.Table.{Table, complete, stopped, follow, descend, 
 use Rattle.trie.specs.Keys.{present, ownKey, byLetter, keysUnder, listing, before, firstMeeting, Ascending}
 use Rattle.trie.specs.Rules.{Framed}
 use Rattle.trie.proofs.Walk.{descend-nil, descend-on}
-use Rattle.trie.proofs.Order.{before-cons, before-lower, before-extension, before-apart, before-asym}
+use Rattle.trie.proofs.Before.{before-cons, before-lower, before-extension, before-apart, before-asym}
 
 -- Which keys are listed.
 

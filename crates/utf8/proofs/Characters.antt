@@ -11,7 +11,7 @@ use lib.Dec.{T, leb, ltb, leb→le, ltb→lt}
 use lib.ListN.{length, getD, take, drop}
 use mir.Facts.{and-yes, or-yes}
 use Rattle.field.specs.Field.{Bytes, fieldAt}
-use Rattle.field.proofs.Fields.{field-bound, same-part}
+use Rattle.field.proofs.Field.{field-bound, same-part}
 use Rattle.utf8.specs.Table37.{rows, inRange, inRanges, fitsRow, lengthBy, charLen}
 use Rattle.utf8.specs.Text.{charAt}
 

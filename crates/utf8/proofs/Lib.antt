@@ -2,4 +2,4 @@
 -- and on a loop over them. For this crate's own proofs: `Loops`.
 pub mod Characters
 pub mod Texts
-mod Loops
+mod Utf8Loops

@@ -17,7 +17,7 @@ use Rattle.trie.specs.Keys.{keysUnder}
 use Rattle.trie.proofs.Beyond.{under-split}
 use Rattle.head.specs.declared.Head.{Head}
 use Rattle.node.specs.Image.{tableOf}
-use Rattle.depths.specs.Bearing.{Bearing}
+use Rattle.depths.specs.Depths.{Bearing}
 use Rattle.counting.proofs.Counting.{left, owned, left-fruitless, left-none, left-empty, left-link}
 use Rattle.passing.specs.Weights.{weightFrom}
 use Rattle.passing.proofs.Weights.{weight-split, weight-none, weight-empty, weight-link, weight-fruitless}

@@ -12,15 +12,15 @@ use lib.Seq.{sets-eq, ext-getD, getD-append-add, getD-drop}
 use Rattle.head.specs.declared.Head.{Head}
 use Rattle.head.specs.Fields.{headOf}
 use Rattle.node.specs.Image.{tableOf}
-use Rattle.depths.specs.Bearing.{Bearing}
+use Rattle.depths.specs.Depths.{Bearing}
 use Rattle.audit.proofs.Clearing.{cleared-rest, cleared-again}
 use Rattle.counting.proofs.Counting.{owned}
 use Rattle.passing.proofs.Weights.{weight-count}
 use Rattle.passing.proofs.Reached.{count-few, count-outside, each-length, each-at}
 use Rattle.paper.specs.Calls.{tableIn, storedKeys}
 use Rattle.paper.specs.Accepted.{Accepted}
-use Rattle.paper.proofs.Checking.{accepted-linked}
-use Rattle.paper.proofs.Nexting.{counted-fits}
+use Rattle.paper.proofs.CheckCall.{accepted-linked}
+use Rattle.paper.proofs.NextKeyCall.{counted-fits}
 use Rattle.position.specs.Counts.{countIn, countsIn}
 use Rattle.position.specs.Calls.{worked}
 use Rattle.weighing.specs.Weighing.{weight, Fits, Weighed}

@@ -10,7 +10,7 @@ ghost use Rattle.head.specs.Fields.{headOf};
 ghost use Rattle.node.specs.Image.{Open, tableOf};
 ghost use Rattle.paper.specs.Accepted.{Accepted};
 ghost use Rattle.position.specs.Calls.{worked};
-ghost use Rattle.depths.specs.Bearing.{Reading};
+ghost use Rattle.depths.specs.Depths.{Reading};
 ghost use Rattle.weighing.specs.Weighing.{Weighed, Fits};
 use head::Head;
 

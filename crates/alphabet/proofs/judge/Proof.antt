@@ -9,7 +9,7 @@ use mathlib.Core.Bool.{false}
 use native.Mathlib.Omega.{arith}
 use lib.ListN.{length, take}
 use Rattle.alphabet.specs.Letters.{among}
-use Rattle.alphabet.proofs.Loops.{Judging, judging-none, judging-more, judging-ill, judging-many, judging-again, judging-all}
+use Rattle.alphabet.proofs.AlphabetLoops.{Judging, judging-none, judging-more, judging-ill, judging-many, judging-again, judging-all}
 use Rattle.alphabet.proofs.judge.Statement.{statement}
 use Rattle.alphabet.proofs.judge.Tie as tie
 

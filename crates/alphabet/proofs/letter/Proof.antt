@@ -4,7 +4,7 @@ use mathlib.Core.Path.{sym}
 use Prim.Native.Nat.{_-_}
 use native.Mathlib.Omega.{arith}
 use mathlib.Core.Bool.{false}
-use Rattle.alphabet.proofs.Loops.{Searching, searching-on, searching-found, searching-missed}
+use Rattle.alphabet.proofs.AlphabetLoops.{Searching, searching-on, searching-found, searching-missed}
 use Rattle.alphabet.proofs.letter.Statement.{statement}
 use Rattle.alphabet.proofs.letter.Tie as tie
 

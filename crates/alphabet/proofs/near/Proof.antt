@@ -3,7 +3,7 @@ use mathlib.Core.Path.{sym}
 use Prim.Native.Nat.{_-_}
 use native.Mathlib.Omega.{arith}
 use mathlib.Core.Bool.{false}
-use Rattle.alphabet.proofs.Loops.{Searching, searching-none, searching-four}
+use Rattle.alphabet.proofs.AlphabetLoops.{Searching, searching-none, searching-four}
 use Rattle.alphabet.proofs.near.Statement.{statement}
 use Rattle.alphabet.proofs.near.Tie as tie
 

@@ -2,7 +2,7 @@
 -- Assumes nothing.
 use Prim.Native.Nat.{_-_}
 use native.Mathlib.Omega.{arith}
-use Rattle.alphabet.proofs.Loops.{Searching, searching-none, searching-more, searching-all}
+use Rattle.alphabet.proofs.AlphabetLoops.{Searching, searching-none, searching-more, searching-all}
 use Rattle.alphabet.proofs.seen.Statement.{statement}
 use Rattle.alphabet.proofs.seen.Tie as tie
 

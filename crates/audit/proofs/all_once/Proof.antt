@@ -2,7 +2,7 @@
 -- Assumes nothing.
 use Prim.Native.Nat.{_-_}
 use native.Mathlib.Omega.{arith}
-use Rattle.audit.proofs.Seeking.{Sole, sole-none, sole-more, sole-all}
+use Rattle.audit.proofs.LowestFound.{Sole, sole-none, sole-more, sole-all}
 use Rattle.audit.proofs.all_once.Statement.{statement}
 use Rattle.audit.proofs.all_once.Tie as tie
 

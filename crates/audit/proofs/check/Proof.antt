@@ -1,6 +1,6 @@
 -- `audit::check` meets its contract: what opening tells stands where it refuses, and else 5 to 8 follow it. Assumes nothing.
 use borrow.Author.Needs.{needs}
-use Rattle.opening.proofs.Known.{known-opened}
+use Rattle.opening.proofs.Passed.{known-opened}
 use Rattle.audit.proofs.Verdicts.{checked-refused, checked-audited}
 use Rattle.audit.proofs.check.Statement.{statement}
 use Rattle.audit.proofs.check.Tie as tie

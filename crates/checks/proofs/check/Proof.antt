@@ -1,6 +1,6 @@
 -- `checks::check` meets its contract: the audit tells which of 1 to 8 is heard and how the working numbers are left. Assumes nothing.
 use borrow.Author.Needs.{needs}
-use Rattle.checks.proofs.Checking.{checks-refused, checks-done}
+use Rattle.checks.proofs.CheckReturns.{checks-refused, checks-done}
 use Rattle.checks.proofs.check.Statement.{statement}
 use Rattle.checks.proofs.check.Tie as tie
 

@@ -1,7 +1,7 @@
 -- `checks::count` meets its contract: 1 to 8 by the audit, and in an image that passed them as many keys as there are nodes at most.
 -- Assumes nothing.
 use borrow.Author.Needs.{needs}
-use Rattle.checks.proofs.Checking.{checked-walkable, counts-refused, counts-done}
+use Rattle.checks.proofs.CheckReturns.{checked-walkable, counts-refused, counts-done}
 use Rattle.checks.proofs.count.Statement.{statement}
 use Rattle.checks.proofs.count.Tie as tie
 

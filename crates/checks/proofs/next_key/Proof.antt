@@ -1,7 +1,7 @@
 -- `checks::next_key` meets its contract: 1 to 8 by the audit, and the rest by what stands behind it. Assumes nothing.
 use borrow.Author.Needs.{needs}
 use Rattle.audit.proofs.Verdicts.{checked-accepted, checked-head}
-use Rattle.checks.proofs.Checking.{nexts-refused, nexts-sought}
+use Rattle.checks.proofs.CheckReturns.{nexts-refused, nexts-sought}
 use Rattle.checks.proofs.next_key.Statement.{statement}
 use Rattle.checks.proofs.next_key.Tie as tie
 

@@ -4,7 +4,7 @@ use mathlib.Core.Path.{ap}
 use native.Mathlib.Omega.{arith}
 use borrow.Author.Needs.{needs}
 use Rattle.head.specs.declared.Head.{Head}
-use Rattle.comparing.proofs.Judging.{compared-refused, compared-accepted, compared-head, long-counts, long-work, zeros-work, fresh-long, compared}
+use Rattle.comparing.proofs.CompareReturns.{compared-refused, compared-accepted, compared-head, long-counts, long-work, zeros-work, fresh-long, compared}
 use Rattle.comparing.proofs.compare.Statement.{statement}
 use Rattle.comparing.proofs.compare.Tie as tie
 

@@ -1,6 +1,6 @@
 -- `counts::check_counts` meets its contract: the comparing tells what is heard and how the working numbers are left. Assumes nothing.
 use borrow.Author.Needs.{needs}
-use Rattle.counts.proofs.Counting.{check-counts-refused, check-counts-done}
+use Rattle.counts.proofs.CountsReturns.{check-counts-refused, check-counts-done}
 use Rattle.counts.proofs.check_counts.Statement.{statement}
 use Rattle.counts.proofs.check_counts.Tie as tie
 

@@ -1,7 +1,7 @@
 -- `counts::counts` meets its contract: 1 to 8 with 5 for either list by the check, and in an image that passed them the counts by the
 -- weighing. Assumes nothing.
 use borrow.Author.Needs.{needs}
-use Rattle.counts.proofs.Counting.{counts-refused, weigh-asks, counts-done}
+use Rattle.counts.proofs.CountsReturns.{counts-refused, weigh-asks, counts-done}
 use Rattle.counts.proofs.counts.Statement.{statement}
 use Rattle.counts.proofs.counts.Tie as tie
 

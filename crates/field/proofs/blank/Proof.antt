@@ -5,7 +5,7 @@ use mathlib.Core.Bool.{true≢false}
 use Prim.Native.Nat.{_-_}
 use native.Mathlib.Omega.{arith}
 use borrow.Author.Tests.{eqb-true}
-use Rattle.field.proofs.Loops.{Blanking, blanking-none, blanking-more, blanking-all}
+use Rattle.field.proofs.FieldLoops.{Blanking, blanking-none, blanking-more, blanking-all}
 use Rattle.field.proofs.blank.Statement.{statement}
 use Rattle.field.proofs.blank.Tie as tie
 

@@ -4,7 +4,7 @@ use mathlib.Core.Path.{sym}
 use Prim.Native.Nat.{ℕ, _-_}
 use native.Mathlib.Omega.{arith}
 use lib.ListN.{replicate, length-replicate, getD-replicate}
-use Rattle.field.proofs.Loops.{Laying, laying-none, laying-more, laying-all}
+use Rattle.field.proofs.FieldLoops.{Laying, laying-none, laying-more, laying-all}
 use Rattle.field.proofs.clear.Statement.{statement}
 use Rattle.field.proofs.clear.Tie as tie
 

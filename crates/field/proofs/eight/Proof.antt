@@ -3,7 +3,7 @@
 use Prim.Native.Nat.{_+_, _<_}
 use native.Mathlib.Omega.{arith}
 use borrow.Author.Needs.{needs}
-use Rattle.field.proofs.Loops.{turned}
+use Rattle.field.proofs.FieldLoops.{turned}
 use Rattle.field.proofs.eight.Statement.{statement}
 use Rattle.field.proofs.eight.Tie as tie
 

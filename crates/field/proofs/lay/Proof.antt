@@ -4,7 +4,7 @@ use mathlib.Core.Path.{refl}
 use Prim.Native.Nat.{_-_}
 use native.Mathlib.Omega.{arith}
 use lib.ListN.{length}
-use Rattle.field.proofs.Loops.{Laying, laying-none, laying-more, laying-all}
+use Rattle.field.proofs.FieldLoops.{Laying, laying-none, laying-more, laying-all}
 use Rattle.field.proofs.lay.Statement.{statement}
 use Rattle.field.proofs.lay.Tie as tie
 

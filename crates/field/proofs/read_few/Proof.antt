@@ -5,7 +5,7 @@ use Prim.Native.Nat.{ℕ, _+_, _*_, _<_, _^_}
 use native.Mathlib.Omega.{arith}
 use borrow.Author.Needs.{needs}
 use Rattle.field.specs.Field.{fieldAt}
-use Rattle.field.proofs.Fields.{field-one, field-more, field-bound}
+use Rattle.field.proofs.Field.{field-one, field-more, field-bound}
 use Rattle.field.proofs.read_few.Statement.{statement}
 use Rattle.field.proofs.read_few.Tie as tie
 

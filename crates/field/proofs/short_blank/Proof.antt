@@ -3,7 +3,7 @@ use mathlib.Core.Path.{sym}
 use mathlib.Core.Bool.{true≢false}
 use native.Mathlib.Omega.{arith}
 use borrow.Author.Tests.{eqb-true}
-use Rattle.field.proofs.Loops.{short-zeros}
+use Rattle.field.proofs.FieldLoops.{short-zeros}
 use Rattle.field.proofs.short_blank.Statement.{statement}
 use Rattle.field.proofs.short_blank.Tie as tie
 

@@ -1,6 +1,6 @@
 -- `field::tail` meets its contract: of the four bytes that end at `end`, the mask leaves the last w. Assumes nothing.
 use borrow.Author.Needs.{needs}
-use Rattle.field.proofs.Fields.{field-masked}
+use Rattle.field.proofs.Field.{field-masked}
 use Rattle.field.proofs.tail.Statement.{statement}
 use Rattle.field.proofs.tail.Tie as tie
 

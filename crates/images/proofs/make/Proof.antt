@@ -6,7 +6,7 @@ use borrow.Author.Needs.{needs}
 use borrow.Author.Tests.{not-true, not-false}
 use Rattle.paper.proofs.Hearing.{told-refused, told-passed}
 use Rattle.paper.proofs.Opening.{heard-1, passed}
-use Rattle.images.proofs.Making.{heardOf, makes-refused, makes-done, too-many}
+use Rattle.images.proofs.MakeReturns.{heardOf, makes-refused, makes-done, too-many}
 use Rattle.images.proofs.make.Statement.{statement}
 use Rattle.images.proofs.make.Tie as tie
 

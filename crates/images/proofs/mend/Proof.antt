@@ -3,7 +3,7 @@ use mathlib.Core.Path.{_∙_, ap}
 use native.Mathlib.Omega.{arith}
 use borrow.Author.Needs.{needs}
 use Rattle.paper.specs.declared.Verdict.{Verdict}
-use Rattle.images.proofs.Mending.{not-eight, lower-asks, mends-passed, mends-other, mends-lowered, mends-kept}
+use Rattle.images.proofs.MendReturns.{not-eight, lower-asks, mends-passed, mends-other, mends-lowered, mends-kept}
 use Rattle.images.proofs.mend.Statement.{statement}
 use Rattle.images.proofs.mend.Tie as tie
 

@@ -1,6 +1,6 @@
 -- `jumps::place` meets its contract: the way by counts tells the position, or that the key is not stored. Assumes nothing.
 use borrow.Author.Needs.{needs}
-use Rattle.jumps.proofs.Places.{ranks-missing, ranks-at}
+use Rattle.jumps.proofs.PositionReturns.{ranks-missing, ranks-at}
 use Rattle.jumps.proofs.place.Statement.{statement}
 use Rattle.jumps.proofs.place.Tie as tie
 

@@ -1,7 +1,7 @@
 -- `jumps::position` meets its contract: 1 to 8, 25, 9 and 10 by what stands in front of the key, and 15 or the position by what stands
 -- behind them. Assumes nothing.
 use borrow.Author.Needs.{needs}
-use Rattle.jumps.proofs.Places.{place-asks, gives-position-refused, gives-position-placed}
+use Rattle.jumps.proofs.PositionReturns.{place-asks, gives-position-refused, gives-position-placed}
 use Rattle.jumps.proofs.position.Statement.{statement}
 use Rattle.jumps.proofs.position.Tie as tie
 

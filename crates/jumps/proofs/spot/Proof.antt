@@ -3,8 +3,8 @@
 use native.Mathlib.Omega.{arith}
 use borrow.Author.Needs.{needs}
 use Rattle.ranking.proofs.Below.{Counted, counted}
-use Rattle.jumps.proofs.Spots.{root-count, few-keys, path-room, spotted-within, spotted-front, spotted-room, spotted-fits}
-use Rattle.jumps.proofs.Spots.{spots-short, spots-past, spots-found}
+use Rattle.jumps.proofs.KeyAtReturns.{root-count, few-keys, path-room, spotted-within, spotted-front, spotted-room, spotted-fits}
+use Rattle.jumps.proofs.KeyAtReturns.{spots-short, spots-past, spots-found}
 use Rattle.jumps.proofs.spot.Statement.{statement}
 use Rattle.jumps.proofs.spot.Tie as tie
 

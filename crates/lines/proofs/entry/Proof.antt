@@ -5,8 +5,8 @@ use Prim.Native.Nat.{_+_, _≤_}
 use native.Mathlib.Omega.{arith}
 use lib.ListN.{length, take, length-set}
 use Rattle.lines.specs.Lines.{Laid, keyText, entryLine}
-use Rattle.lines.proofs.Laying.{laid-long, laid-one, laid-join}
-use Rattle.lines.proofs.Texts.{decimal-end, letters-long, entry-long}
+use Rattle.lines.proofs.TextsAt.{laid-long, laid-one, laid-join}
+use Rattle.lines.proofs.LineTexts.{decimal-end, letters-long, entry-long}
 use borrow.Author.Needs.{needs}
 use Rattle.lines.proofs.entry.Statement.{statement}
 use Rattle.lines.proofs.entry.Tie as tie

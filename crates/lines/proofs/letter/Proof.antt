@@ -4,7 +4,7 @@ use mathlib.Core.Path.{refl, sym}
 use native.Mathlib.Omega.{arith}
 use lib.ListN.{length-set}
 use Rattle.lines.proofs.Digits.{decimal-one, decimal-two, decimal-three}
-use Rattle.lines.proofs.Laying.{laid-as, laid-one, laid-join}
+use Rattle.lines.proofs.TextsAt.{laid-as, laid-one, laid-join}
 use borrow.Author.Needs.{needs}
 use Rattle.lines.proofs.letter.Statement.{statement}
 use Rattle.lines.proofs.letter.Tie as tie

@@ -6,9 +6,9 @@ use native.Mathlib.Omega.{arith}
 use borrow.Author.Needs.{needs}
 use lib.ListN.{length, getD, length-set}
 use Rattle.lines.specs.Lines.{Laid, decimal}
-use Rattle.lines.proofs.Texts.{key-none}
-use Rattle.lines.proofs.Laying.{laid-long, laid-as, laid-one}
-use Rattle.lines.proofs.Loops.{Spelling, spelling-none, spelling-more, spelling-room, spelling-all}
+use Rattle.lines.proofs.LineTexts.{key-none}
+use Rattle.lines.proofs.TextsAt.{laid-long, laid-as, laid-one}
+use Rattle.lines.proofs.LineLoops.{Spelling, spelling-none, spelling-more, spelling-room, spelling-all}
 use Rattle.lines.proofs.letters.Statement.{statement}
 use Rattle.lines.proofs.letters.Tie as tie
 

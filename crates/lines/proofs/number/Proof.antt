@@ -3,7 +3,7 @@
 use borrow.Author.Needs.{needs}
 use native.Mathlib.Omega.{arith}
 use Rattle.lines.proofs.Digits.{decimal-long}
-use Rattle.lines.proofs.Loops.{Filling, filling-none, filling-more, filling-all}
+use Rattle.lines.proofs.LineLoops.{Filling, filling-none, filling-more, filling-all}
 use Rattle.lines.proofs.number.Statement.{statement}
 use Rattle.lines.proofs.number.Tie as tie
 

@@ -6,8 +6,8 @@ use native.Mathlib.Omega.{arith}
 use borrow.Author.Needs.{needs}
 use lib.ListN.{length}
 use lib.Seq.{length-take-le}
-use Rattle.lines.proofs.Laying.{laid-long}
-use Rattle.lines.proofs.Texts.{entries-long}
+use Rattle.lines.proofs.TextsAt.{laid-long}
+use Rattle.lines.proofs.LineTexts.{entries-long}
 use Rattle.depths.proofs.Walkable.{Walkable, walkable, short}
 use Rattle.traversal.proofs.Walking.{met, Walking, walks-on}
 use Rattle.list.proofs.list.Statement.{statement}

@@ -5,8 +5,8 @@ use native.Mathlib.Omega.{arith}
 use borrow.Author.Needs.{needs}
 use lib.ListN.{length}
 use lib.Seq.{length-take-le}
-use Rattle.lines.proofs.Laying.{laid-long}
-use Rattle.lines.proofs.Texts.{refused-long}
+use Rattle.lines.proofs.TextsAt.{laid-long}
+use Rattle.lines.proofs.LineTexts.{refused-long}
 use Rattle.list.proofs.refuse.Statement.{statement}
 use Rattle.list.proofs.refuse.Tie as tie
 

@@ -1,8 +1,8 @@
 -- `lookups::look_up` meets its contract: 1 to 4 by the opening, 9 and 10 by the key in hand, 6 or the value by the walk. Assumes nothing.
 use borrow.Author.Needs.{needs}
 use Rattle.key.proofs.Keyed.{by-letters}
-use Rattle.opening.proofs.Known.{known-opened}
-use Rattle.lookups.proofs.Reading.{looks-up-unopened, looks-up-unkeyed, looks-up-found}
+use Rattle.opening.proofs.Passed.{known-opened}
+use Rattle.lookups.proofs.LookUpReturns.{looks-up-unopened, looks-up-unkeyed, looks-up-found}
 use Rattle.lookups.proofs.look_up.Statement.{statement}
 use Rattle.lookups.proofs.look_up.Tie as tie
 

@@ -4,8 +4,8 @@ use mathlib.Core.Path.{refl}
 use borrow.Author.Needs.{needs}
 use Rattle.paper.proofs.Hearing.{told-passed}
 use Rattle.key.proofs.Keyed.{by-text}
-use Rattle.opening.proofs.Known.{known-opened}
-use Rattle.lookups.proofs.Reading.{looks-up-unopened, looks-up-unkeyed, looks-up-found}
+use Rattle.opening.proofs.Passed.{known-opened}
+use Rattle.lookups.proofs.LookUpReturns.{looks-up-unopened, looks-up-unkeyed, looks-up-found}
 use Rattle.lookups.proofs.look_up_text.Statement.{statement}
 use Rattle.lookups.proofs.look_up_text.Tie as tie
 

@@ -5,7 +5,7 @@ use native.Mathlib.Omega.{arith}
 use borrow.Author.Needs.{needs}
 use lib.ListN.{length}
 use Rattle.head.specs.Fields.{fieldsLen, nodeWidth}
-use Rattle.paper.proofs.Fresh.{whole}
+use Rattle.paper.proofs.MakeCall.{whole}
 use Rattle.making.proofs.Parts.{written}
 use Rattle.making.proofs.fresh.Statement.{statement}
 use Rattle.making.proofs.fresh.Tie as tie

@@ -1,7 +1,7 @@
 -- `node::childless` meets its contract: links whose bytes are 0 are empty. Assumes nothing.
 use native.Mathlib.Omega.{arith}
 use borrow.Author.Needs.{needs}
-use Rattle.node.proofs.Places.{data-inside, data-from, inside-room}
+use Rattle.node.proofs.FieldPlaces.{data-inside, data-from, inside-room}
 use Rattle.node.proofs.Nodes.{blank-links}
 use Rattle.node.proofs.childless.Statement.{statement}
 use Rattle.node.proofs.childless.Tie as tie

@@ -7,7 +7,7 @@ use borrow.Author.Needs.{needs}
 use Rattle.field.specs.Field.{fieldAt}
 use Rattle.head.proofs.Permitted.{bounds}
 use Rattle.node.specs.Image.{dataPlace}
-use Rattle.node.proofs.Places.{data-inside, inside-least, inside-room}
+use Rattle.node.proofs.FieldPlaces.{data-inside, inside-least, inside-room}
 use Rattle.node.proofs.Tables.{value-in}
 use Rattle.node.proofs.data_by.Statement.{statement}
 use Rattle.node.proofs.data_by.Tie as tie

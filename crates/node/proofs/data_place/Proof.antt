@@ -6,7 +6,7 @@ use mathlib.Core.Path.{ap}
 use Rattle.head.proofs.Permitted.{bounds}
 use Rattle.head.proofs.Places.{place-most}
 use Rattle.node.specs.Image.{dataPlace}
-use Rattle.node.proofs.Places.{links-most}
+use Rattle.node.proofs.FieldPlaces.{links-most}
 use borrow.Author.Needs.{needs}
 use Rattle.node.proofs.data_place.Statement.{statement}
 use Rattle.node.proofs.data_place.Tie as tie

@@ -7,7 +7,7 @@ use borrow.Author.Needs.{needs}
 use Rattle.field.specs.Field.{fieldAt}
 use Rattle.head.proofs.Permitted.{bounds}
 use Rattle.node.specs.Image.{linkPlace}
-use Rattle.node.proofs.Places.{link-inside, inside-least, inside-room}
+use Rattle.node.proofs.FieldPlaces.{link-inside, inside-least, inside-room}
 use Rattle.node.proofs.Tables.{child-in}
 use Rattle.node.proofs.link.Statement.{statement}
 use Rattle.node.proofs.link.Tie as tie

@@ -6,7 +6,7 @@ use Prim.Native.Nat.{ℕ}
 use Rattle.field.specs.Field.{putField}
 use Rattle.node.specs.Image.{dataPlace, tableOf}
 use Rattle.node.specs.Writes.{carriedOut, dataWrite}
-use Rattle.node.proofs.Places.{data-inside, inside-room}
+use Rattle.node.proofs.FieldPlaces.{data-inside, inside-room}
 use Rattle.node.proofs.Writes.{table-data}
 use borrow.Author.Needs.{needs}
 use Rattle.node.proofs.set_data.Statement.{statement}

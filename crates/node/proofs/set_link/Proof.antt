@@ -6,7 +6,7 @@ use Prim.Native.Nat.{ℕ}
 use Rattle.field.specs.Field.{putField}
 use Rattle.node.specs.Image.{linkPlace, tableOf}
 use Rattle.node.specs.Writes.{carriedOut, linkWrite}
-use Rattle.node.proofs.Places.{link-inside, inside-room}
+use Rattle.node.proofs.FieldPlaces.{link-inside, inside-room}
 use Rattle.node.proofs.Writes.{table-link}
 use borrow.Author.Needs.{needs}
 use Rattle.node.proofs.set_link.Statement.{statement}

@@ -2,7 +2,7 @@
 use native.Mathlib.Omega.{arith}
 use mathlib.Core.Path.{sym, _∙_}
 use Rattle.node.specs.Writes.{carriedOut}
-use Rattle.node.proofs.Places.{data-inside}
+use Rattle.node.proofs.FieldPlaces.{data-inside}
 use Rattle.node.proofs.Nodes.{last-node}
 use borrow.Author.Needs.{needs}
 use Rattle.node.proofs.write_last.Statement.{statement}

@@ -2,7 +2,7 @@
 use native.Mathlib.Omega.{arith}
 use mathlib.Core.Path.{sym, _∙_}
 use Rattle.node.specs.Writes.{carriedOut}
-use Rattle.node.proofs.Places.{link-inside}
+use Rattle.node.proofs.FieldPlaces.{link-inside}
 use Rattle.node.proofs.Nodes.{path-node}
 use borrow.Author.Needs.{needs}
 use Rattle.node.proofs.write_path.Statement.{statement}

@@ -5,11 +5,11 @@ use native.Mathlib.Omega.{arith}
 use borrow.Author.Needs.{needs}
 use lib.ListN.{length, drop, length-drop}
 use Rattle.head.specs.Fields.{mostLetters}
-use Rattle.node.proofs.Places.{data-inside, inside-used}
+use Rattle.node.proofs.FieldPlaces.{data-inside, inside-used}
 use Rattle.key.specs.Hand.{lettersOf}
 use Rattle.key.proofs.Hand.{letters-count, letters-from}
-use Rattle.storing.specs.Storing.{Ends}
-use Rattle.noting.proofs.Listing.{missing-left, lists-data, lists-none, lists-value}
+use Rattle.storing.specs.StoreStage.{Ends}
+use Rattle.noting.proofs.NotedPath.{missing-left, lists-data, lists-none, lists-value}
 use Rattle.noting.proofs.list.Statement.{statement}
 use Rattle.noting.proofs.list.Tie as tie
 

@@ -5,14 +5,14 @@ use mathlib.Core.Path.{_≡_, refl}
 use native.Mathlib.Omega.{arith}
 use borrow.Author.Needs.{needs}
 use lib.ListN.{length, getD, take, drop, length-drop, take-append-drop}
-use Rattle.trie.proofs.Letters.{letters-after}
+use Rattle.trie.proofs.LettersBelow.{letters-after}
 use Rattle.head.specs.Fields.{mostLetters, totalAt, totalLen, longestImage}
 use Rattle.head.proofs.Permitted.{bounds}
 use Rattle.head.proofs.Places.{width-most}
-use Rattle.node.proofs.Places.{link-inside, inside-used}
+use Rattle.node.proofs.FieldPlaces.{link-inside, inside-used}
 use Rattle.key.specs.Hand.{lettersOf}
 use Rattle.key.proofs.Hand.{letters-count, letters-from, letter-below}
-use Rattle.noting.proofs.Listing.{Noting, noting-start, noting-room, noting-on, noting-end, lists-path}
+use Rattle.noting.proofs.NotedPath.{Noting, noting-start, noting-room, noting-on, noting-end, lists-path}
 use Rattle.noting.proofs.list_path.Statement.{statement}
 use Rattle.noting.proofs.list_path.Tie as tie
 

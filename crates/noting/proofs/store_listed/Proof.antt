@@ -6,9 +6,9 @@ use mir.Facts.{toZ-ofZ}
 use borrow.Author.Needs.{needs, sfits-of}
 use lib.ListN.{length}
 use Rattle.head.specs.Fields.{mostLetters}
-use Rattle.paper.proofs.Checking.{head-open}
+use Rattle.paper.proofs.CheckCall.{head-open}
 use Rattle.key.specs.Hand.{lettersOf}
-use Rattle.storing.proofs.Stores.{ends}
+use Rattle.storing.proofs.StoreStage.{ends}
 use Rattle.noting.proofs.Noting.{lists-refused, lists-room, lists-done}
 use Rattle.noting.proofs.store_listed.Statement.{statement}
 use Rattle.noting.proofs.store_listed.Tie as tie

@@ -6,7 +6,7 @@ use mathlib.Core.Path.{_≡_}
 use lib.ListN.{length, getD}
 use borrow.Author.Needs.{needs}
 use Rattle.head.proofs.Permitted.{bounds}
-use Rattle.ranking.proofs.Letters.{sizes, below-link, Turning, turning-start, turning-empty, turning-past, turning-here, turning-none}
+use Rattle.ranking.proofs.ByLetter.{sizes, below-link, Turning, turning-start, turning-empty, turning-past, turning-here, turning-none}
 use Rattle.ranking.proofs.branch_at.Statement.{statement}
 use Rattle.ranking.proofs.branch_at.Tie as tie
 

@@ -6,7 +6,7 @@ use lib.ListN.{length, getD}
 use native.Mathlib.Omega.{arith}
 use borrow.Author.Needs.{needs}
 use Rattle.ranking.specs.Ranking.{lower}
-use Rattle.ranking.proofs.Letters.{sizes, below-link, rest, rest-all, rest-none, rest-empty, rest-counted}
+use Rattle.ranking.proofs.ByLetter.{sizes, below-link, rest, rest-all, rest-none, rest-empty, rest-counted}
 use Rattle.ranking.proofs.passed.Statement.{statement}
 use Rattle.ranking.proofs.passed.Tie as tie
 

@@ -10,7 +10,7 @@ use Rattle.head.specs.Fields.{mostLetters}
 use Rattle.head.proofs.Fields.{length-total}
 use Rattle.head.proofs.Permitted.{bounds}
 use Rattle.head.proofs.Places.{place-least}
-use Rattle.node.proofs.Storing.{length-carried}
+use Rattle.node.proofs.StoreOnTable.{length-carried}
 use Rattle.key.specs.Hand.{lettersOf}
 use Rattle.key.proofs.Hand.{letters-from, letter-below}
 use Rattle.storing.proofs.Building.{built}

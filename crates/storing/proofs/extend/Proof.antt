@@ -11,10 +11,10 @@ use lib.ListN.{length, getD, drop, length-drop}
 use Rattle.head.specs.Fields.{mostLetters}
 use Rattle.head.proofs.Permitted.{bounds, addresses-fit}
 use Rattle.node.specs.Writes.{carriedOut, storeWrites}
-use Rattle.node.proofs.Storing.{length-carried}
+use Rattle.node.proofs.StoreOnTable.{length-carried}
 use Rattle.key.specs.Hand.{lettersOf}
 use Rattle.key.proofs.Hand.{letters-count, letters-from}
-use Rattle.storing.specs.Storing.{stoppedAt, Space}
+use Rattle.storing.specs.StoreStage.{stoppedAt, Space}
 use Rattle.storing.proofs.Adding.{none-built, path-space, path-built}
 use Rattle.storing.proofs.extend.Statement.{statement}
 use Rattle.storing.proofs.extend.Tie as tie

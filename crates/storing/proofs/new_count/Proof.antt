@@ -6,8 +6,8 @@ use borrow.Author.Needs.{needs}
 use lib.ListN.{length}
 use Rattle.head.specs.Fields.{mostLetters}
 use Rattle.key.proofs.Hand.{letters-count, letters-from}
-use Rattle.storing.specs.Storing.{Stop, Ends}
-use Rattle.storing.proofs.Stores.{count-none, count-over, count-path}
+use Rattle.storing.specs.StoreStage.{Stop, Ends}
+use Rattle.storing.proofs.StoreStage.{count-none, count-over, count-path}
 use Rattle.storing.proofs.new_count.Statement.{statement}
 use Rattle.storing.proofs.new_count.Tie as tie
 

@@ -10,7 +10,7 @@ use Rattle.head.specs.Fields.{mostLetters}
 use Rattle.head.proofs.Permitted.{bounds, addresses-fit}
 use Rattle.key.specs.Hand.{lettersOf}
 use Rattle.key.proofs.Hand.{letters-count, letters-from, letter-below}
-use Rattle.storing.specs.Storing.{Space}
+use Rattle.storing.specs.StoreStage.{Space}
 use Rattle.storing.proofs.Building.{Laying, laying-start, laying-room, laying-on, laying-end}
 use Rattle.storing.proofs.new_nodes.Statement.{statement}
 use Rattle.storing.proofs.new_nodes.Tie as tie

@@ -3,9 +3,9 @@ use mathlib.Core.Path.{_≡_}
 use borrow.Author.Needs.{needs}
 use lib.ListN.{length}
 use Rattle.head.specs.Fields.{mostLetters}
-use Rattle.paper.proofs.Checking.{head-open}
+use Rattle.paper.proofs.CheckCall.{head-open}
 use Rattle.key.specs.Hand.{lettersOf}
-use Rattle.storing.proofs.Stores.{ends, stores}
+use Rattle.storing.proofs.StoreStage.{ends, stores}
 use Rattle.storing.proofs.store.Statement.{statement}
 use Rattle.storing.proofs.store.Tie as tie
 

@@ -11,7 +11,7 @@ use Rattle.paper.specs.Hearing.{first}
 use Rattle.paper.specs.Orders.{adding}
 use Rattle.paper.proofs.Hearing.{told-refused, told-passed}
 use Rattle.key.specs.Hand.{lettersOf}
-use Rattle.storing.specs.Storing.{endOf}
+use Rattle.storing.specs.StoreStage.{endOf}
 use Rattle.storing.proofs.Adding.{refuses, done}
 use Rattle.storing.proofs.store_at.Statement.{statement}
 use Rattle.storing.proofs.store_at.Tie as tie

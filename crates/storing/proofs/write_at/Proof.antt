@@ -7,9 +7,9 @@ use lib.ListN.{length}
 use Rattle.head.specs.Fields.{mostLetters}
 use Rattle.key.specs.Hand.{lettersOf}
 use Rattle.key.proofs.Hand.{letters-from}
-use Rattle.storing.specs.Storing.{Ends}
+use Rattle.storing.specs.StoreStage.{Ends}
 use Rattle.storing.proofs.Adding.{passed}
-use Rattle.storing.proofs.Stores.{writes-over, writes-path, allowed-path}
+use Rattle.storing.proofs.StoreStage.{writes-over, writes-path, allowed-path}
 use Rattle.storing.proofs.write_at.Statement.{statement}
 use Rattle.storing.proofs.write_at.Tie as tie
 

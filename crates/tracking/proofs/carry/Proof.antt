@@ -5,7 +5,7 @@ use mir.Val.{toZ, ofZ}
 use mir.Facts.{toZ-ofZ}
 use borrow.Author.Needs.{needs}
 use lib.IntN.{pos, negsuc}
-use Rattle.tracking.proofs.Counts.{room-more, room-fewer, shifted-more, shifted-fewer, shifted-none, some-more, some-fewer}
+use Rattle.tracking.proofs.PathCounts.{room-more, room-fewer, shifted-more, shifted-fewer, shifted-none, some-more, some-fewer}
 use Rattle.tracking.proofs.carry.Statement.{statement}
 use Rattle.tracking.proofs.carry.Tie as tie
 

@@ -10,9 +10,9 @@ use Rattle.head.specs.Fields.{mostLetters}
 use Rattle.paper.specs.Hearing.{first}
 use Rattle.paper.specs.Orders.{adding}
 use Rattle.paper.proofs.Hearing.{told-refused, told-passed}
-use Rattle.paper.proofs.Checking.{head-open}
-use Rattle.storing.specs.Storing.{Ends}
-use Rattle.storing.proofs.Stores.{ends}
+use Rattle.paper.proofs.CheckCall.{head-open}
+use Rattle.storing.specs.StoreStage.{Ends}
+use Rattle.storing.proofs.StoreStage.{ends}
 use Rattle.tracking.proofs.Tracking.{Hand, refused, too-few, allows, carries, done, last-fits}
 use Rattle.tracking.proofs.store_counted.Statement.{statement}
 use Rattle.tracking.proofs.store_counted.Tie as tie

@@ -8,7 +8,7 @@ use lib.ListN.{getD}
 use mathlib.Core.List.{[]}
 use Rattle.utf8.specs.Table37.{rows, charLen}
 use Rattle.utf8.proofs.Characters.{char-len-few}
-use Rattle.utf8.proofs.Loops.{Consulting, consulting-none, consulting-more, consulting-fits, consulting-all}
+use Rattle.utf8.proofs.Utf8Loops.{Consulting, consulting-none, consulting-more, consulting-fits, consulting-all}
 use Rattle.utf8.proofs.char_len.Statement.{statement}
 use Rattle.utf8.proofs.char_len.Tie as tie
 

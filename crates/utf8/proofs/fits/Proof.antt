@@ -5,7 +5,7 @@ use mathlib.Core.Path.{sym, _∙_}
 use native.Mathlib.Omega.{arith}
 use borrow.Author.Tests.{not-true, not-false}
 use borrow.Author.Needs.{needs}
-use Rattle.utf8.proofs.Loops.{Testing, testing-none, testing-more, testing-fails, testing-all, fits-not, fits-if}
+use Rattle.utf8.proofs.Utf8Loops.{Testing, testing-none, testing-more, testing-fails, testing-all, fits-not, fits-if}
 use Rattle.utf8.proofs.fits.Statement.{statement}
 use Rattle.utf8.proofs.fits.Tie as tie
 

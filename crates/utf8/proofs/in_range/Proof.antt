@@ -2,7 +2,7 @@
 -- Assumes nothing.
 use mathlib.Core.Path.{sym}
 use Rattle.utf8.specs.Table37.{inRange}
-use Rattle.utf8.proofs.Loops.{third-byte}
+use Rattle.utf8.proofs.Utf8Loops.{third-byte}
 use borrow.Author.Needs.{needs}
 use Rattle.utf8.proofs.in_range.Statement.{statement}
 use Rattle.utf8.proofs.in_range.Tie as tie

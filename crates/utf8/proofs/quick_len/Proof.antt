@@ -3,7 +3,7 @@ use mathlib.Core.Path.{sym, _∙_}
 use native.Mathlib.Omega.{arith}
 use borrow.Author.Needs.{needs}
 use Rattle.utf8.specs.Table37.{rows, charLen}
-use Rattle.utf8.proofs.Loops.{consulting-none, consulting-fits}
+use Rattle.utf8.proofs.Utf8Loops.{consulting-none, consulting-fits}
 use Rattle.utf8.proofs.quick_len.Statement.{statement}
 use Rattle.utf8.proofs.quick_len.Tie as tie
 

@@ -18,7 +18,7 @@ use Rattle.node.specs.Writes.{carriedOut, dataWrite, storeWrites}
 use Rattle.paper.specs.declared.Stored.{Stored}
 use Rattle.paper.specs.Calls.{tableIn}
 use Rattle.paper.specs.Accepted.{Accepted}
-use Rattle.paper.proofs.Storing.{unfaulted}
+use Rattle.paper.proofs.StoreCall.{unfaulted}
 use Rattle.key.specs.declared.Key.{Key}
 use Rattle.key.specs.Hand.{lettersOf}
 use Rattle.key.proofs.Hand.{letters-count}
@@ -26,7 +26,7 @@ use Rattle.walk.specs.declared.Position.{Position}
 use Rattle.walk.specs.declared.Walked.{Walked}
 use Rattle.walk.specs.Descent.{atRoot, walkedFrom}
 use Rattle.walk.proofs.Descents.{Halted, walked-complete, walked-stopped, walked-bad}
-use Rattle.storing.specs.Storing.{StoresIn, endOf, stoppedAt, Ends, Allowed}
+use Rattle.storing.specs.StoreStage.{StoresIn, endOf, stoppedAt, Ends, Allowed}
 use Rattle.storing.proofs.Adding.{Leaves}
 
 -- ---- by how the walk ended

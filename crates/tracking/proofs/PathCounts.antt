@@ -26,9 +26,9 @@ use Rattle.paper.specs.Orders.{newOf}
 use Rattle.paper.specs.Calls.{tableIn, storedKeys, storedImage}
 use Rattle.paper.specs.Accepted.{Accepted}
 use Rattle.paper.specs.Granted.{Granted}
-use Rattle.paper.proofs.Checking.{accepted-linked}
-use Rattle.paper.proofs.Nexting.{counted-fits}
-use Rattle.paper.proofs.Storing.{stored-head, stored-table, accepted-again}
+use Rattle.paper.proofs.CheckCall.{accepted-linked}
+use Rattle.paper.proofs.NextKeyCall.{counted-fits}
+use Rattle.paper.proofs.StoreCall.{stored-head, stored-table, accepted-again}
 use Rattle.position.specs.Counts.{countIn, RightCounts}
 use Rattle.position.specs.Calls.{worked}
 use Rattle.position.proofs.Right.{worked-length, worked-rest, worked-at}

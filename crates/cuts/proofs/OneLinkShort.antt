@@ -12,7 +12,7 @@ use Rattle.paper.specs.Orders.{openingOf, checking}
 use Rattle.paper.specs.Calls.{tableIn, checkOf}
 use Rattle.paper.proofs.Hearing.{heard-refused}
 use Rattle.paper.proofs.Linking.{Unlinked, unlinked-8}
-use Rattle.paper.proofs.Checking.{left-6}
+use Rattle.paper.proofs.CheckCall.{left-6}
 
 module _ (l work : List ℕ) {q x c : ℕ} (u : Unlinked (headOf l .g) (tableIn l) q x c) where
   pub check-unlinked : first (openingOf l) ≡ none → headOf l .g + 1 ≤ length work → checkOf l work .numbers ≡ refusedNumbers (said 8 c)

@@ -27,8 +27,8 @@ use Rattle.position.specs.Promises.{StoresCounts}
 use Rattle.key.specs.Hand.{lettersOf, Ready}
 use Rattle.asking.specs.declared.Asked.{Asked}
 use Rattle.asking.proofs.Asking.{store-asks}
-use Rattle.asking_counts.specs.Asked.{AsksCounts}
-use Rattle.asking_counts.proofs.Asking.{asked-right, asked-length}
+use Rattle.asking_counts.specs.AskedCounts.{AsksCounts}
+use Rattle.asking_counts.proofs.AskingCounts.{asked-right, asked-length}
 use Rattle.tracking.specs.Tracking.{addingCounts, storeCounted, StoresCounted}
 
 -- ---- one buffer more, between the two

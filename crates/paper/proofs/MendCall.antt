@@ -28,7 +28,7 @@ use Rattle.paper.proofs.Hearing.{was-false, first-nil, no-row, second-p
 use Rattle.paper.proofs.Numbers.{given-says, pass-row, pass-part}
 use Rattle.paper.proofs.Opening.{passed, opening-says}
 use Rattle.paper.proofs.Linking.{eight-place}
-use Rattle.paper.proofs.Checking.{check-accepts, accepted-checks, check-exactly}
+use Rattle.paper.proofs.CheckCall.{check-accepts, accepted-checks, check-exactly}
 
 -- "accepted" in the two ways that 01 says it
 pub accepted-exactly : (l : List ℕ) → (isAccepted l ≡ true) ↔ Accepted l

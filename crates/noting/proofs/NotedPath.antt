@@ -9,7 +9,7 @@ use native.Mathlib.Numerals.{add-one}
 use native.Mathlib.Omega.{arith}
 use lib.ListN.{length, drop}
 use lib.Seq.{sets}
-use Rattle.field.proofs.Fields.{length-digits}
+use Rattle.field.proofs.Field.{length-digits}
 use Rattle.trie.specs.Table.{Letters, missing}
 use Rattle.trie.specs.Storing.{added}
 use Rattle.head.specs.declared.Head.{Head}
@@ -20,7 +20,7 @@ use Rattle.node.specs.Writes.{Write, listed, newNodes, totalWrite, linkWrite, d
 use Rattle.node.proofs.Nodes.{length-path, length-last, nodes-count}
 use Rattle.walk.specs.declared.Position.{Position}
 use Rattle.walk.specs.declared.Walked.{Walked}
-use Rattle.storing.specs.Storing.{endOf, stoppedAt}
+use Rattle.storing.specs.StoreStage.{endOf, stoppedAt}
 use Rattle.noting.specs.Noting.{Lists}
 
 -- ---- the writes of a new path

@@ -34,10 +34,10 @@ use Rattle.alphabet.specs.Letters.{among, lettersIn}
 use Rattle.node.specs.Image.{dataPlace, tableOf}
 use Rattle.node.specs.Writes.{carriedOut, dataWrite, storeWrites}
 use Rattle.node.specs.Frame.{Touched}
-use Rattle.node.proofs.Places.{data-from}
+use Rattle.node.proofs.FieldPlaces.{data-from}
 use Rattle.node.proofs.Heads.{withTotal, used-more}
 use Rattle.node.proofs.Tables.{framed}
-use Rattle.node.proofs.Storing.{length-carried, Storable, store-new, store-over, store-head}
+use Rattle.node.proofs.StoreOnTable.{length-carried, Storable, store-new, store-over, store-head}
 use Rattle.node.proofs.Frame.{EndsIn, frame, none-before, spare}
 use Rattle.paper.specs.Hearing.{Said, Row, Outcome, first, heard, outcome, doneNumbers}
 use Rattle.paper.specs.Rows.{row5, badLink, row9, row10, row11, row12, row13, rowAt, row6path}
@@ -50,9 +50,9 @@ use Rattle.paper.proofs.Hearing.{not-given, was-false, first-nil, first
 use Rattle.paper.proofs.Numbers.{AllSay, end, _then_, given-says, parts-say, first-says, one-of, none-heard}
 use Rattle.paper.proofs.Opening.{alphabet-same}
 use Rattle.paper.proofs.Keying.{keyNumbers, given-meant, fit-given, given-says-key}
-use Rattle.paper.proofs.Checking.{accepted-opens, check-accepts, accepted-checks, checking-says, checked, accepted-linked}
+use Rattle.paper.proofs.CheckCall.{accepted-opens, check-accepts, accepted-checks, checking-says, checked, accepted-linked}
 use Rattle.paper.proofs.Linking.{ruled-link}
-use Rattle.paper.proofs.Looking.{given-fit}
+use Rattle.paper.proofs.LookUpCall.{given-fit}
 
 -- ---- the head and the table after it
 

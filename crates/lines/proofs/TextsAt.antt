@@ -7,7 +7,7 @@ use native.Mathlib.Omega.{arith}
 use mathlib.Core.List.{List, [], _∷_, _++_}
 use lib.ListN.{length, set, length-append}
 use lib.Seq.{sets, length-sets}
-use Rattle.field.proofs.Laid.{sets-append, set-sets}
+use Rattle.field.proofs.Sets.{sets-append, set-sets}
 use Rattle.lines.specs.Lines.{Laid}
 
 pub laid-long : {out : List ℕ} {at : ℕ} {text : List ℕ} {end : ℕ} {out′ : List ℕ} → Laid out at text end out′ → length out′ ≡ length out

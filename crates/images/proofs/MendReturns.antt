@@ -20,11 +20,11 @@ use Rattle.paper.specs.Calls.{workAfter, checkOf, mends}
 use Rattle.paper.specs.Promises.{Mends}
 use Rattle.paper.proofs.Refusal.{the-type}
 use Rattle.paper.proofs.Hearing.{heard-refused, heard-done, told-refused, told-passed}
-use Rattle.paper.proofs.Mending.{mend-kept, mend-lowered, eight, eight-long, trial-mends, trial-work, trial-keeps}
+use Rattle.paper.proofs.MendCall.{mend-kept, mend-lowered, eight, eight-long, trial-mends, trial-work, trial-keeps}
 use Rattle.paper.proofs.Unique.{told-done}
 use Rattle.opening.specs.declared.Opened.{Opened}
 use Rattle.audit.specs.Audit.{Checked}
-use Rattle.mending.specs.Mending.{Lowers}
+use Rattle.mending.specs.Trial.{Lowers}
 
 -- a refusal is known from its numbers: 8 is that of one variant alone
 is-not-linked : (w : Refusal) → saidOf w .number ≡ 8 → w ≡ Refusal.NotLinked (saidOf w .place)

@@ -8,7 +8,7 @@ use native.Mathlib.Nat.{suc-add}
 use native.Mathlib.Numerals.{add-one}
 use native.Mathlib.Omega.{arith}
 use lib.ListN.{length}
-use Rattle.field.proofs.Fields.{length-digits}
+use Rattle.field.proofs.Field.{length-digits}
 use Rattle.trie.specs.Table.{Descent, Letters, complete, stopped, descend}
 use Rattle.trie.proofs.Walk.{complete-within}
 use Rattle.head.specs.declared.Head.{Head}
@@ -16,14 +16,14 @@ use Rattle.head.specs.Fields.{headOf, nodeWidth, nodePlace, totalLen}
 use Rattle.head.proofs.Places.{place-add, place-le, place-least}
 use Rattle.node.specs.Image.{linkPlace}
 use Rattle.node.specs.Writes.{Write, carriedOut, listed, pathNode, lastNode, newNodes, totalWrite, linkWrite, dataWrite, storeWrites}
-use Rattle.node.proofs.Places.{link-from, link-inside, data-inside, inside-used}
+use Rattle.node.proofs.FieldPlaces.{link-from, link-inside, data-inside, inside-used}
 use Rattle.node.proofs.Heads.{used-total}
 use Rattle.node.proofs.Nodes.{length-path, length-last}
 use Rattle.paper.specs.Calls.{tableIn, writesIn, storedImage}
 use Rattle.paper.specs.Granted.{Granted}
-use Rattle.paper.proofs.Storing.{able}
-use Rattle.cuts.specs.Answers.{readBack}
-use Rattle.cuts.proofs.Lists.{From, Misses, Laid, read-laid}
+use Rattle.paper.proofs.StoreCall.{able}
+use Rattle.cuts.specs.Mended.{readBack}
+use Rattle.cuts.proofs.WriteLists.{From, Misses, Laid, read-laid}
 use Rattle.cuts.proofs.Cuts.{nodes-from}
 
 -- whether the store is granted or not

@@ -10,12 +10,12 @@ use lib.Dec.{leb}
 use lib.ListN.{length, getD, set, take, drop, length-set, length-take, length-drop}
 use lib.Seq.{sets, length-sets, ext-getD, getD-take, getD-drop, getD-set-other}
 use borrow.Author.Tests.{lt-leb}
-use Rattle.field.proofs.Laid.{getD-outside, getD-inside}
+use Rattle.field.proofs.Sets.{getD-outside, getD-inside}
 use Rattle.head.specs.Fields.{headOf, usedLen}
 use Rattle.node.specs.Writes.{Write, carriedOut, listed}
-use Rattle.node.proofs.Storing.{length-carried}
+use Rattle.node.proofs.StoreOnTable.{length-carried}
 use Rattle.cuts.specs.Cut.{torn, hit, cutAfter}
-use Rattle.cuts.specs.Answers.{readBack}
+use Rattle.cuts.specs.Mended.{readBack}
 
 -- ---- the length is kept
 

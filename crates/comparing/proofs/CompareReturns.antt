@@ -20,7 +20,7 @@ use Rattle.paper.specs.Orders.{checking}
 use Rattle.paper.specs.Calls.{tableIn}
 use Rattle.paper.specs.Accepted.{Accepted}
 use Rattle.paper.proofs.Hearing.{first-nil, first-part, second-part, told-refused, told-passed}
-use Rattle.paper.proofs.Checking.{check-accepts, checked}
+use Rattle.paper.proofs.CheckCall.{check-accepts, checked}
 use Rattle.position.specs.Counts.{countIn, countsIn, row25}
 use Rattle.position.specs.Orders.{usable, workingOut, checkingCounts}
 use Rattle.position.specs.Calls.{workLeft, worked}
@@ -28,7 +28,7 @@ use Rattle.position.proofs.Plain.{both-lent, work-left}
 use Rattle.position.proofs.Right.{counts-length, worked-length, worked-right}
 use Rattle.opening.specs.declared.Opened.{Opened}
 use Rattle.audit.proofs.Clearing.{cleared-rest, cleared-again}
-use Rattle.audit.proofs.Seeking.{lowest-same}
+use Rattle.audit.proofs.LowestFound.{lowest-same}
 use Rattle.comparing.specs.Comparing.{CheckedBoth, Compared}
 
 -- the counts worked out leave what stands past them

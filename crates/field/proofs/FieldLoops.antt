@@ -10,8 +10,8 @@ use mathlib.Core.List.{List, [], _∷_}
 use lib.ListN.{length, getD, set, take, length-set}
 use lib.Seq.{sets, take-all, take-suc, length-take-le}
 use Rattle.field.specs.Field.{Zeros, fieldAt, digits, putField}
-use Rattle.field.proofs.Laid.{sets-append}
-use Rattle.field.proofs.Fields.{field-zero, put-last}
+use Rattle.field.proofs.Sets.{sets-append}
+use Rattle.field.proofs.Field.{field-zero, put-last}
 
 -- s is l with the first i of vs laid at `at`
 pub record Laying (l : List ℕ) (at : ℕ) (vs s : List ℕ) (i : ℕ) : Type 0 where

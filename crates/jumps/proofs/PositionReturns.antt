@@ -30,8 +30,8 @@ use Rattle.position.specs.Calls.{workLeft, positionOf}
 use Rattle.position.specs.Promises.{GivesPosition}
 use Rattle.key.specs.Hand.{Ready, lettersOf}
 use Rattle.asking.specs.declared.Asked.{Asked}
-use Rattle.asking_counts.specs.Asked.{AsksCounts}
-use Rattle.asking_counts.proofs.Asking.{asked-right, asked-length}
+use Rattle.asking_counts.specs.AskedCounts.{AsksCounts}
+use Rattle.asking_counts.proofs.AskingCounts.{asked-right, asked-length}
 use Rattle.ranking.specs.declared.Ranked.{Ranked}
 use Rattle.ranking.specs.Ranking.{rankedOf}
 use Rattle.jumps.specs.Jumps.{ranksAs}

@@ -10,7 +10,7 @@ use lib.ListN.{length, getD, take, length-take}
 use lib.Seq.{sets}
 use Rattle.trie.specs.Table.{answer}
 use Rattle.trie.specs.Keys.{listing}
-use Rattle.trie.proofs.Sift.{sift-every}
+use Rattle.trie.proofs.Filter.{sift-every}
 use Rattle.passing.specs.Passing.{passes, countAt, keyAt}
 use Rattle.passing.proofs.Passing.{passes-here}
 use Rattle.passing.proofs.Ranks.{at-none, at-held}
@@ -28,7 +28,7 @@ use Rattle.paper.specs.Rows.{row14, row15, isNone}
 use Rattle.paper.specs.Calls.{tableIn, storedKeys}
 use Rattle.paper.specs.Accepted.{Accepted}
 use Rattle.paper.proofs.Hearing.{first-part, second-part, yes-row, no-row, first-nil, heard-refused, heard-done, told-refused, told-passed}
-use Rattle.paper.proofs.Nexting.{stored-exactly}
+use Rattle.paper.proofs.NextKeyCall.{stored-exactly}
 use Rattle.position.specs.Counts.{RightCounts}
 use Rattle.position.specs.Orders.{checkingCounts, gettingKey}
 use Rattle.position.specs.Calls.{workLeft, placedKey, keyAtOf}
@@ -36,7 +36,7 @@ use Rattle.position.specs.Promises.{GivesKey}
 use Rattle.position.proofs.Plain.{counts-checked}
 use Rattle.opening.specs.declared.Opened.{Opened}
 use Rattle.comparing.specs.Comparing.{Compared}
-use Rattle.asking_counts.proofs.Asking.{compared-right}
+use Rattle.asking_counts.proofs.AskingCounts.{compared-right}
 use Rattle.ranking.specs.declared.Spot.{Spot}
 use Rattle.ranking.specs.Ranking.{Spotted}
 use Rattle.ranking.proofs.Below.{Counted}

@@ -12,8 +12,8 @@ use Rattle.paper.specs.Hearing.{first}
 use Rattle.paper.specs.Given.{Given}
 use Rattle.paper.specs.Orders.{keying}
 use Rattle.paper.proofs.Hearing.{passed-parts, told-passed}
-use Rattle.paper.proofs.Checking.{accepted-opens}
-use Rattle.paper.proofs.Looking.{given-fit}
+use Rattle.paper.proofs.CheckCall.{accepted-opens}
+use Rattle.paper.proofs.LookUpCall.{given-fit}
 use Rattle.position.specs.Counts.{RightCounts}
 use Rattle.position.specs.Orders.{checkingCounts}
 use Rattle.position.specs.Calls.{workLeft}
@@ -24,7 +24,7 @@ use Rattle.opening.specs.declared.Opened.{Opened}
 use Rattle.comparing.specs.Comparing.{Compared}
 use Rattle.asking.specs.declared.Asked.{Asked}
 use Rattle.asking.specs.Asked.{Fronted}
-use Rattle.asking_counts.specs.Asked.{AsksCounts}
+use Rattle.asking_counts.specs.AskedCounts.{AsksCounts}
 
 pub compared-front : {l work counts : List ℕ} {r : Opened} {work′ codes : List ℕ} → Compared l work counts r work′ codes
     → Fronted (checkingCounts l work counts) (workLeft l work counts) l r work′ codes

@@ -21,7 +21,7 @@ use Rattle.head.proofs.Places.{place-add, place-le, place-least}
 use Rattle.head.proofs.Fields.{head-outside, length-total, head-total}
 use Rattle.node.specs.Image.{linkPlace, dataPlace, tableOf}
 use Rattle.node.specs.Writes.{Write, carriedOut, lastNode, pathNode, newNodes, totalWrite, linkWrite, dataWrite, storeWrites}
-use Rattle.node.proofs.Places.{link-from}
+use Rattle.node.proofs.FieldPlaces.{link-from}
 use Rattle.node.proofs.Tables.{table-eq}
 use Rattle.node.proofs.Writes.{table-outside, table-total, table-link, table-data}
 use Rattle.node.proofs.Heads.{withTotal, used-total}

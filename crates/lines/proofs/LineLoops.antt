@@ -12,8 +12,8 @@ use Rattle.field.specs.Field.{Bytes}
 use Rattle.field.proofs.Bytes.{bytes-take, bytes-drop}
 use Rattle.lines.specs.Lines.{decimal, dotted, keyText, Laid}
 use Rattle.lines.proofs.Digits.{decimal-one, decimal-more, decimal-long, letter-long, figures, length-figures, figures-all}
-use Rattle.lines.proofs.Laying.{laid-long, laid-as, laid-one, laid-join, sets-last}
-use Rattle.lines.proofs.Texts.{dotted-more, dotted-long, key-parts}
+use Rattle.lines.proofs.TextsAt.{laid-long, laid-as, laid-one, laid-join, sets-last}
+use Rattle.lines.proofs.LineTexts.{dotted-more, dotted-long, key-parts}
 
 -- `places`: x is left of v, and n is one more than the digits passed
 pub record Counting (v x n : ℕ) : Type 0 where

@@ -21,11 +21,11 @@ use Rattle.paper.specs.Given.{Given, keyIn}
 use Rattle.paper.specs.Orders.{checking, keying, newOf, storing}
 use Rattle.paper.specs.Calls.{tableIn, workAfter, writesIn, storedImage, storeOf, withList, storeWritesOf}
 use Rattle.paper.specs.Promises.{Stores, StoresWrites}
-use Rattle.paper.proofs.Storing.{valued}
+use Rattle.paper.proofs.StoreCall.{valued}
 use Rattle.paper.proofs.Unique.{refusal-said}
 use Rattle.paper.proofs.Hearing.{first-part, second-part, heard-refused, told-refused, told-passed}
 use Rattle.key.specs.Hand.{lettersOf}
-use Rattle.storing.specs.Storing.{storeAt, StoresIn}
+use Rattle.storing.specs.StoreStage.{storeAt, StoresIn}
 use Rattle.noting.specs.Noting.{ListsIn}
 use Rattle.asking.specs.declared.Asked.{Asked}
 use Rattle.asking.specs.Asked.{Asks}

@@ -15,7 +15,7 @@ use Rattle.field.specs.Field.{fieldAt}
 use Rattle.field.proofs.Range.{between-true}
 use Rattle.utf8.specs.Text.{chars}
 use Rattle.trie.specs.Table.{Letters, follow, descend, valueAt, answer, fault}
-use Rattle.trie.proofs.Letters.{letters-more}
+use Rattle.trie.proofs.LettersBelow.{letters-more}
 use Rattle.trie.proofs.Walk.{follow-empty, follow-on}
 use Rattle.trie.proofs.Faults.{fault-none, value-nil, value-empty, value-on}
 use Rattle.head.specs.declared.Head.{Head}

@@ -13,7 +13,7 @@ use lib.Arith.{digits-lt, digits-div, digits-mod, mod-mul}
 use lib.ListN.{length, getD, set, take, drop, replicate, length-append, length-drop, List·getD-append}
 use lib.Seq.{sets, getD-drop, getD-at, take-suc}
 use Rattle.field.specs.Field.{Bytes, Zeros, fieldAt, digits, putField}
-use Rattle.field.proofs.Laid.{sets-over, getD-outside, getD-inside, sets-append, set-sets, sets-same}
+use Rattle.field.proofs.Sets.{sets-over, getD-outside, getD-inside, sets-append, set-sets, sets-same}
 
 -- ---- a field is what its bytes are
 

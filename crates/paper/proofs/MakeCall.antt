@@ -10,7 +10,7 @@ use lib.IntN.{pos}
 use lib.ListN.{length, take, drop, replicate, length-append, length-replicate}
 use lib.Seq.{sets, sets-eq, length-sets, take-at, drop-at}
 use Rattle.field.specs.Field.{cleared}
-use Rattle.field.proofs.Laid.{sets-append}
+use Rattle.field.proofs.Sets.{sets-append}
 use Rattle.field.proofs.Range.{between-true}
 use Rattle.trie.specs.Table.{Table, answer}
 use Rattle.trie.proofs.Walk.{descend-nil, descend-empty, answer-complete, answer-stopped}

@@ -11,7 +11,7 @@ use mathlib.Core.Path.{_≡_, refl, sym, _∙_, ap}
 use lib.ListN.{length}
 use Rattle.trie.specs.Keys.{firstMeeting, meets, sift, Ascending}
 use Rattle.trie.specs.Beyond.{firstOf}
-use Rattle.trie.proofs.Order.{meets-any}
+use Rattle.trie.proofs.Before.{meets-any}
 
 pub sift-in : (p : List ℕ → Bool) (k : List ℕ) (l : List (List ℕ)) → p k ≡ true → sift p (k ∷ l) ≡ k ∷ sift p l
 unfolding sift

@@ -31,11 +31,11 @@ use Rattle.paper.specs.Accepted.{Accepted}
 use Rattle.paper.proofs.Numbers.{first-says, none-heard}
 use Rattle.paper.proofs.Opening.{Passed, passed}
 use Rattle.paper.proofs.Linking.{milder}
-use Rattle.paper.proofs.Checking.{check-accepts, checking-says, check-exactly}
-use Rattle.paper.proofs.Storing.{unfaulted, looks-up-open, looks-up-accepted, same-keying, same-key}
-use Rattle.paper.proofs.Mending.{accepted-exactly, mend-kept, mend-lowered, Eight, eight}
+use Rattle.paper.proofs.CheckCall.{check-accepts, checking-says, check-exactly}
+use Rattle.paper.proofs.StoreCall.{unfaulted, looks-up-open, looks-up-accepted, same-keying, same-key}
+use Rattle.paper.proofs.MendCall.{accepted-exactly, mend-kept, mend-lowered, Eight, eight}
 use Rattle.seen.proofs.Seen.{same-alphabet}
-use Rattle.cuts.specs.Answers.{mendedImage}
+use Rattle.cuts.specs.Mended.{mendedImage}
 
 -- ---- either way
 

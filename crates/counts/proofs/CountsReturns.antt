@@ -17,7 +17,7 @@ use Rattle.position.specs.Calls.{workLeft, worked, countsOf, checkCountsOf}
 use Rattle.position.specs.Promises.{WorksOut, ChecksCounts}
 use Rattle.opening.specs.declared.Opened.{Opened}
 use Rattle.comparing.specs.Comparing.{CheckedBoth, Compared}
-use Rattle.comparing.proofs.Judging.{compared-accepted, compared-head, long-counts}
+use Rattle.comparing.proofs.CompareReturns.{compared-accepted, compared-head, long-counts}
 
 module _ (l work counts : List ℕ) {r : Opened} {work′ codes : List ℕ} (o : CheckedBoth l work (length counts) r work′ codes) where
   told : rowOf (r .verdict) ≡ first (workingOut l work counts)

@@ -16,9 +16,9 @@ use borrow.Author.Tests.{le-ltb, ltb-false}
 use Rattle.trie.specs.Table.{Letters, answer}
 use Rattle.trie.specs.Keys.{meets, sift, withKey, Ascending}
 use Rattle.trie.specs.Beyond.{firstOf}
-use Rattle.trie.proofs.Order.{before-irrefl}
+use Rattle.trie.proofs.Before.{before-irrefl}
 use Rattle.trie.proofs.Listing.{First, first-some, first-none, under-listed, listing-holds, keysUnder-ascending}
-use Rattle.trie.proofs.Sift.{first-sift, first-listed, sift-all, sift-out, sift-every}
+use Rattle.trie.proofs.Filter.{first-sift, first-listed, sift-all, sift-out, sift-every}
 use Rattle.trie.proofs.InTurn.{same-turns, in-turn}
 use Rattle.trie.proofs.Few.{listing-few}
 use Rattle.head.specs.Fields.{headOf}
@@ -31,12 +31,12 @@ use Rattle.paper.specs.Answers.{said}
 use Rattle.paper.specs.Rows.{isNone, row14, row15}
 use Rattle.paper.specs.Orders.{checking, byNext, nexting}
 use Rattle.paper.specs.Calls.{tableIn, workAfter, storedKeys, nextIn, foundIn, nextKeyOf}
-use Rattle.paper.specs.InTurn.{keyLeft, keyHeard, askedAfter, askedForAll}
+use Rattle.paper.specs.Repeated.{keyLeft, keyHeard, askedAfter, askedForAll}
 use Rattle.paper.specs.Accepted.{Accepted}
 use Rattle.paper.proofs.Hearing.{was-false, first-nil, yes-row, no-row, second-part, passed-row, passed-parts, heard-refused, heard-done}
 use Rattle.paper.proofs.Numbers.{AllSay, end, _then_, given-says, parts-say, first-says, none-heard}
 use Rattle.paper.proofs.Keying.{some-found, Askable, askable-passes, next-says}
-use Rattle.paper.proofs.Checking.{checking-says, accepted-checks, accepted-linked}
+use Rattle.paper.proofs.CheckCall.{checking-says, accepted-checks, accepted-linked}
 
 -- ---- the stored keys
 

@@ -18,9 +18,9 @@ use Rattle.position.specs.Calls.{worked, countsOf, checkCountsOf, storeCountsOf
 use Rattle.position.proofs.Plain.{store-counts-plain}
 use Rattle.position.proofs.Right.{worked-right, counts-exactly, counts-leaves, counts-then-check}
 use Rattle.cuts.specs.Cut.{cutAfter}
-use Rattle.cuts.specs.Answers.{MendsTo, mendedImage}
+use Rattle.cuts.specs.Mended.{MendsTo, mendedImage}
 use Rattle.cuts.proofs.Cuts.{Mended, cut-store}
-use Rattle.cuts.proofs.Mending.{mend-zero}
+use Rattle.cuts.proofs.AfterMending.{mend-zero}
 
 -- ---- right again
 

@@ -33,9 +33,9 @@ use Rattle.paper.proofs.Hearing.{was-false, first-nil, first-some, first-none, 
 use Rattle.paper.proofs.Hearing.{heard-refused, heard-done}
 use Rattle.paper.proofs.Numbers.{Says, silent, saying, AllSay, end, _then_, given-says, parts-say, first-says, one-of}
 use Rattle.paper.proofs.Keying.{given-says-key}
-use Rattle.paper.proofs.Checking.{accepted-opens, accepted-linked}
-use Rattle.paper.proofs.Storing.{stored-head, stored-table, accepted-again, valued, valued-says, order-passed}
-use Rattle.paper.proofs.Storing.{store-passed, store-granted, store-means, store-done-exactly}
+use Rattle.paper.proofs.CheckCall.{accepted-opens, accepted-linked}
+use Rattle.paper.proofs.StoreCall.{stored-head, stored-table, accepted-again, valued, valued-says, order-passed}
+use Rattle.paper.proofs.StoreCall.{store-passed, store-granted, store-means, store-done-exactly}
 use Rattle.position.specs.Counts.{countIn, row25, row5again, RightCounts}
 use Rattle.position.specs.Orders.{usable, workingOut, checkingCounts, storingCounts}
 use Rattle.position.specs.Calls.{workLeft, worked, checkCountsOf, storeCountsOf}
