@@ -15,7 +15,7 @@ use borrow.Author.Tests.{eqb-true, eqb-false, ne-eqb, ltb-false}
 use Rattle.utf8.specs.Table37.{charLen}
 use Rattle.utf8.specs.Text.{charAt}
 use Rattle.utf8.proofs.Texts.{prepend, charsAt, Passed, passed-none, passed-more, passed-all, passed-ill}
-use Rattle.alphabet.specs.Letters.{among, allDifferent, isAlphabet, goodAlphabet, lettersIn, letters, letterOf}
+use Rattle.alphabet.specs.Letters.{among, allDifferent, isAlphabet, goodAlphabet, orEmpty, letters, letterOf}
 use Rattle.alphabet.specs.Judged.{Judged}
 use Rattle.alphabet.proofs.Alphabets.{eqb-sym, among-snoc, different-snoc, repeated-append, letter-most, letter-below, letter-behind, letter-here}
 
@@ -148,7 +148,7 @@ module _ {n : ℕ} {bytes codes : List ℕ} {count top at : ℕ} (p : Judging n 
       (rw (different-snoc (take count codes) (charAt bytes at), e) (and-false (allDifferent (take count codes)))))
 
   pub judging-all : length bytes ≤ at → Judged n bytes (eqb count n) codes
-  unfolding goodAlphabet isAlphabet letters lettersIn
+  unfolding goodAlphabet isAlphabet letters orEmpty
   judging-all h =
       record {
         good = rw (passed-all (p .passed) h, long, p .different) (sym (and-true (eqb count n)));

@@ -11,7 +11,7 @@ use Rattle.utf8.specs.Text.{chars, charsFrom}
 use lib.Dec.{eqb, ltb, leb·suc-suc}
 use lib.ListN.{length}
 use borrow.Author.Tests.{eq-eqb, ne-eqb, eqb-true, eqb-false, lt-ltb}
-use Rattle.alphabet.specs.Letters.{among, allDifferent, isAlphabet, goodAlphabet, lettersIn, letters, letterOf}
+use Rattle.alphabet.specs.Letters.{among, allDifferent, isAlphabet, goodAlphabet, orEmpty, letters, letterOf}
 
 -- ---- among
 
@@ -89,8 +89,8 @@ letter-behind (d ∷ cs) ds c e = go (eqb c d) refl (letter-behind cs ds c)
 
 -- ---- a good alphabet
 
-good-in : (n : ℕ) (o : Option (List ℕ)) → isAlphabet n o ≡ true → length (lettersIn o) ≡ n
-unfolding isAlphabet lettersIn
+good-in : (n : ℕ) (o : Option (List ℕ)) → isAlphabet n o ≡ true → length (orEmpty o) ≡ n
+unfolding isAlphabet orEmpty
 good-in n none e = let z : _≡_ {A = ℕ} 0 1 = cc in omega arith
 good-in n (some cs) e = eqb-true (length cs) n (both (eqb (length cs) n) (allDifferent cs) e .0)
 
@@ -100,6 +100,6 @@ good-length n bytes e = good-in n (chars bytes) e
 
 -- no bytes have no letters
 pub no-letters : (bytes : List ℕ) → length bytes ≡ 0 → letters bytes ≡ []
-unfolding letters lettersIn chars charsFrom
+unfolding letters orEmpty chars charsFrom
 no-letters [] e = refl
 no-letters (b ∷ bs) e = absurd (omega arith)

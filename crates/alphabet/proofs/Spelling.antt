@@ -12,7 +12,7 @@ use borrow.Author.Tests.{lt-ltb, le-ltb}
 use Rattle.utf8.specs.Table37.{charLen}
 use Rattle.utf8.specs.Text.{charAt}
 use Rattle.utf8.proofs.Texts.{prepend, charsAt, Passed, passed-none, passed-more, passed-all, passed-ill}
-use Rattle.alphabet.specs.Letters.{letterOf, withLetter, lettersOf, keyOfChars, keyOfText}
+use Rattle.alphabet.specs.Letters.{letterOf, withLetter, lettersOfChars, keyOfChars, keyOfText}
 
 -- ---- the letters of characters
 
@@ -33,30 +33,30 @@ swap n y (some xs) x = go (ltb x n) refl (ltb y n) refl
     go false p true q = rw (p, q, p)
     go false p false q = rw (p, q)
 
-pub letters-snoc : (alphabet cs : List ℕ) (c : ℕ) → lettersOf alphabet (cs ++ (c ∷ [])) ≡ thenLetter (length alphabet) (lettersOf alphabet cs) (letterOf alphabet c)
-unfolding lettersOf
+pub letters-snoc : (alphabet cs : List ℕ) (c : ℕ) → lettersOfChars alphabet (cs ++ (c ∷ [])) ≡ thenLetter (length alphabet) (lettersOfChars alphabet cs) (letterOf alphabet c)
+unfolding lettersOfChars
 letters-snoc alphabet [] c = refl
 letters-snoc alphabet (d ∷ cs) c =
-    rw (letters-snoc alphabet cs c) (swap (length alphabet) (letterOf alphabet d) (lettersOf alphabet cs) (letterOf alphabet c))
+    rw (letters-snoc alphabet cs c) (swap (length alphabet) (letterOf alphabet d) (lettersOfChars alphabet cs) (letterOf alphabet c))
 
 with-outside : (n x : ℕ) (o : Option (List ℕ)) → ltb x n ≡ false → withLetter n x o ≡ none
 unfolding withLetter
 with-outside n x none e = refl
 with-outside n x (some xs) e = rw e
 
-pub letters-outside : (alphabet cs ds : List ℕ) → lettersOf alphabet cs ≡ none → lettersOf alphabet (cs ++ ds) ≡ none
-unfolding lettersOf
+pub letters-outside : (alphabet cs ds : List ℕ) → lettersOfChars alphabet cs ≡ none → lettersOfChars alphabet (cs ++ ds) ≡ none
+unfolding lettersOfChars
 letters-outside alphabet [] ds e = cc
-letters-outside alphabet (c ∷ cs) ds e = go (lettersOf alphabet cs) refl (ltb (letterOf alphabet c) (length alphabet)) refl (letters-outside alphabet cs ds)
+letters-outside alphabet (c ∷ cs) ds e = go (lettersOfChars alphabet cs) refl (ltb (letterOf alphabet c) (length alphabet)) refl (letters-outside alphabet cs ds)
   where
-    go : (o : Option (List ℕ)) → lettersOf alphabet cs ≡ o → (t : Bool) → ltb (letterOf alphabet c) (length alphabet) ≡ t
-        → (lettersOf alphabet cs ≡ none → lettersOf alphabet (cs ++ ds) ≡ none)
-        → withLetter (length alphabet) (letterOf alphabet c) (lettersOf alphabet (cs ++ ds)) ≡ none
+    go : (o : Option (List ℕ)) → lettersOfChars alphabet cs ≡ o → (t : Bool) → ltb (letterOf alphabet c) (length alphabet) ≡ t
+        → (lettersOfChars alphabet cs ≡ none → lettersOfChars alphabet (cs ++ ds) ≡ none)
+        → withLetter (length alphabet) (letterOf alphabet c) (lettersOfChars alphabet (cs ++ ds)) ≡ none
     go none h t q next = rw (next h)
-    go (some xs) h false q next = with-outside (length alphabet) (letterOf alphabet c) (lettersOf alphabet (cs ++ ds)) q
+    go (some xs) h false q next = with-outside (length alphabet) (letterOf alphabet c) (lettersOfChars alphabet (cs ++ ds)) q
     go (some xs) h true q next = let f : some (letterOf alphabet c ∷ xs) ≡ none = rw (h, q) at e in cc
 
-key-outside : (alphabet cs : List ℕ) (rest : Option (List ℕ)) → lettersOf alphabet cs ≡ none → keyOfChars alphabet (prepend cs rest) ≡ none
+key-outside : (alphabet cs : List ℕ) (rest : Option (List ℕ)) → lettersOfChars alphabet cs ≡ none → keyOfChars alphabet (prepend cs rest) ≡ none
 unfolding keyOfChars
 key-outside alphabet cs none e = refl
 key-outside alphabet cs (some ds) e = letters-outside alphabet cs ds e
@@ -66,16 +66,16 @@ key-outside alphabet cs (some ds) e = letters-outside alphabet cs ds e
 pub record Spelling (alphabet text xs : List ℕ) (at : ℕ) : Type 0 where
   pub characters : List ℕ
   pub passed : Passed text characters at
-  pub spelled : lettersOf alphabet characters ≡ some xs
+  pub spelled : lettersOfChars alphabet characters ≡ some xs
 
 pub spelling-none : (alphabet text : List ℕ) → Spelling alphabet text [] 0
-unfolding lettersOf
+unfolding lettersOfChars
 spelling-none alphabet text = record { characters = []; passed = passed-none text; spelled = refl }
 
 -- one more character, well-formed, in the alphabet or not
 after : {alphabet text xs : List ℕ} {at : ℕ} (p : Spelling alphabet text xs at) → charLen text at ≢ 0
     → (Passed text (p .characters ++ (charAt text at ∷ [])) (at + charLen text at))
-    × (lettersOf alphabet (p .characters ++ (charAt text at ∷ [])) ≡ thenLetter (length alphabet) (some xs) (letterOf alphabet (charAt text at)))
+    × (lettersOfChars alphabet (p .characters ++ (charAt text at ∷ [])) ≡ thenLetter (length alphabet) (some xs) (letterOf alphabet (charAt text at)))
 after {alphabet} {text} {xs} {at} p h = (
   passed-more (p .passed) refl h refl,
   letters-snoc alphabet (p .characters) (charAt text at) ∙ ap (λ (o : Option (List ℕ)). thenLetter (length alphabet) o (letterOf alphabet (charAt text at))) (p .spelled),

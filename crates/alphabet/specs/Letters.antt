@@ -30,13 +30,13 @@ unfolding isAlphabet chars
 goodAlphabet n bytes = isAlphabet n (chars bytes)
 
 -- the letters of an alphabet are its characters; bytes that are not well-formed have none
-unfoldable pub lettersIn : Option (List ℕ) → List ℕ
-lettersIn none = []
-lettersIn (some cs) = cs
+unfoldable pub orEmpty : Option (List ℕ) → List ℕ
+orEmpty none = []
+orEmpty (some cs) = cs
 
 unfoldable pub letters : List ℕ → List ℕ
-unfolding lettersIn chars
-letters bytes = lettersIn (chars bytes)
+unfolding orEmpty chars
+letters bytes = orEmpty (chars bytes)
 
 -- the letter number of a character: its place in the alphabet, and the alphabet's length where it is not in it
 unfoldable pub letterOf : List ℕ → ℕ → ℕ
@@ -49,15 +49,15 @@ withLetter n x none = none
 withLetter n x (some xs) = cond (ltb x n) (some (x ∷ xs)) none
 
 -- the letter numbers of characters, none where one is outside the alphabet
-unfoldable pub lettersOf : List ℕ → List ℕ → Option (List ℕ)
+unfoldable pub lettersOfChars : List ℕ → List ℕ → Option (List ℕ)
 unfolding letterOf withLetter
-lettersOf alphabet [] = some []
-lettersOf alphabet (c ∷ cs) = withLetter (length alphabet) (letterOf alphabet c) (lettersOf alphabet cs)
+lettersOfChars alphabet [] = some []
+lettersOfChars alphabet (c ∷ cs) = withLetter (length alphabet) (letterOf alphabet c) (lettersOfChars alphabet cs)
 
 unfoldable pub keyOfChars : List ℕ → Option (List ℕ) → Option (List ℕ)
-unfolding lettersOf
+unfolding lettersOfChars
 keyOfChars alphabet none = none
-keyOfChars alphabet (some cs) = lettersOf alphabet cs
+keyOfChars alphabet (some cs) = lettersOfChars alphabet cs
 
 -- the key that a text names: none where "the text is not well-formed or has a character outside the alphabet"
 unfoldable pub keyOfText : List ℕ → List ℕ → Option (List ℕ)

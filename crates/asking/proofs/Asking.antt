@@ -13,7 +13,7 @@ use Rattle.paper.specs.declared.Verdict.{Verdict}
 use Rattle.paper.specs.Hearing.{Row, first}
 use Rattle.paper.specs.Answers.{rowOf}
 use Rattle.paper.specs.Given.{Given, asLetters, asText}
-use Rattle.paper.specs.Orders.{byLetters, byText, checking, keying}
+use Rattle.paper.specs.Orders.{lettersRows, textRows, checkOrder, keyRows}
 use Rattle.paper.specs.Accepted.{Accepted}
 use Rattle.paper.proofs.Hearing.{first-part, second-part, told-refused, told-passed}
 use Rattle.paper.proofs.Known.{Known, known}
@@ -26,7 +26,7 @@ use Rattle.key.proofs.Keyed.{Keyed, by-letters, by-text}
 use Rattle.opening.specs.declared.Opened.{Opened}
 use Rattle.audit.specs.Audit.{Checked}
 use Rattle.asking.specs.declared.Asked.{Asked}
-use Rattle.asking.specs.Asked.{AsksAfter, Fronted, Judgeable, AsksBehind}
+use Rattle.asking.specs.Asked.{AsksAfter, Fronted, Judgeable, AsksAfterFront}
 
 -- a verdict that tells of no row
 row-passed : (v : Verdict) → rowOf v ≡ none → v ≡ Verdict.Passed
@@ -42,7 +42,7 @@ row-refused v e f = let z : _≡_ {A = ℕ} 0 1 = go in omega arith
 
 -- what the check tells is what stands in front of a store
 pub checked-front : {l work : List ℕ} {r : Opened} {work′ codes : List ℕ} → Checked l work r work′ codes
-    → Fronted (checking l work) (workAfter l work) l r work′ codes
+    → Fronted (checkOrder l work) (workAfter l work) l r work′ codes
 checked-front {l} {work} o =
     record {
       verdict = o .verdict;
@@ -65,7 +65,7 @@ module _ {rows : List Row} {left l : List ℕ} {front : Opened} {work′ codes :
   asks-judged e {given} {v = v} j =
       let passed = told-passed refl e in
       record {
-        verdict = j .told ∙ sym (second-part rows (keying l given) (told-passed (o .verdict) e));
+        verdict = j .told ∙ sym (second-part rows (keyRows l given) (told-passed (o .verdict) e));
         numbers = o .numbers;
         allowed = λ f.
             let p = row-passed v f in
@@ -76,25 +76,25 @@ module _ {rows : List Row} {left l : List ℕ} {front : Opened} {work′ codes :
 
 module _ {front : Opened} where
   pub behind-refused : {codes : List ℕ} {given : Given} {r : Asked} {why : Refusal} → front .verdict ≡ Verdict.Refused why
-      → r .verdict ≡ front .verdict → AsksBehind front codes given r
+      → r .verdict ≡ front .verdict → AsksAfterFront front codes given r
   behind-refused {given = given} {r = r} e same rows left l work′ o =
       let refused = told-refused (o .verdict) e in
       record {
-        verdict = ap rowOf same ∙ o .verdict ∙ refused ∙ sym (first-part rows (keying l given) refused);
+        verdict = ap rowOf same ∙ o .verdict ∙ refused ∙ sym (first-part rows (keyRows l given) refused);
         numbers = o .numbers;
         allowed = λ f. absurd (row-refused (r .verdict) (same ∙ e) f);
       }
 
   module _ (e : front .verdict ≡ Verdict.Passed) where
     pub behind-letters : {codes : List ℕ} (key : List ℕ) {hand : Key} (v : Verdict) → hand ≡ inHand key
-        → ((k : List ℕ) → Holds hand k → rowOf v ≡ first (byLetters (front .head) k))
-        → AsksBehind front codes (asLetters key) (record { verdict = v; head = front .head; key = hand })
+        → ((k : List ℕ) → Holds hand k → rowOf v ≡ first (lettersRows (front .head) k))
+        → AsksAfterFront front codes (asLetters key) (record { verdict = v; head = front .head; key = hand })
     behind-letters key v made told rows left l work′ o =
         asks-judged o e (by-letters (known-front o (told-passed refl e)) key v made told)
 
     pub behind-text : {codes : List ℕ} (text : List ℕ) {t : Typed} (v : Verdict) → t ≡ typedAs (keyOfText (take (front .count) codes) text)
-        → ((named : Option (List ℕ)) → t ≡ typedAs named → rowOf v ≡ first (byText (front .head) named))
-        → AsksBehind front codes (asText text) (record { verdict = v; head = front .head; key = t .key })
+        → ((named : Option (List ℕ)) → t ≡ typedAs named → rowOf v ≡ first (textRows (front .head) named))
+        → AsksAfterFront front codes (asText text) (record { verdict = v; head = front .head; key = t .key })
     behind-text text v made told rows left l work′ o =
         let passed = told-passed refl e in
         asks-judged o e (by-text (known-front o passed) (o .decoded passed .codes) text v made told)

@@ -9,7 +9,7 @@ use Rattle.head.specs.Fields.{headOf, mostLinks, permitted}
 use Rattle.paper.specs.Hearing.{Row, first}
 use Rattle.paper.specs.Answers.{rowOf}
 use Rattle.paper.specs.Given.{Given, alphabetIn, keyIn}
-use Rattle.paper.specs.Orders.{checking, keying}
+use Rattle.paper.specs.Orders.{checkOrder, keyRows}
 use Rattle.paper.specs.Calls.{workAfter}
 use Rattle.paper.specs.Accepted.{Accepted}
 use Rattle.key.specs.Hand.{lettersOf, Ready}
@@ -18,7 +18,7 @@ use Rattle.opening.specs.Opened.{Decoded}
 use Rattle.asking.specs.declared.Asked.{Asked}
 
 -- what a store may count on once 10 has passed
-pub record Allowed (l key : List ℕ) (r : Asked) : Type 0 where
+pub record Admitted (l key : List ℕ) (r : Asked) : Type 0 where
   pub accepted : Accepted l
   pub head : r .head ≡ headOf l
   pub ready : Ready (r .head) (r .key)
@@ -26,13 +26,13 @@ pub record Allowed (l key : List ℕ) (r : Asked) : Type 0 where
 
 -- the rows in front, then 9 and 10 of the key; and the working numbers that are left
 pub record AsksAfter (rows : List Row) (left l : List ℕ) (given : Given) (r : Asked) (work′ : List ℕ) : Type 0 where
-  pub verdict : rowOf (r .verdict) ≡ first (rows ++ keying l given)
+  pub verdict : rowOf (r .verdict) ≡ first (rows ++ keyRows l given)
   pub numbers : work′ ≡ left
-  pub allowed : rowOf (r .verdict) ≡ none → Allowed l (keyIn l given) r
+  pub allowed : rowOf (r .verdict) ≡ none → Admitted l (keyIn l given) r
 
 -- 1 to 8 in front
 abbrev pub Asks : List ℕ → List ℕ → Given → Asked → List ℕ → Type 0
-Asks l work given r work′ = AsksAfter (checking l work) (workAfter l work) l given r work′
+Asks l work given r work′ = AsksAfter (checkOrder l work) (workAfter l work) l given r work′
 
 -- what stands in front of the key tells: which of its rows is heard, and where none is, the image opened
 pub record Fronted (rows : List Row) (left l : List ℕ) (r : Opened) (work′ codes : List ℕ) : Type 0 where
@@ -48,6 +48,6 @@ pub record Judgeable (front : Opened) : Type 0 where
   pub count : rowOf (front .verdict) ≡ none → front .count ≤ mostLinks
 
 -- the key's part, after whatever rows stood in front of it
-abbrev pub AsksBehind : Opened → List ℕ → Given → Asked → Type 0
-AsksBehind front codes given r =
+abbrev pub AsksAfterFront : Opened → List ℕ → Given → Asked → Type 0
+AsksAfterFront front codes given r =
     (rows : List Row) (left l work′ : List ℕ) → Fronted rows left l front work′ codes → AsksAfter rows left l given r work′

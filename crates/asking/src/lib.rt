@@ -4,7 +4,7 @@ ghost use mathlib.Core.Path.{_≡_};
 ghost use mathlib.Core.List.{List};
 ghost use Prim.Native.Nat.{ℕ};
 ghost use Rattle.paper.specs.Given.{asLetters, asText};
-ghost use Rattle.asking.specs.Asked.{Asks, Judgeable, AsksBehind};
+ghost use Rattle.asking.specs.Asked.{Asks, Judgeable, AsksAfterFront};
 use head::Head;
 use key::Key;
 use key::Typed;
@@ -39,7 +39,7 @@ pub fn ask_text(image: &[u8], work: &mut [u32], text: &[u8]) -> Asked
 // 9 and 10 of a key given by its letters, where nothing in front of it is heard.
 pub fn by_letters(front: Opened, letters: &[u8]) -> Asked
     requires { ⌜ Judgeable front ⌝ }
-    ensures { λ r. ⌜ ((codes : List ℕ) → AsksBehind front codes (asLetters (now (letters .entry))) r) ⌝ }
+    ensures { λ r. ⌜ ((codes : List ℕ) → AsksAfterFront front codes (asLetters (now (letters .entry))) r) ⌝ }
 {
     let verdict = front.verdict;
     let head = front.head;
@@ -60,7 +60,7 @@ pub fn by_letters(front: Opened, letters: &[u8]) -> Asked
 // front counted.
 pub fn by_text(front: Opened, codes: &[u32; Head::N_MOST as usize], text: &[u8]) -> Asked
     requires { ⌜ Judgeable front ⌝ }
-    ensures { λ r. ⌜ AsksBehind front (now (codes .entry)) (asText (now (text .entry))) r ⌝ }
+    ensures { λ r. ⌜ AsksAfterFront front (now (codes .entry)) (asText (now (text .entry))) r ⌝ }
 {
     let verdict = front.verdict;
     let head = front.head;

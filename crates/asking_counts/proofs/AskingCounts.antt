@@ -10,12 +10,12 @@ use Rattle.field.specs.Range.{between}
 use Rattle.paper.specs.declared.Verdict.{Verdict}
 use Rattle.paper.specs.Hearing.{first}
 use Rattle.paper.specs.Given.{Given}
-use Rattle.paper.specs.Orders.{keying}
+use Rattle.paper.specs.Orders.{keyRows}
 use Rattle.paper.proofs.Hearing.{passed-parts, told-passed}
 use Rattle.paper.proofs.CheckCall.{accepted-opens}
 use Rattle.paper.proofs.LookUpCall.{given-fit}
 use Rattle.position.specs.Counts.{RightCounts}
-use Rattle.position.specs.Orders.{checkingCounts}
+use Rattle.position.specs.Orders.{checkCountsOrder}
 use Rattle.position.specs.Calls.{workLeft}
 use Rattle.position.proofs.Plain.{counts-checked}
 use Rattle.position.proofs.Right.{none-25}
@@ -27,7 +27,7 @@ use Rattle.asking.specs.Asked.{Fronted}
 use Rattle.asking_counts.specs.AskedCounts.{AsksCounts}
 
 pub compared-front : {l work counts : List ℕ} {r : Opened} {work′ codes : List ℕ} → Compared l work counts r work′ codes
-    → Fronted (checkingCounts l work counts) (workLeft l work counts) l r work′ codes
+    → Fronted (checkCountsOrder l work counts) (workLeft l work counts) l r work′ codes
 compared-front {l} {work} {counts} o =
     record {
       verdict = o .verdict;
@@ -38,18 +38,18 @@ compared-front {l} {work} {counts} o =
     }
 
 -- the counts that have been compared are right
-pub compared-right : (l work counts : List ℕ) → first (checkingCounts l work counts) ≡ none → RightCounts l counts
+pub compared-right : (l work counts : List ℕ) → first (checkCountsOrder l work counts) ≡ none → RightCounts l counts
 compared-right l work counts e = let c = counts-checked l work counts e in record { long = c .listed; each = none-25 l counts .0 (c .same) }
 
 module _ {l : List ℕ} (work counts : List ℕ) {given : Given} {r : Asked} {work′ : List ℕ} (a : AsksCounts l work counts given r work′)
     (e : r .verdict ≡ Verdict.Passed) where
-  parts : (first (checkingCounts l work counts) ≡ none) × (first (keying l given) ≡ none)
-  parts = passed-parts (checkingCounts l work counts) (keying l given) (told-passed (a .verdict) e)
+  parts : (first (checkCountsOrder l work counts) ≡ none) × (first (keyRows l given) ≡ none)
+  parts = passed-parts (checkCountsOrder l work counts) (keyRows l given) (told-passed (a .verdict) e)
 
-  pub asked-compared : first (checkingCounts l work counts) ≡ none
+  pub asked-compared : first (checkCountsOrder l work counts) ≡ none
   asked-compared = parts .0
 
-  pub asked-keyed : first (keying l given) ≡ none
+  pub asked-keyed : first (keyRows l given) ≡ none
   asked-keyed = parts .1
 
   pub asked-right : RightCounts l counts

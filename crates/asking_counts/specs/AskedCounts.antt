@@ -2,10 +2,10 @@
 use Prim.Native.Nat.{ℕ}
 use mathlib.Core.List.{List}
 use Rattle.paper.specs.Given.{Given}
-use Rattle.position.specs.Orders.{checkingCounts}
+use Rattle.position.specs.Orders.{checkCountsOrder}
 use Rattle.position.specs.Calls.{workLeft}
 use Rattle.asking.specs.declared.Asked.{Asked}
 use Rattle.asking.specs.Asked.{AsksAfter}
 
 abbrev pub AsksCounts : List ℕ → List ℕ → List ℕ → Given → Asked → List ℕ → Type 0
-AsksCounts l work counts given r work′ = AsksAfter (checkingCounts l work counts) (workLeft l work counts) l given r work′
+AsksCounts l work counts given r work′ = AsksAfter (checkCountsOrder l work counts) (workLeft l work counts) l given r work′

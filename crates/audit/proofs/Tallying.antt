@@ -16,18 +16,18 @@ use Rattle.head.specs.declared.Head.{Head}
 use Rattle.node.specs.Image.{tableOf}
 use Rattle.paper.specs.Rows.{badLink, holdsBad, timesIn, times}
 use Rattle.paper.proofs.Linking.{link-within, holds-bad}
-use Rattle.audit.specs.Audit.{Kept, LinksCounted, Tallied, Tally, BadFrom}
+use Rattle.audit.specs.Audit.{RestKept, LinksCounted, Tallied, Tally, BadFrom}
 use Rattle.audit.proofs.LowestFound.{Seeking, seeking-none, seeking-more, seeking-found, seeking-all}
 
 -- ---- the working numbers from G+1 on
 
-pub kept-none : (g : ℕ) (work : List ℕ) → Kept g work work
+pub kept-none : (g : ℕ) (work : List ℕ) → RestKept g work work
 kept-none g work = record { long = refl; rest = refl }
 
-pub kept-more : {g : ℕ} {work work′ work″ : List ℕ} → Kept g work work′ → Kept g work′ work″ → Kept g work work″
+pub kept-more : {g : ℕ} {work work′ work″ : List ℕ} → RestKept g work work′ → RestKept g work′ work″ → RestKept g work work″
 kept-more a b = record { long = b .long ∙ a .long; rest = b .rest ∙ a .rest }
 
-kept-set : {g x : ℕ} (work : List ℕ) (v : ℕ) → x ≤ g → Kept g work (set work x v)
+kept-set : {g x : ℕ} (work : List ℕ) (v : ℕ) → x ≤ g → RestKept g work (set work x v)
 kept-set {g} {x} work v h = record { long = length-set work x v; rest = drop-set-lt (g + 1) work x v (omega arith) }
 
 -- ---- the links of a node
@@ -36,7 +36,7 @@ kept-set {g} {x} work v h = record { long = length-set work x v; rest = drop-set
 pub record Counting (g n : ℕ) (t : Table) (q : ℕ) (work work′ : List ℕ) (i : ℕ) : Type 0 where
   pub within : i ≤ n
   pub counted : LinksCounted g t q i work work′
-  pub kept : Kept g work work′
+  pub kept : RestKept g work work′
 
 pub counting-none : (g n : ℕ) (t : Table) (q : ℕ) (work : List ℕ) → Counting g n t q work work 0
 unfolding holdsBad timesIn
@@ -54,7 +54,7 @@ counting-room {g} {n} {t} {q} {work} {work′} {i} {c} p room good = omega (arit
 
 module _ {g n : ℕ} {t : Table} {q : ℕ} {work work′ : List ℕ} {i : ℕ} (p : Counting g n t q work work′ i) (below : i < n) where
   -- one more link, that is not bad, and working numbers in which it is counted
-  one-more : {c : ℕ} {work″ : List ℕ} → c ≡ t .child q i → badLink g q c ≡ false → Kept g work′ work″
+  one-more : {c : ℕ} {work″ : List ℕ} → c ≡ t .child q i → badLink g q c ≡ false → RestKept g work′ work″
       → ((x m : ℕ) → 1 ≤ x → getD work′ x 0 ≡ min 2 m → getD work″ x 0 ≡ min 2 (m + cond (eqb c x) 1 0))
       → Counting g n t q work work″ (i + 1)
   unfolding holdsBad timesIn
@@ -133,7 +133,7 @@ tallied-childless h l q work e = tallied-all (upto (h .n) (omega arith)) (omega 
 pub record Tallying (g n : ℕ) (t : Table) (work work′ : List ℕ) (q : ℕ) : Type 0 where
   pub seeking : Seeking (λ r. holdsBad g t r n) 0 (g + 1) q
   pub tally : Tally t n g q work′
-  pub kept : Kept g work work′
+  pub kept : RestKept g work work′
 
 pub tallying-none : (g n : ℕ) (t : Table) (work : List ℕ) → work ≡ replicate (g + 1) 0 ++ drop (g + 1) work → Tallying g n t work work 0
 unfolding times

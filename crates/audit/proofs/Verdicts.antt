@@ -20,8 +20,8 @@ use Rattle.paper.specs.declared.Refusal.{Refusal}
 use Rattle.paper.specs.declared.Verdict.{Verdict}
 use Rattle.paper.specs.Hearing.{Row, first}
 use Rattle.paper.specs.Answers.{said, rowOf}
-use Rattle.paper.specs.Rows.{givenLowest, row5, row6, row7, row8, times}
-use Rattle.paper.specs.Orders.{openingOf, linking, checking}
+use Rattle.paper.specs.Rows.{rowWhenLowest, row5, row6, row7, row8, times}
+use Rattle.paper.specs.Orders.{openingRowsOf, linkRows, checkOrder}
 use Rattle.paper.specs.Calls.{clearedBy, workAfter}
 use Rattle.paper.specs.Accepted.{Accepted}
 use Rattle.paper.proofs.Hearing.{is-given, not-given, first-nil, first-some, first-none, first-part, second-part, told-refused, told-passed}
@@ -35,13 +35,13 @@ use Rattle.audit.proofs.LowestFound.{lowest-same}
 -- ---- 6 to 8
 
 given-at : (number : ℕ) (test : ℕ → Bool) (a k : ℕ) {x : ℕ} → x ≡ lowest test a k → x < a + k
-    → givenLowest number test a k ≡ some (said number x)
-unfolding givenLowest
+    → rowWhenLowest number test a k ≡ some (said number x)
+unfolding rowWhenLowest
 given-at number test a k e b = rw (← e) (is-given number _ (lt-ltb _ _ b))
 
 given-nowhere : (number : ℕ) (test : ℕ → Bool) (a k : ℕ) {x : ℕ} → x ≡ lowest test a k → a + k ≤ x
-    → givenLowest number test a k ≡ none
-unfolding givenLowest
+    → rowWhenLowest number test a k ≡ none
+unfolding rowWhenLowest
 given-nowhere number test a k e b = rw (← e) (not-given number _ (le-ltb _ _ b))
 
 -- the tests of 7 and of 8 on a number that stops at 2
@@ -70,7 +70,7 @@ found t n g v work test tally same e =
 
 module _ {h : Head} {l work work′ : List ℕ} {bad : ℕ} (b : BadFrom h l work bad work′) where
   pub linked-bad : bad < h .g + 1 → LinksJudged h l work (Verdict.Refused (Refusal.Link bad)) work′
-  unfolding rowOf linking row6
+  unfolding rowOf linkRows row6
   linked-bad low = record { verdict = sym (first-some _ _ (given-at 6 _ 0 (h .g + 1) (b .lowest-bad) (omega arith))); kept = b .kept }
 
   module _ (high : h .g + 1 ≤ bad) {x : ℕ} (sought : FoundFrom work′ (h .g + 1) 2 x) where
@@ -82,7 +82,7 @@ module _ {h : Head} {l work work′ : List ℕ} {bad : ℕ} (b : BadFrom h l wor
     seventh = found (tableOf h l) (h .n) (h .g) 2 work′ (leb 2) (b .tally (omega arith)) twice sought
 
     pub linked-twice : x < h .g + 1 → LinksJudged h l work (Verdict.Refused (Refusal.LinkedTwice x)) work′
-    unfolding rowOf linking row7
+    unfolding rowOf linkRows row7
     linked-twice low =
         record {
           verdict = sym (first-none _ _ past-6 ∙ first-some _ _ (given-at 7 _ 1 (h .g) seventh (omega arith)));
@@ -90,8 +90,8 @@ module _ {h : Head} {l work work′ : List ℕ} {bad : ℕ} (b : BadFrom h l wor
         }
 
     module _ (none-twice : h .g + 1 ≤ x) {y : ℕ} (missed : FoundFrom work′ (h .g + 1) 0 y) where
-      past-7 : first (linking h (tableOf h l)) ≡ first (row8 h (tableOf h l) ∷ [])
-      unfolding linking row7
+      past-7 : first (linkRows h (tableOf h l)) ≡ first (row8 h (tableOf h l) ∷ [])
+      unfolding linkRows row7
       past-7 = first-none _ _ past-6 ∙ first-none _ _ (given-nowhere 7 _ 1 (h .g) seventh (omega arith))
 
       eighth : y ≡ lowest (λ z. eqb (times (tableOf h l) (h .n) z (h .g + 1)) 0) 1 (h .g)
@@ -147,16 +147,16 @@ abbrev fifth : List ℕ → List ℕ → List Row
 fifth l work = row5 (headOf l) (length work) ∷ []
 
 abbrev others : List ℕ → List ℕ → List Row
-others l work = row5 (headOf l) (length work) ∷ linking (headOf l) (tableOf (headOf l) l)
+others l work = row5 (headOf l) (length work) ∷ linkRows (headOf l) (tableOf (headOf l) l)
 
 module _ {l : List ℕ} {r : Opened} {codes : List ℕ} (o : Opens l r codes) where
   pub checked-refused : (work : List ℕ) {why : Refusal} → r .verdict ≡ Verdict.Refused why → Checked l work r work codes
-  unfolding checking workAfter clearedBy
+  unfolding checkOrder workAfter clearedBy
   checked-refused work e =
       let refused = told-refused (o .verdict) e in
       record {
-        verdict = o .verdict ∙ refused ∙ sym (first-part (openingOf l) (others l work) refused);
-        numbers = sym (ap (λ s. clearedBy s (headOf l .g + 1) work) (first-part (openingOf l) (fifth l work) refused));
+        verdict = o .verdict ∙ refused ∙ sym (first-part (openingRowsOf l) (others l work) refused);
+        numbers = sym (ap (λ s. clearedBy s (headOf l .g + 1) work) (first-part (openingRowsOf l) (fifth l work) refused));
         head = o .head;
         decoded = o .decoded;
       }
@@ -167,15 +167,15 @@ module _ {l : List ℕ} {r : Opened} {codes : List ℕ} (o : Opens l r codes) wh
 
     pub checked-audited : {work work′ : List ℕ} {v : Verdict} → Audited (r .head) l work v work′
         → Checked l work (record { verdict = v; head = r .head; count = r .count }) work′ codes
-    unfolding checking workAfter
+    unfolding checkOrder workAfter
     checked-audited {work} {work′} {v} a =
         let same : r .head ≡ headOf l = o .head none-given in
-        let n : first (openingOf l) ≡ none = told-passed (o .verdict) e in
+        let n : first (openingRowsOf l) ≡ none = told-passed (o .verdict) e in
         let b : Audited (headOf l) l work v work′ = rw same at a in
         let d = o .decoded none-given in
         record {
-          verdict = b .verdict ∙ sym (second-part (openingOf l) (others l work) n);
-          numbers = b .numbers ∙ sym (ap (λ s. clearedBy s (headOf l .g + 1) work) (second-part (openingOf l) (fifth l work) n));
+          verdict = b .verdict ∙ sym (second-part (openingRowsOf l) (others l work) n);
+          numbers = b .numbers ∙ sym (ap (λ s. clearedBy s (headOf l .g + 1) work) (second-part (openingRowsOf l) (fifth l work) n));
           head = λ _. same;
           decoded = λ _. record { count = d .count; codes = d .codes };
         }

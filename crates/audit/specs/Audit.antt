@@ -15,7 +15,7 @@ use Rattle.paper.specs.declared.Verdict.{Verdict}
 use Rattle.paper.specs.Hearing.{first}
 use Rattle.paper.specs.Answers.{rowOf}
 use Rattle.paper.specs.Given.{alphabetIn}
-use Rattle.paper.specs.Orders.{linking, checking}
+use Rattle.paper.specs.Orders.{linkRows, checkOrder}
 use Rattle.paper.specs.Rows.{row5, holdsBad, timesIn, times}
 use Rattle.paper.specs.Calls.{clearedBy, workAfter}
 use Rattle.opening.specs.declared.Opened.{Opened}
@@ -23,25 +23,25 @@ use Rattle.opening.specs.Opened.{Decoded}
 
 -- 1 to 8 of an image, and what opening it tells where none is given
 pub record Checked (l work : List ℕ) (r : Opened) (work′ codes : List ℕ) : Type 0 where
-  pub verdict : rowOf (r .verdict) ≡ first (checking l work)
+  pub verdict : rowOf (r .verdict) ≡ first (checkOrder l work)
   pub numbers : work′ ≡ workAfter l work
   pub head : rowOf (r .verdict) ≡ none → r .head ≡ headOf l
   pub decoded : rowOf (r .verdict) ≡ none → Decoded (alphabetIn (headOf l) l) r codes
 
 -- 5 to 8 of an image that is open
 pub record Audited (h : Head) (l work : List ℕ) (r : Verdict) (work′ : List ℕ) : Type 0 where
-  pub verdict : rowOf r ≡ first (row5 h (length work) ∷ linking h (tableOf h l))
+  pub verdict : rowOf r ≡ first (row5 h (length work) ∷ linkRows h (tableOf h l))
   pub numbers : work′ ≡ clearedBy (first (row5 h (length work) ∷ [])) (h .g + 1) work
 
 -- the working numbers are as many as before and, but for the first G+1, what they were
-pub record Kept (g : ℕ) (work work′ : List ℕ) : Type 0 where
+pub record RestKept (g : ℕ) (work work′ : List ℕ) : Type 0 where
   pub long : length work′ ≡ length work
   pub rest : drop (g + 1) work′ ≡ drop (g + 1) work
 
 -- 6 to 8
 pub record LinksJudged (h : Head) (l work : List ℕ) (r : Verdict) (work′ : List ℕ) : Type 0 where
-  pub verdict : rowOf r ≡ first (linking h (tableOf h l))
-  pub kept : Kept (h .g) work work′
+  pub verdict : rowOf r ≡ first (linkRows h (tableOf h l))
+  pub kept : RestKept (h .g) work work′
 
 -- the tally of the addresses 1 to g over the first k nodes: how often each stands in a link, and 2 for more
 abbrev pub Tally : Table → ℕ → ℕ → ℕ → List ℕ → Type 0
@@ -51,7 +51,7 @@ Tally t n g k work = (x : ℕ) → 1 ≤ x → x ≤ g → getD work x 0 ≡ min
 pub record BadFrom (h : Head) (l work : List ℕ) (bad : ℕ) (work′ : List ℕ) : Type 0 where
   pub lowest-bad : bad ≡ lowest (λ q. holdsBad (h .g) (tableOf h l) q (h .n)) 0 (h .g + 1)
   pub tally : h .g < bad → Tally (tableOf h l) (h .n) (h .g) (h .g + 1) work′
-  pub kept : Kept (h .g) work work′
+  pub kept : RestKept (h .g) work work′
 
 -- the first i links of node q are counted: none is bad, and each address is met as often as it stands in them
 pub record LinksCounted (g : ℕ) (t : Table) (q i : ℕ) (work work′ : List ℕ) : Type 0 where
@@ -62,7 +62,7 @@ pub record LinksCounted (g : ℕ) (t : Table) (q i : ℕ) (work work′ : List �
 pub record Tallied (h : Head) (l : List ℕ) (q : ℕ) (work : List ℕ) (r : Bool) (work′ : List ℕ) : Type 0 where
   pub counted : r ≡ true → LinksCounted (h .g) (tableOf h l) q (h .n) work work′
   pub bad : r ≡ false → holdsBad (h .g) (tableOf h l) q (h .n) ≡ true
-  pub kept : Kept (h .g) work work′
+  pub kept : RestKept (h .g) work work′
 
 -- the working numbers of the addresses from 1 on, below `nodes`, are 1
 abbrev pub AllOnce : List ℕ → ℕ → Type 0

@@ -15,15 +15,15 @@ use Rattle.paper.specs.declared.Counted.{Counted}
 use Rattle.paper.specs.declared.Found.{Found}
 use Rattle.paper.specs.Hearing.{Numbers, outcome, doneNumbers}
 use Rattle.paper.specs.Answers.{refusalNumbers, doneOf, countedOf, foundOf}
-use Rattle.paper.specs.Orders.{checking}
+use Rattle.paper.specs.Orders.{checkOrder}
 use Rattle.paper.specs.Calls.{tableIn, storedKeys, workAfter, checkOf, countOf}
-use Rattle.paper.specs.Promises.{Checks, Counts, Nexts}
+use Rattle.paper.specs.Promises.{Checks, CountsKeys, Nexts}
 use Rattle.paper.proofs.Hearing.{first-part, heard-refused, heard-done, told-refused, told-passed}
 use Rattle.opening.specs.declared.Opened.{Opened}
 use Rattle.audit.specs.Audit.{Checked}
 use Rattle.audit.proofs.Verdicts.{checked-accepted, checked-head}
 use Rattle.depths.proofs.Walkable.{Walkable, walkable}
-use Rattle.seeking.specs.Seeking.{Sought}
+use Rattle.seeking.specs.Seeking.{Seeks}
 use Rattle.seeking.proofs.Seeking.{refuses}
 
 module _ {l work : List ℕ} {r : Opened} {work′ codes : List ℕ} (o : Checked l work r work′ codes) where
@@ -39,7 +39,7 @@ module _ {l work : List ℕ} {r : Opened} {work′ codes : List ℕ} (o : Checke
   unfolding checkOf doneOf
   checks-done e = left _ ∙ sym (heard-done _ _ _ (told-passed (o .verdict) e))
 
-  pub counts-refused : {why : Refusal} → r .verdict ≡ Verdict.Refused why → Counts l work (countedOf (Counted.Refused why)) work′
+  pub counts-refused : {why : Refusal} → r .verdict ≡ Verdict.Refused why → CountsKeys l work (countedOf (Counted.Refused why)) work′
   unfolding countOf countedOf refusalNumbers
   counts-refused e = left _ ∙ sym (heard-refused _ _ _ (told-refused (o .verdict) e))
 
@@ -48,7 +48,7 @@ module _ {l work : List ℕ} {r : Opened} {work′ codes : List ℕ} (o : Checke
     checked-walkable = walkable (checked-accepted o e) (checked-head o e)
 
     pub counts-done : {n : ℕ} → n ≡ length (listing (tableOf (r .head) l) (r .head .n) (r .head .min) (r .head .max))
-        → Counts l work (countedOf (Counted.Keys n)) work′
+        → CountsKeys l work (countedOf (Counted.Keys n)) work′
     unfolding countOf countedOf storedKeys tableIn
     counts-done c =
         left _
@@ -59,8 +59,8 @@ module _ {l work : List ℕ} {r : Opened} {work′ codes : List ℕ} (o : Checke
   module _ (key : List ℕ) (after : Bool) (buffer : List ℕ) where
     pub nexts-refused : {why : Refusal} → r .verdict ≡ Verdict.Refused why → Nexts l work key after buffer (foundOf (Found.Refused why)) work′ buffer
     nexts-refused {why} e =
-        rw (o .numbers) (refuses l work key after buffer why (first-part (checking l work) _ (told-refused (o .verdict) e)))
+        rw (o .numbers) (refuses l work key after buffer why (first-part (checkOrder l work) _ (told-refused (o .verdict) e)))
 
-    pub nexts-sought : (f : Found) {buffer′ : List ℕ} → r .verdict ≡ Verdict.Passed → Sought l key after buffer f buffer′
+    pub nexts-sought : (f : Found) {buffer′ : List ℕ} → r .verdict ≡ Verdict.Passed → Seeks l key after buffer f buffer′
         → Nexts l work key after buffer (foundOf f) work′ buffer′
     nexts-sought f e s = rw (o .numbers) (s work (told-passed (o .verdict) e))

@@ -2,7 +2,7 @@
 // key may be handed over. Each promises one line, that the numbers of its answer and every lent buffer's last content are the outcome that
 // document 01 states (crate `paper`).
 ghost use Rattle.paper.specs.Answers.{doneOf, countedOf, foundOf};
-ghost use Rattle.paper.specs.Promises.{Checks, Counts, Nexts};
+ghost use Rattle.paper.specs.Promises.{Checks, CountsKeys, Nexts};
 use head::Head;
 use paper::Counted;
 use paper::Done;
@@ -24,7 +24,7 @@ pub fn check(image: &[u8], work: &mut [u32]) -> Done
 
 // The number of stored keys of an image. Refusals: 1 to 8.
 pub fn count(image: &[u8], work: &mut [u32]) -> Counted
-    ensures { λ r. ⌜ Counts (now (image .entry)) (now (work .entry)) (countedOf r) (now (work .exit)) ⌝ }
+    ensures { λ r. ⌜ CountsKeys (now (image .entry)) (now (work .entry)) (countedOf r) (now (work .exit)) ⌝ }
 {
     let mut codes = [0u32; Head::N_MOST as usize];
     let checked = audit::check(image, work, &mut codes);

@@ -13,16 +13,16 @@ use Rattle.trie.specs.Lowest.{lowest}
 use Rattle.head.specs.Fields.{headOf}
 use Rattle.paper.specs.declared.Refusal.{Refusal}
 use Rattle.paper.specs.declared.Verdict.{Verdict}
-use Rattle.paper.specs.Hearing.{Row, first, given}
+use Rattle.paper.specs.Hearing.{Row, first, rowWhen}
 use Rattle.paper.specs.Answers.{rowOf}
-use Rattle.paper.specs.Rows.{givenLowest}
-use Rattle.paper.specs.Orders.{checking}
+use Rattle.paper.specs.Rows.{rowWhenLowest}
+use Rattle.paper.specs.Orders.{checkOrder}
 use Rattle.paper.specs.Calls.{tableIn}
 use Rattle.paper.specs.Accepted.{Accepted}
 use Rattle.paper.proofs.Hearing.{first-nil, first-part, second-part, told-refused, told-passed}
 use Rattle.paper.proofs.CheckCall.{check-accepts, checked}
 use Rattle.position.specs.Counts.{countIn, countsIn, row25}
-use Rattle.position.specs.Orders.{usable, workingOut, checkingCounts}
+use Rattle.position.specs.Orders.{usable, countsOrder, checkCountsOrder}
 use Rattle.position.specs.Calls.{workLeft, worked}
 use Rattle.position.proofs.Plain.{both-lent, work-left}
 use Rattle.position.proofs.Right.{counts-length, worked-length, worked-right}
@@ -48,8 +48,8 @@ last-row none = refl
 last-row (some s) = refl
 
 module _ (l work counts : List ℕ) {r : Opened} {work₁ codes : List ℕ} (o : CheckedBoth l work (length counts) r work₁ codes) where
-  told : rowOf (r .verdict) ≡ first (workingOut l work counts)
-  unfolding workingOut usable
+  told : rowOf (r .verdict) ≡ first (countsOrder l work counts)
+  unfolding countsOrder usable
   told = o .verdict
 
   left : work₁ ≡ workLeft l work counts
@@ -57,19 +57,19 @@ module _ (l work counts : List ℕ) {r : Opened} {work₁ codes : List ℕ} (o :
   left = o .numbers
 
   pub compared-refused : {why : Refusal} → r .verdict ≡ Verdict.Refused why → Compared l work counts r work₁ codes
-  unfolding checkingCounts
+  unfolding checkCountsOrder
   compared-refused e =
       let refused = told-refused told e in
       record {
-        verdict = told ∙ refused ∙ sym (first-part (workingOut l work counts) (row25 l counts ∷ []) refused);
+        verdict = told ∙ refused ∙ sym (first-part (countsOrder l work counts) (row25 l counts ∷ []) refused);
         numbers = left;
         head = o .head;
         decoded = o .decoded;
       }
 
   module _ (e : r .verdict ≡ Verdict.Passed) where
-    passes : first (checking l (usable work counts)) ≡ none
-    unfolding workingOut
+    passes : first (checkOrder l (usable work counts)) ≡ none
+    unfolding countsOrder
     passes = told-passed told e
 
     pub compared-accepted : Accepted l
@@ -104,8 +104,8 @@ module _ (l work counts : List ℕ) {r : Opened} {work₁ codes : List ℕ} (o :
 
       -- what was found is row 25's place
       pub lowest-25 : {differs : ℕ} → differs ≡ lowest (λ q. not (eqb (getD counts q 0) (getD fresh q 0))) 0 (headOf l .g + 1)
-          → given 25 differs (ltb differs (headOf l .g + 1)) ≡ row25 l counts
-      unfolding row25 givenLowest
+          → rowWhen 25 differs (ltb differs (headOf l .g + 1)) ≡ row25 l counts
+      unfolding row25 rowWhenLowest
       lowest-25 {differs} f =
           let same : differs ≡ lowest (λ q. not (eqb (getD counts q 0) (countIn l q))) 0 (headOf l .g + 1) =
           f ∙ lowest-same _ _ 0 (headOf l .g + 1) (λ q low high. ap (λ (n : ℕ). not (eqb (getD counts q 0) n)) (fresh-count q (omega arith))) in
@@ -114,16 +114,16 @@ module _ (l work counts : List ℕ) {r : Opened} {work₁ codes : List ℕ} (o :
 
       pub compared : {differs nodes : ℕ} {v : Verdict} {last : List ℕ} → nodes ≡ headOf l .g + 1
           → differs ≡ lowest (λ q. not (eqb (getD counts q 0) (getD fresh q 0))) 0 nodes
-          → rowOf v ≡ given 25 differs (ltb differs nodes)
+          → rowOf v ≡ rowWhen 25 differs (ltb differs nodes)
           → last ≡ replicate nodes 0 ++ drop nodes fresh
           → Compared l work counts (record { verdict = v; head = r .head; count = r .count }) last codes
-      unfolding checkingCounts workingOut
+      unfolding checkCountsOrder countsOrder
       compared {v = v} n f says clears =
           let d = o .decoded (told-passed refl e) in
           record {
             verdict = (rw n at says)
                 ∙ lowest-25 (rw n at f)
-                ∙ sym (second-part (checking l (usable work counts)) (row25 l counts ∷ []) passes ∙ last-row (row25 l counts));
+                ∙ sym (second-part (checkOrder l (usable work counts)) (row25 l counts ∷ []) passes ∙ last-row (row25 l counts));
             numbers = (rw n at clears)
                 ∙ ap (replicate (headOf l .g + 1) 0 ++_) (ap (drop (headOf l .g + 1)) weighed ∙ worked-drop l work₁ long-work ∙ cleared-rest (headOf l .g + 1) work cleared)
                 ∙ sym (work-left l work counts passes .1);

@@ -13,7 +13,7 @@ use Rattle.field.proofs.Range.{both}
 use Rattle.trie.specs.Lowest.{lowest}
 use Rattle.trie.proofs.Lowest.{lowest-none}
 use Rattle.paper.specs.Hearing.{first}
-use Rattle.paper.specs.Orders.{checking}
+use Rattle.paper.specs.Orders.{checkOrder}
 use Rattle.paper.specs.Calls.{workAfter}
 use Rattle.opening.specs.declared.Opened.{Opened}
 use Rattle.audit.specs.Audit.{Checked}
@@ -74,7 +74,7 @@ pub checked-both : {l work : List ℕ} {lent most : ℕ} {r : Opened} {part code
 checked-both {l} {work} {lent} {most} e c =
     let t = take-lesser lent work e in
     record {
-      verdict = c .verdict ∙ ap (λ (w : List ℕ). first (checking l w)) t;
+      verdict = c .verdict ∙ ap (λ (w : List ℕ). first (checkOrder l w)) t;
       numbers = ap₂ _++_ (c .numbers ∙ ap (workAfter l) t) (drop-lesser lent work e);
       head = c .head;
       decoded = c .decoded;

@@ -9,24 +9,24 @@ use Rattle.head.specs.Fields.{headOf}
 use Rattle.paper.specs.Hearing.{first}
 use Rattle.paper.specs.Answers.{rowOf}
 use Rattle.paper.specs.Given.{alphabetIn}
-use Rattle.paper.specs.Orders.{checking}
+use Rattle.paper.specs.Orders.{checkOrder}
 use Rattle.paper.specs.Calls.{workAfter}
 use Rattle.position.specs.Counts.{RightCounts}
-use Rattle.position.specs.Orders.{checkingCounts}
+use Rattle.position.specs.Orders.{checkCountsOrder}
 use Rattle.position.specs.Calls.{workLeft}
 use Rattle.opening.specs.declared.Opened.{Opened}
 use Rattle.opening.specs.Opened.{Decoded}
 
 -- 1 to 8, where only so many of the working numbers are lent
 pub record CheckedBoth (l work : List ℕ) (lent : ℕ) (r : Opened) (work′ codes : List ℕ) : Type 0 where
-  pub verdict : rowOf (r .verdict) ≡ first (checking l (take lent work))
+  pub verdict : rowOf (r .verdict) ≡ first (checkOrder l (take lent work))
   pub numbers : work′ ≡ workAfter l (take lent work) ++ drop lent work
   pub head : rowOf (r .verdict) ≡ none → r .head ≡ headOf l
   pub decoded : rowOf (r .verdict) ≡ none → Decoded (alphabetIn (headOf l) l) r codes
 
 -- 1 to 8, then 25
 pub record Compared (l work counts : List ℕ) (r : Opened) (work′ codes : List ℕ) : Type 0 where
-  pub verdict : rowOf (r .verdict) ≡ first (checkingCounts l work counts)
+  pub verdict : rowOf (r .verdict) ≡ first (checkCountsOrder l work counts)
   pub numbers : work′ ≡ workLeft l work counts
   pub head : rowOf (r .verdict) ≡ none → r .head ≡ headOf l
   pub decoded : rowOf (r .verdict) ≡ none → Decoded (alphabetIn (headOf l) l) r codes

@@ -5,7 +5,7 @@ ghost use Prim.Native.Nat.{_+_, _^_, _≤_, min};
 ghost use lib.ListN.{length, getD};
 ghost use lib.Dec.{ltb, eqb};
 ghost use Rattle.trie.specs.Lowest.{lowest};
-ghost use Rattle.paper.specs.Hearing.{given};
+ghost use Rattle.paper.specs.Hearing.{rowWhen};
 ghost use Rattle.paper.specs.Answers.{rowOf};
 ghost use Rattle.comparing.specs.Comparing.{CheckedBoth, Compared, Alike};
 use head::Head;
@@ -63,7 +63,7 @@ pub fn compare(
 // 25, by the lowest node whose count differs.
 fn judge(differs: usize, nodes: usize) -> Verdict
     requires { ⌜ nodes ≤ 2 ^ 32 ⌝ }
-    ensures { λ r. ⌜ rowOf r ≡ given 25 differs (ltb differs nodes) ⌝ }
+    ensures { λ r. ⌜ rowOf r ≡ rowWhen 25 differs (ltb differs nodes) ⌝ }
 {
     if differs < nodes {
         return Verdict::Refused(Refusal::CountsDiffer(differs as u32));

@@ -11,7 +11,7 @@ use Rattle.trie.specs.Table.{Table}
 use Rattle.trie.specs.Keys.{ownKey, listing}
 use Rattle.trie.proofs.Beyond.{under-split, from-none, from-empty}
 use Rattle.head.specs.declared.Head.{Head}
-use Rattle.depths.specs.Depths.{ownValue, Bearing}
+use Rattle.depths.specs.Depths.{ownValue, KeysBelow}
 use Rattle.depths.proofs.Links.{own-empty, own-full, from, from-link}
 
 module _ (h : Head) (t : Table) where
@@ -33,7 +33,7 @@ module _ (h : Head) (t : Table) where
   listed = rw (sub-zero (h .min), sub-zero (h .max)) (ap length (under-split t (h .n) (h .min) (h .max) 0) ∙ simp length-append)
 
   -- there is nothing below a fruitless node and past the last letter
-  pub left-fruitless : (q depth i : ℕ) {r : Bool} → Bearing h t q depth r → r ≡ true → left q depth i ≡ 0
+  pub left-fruitless : (q depth i : ℕ) {r : Bool} → KeysBelow h t q depth r → r ≡ true → left q depth i ≡ 0
   left-fruitless q depth i b e = ap length (b .nothing e i)
 
   pub left-none : (q depth i : ℕ) → h .n ≤ i → left q depth i ≡ 0

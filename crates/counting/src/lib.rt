@@ -6,7 +6,7 @@ ghost use Rattle.trie.specs.Rules.{Within};
 ghost use Rattle.trie.specs.Keys.{listing};
 ghost use Rattle.trie.specs.Beyond.{keysFrom};
 ghost use Rattle.node.specs.Image.{Open, tableOf};
-ghost use Rattle.depths.specs.Depths.{Reading};
+ghost use Rattle.depths.specs.Depths.{ReadMasks};
 use head::Head;
 
 // The number of stored keys.
@@ -30,7 +30,7 @@ pub fn count(image: &[u8], h: Head) -> u32
 // The stored keys below a node at a depth, its own left out, counted onto those counted before. It calls itself on each child; the depth
 // left to max falls.
 fn counted(image: &[u8], h: Head, mask: u32, ones: u32, node: u32, depth: usize, before: u32) -> u32
-    requires { ⌜ Open h (now image) ⌝ ∗ ⌜ Within (tableOf h (now image)) (h .g) ⌝ ∗ ⌜ Reading h mask ones ⌝ }
+    requires { ⌜ Open h (now image) ⌝ ∗ ⌜ Within (tableOf h (now image)) (h .g) ⌝ ∗ ⌜ ReadMasks h mask ones ⌝ }
     requires { ⌜ node ≤ h .g ⌝ ∗ ⌜ depth < h .max ⌝ }
     requires { ⌜ before + length (keysFrom (tableOf h (now image)) (h .n) (h .min - depth) (h .max - depth) node 0) < 2 ^ 32 ⌝ }
     ensures { λ r. ⌜ r ≡ before + length (keysFrom (tableOf h (now (image .entry))) (h .n) (h .min - depth) (h .max - depth) node 0) ⌝ }

@@ -12,7 +12,7 @@ use Rattle.paper.specs.Hearing.{Numbers, first, outcome}
 use Rattle.paper.specs.Answers.{rowOf, refusalNumbers, doneOf}
 use Rattle.paper.specs.Accepted.{Accepted}
 use Rattle.paper.proofs.Hearing.{heard-refused, heard-done, told-refused, told-passed}
-use Rattle.position.specs.Orders.{usable, workingOut}
+use Rattle.position.specs.Orders.{usable, countsOrder}
 use Rattle.position.specs.Calls.{workLeft, worked, countsOf, checkCountsOf}
 use Rattle.position.specs.Promises.{WorksOut, ChecksCounts}
 use Rattle.opening.specs.declared.Opened.{Opened}
@@ -20,8 +20,8 @@ use Rattle.comparing.specs.Comparing.{CheckedBoth, Compared}
 use Rattle.comparing.proofs.CompareReturns.{compared-accepted, compared-head, long-counts}
 
 module _ (l work counts : List ℕ) {r : Opened} {work′ codes : List ℕ} (o : CheckedBoth l work (length counts) r work′ codes) where
-  told : rowOf (r .verdict) ≡ first (workingOut l work counts)
-  unfolding workingOut usable
+  told : rowOf (r .verdict) ≡ first (countsOrder l work counts)
+  unfolding countsOrder usable
   told = o .verdict
 
   -- whatever the numbers of the answer and the list, the working numbers are left as 02 says

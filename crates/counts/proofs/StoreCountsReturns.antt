@@ -16,12 +16,12 @@ use Rattle.paper.specs.declared.Stored.{Stored}
 use Rattle.paper.specs.Hearing.{Row, Numbers, Outcome, first, heard, outcome, doneNumbers}
 use Rattle.paper.specs.Answers.{saidOf, refusalNumbers, storedOf}
 use Rattle.paper.specs.Given.{Given, keyIn}
-use Rattle.paper.specs.Orders.{keying}
+use Rattle.paper.specs.Orders.{keyRows}
 use Rattle.paper.specs.Calls.{tableIn, storedImage}
 use Rattle.paper.specs.Accepted.{Accepted}
 use Rattle.paper.proofs.Hearing.{first-part, second-part, heard-refused, told-refused, told-passed}
 use Rattle.position.specs.Counts.{RightCounts}
-use Rattle.position.specs.Orders.{checkingCounts, storingCounts}
+use Rattle.position.specs.Orders.{checkCountsOrder, storeCountsOrder}
 use Rattle.position.specs.Calls.{workLeft, worked, storeCountsOf}
 use Rattle.position.specs.Promises.{StoresCounts}
 use Rattle.key.specs.Hand.{lettersOf, Ready}
@@ -29,7 +29,7 @@ use Rattle.asking.specs.declared.Asked.{Asked}
 use Rattle.asking.proofs.Asking.{store-asks}
 use Rattle.asking_counts.specs.AskedCounts.{AsksCounts}
 use Rattle.asking_counts.proofs.AskingCounts.{asked-right, asked-length}
-use Rattle.tracking.specs.Tracking.{addingCounts, storeCounted, StoresCounted}
+use Rattle.tracking.specs.Tracking.{addingCountsRows, storeCounted, StoresCounted}
 
 -- ---- one buffer more, between the two
 
@@ -57,10 +57,10 @@ module _ (l work : List ℕ) (given : Given) (value : ℕ) (counts : List ℕ) w
   left = workLeft l work counts
 
   abbrev front : List Row
-  front = checkingCounts l work counts ++ keying l given
+  front = checkCountsOrder l work counts ++ keyRows l given
 
   abbrev rest : List Row
-  rest = addingCounts l key value counts
+  rest = addingCountsRows l key value counts
 
   abbrev image : List ℕ
   image = storedImage l key value
@@ -72,10 +72,10 @@ module _ (l work : List ℕ) (given : Given) (value : ℕ) (counts : List ℕ) w
   stored = outcome done (image ∷ left ∷ worked image counts ∷ [])
 
   asked : storeCountsOf l work given value counts ≡ heard (first (front ++ rest)) (l ∷ left ∷ counts ∷ []) stored
-  unfolding storeCountsOf storingCounts
+  unfolding storeCountsOf storeCountsOrder
   asked =
       ap (λ (rows : List Row). heard (first rows) (l ∷ left ∷ counts ∷ []) stored)
-      (sym (append-assoc (checkingCounts l work counts) (keying l given) rest))
+      (sym (append-assoc (checkCountsOrder l work counts) (keyRows l given) rest))
 
   refuses : (why : Refusal) → first front ≡ some (saidOf why)
       → storeCountsOf l work given value counts ≡ outcome (refusalNumbers why) (l ∷ left ∷ counts ∷ [])

@@ -25,7 +25,7 @@ use Rattle.node.proofs.Writes.{table-total}
 use Rattle.paper.specs.Hearing.{Row, Numbers, Outcome, first, heard}
 use Rattle.paper.specs.Given.{Given, alphabetIn, keyIn}
 use Rattle.paper.specs.Rows.{badLink}
-use Rattle.paper.specs.Orders.{openingOf, keying}
+use Rattle.paper.specs.Orders.{openingRowsOf, keyRows}
 use Rattle.paper.specs.Calls.{tableIn, workAfter, checkOf, telling, lookUpOf, isAccepted, mends, mendOf}
 use Rattle.paper.specs.Accepted.{Accepted}
 use Rattle.paper.proofs.Numbers.{first-says, none-heard}
@@ -107,7 +107,7 @@ module _ (l work : List ℕ) (e : mends l (checkOf l work .numbers) ≡ true) wh
   again = accepted-exactly m .0 (lowers-tell l (checkOf l work .numbers) e .1)
 
   opened : Passed h (alphabetIn h l) (length l)
-  unfolding openingOf
+  unfolding openingRowsOf
   opened = passed h (alphabetIn h l) (length l) (told .opened)
 
   -- every node takes a byte at least, so G is less than the image is long
@@ -156,7 +156,7 @@ module _ (l work : List ℕ) (e : mends l (checkOf l work .numbers) ≡ true) wh
       looks-up-accepted again given
       ∙ ap₂ (λ (rows : List Row) (k : List ℕ). heard (first rows) [] (telling (answer (tableIn m) k)))
       (same-keying m l heads same-letters given) (same-key m l heads same-letters given)
-      ∙ ap (λ (v : ℕ). heard (first (keying l given)) [] (telling v)) (answer-alike agree within key)
+      ∙ ap (λ (v : ℕ). heard (first (keyRows l given)) [] (telling v)) (answer-alike agree within key)
       ∙ sym
       (looks-up-open l given (told .opened)
       (fault-alike agree within (badLink (headOf m .g)) (badLink (h .g)) milder-here 0 key (omega arith) (unfaulted again 0 key)))

@@ -14,13 +14,13 @@ use Rattle.trie.specs.Table.{Descent, complete, stopped, descend, answer}
 use Rattle.trie.specs.Storing.{changeOf}
 use Rattle.trie.proofs.Walk.{where-stopped}
 use Rattle.head.specs.declared.Head.{Head}
-use Rattle.head.specs.Fields.{mostWrites, mostListed, headOf}
+use Rattle.head.specs.Fields.{mostWrites, mostNoted, headOf}
 use Rattle.head.proofs.Permitted.{bounds}
-use Rattle.node.specs.Writes.{Write, listed, totalWrite, linkWrite, storeWrites}
+use Rattle.node.specs.Writes.{Write, noted, totalWrite, linkWrite, storeWrites}
 use Rattle.node.proofs.Nodes.{nodes-count}
 use Rattle.paper.specs.Hearing.{Outcome, outcome, doneNumbers}
 use Rattle.paper.specs.Given.{Given, keyIn}
-use Rattle.paper.specs.Calls.{tableIn, workAfter, writesIn, storedImage, storeOf, withList, storeWritesOf}
+use Rattle.paper.specs.Calls.{tableIn, workAfter, writesIn, storedImage, storeOf, withWrites, storeWritesOf}
 use Rattle.paper.specs.Granted.{Granted}
 use Rattle.paper.proofs.StoreCall.{store-granted, store-leaves}
 use Rattle.cuts.specs.Mended.{readBack}
@@ -51,8 +51,8 @@ few-writes {l} {key} {value} s =
 
 -- ---- the array, read by its caller
 
-length-listed : (ws : List Write) → length (listed ws) ≡ 2 * length ws
-unfolding listed
+length-listed : (ws : List Write) → length (noted ws) ≡ 2 * length ws
+unfolding noted
 length-listed [] = refl
 length-listed (w ∷ ws) = omega (arith, length-listed ws)
 
@@ -60,24 +60,24 @@ front : (list vs : List ℕ) → length vs ≤ length list → take (length vs) 
 front list vs b = ap (take (length vs)) (sets-eq vs list 0 (omega arith)) ∙ take-append-seam vs (drop (0 + length vs) list)
 
 -- the writes that the first entries of the array and the image after the call tell are those of the store
-pub had-writes : {l key : List ℕ} {value : ℕ} → Granted l key value → (list : List ℕ) → mostListed ≤ length list
-    → readBack (storedImage l key value) (take (2 * length (writesIn l key value)) (sets list 0 (listed (writesIn l key value)))) ≡ writesIn l key value
+pub had-writes : {l key : List ℕ} {value : ℕ} → Granted l key value → (list : List ℕ) → mostNoted ≤ length list
+    → readBack (storedImage l key value) (take (2 * length (writesIn l key value)) (sets list 0 (noted (writesIn l key value)))) ≡ writesIn l key value
 had-writes {l} {key} {value} s list b =
     let ws : List Write = writesIn l key value in
-    let e : length (listed ws) ≡ 2 * length ws = length-listed ws in
-    ap (λ (n : ℕ). readBack (storedImage l key value) (take n (sets list 0 (listed ws)))) (sym e)
-    ∙ ap (readBack (storedImage l key value)) (front list (listed ws) (omega (arith, few-writes s)))
+    let e : length (noted ws) ≡ 2 * length ws = length-listed ws in
+    ap (λ (n : ℕ). readBack (storedImage l key value) (take n (sets list 0 (noted ws)))) (sym e)
+    ∙ ap (readBack (storedImage l key value)) (front list (noted ws) (omega (arith, few-writes s)))
     ∙ read-back s
 
 -- ---- the calls
 
 -- the store's own number
-same-number : (ws : List Write) (list : List ℕ) (o : Outcome) → withList ws list o .numbers .number ≡ o .numbers .number
-unfolding withList doneNumbers
+same-number : (ws : List Write) (list : List ℕ) (o : Outcome) → withWrites ws list o .numbers .number ≡ o .numbers .number
+unfolding withWrites doneNumbers
 same-number ws list o = go (eqb (o .numbers .number) 0) refl
   where
     go : (b : Bool) → eqb (o .numbers .number) 0 ≡ b
-        → cond b (outcome (doneNumbers (length ws) (o .numbers .change) 0) (o .lent ++ (sets list 0 (listed ws) ∷ [])))
+        → cond b (outcome (doneNumbers (length ws) (o .numbers .change) 0) (o .lent ++ (sets list 0 (noted ws) ∷ [])))
         (outcome (o .numbers) (o .lent ++ (list ∷ []))) .numbers .number
         ≡ o .numbers .number
     go true e = sym (eqb-true (o .numbers .number) 0 e)
@@ -94,10 +94,10 @@ module _ (l work : List ℕ) (given : Given) (value : ℕ) (list : List ℕ) whe
   pub store-writes-leaves : storeOf l work given value .numbers .number ≡ 0
       → storeWritesOf l work given value list
       ≡ outcome (doneNumbers (length (writesIn l key value)) (changeOf (answer (tableIn l) key) value) 0)
-      (storedImage l key value ∷ workAfter l work ∷ sets list 0 (listed (writesIn l key value)) ∷ [])
-  unfolding storeWritesOf withList doneNumbers
-  store-writes-leaves z = ap (withList (writesIn l key value) list) (store-leaves l work given value z)
+      (storedImage l key value ∷ workAfter l work ∷ sets list 0 (noted (writesIn l key value)) ∷ [])
+  unfolding storeWritesOf withWrites doneNumbers
+  store-writes-leaves z = ap (withWrites (writesIn l key value) list) (store-leaves l work given value z)
 
-  pub store-writes-told : storeOf l work given value .numbers .number ≡ 0 → mostListed ≤ length list
-      → readBack (storedImage l key value) (take (2 * length (writesIn l key value)) (sets list 0 (listed (writesIn l key value)))) ≡ writesIn l key value
+  pub store-writes-told : storeOf l work given value .numbers .number ≡ 0 → mostNoted ≤ length list
+      → readBack (storedImage l key value) (take (2 * length (writesIn l key value)) (sets list 0 (noted (writesIn l key value)))) ≡ writesIn l key value
   store-writes-told z b = had-writes (store-granted l work given value z) list b

@@ -7,7 +7,7 @@ use mathlib.Core.Bool.{Bool, cond}
 use mathlib.Core.List.{List, [], _∷_, map}
 use lib.Dec.{eqb}
 use lib.IntN.{pos}
-use Rattle.node.specs.Writes.{storeWrites, listed}
+use Rattle.node.specs.Writes.{storeWrites, noted}
 use Rattle.paper.specs.Hearing.{Outcome, outcome, doneNumbers, refusedNumbers}
 use Rattle.paper.specs.Answers.{said}
 use Rattle.paper.specs.Rows.{row1, row2, row3, row4, row6, row7, row8}
@@ -55,9 +55,9 @@ done image lent = outcome (doneNumbers 0 (pos 0) 0) (image ∷ lent ∷ [])
 pub computed : (map left cuts ≡ expected)
     × (map (λ (k : ℕ). mendedImage (left k) work) cuts ≡ map (λ (k : ℕ). cond (eqb k 4) (grown 2 0) (left k)) cuts)
     × (mendOf (left 4) work ≡ done (grown 2 0) (0 ∷ 0 ∷ 0 ∷ 0 ∷ 0 ∷ 0 ∷ 7 ∷ []))
-    × (listed (writesIn before (2 ∷ 2 ∷ 2 ∷ []) 1) ≡ 43 ∷ 4 ∷ 47 ∷ 4 ∷ 51 ∷ 4 ∷ 0 ∷ 4 ∷ 33 ∷ 1 ∷ [])
-    × (readBack (left 5) (listed (writesIn before (2 ∷ 2 ∷ 2 ∷ []) 1)) ≡ writesIn before (2 ∷ 2 ∷ 2 ∷ []) 1)
-unfolding row1 row2 row3 row4 row6 row7 row8 cutAfter mendedImage mendOf storedImage readBack listed storeWrites tableIn
+    × (noted (writesIn before (2 ∷ 2 ∷ 2 ∷ []) 1) ≡ 43 ∷ 4 ∷ 47 ∷ 4 ∷ 51 ∷ 4 ∷ 0 ∷ 4 ∷ 33 ∷ 1 ∷ [])
+    × (readBack (left 5) (noted (writesIn before (2 ∷ 2 ∷ 2 ∷ []) 1)) ≡ writesIn before (2 ∷ 2 ∷ 2 ∷ []) 1)
+unfolding row1 row2 row3 row4 row6 row7 row8 cutAfter mendedImage mendOf storedImage readBack noted storeWrites tableIn
 computed = (refl, refl, refl, refl, refl)
 
 -- with three working numbers

@@ -33,7 +33,7 @@ use Rattle.node.proofs.Heads.{withTotal, child-kept, used-total}
 use Rattle.node.proofs.StoreOnTable.{Storable, length-carried, carried-append, new-head}
 use Rattle.paper.specs.Hearing.{Numbers, Outcome, outcome, first, refusedNumbers, doneNumbers}
 use Rattle.paper.specs.Answers.{said}
-use Rattle.paper.specs.Orders.{openingOf, checking}
+use Rattle.paper.specs.Orders.{openingRowsOf, checkOrder}
 use Rattle.paper.specs.Given.{Given, keyIn}
 use Rattle.paper.specs.Calls.{tableIn, workAfter, checkOf, writesIn, storedImage, storeOf, isAccepted, mends}
 use Rattle.paper.specs.Accepted.{Accepted}
@@ -56,7 +56,7 @@ module _ (a work m : List ℕ) (same : seenIn a ≡ seenIn m) (accepted : Accept
   check-done : checkOf a work .numbers ≡ doneNumbers 0 (pos 0) 0
   unfolding checkOf
   check-done =
-      ap (λ (o : Outcome). o .numbers) (heard-done (first (checking a work)) _ _ (accepted-checks a work (same-accepted same accepted) lent))
+      ap (λ (o : Outcome). o .numbers) (heard-done (first (checkOrder a work)) _ _ (accepted-checks a work (same-accepted same accepted) lent))
 
   -- it is left as it is
   pub mends-kept : MendsTo a work m
@@ -186,7 +186,7 @@ module _ {l key : List ℕ} {v : ℕ} (s : Granted l key (suc v)) {q x : ℕ} {x
         rules = rw (linked, same-head) at (a .links);
       }
 
-  opened : first (openingOf counted) ≡ none
+  opened : first (openingRowsOf counted) ≡ none
   opened =
       let a = accepted-again s in
       let f : headOf (storedImage l key (suc v)) .f ≡ h .f = ap (λ (k : Head). k .f) (same-head ∙ heads) in

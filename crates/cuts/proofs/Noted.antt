@@ -9,13 +9,13 @@ use native.Mathlib.Numerals.{add-one}
 use native.Mathlib.Omega.{arith}
 use lib.ListN.{length}
 use Rattle.field.proofs.Field.{length-digits}
-use Rattle.trie.specs.Table.{Descent, Letters, complete, stopped, descend}
+use Rattle.trie.specs.Table.{Descent, LettersBelow, complete, stopped, descend}
 use Rattle.trie.proofs.Walk.{complete-within}
 use Rattle.head.specs.declared.Head.{Head}
 use Rattle.head.specs.Fields.{headOf, nodeWidth, nodePlace, totalLen}
 use Rattle.head.proofs.Places.{place-add, place-le, place-least}
 use Rattle.node.specs.Image.{linkPlace}
-use Rattle.node.specs.Writes.{Write, carriedOut, listed, pathNode, lastNode, newNodes, totalWrite, linkWrite, dataWrite, storeWrites}
+use Rattle.node.specs.Writes.{Write, carriedOut, noted, pathNode, lastNode, newNodes, totalWrite, linkWrite, dataWrite, storeWrites}
 use Rattle.node.proofs.FieldPlaces.{link-from, link-inside, data-inside, inside-used}
 use Rattle.node.proofs.Heads.{used-total}
 use Rattle.node.proofs.Nodes.{length-path, length-last}
@@ -51,7 +51,7 @@ misses at n (u ∷ us) ws f t = (inr (f .0), misses at n us ws (f .1) t)
 next-place : (h : Head) (q : ℕ) → nodePlace h (suc q) ≡ nodePlace h q + nodeWidth h
 next-place h q = omega (arith, ap (nodePlace h) (add-one q), place-add h q 1)
 
-nodes-laid : (h : Head) (len q : ℕ) (ys : List ℕ) (v : ℕ) (ws : List Write) → Letters (h .n) ys → nodePlace h (q + suc (length ys)) ≤ len
+nodes-laid : (h : Head) (len q : ℕ) (ys : List ℕ) (v : ℕ) (ws : List Write) → LettersBelow (h .n) ys → nodePlace h (q + suc (length ys)) ≤ len
     → Until (nodePlace h q) ws → Laid len ws → Laid len (newNodes h q ys v ++ ws)
 unfolding newNodes
 nodes-laid h len q [] v ws s r t a =
@@ -95,6 +95,6 @@ store-laid {l} (stopped q x xs) (suc v) e s =
     (omega (arith, s .accepted .long-enough), (inr (omega arith), tt), (omega (arith, place-le h (suc g) (suc total) (omega arith)), tt, tt))
 
 pub read-back : {l key : List ℕ} {value : ℕ} → Granted l key value
-    → readBack (storedImage l key value) (listed (writesIn l key value)) ≡ writesIn l key value
+    → readBack (storedImage l key value) (noted (writesIn l key value)) ≡ writesIn l key value
 unfolding storedImage
 read-back {l} {key} {value} s = read-laid l (writesIn l key value) (store-laid (descend (tableIn l) 0 key) value refl s)

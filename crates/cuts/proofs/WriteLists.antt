@@ -12,7 +12,7 @@ use lib.Seq.{sets, length-sets, ext-getD, getD-take, getD-drop, getD-set-other}
 use borrow.Author.Tests.{lt-leb}
 use Rattle.field.proofs.Sets.{getD-outside, getD-inside}
 use Rattle.head.specs.Fields.{headOf, usedLen}
-use Rattle.node.specs.Writes.{Write, carriedOut, listed}
+use Rattle.node.specs.Writes.{Write, carriedOut, noted}
 use Rattle.node.proofs.StoreOnTable.{length-carried}
 use Rattle.cuts.specs.Cut.{torn, hit, cutAfter}
 use Rattle.cuts.specs.Mended.{readBack}
@@ -146,8 +146,8 @@ first-left l w ws inside m =
     ∙ missed (sets l at bs) ws at (length bs) i m c
     ∙ getD-inside l bs at i 0 c inside)
 
-pub read-laid : (l : List ℕ) (ws : List Write) → Laid (length l) ws → readBack (carriedOut l ws) (listed ws) ≡ ws
-unfolding readBack carriedOut listed
+pub read-laid : (l : List ℕ) (ws : List Write) → Laid (length l) ws → readBack (carriedOut l ws) (noted ws) ≡ ws
+unfolding readBack carriedOut noted
 read-laid l [] a = refl
 read-laid l (w ∷ ws) a =
     ap₂ _∷_ (ap (λ (bs : List ℕ). record { place = w .place; bytes = bs }) (first-left l w ws (a .0) (a .1)))

@@ -13,7 +13,7 @@ use Rattle.trie.specs.Keys.{ownKey}
 use Rattle.trie.specs.Beyond.{keysFrom}
 use Rattle.trie.proofs.Beyond.{own-none, own-short, own-there, under-split, from-shallow, from-childless, from-on}
 use Rattle.head.specs.declared.Head.{Head}
-use Rattle.depths.specs.Depths.{ownValue, Bearing}
+use Rattle.depths.specs.Depths.{ownValue, KeysBelow}
 
 module _ (h : Head) (t : Table) where
   -- ---- the node's own key
@@ -53,12 +53,12 @@ module _ (h : Head) (t : Table) where
   from q depth i = keysFrom t (h .n) (h .min - depth) (h .max - depth) q i
 
   -- there are none where no letter may follow, nor where all links are empty
-  pub bearing-full : (q depth : ℕ) → h .max ≤ depth → Bearing h t q depth true
+  pub bearing-full : (q depth : ℕ) → h .max ≤ depth → KeysBelow h t q depth true
   bearing-full q depth b =
       let e : h .max - depth ≡ 0 = omega arith in
       record { nothing = λ z i. rw e (from-shallow t (h .n) (h .min - depth) q i); deep = λ z. absurd (true≢false z) }
 
-  pub bearing-asked : (q depth : ℕ) {r : Bool} → depth < h .max → (r ≡ true → (i : ℕ) → t .child q i ≡ 0) → Bearing h t q depth r
+  pub bearing-asked : (q depth : ℕ) {r : Bool} → depth < h .max → (r ≡ true → (i : ℕ) → t .child q i ≡ 0) → KeysBelow h t q depth r
   bearing-asked q depth deep childless =
       record { nothing = λ z i. from-childless t (h .n) (h .min - depth) (h .max - depth) q i (childless z); deep = λ z. deep }
 

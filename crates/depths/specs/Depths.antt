@@ -15,11 +15,11 @@ unfoldable pub ownValue : Head → Table → ℕ → ℕ → ℕ
 ownValue h t q depth = cond (ltb depth (h .min)) 0 (t .value q)
 
 -- whether a node at a depth is fruitless: then no key lies below it, from any letter on; else a letter may follow there
-pub record Bearing (h : Head) (t : Table) (q depth : ℕ) (fruitless : Bool) : Type 0 where
+pub record KeysBelow (h : Head) (t : Table) (q depth : ℕ) (fruitless : Bool) : Type 0 where
   pub nothing : fruitless ≡ true → (x : ℕ) → keysFrom t (h .n) (h .min - depth) (h .max - depth) q x ≡ []
   pub deep : fruitless ≡ false → depth < h .max
 
 -- the masks by which a walk that meets many nodes reads their links and their data
-pub record Reading (h : Head) (mask ones : ℕ) : Type 0 where
+pub record ReadMasks (h : Head) (mask ones : ℕ) : Type 0 where
   pub links : Masks h mask
   pub values : ones + 1 ≡ 256 ^ h .d

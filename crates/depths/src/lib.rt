@@ -3,7 +3,7 @@
 ghost use mathlib.Core.Path.{_≡_};
 ghost use Prim.Native.Nat.{_+_, _^_, _≤_};
 ghost use Rattle.node.specs.Image.{Open, tableOf};
-ghost use Rattle.depths.specs.Depths.{ownValue, Bearing};
+ghost use Rattle.depths.specs.Depths.{ownValue, KeysBelow};
 use head::Head;
 
 // The data of a node at a depth, 0 where keys of that length are too short to be stored.
@@ -29,7 +29,7 @@ pub fn own_field(image: &[u8], h: Head, mask: u32, node: u32, depth: usize) -> u
 // there, it spares a call where a key ends, as most do at a node without links.
 pub fn fruitless(image: &[u8], h: Head, node: u32, depth: usize) -> bool
     requires { ⌜ Open h (now image) ⌝ ∗ ⌜ node ≤ h .g ⌝ }
-    ensures { λ r. ⌜ Bearing h (tableOf h (now (image .entry))) node depth r ⌝ }
+    ensures { λ r. ⌜ KeysBelow h (tableOf h (now (image .entry))) node depth r ⌝ }
 {
     if (h.max as usize) <= depth {
         return true;

@@ -1,6 +1,6 @@
 // The answer that C is given, and each call's answer in its numbers. The exported functions stand in `trieff`.
 ghost use mathlib.Core.Path.{_≡_};
-ghost use Rattle.paper.specs.Answers.{refusalNumbers, doneOf, countedOf, placedOf, lookedOf, storedOf, listedOf, foundOf};
+ghost use Rattle.paper.specs.Answers.{refusalNumbers, doneOf, countedOf, placedOf, lookedOf, storedOf, notedOf, foundOf};
 ghost use Rattle.paper.specs.Hearing.{doneNumbers};
 ghost use Rattle.face.specs.Face.{numbersOf};
 use paper::Counted;
@@ -92,7 +92,7 @@ pub fn stored(answer: Stored) -> TrieffAnswer
 }
 
 pub fn listed(answer: Listed) -> TrieffAnswer
-    ensures { λ r. ⌜ numbersOf r ≡ listedOf answer ⌝ }
+    ensures { λ r. ⌜ numbersOf r ≡ notedOf answer ⌝ }
 {
     match answer {
         Listed::Change { change, writes } => told(writes, change, 0),

@@ -31,8 +31,8 @@ mostPath = mostLetters + 1
 abbrev pub mostWrites : ℕ
 mostWrites = mostLetters + 2
 
-abbrev pub mostListed : ℕ
-mostListed = 2 * mostWrites
+abbrev pub mostNoted : ℕ
+mostNoted = 2 * mostWrites
 
 -- the bytes of the seven fields
 abbrev pub fieldsLen : ℕ

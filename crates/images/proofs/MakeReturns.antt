@@ -15,7 +15,7 @@ use Rattle.paper.specs.declared.Refusal.{Refusal}
 use Rattle.paper.specs.declared.Done.{Done}
 use Rattle.paper.specs.Hearing.{Row, first, outcome, doneNumbers}
 use Rattle.paper.specs.Answers.{said, saidOf, refusalNumbers, doneOf}
-use Rattle.paper.specs.Orders.{opening}
+use Rattle.paper.specs.Orders.{openingRows}
 use Rattle.paper.specs.Calls.{freshHead, freshImage, makeOf}
 use Rattle.paper.specs.Promises.{Makes}
 use Rattle.paper.proofs.Hearing.{heard-refused, heard-done}
@@ -27,7 +27,7 @@ module _ (image : List ℕ) (n a d : ℕ) (alphabet : List ℕ) (least most : �
 
   -- what is heard of 1 to 4
   abbrev pub heardOf : Row
-  heardOf = first (opening fresh alphabet (length image))
+  heardOf = first (openingRows fresh alphabet (length image))
 
   pub makes-refused : (why : Refusal) → heardOf ≡ some (saidOf why) → Makes image n a d alphabet least most (doneOf (Done.Refused why)) image
   unfolding makeOf freshHead doneOf refusalNumbers

@@ -17,7 +17,7 @@ use Rattle.passing.proofs.Ranks.{at-none, at-held}
 use Rattle.head.specs.declared.Head.{Head}
 use Rattle.head.specs.Fields.{mostLetters, headOf}
 use Rattle.head.proofs.Permitted.{bounds}
-use Rattle.alphabet.specs.Letters.{lettersIn}
+use Rattle.alphabet.specs.Letters.{orEmpty}
 use Rattle.node.specs.Image.{tableOf}
 use Rattle.paper.specs.declared.Refusal.{Refusal}
 use Rattle.paper.specs.declared.Verdict.{Verdict}
@@ -30,7 +30,7 @@ use Rattle.paper.specs.Accepted.{Accepted}
 use Rattle.paper.proofs.Hearing.{first-part, second-part, yes-row, no-row, first-nil, heard-refused, heard-done, told-refused, told-passed}
 use Rattle.paper.proofs.NextKeyCall.{stored-exactly}
 use Rattle.position.specs.Counts.{RightCounts}
-use Rattle.position.specs.Orders.{checkingCounts, gettingKey}
+use Rattle.position.specs.Orders.{checkCountsOrder, keyAtOrder}
 use Rattle.position.specs.Calls.{workLeft, placedKey, keyAtOf}
 use Rattle.position.specs.Promises.{GivesKey}
 use Rattle.position.proofs.Plain.{counts-checked}
@@ -40,7 +40,7 @@ use Rattle.asking_counts.proofs.AskingCounts.{compared-right}
 use Rattle.ranking.specs.declared.Spot.{Spot}
 use Rattle.ranking.specs.Ranking.{Spotted}
 use Rattle.ranking.proofs.Below.{Counted}
-use Rattle.jumps.specs.Jumps.{Spots}
+use Rattle.jumps.specs.Jumps.{TellsKey}
 
 -- ---- over the rows
 
@@ -49,13 +49,13 @@ module _ (l work counts : List ℕ) (position : ℕ) (buffer : List ℕ) where
   rest = row14 (headOf l) (length buffer) ∷ row15 (keyAt (storedKeys l) position) ∷ []
 
   abbrev order : List Row
-  order = checkingCounts l work counts ++ rest
+  order = checkCountsOrder l work counts ++ rest
 
   abbrev answered : Outcome
-  answered = placedKey l work counts buffer (lettersIn (keyAt (storedKeys l) position))
+  answered = placedKey l work counts buffer (orEmpty (keyAt (storedKeys l) position))
 
   asked : keyAtOf l work counts position buffer ≡ heard (first order) (workLeft l work counts ∷ buffer ∷ []) answered
-  unfolding keyAtOf gettingKey
+  unfolding keyAtOf keyAtOrder
   asked = refl
 
   abbrev Leaves : Found → List ℕ → Type 0
@@ -66,9 +66,9 @@ module _ (l work counts : List ℕ) (position : ℕ) (buffer : List ℕ) where
   refuses why e = sym (asked ∙ heard-refused _ _ _ e)
 
   -- behind 25, and behind 14
-  module _ (compared : first (checkingCounts l work counts) ≡ none) where
+  module _ (compared : first (checkCountsOrder l work counts) ≡ none) where
     left : first order ≡ first rest
-    left = second-part (checkingCounts l work counts) _ compared
+    left = second-part (checkCountsOrder l work counts) _ compared
 
     short : length buffer < headOf l .max → Leaves (Found.Refused Refusal.ShortBuffer) buffer
     unfolding row14
@@ -85,11 +85,11 @@ module _ (l work counts : List ℕ) (position : ℕ) (buffer : List ℕ) where
 
       module _ (k : List ℕ) (e : keyAt (storedKeys l) position ≡ some k) where
         done : keyAtOf l work counts position buffer ≡ placedKey l work counts buffer k
-        unfolding row15 isNone lettersIn
+        unfolding row15 isNone orEmpty
         done =
             asked
             ∙ heard-done _ _ _ (left-15 ∙ no-row 15 0 [] (ap isNone e) ∙ first-nil)
-            ∙ ap (λ (f : Option (List ℕ)). placedKey l work counts buffer (lettersIn f)) e
+            ∙ ap (λ (f : Option (List ℕ)). placedKey l work counts buffer (orEmpty f)) e
 
         found : {n x : ℕ} {buffer′ : List ℕ} → n ≡ length k → x ≡ answer (tableIn l) k → buffer′ ≡ sets buffer 0 k
             → Leaves (Found.Key n x) buffer′
@@ -146,15 +146,15 @@ module _ {l : List ℕ} {position : ℕ} {s : Spot} {path : List ℕ} (t : Spott
 
   pub spots-found : (buffer : List ℕ) {h : Head} {buffer′ : List ℕ} → h ≡ headOf l → h .max ≤ length buffer
       → buffer′ ≡ sets buffer 0 (take (s .length) path)
-      → Spots l position buffer (Found.Key (s .length) (s .value)) buffer′
+      → TellsKey l position buffer (Found.Key (s .length) (s .value)) buffer′
   spots-found buffer same room laid work counts compared =
       found l work counts position buffer compared (rw same at room) (t .key) (t .there) (t .long) (t .value) (rw front at laid)
 
 module _ (l : List ℕ) (position : ℕ) (buffer : List ℕ) {h : Head} (same : h ≡ headOf l) where
-  pub spots-short : length buffer < h .max → Spots l position buffer (Found.Refused Refusal.ShortBuffer) buffer
+  pub spots-short : length buffer < h .max → TellsKey l position buffer (Found.Refused Refusal.ShortBuffer) buffer
   spots-short b work counts compared = short l work counts position buffer compared (rw same at b)
 
-  pub spots-past : h .max ≤ length buffer → length (storedKeys l) ≤ position → Spots l position buffer (Found.Refused Refusal.NoKey) buffer
+  pub spots-past : h .max ≤ length buffer → length (storedKeys l) ≤ position → TellsKey l position buffer (Found.Refused Refusal.NoKey) buffer
   spots-past room past work counts compared =
       missing l work counts position buffer compared (rw same at room) (at-none (storedKeys l) position past)
 
@@ -171,8 +171,8 @@ module _ {l work counts : List ℕ} {r : Opened} {work′ codes : List ℕ} (o :
       → GivesKey l work counts position buffer (foundOf (Found.Refused why)) work′ buffer
   gives-key-refused position buffer {why} e =
       rw (o .numbers)
-      (refuses l work counts position buffer why (first-part (checkingCounts l work counts) _ (told-refused (o .verdict) e)))
+      (refuses l work counts position buffer why (first-part (checkCountsOrder l work counts) _ (told-refused (o .verdict) e)))
 
   pub gives-key-spotted : (position : ℕ) (buffer : List ℕ) (f : Found) {buffer′ : List ℕ} → r .verdict ≡ Verdict.Passed
-      → Spots l position buffer f buffer′ → GivesKey l work counts position buffer (foundOf f) work′ buffer′
+      → TellsKey l position buffer f buffer′ → GivesKey l work counts position buffer (foundOf f) work′ buffer′
   gives-key-spotted position buffer f e s = rw (o .numbers) (s work counts (told-passed (o .verdict) e))

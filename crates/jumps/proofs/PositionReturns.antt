@@ -20,12 +20,12 @@ use Rattle.paper.specs.Hearing.{Row, Outcome, first, heard, outcome, doneNumber
 use Rattle.paper.specs.Answers.{saidOf, refusalNumbers, placedOf}
 use Rattle.paper.specs.Rows.{row15, isNone}
 use Rattle.paper.specs.Given.{Given, keyIn}
-use Rattle.paper.specs.Orders.{keying}
+use Rattle.paper.specs.Orders.{keyRows}
 use Rattle.paper.specs.Calls.{tableIn, storedKeys}
 use Rattle.paper.specs.Accepted.{Accepted}
 use Rattle.paper.proofs.Hearing.{first-part, second-part, yes-row, no-row, first-nil, heard-refused, heard-done, told-refused, told-passed}
 use Rattle.position.specs.Counts.{RightCounts}
-use Rattle.position.specs.Orders.{checkingCounts, ifStored, gettingPosition}
+use Rattle.position.specs.Orders.{checkCountsOrder, ifStored, positionOrder}
 use Rattle.position.specs.Calls.{workLeft, positionOf}
 use Rattle.position.specs.Promises.{GivesPosition}
 use Rattle.key.specs.Hand.{Ready, lettersOf}
@@ -70,29 +70,29 @@ module _ (l work counts : List ℕ) (given : Given) where
   last = row15 (ifStored l key) ∷ []
 
   abbrev order : List Row
-  order = checkingCounts l work counts ++ (keying l given ++ last)
+  order = checkCountsOrder l work counts ++ (keyRows l given ++ last)
 
   abbrev done : Outcome
   done = outcome (doneNumbers 0 (pos 0) (rankIn (storedKeys l) key)) (workLeft l work counts ∷ [])
 
   asked : positionOf l work counts given ≡ heard (first order) (workLeft l work counts ∷ []) done
-  unfolding positionOf gettingPosition
+  unfolding positionOf positionOrder
   asked = refl
 
   abbrev Leaves : Placed → Type 0
   Leaves p = GivesPosition l work counts given (placedOf p) (workLeft l work counts)
 
   -- in front of 15, and then 15
-  joined : first order ≡ first ((checkingCounts l work counts ++ keying l given) ++ last)
-  joined = ap first (sym (append-assoc (checkingCounts l work counts) (keying l given) last))
+  joined : first order ≡ first ((checkCountsOrder l work counts ++ keyRows l given) ++ last)
+  joined = ap first (sym (append-assoc (checkCountsOrder l work counts) (keyRows l given) last))
 
-  refuses : (why : Refusal) → first (checkingCounts l work counts ++ keying l given) ≡ some (saidOf why) → Leaves (Placed.Refused why)
+  refuses : (why : Refusal) → first (checkCountsOrder l work counts ++ keyRows l given) ≡ some (saidOf why) → Leaves (Placed.Refused why)
   unfolding placedOf refusalNumbers
-  refuses why e = sym (asked ∙ heard-refused _ _ _ (joined ∙ first-part (checkingCounts l work counts ++ keying l given) last e))
+  refuses why e = sym (asked ∙ heard-refused _ _ _ (joined ∙ first-part (checkCountsOrder l work counts ++ keyRows l given) last e))
 
-  module _ (passed : first (checkingCounts l work counts ++ keying l given) ≡ none) where
+  module _ (passed : first (checkCountsOrder l work counts ++ keyRows l given) ≡ none) where
     left : first order ≡ first last
-    left = joined ∙ second-part (checkingCounts l work counts ++ keying l given) last passed
+    left = joined ∙ second-part (checkCountsOrder l work counts ++ keyRows l given) last passed
 
     placed : Leaves (ranksAs l key)
     unfolding ranksAs placedOf refusalNumbers row15 isNone ifStored

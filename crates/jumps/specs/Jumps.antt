@@ -14,13 +14,13 @@ use Rattle.paper.specs.declared.Placed.{Placed}
 use Rattle.paper.specs.Answers.{foundOf}
 use Rattle.paper.specs.Hearing.{first}
 use Rattle.paper.specs.Calls.{tableIn, storedKeys}
-use Rattle.position.specs.Orders.{checkingCounts}
+use Rattle.position.specs.Orders.{checkCountsOrder}
 use Rattle.position.specs.Calls.{workLeft}
 use Rattle.position.specs.Promises.{GivesKey}
 
-abbrev pub Spots : List ℕ → ℕ → List ℕ → Found → List ℕ → Type 0
-Spots l position buffer r buffer′ =
-    (work counts : List ℕ) → first (checkingCounts l work counts) ≡ none
+abbrev pub TellsKey : List ℕ → ℕ → List ℕ → Found → List ℕ → Type 0
+TellsKey l position buffer r buffer′ =
+    (work counts : List ℕ) → first (checkCountsOrder l work counts) ≡ none
     → GivesKey l work counts position buffer (foundOf r) (workLeft l work counts) buffer′
 
 -- a key's position, or 15 where it is not stored

@@ -12,7 +12,7 @@ ghost use Rattle.paper.specs.Accepted.{Accepted};
 ghost use Rattle.position.specs.Counts.{RightCounts};
 ghost use Rattle.position.specs.Promises.{GivesKey, GivesPosition};
 ghost use Rattle.key.specs.Hand.{Ready, lettersOf};
-ghost use Rattle.jumps.specs.Jumps.{Spots, ranksAs};
+ghost use Rattle.jumps.specs.Jumps.{TellsKey, ranksAs};
 use head::Head;
 use key::Key;
 use paper::Found;
@@ -70,7 +70,7 @@ pub fn position_text(image: &[u8], work: &mut [u32], counts: &[u32], text: &[u8]
 // The part of key at position after 25: 14, 15 and the key. The key is found on a path of its own, since the rest of the buffer keeps what it held.
 fn spot(image: &[u8], h: Head, counts: &[u32], position: u64, buffer: &mut [u8]) -> Found
     requires { ⌜ Accepted (now image) ⌝ ∗ ⌜ h ≡ headOf (now image) ⌝ ∗ ⌜ RightCounts (now image) (now counts) ⌝ }
-    ensures { λ r. ⌜ Spots (now (image .entry)) position (now (buffer .entry)) r (now (buffer .exit)) ⌝ }
+    ensures { λ r. ⌜ TellsKey (now (image .entry)) position (now (buffer .entry)) r (now (buffer .exit)) ⌝ }
 {
     if buffer.len() < (h.max as usize) {
         return Found::Refused(Refusal::ShortBuffer);

@@ -11,7 +11,7 @@ use lib.Dec.{leb}
 use lib.ListN.{length, getD, take, drop, set, replicate}
 use lib.Seq.{length-take-le, take-all, take-suc, drop-cons, getD-take}
 use borrow.Author.Tests.{leb-true, leb-false}
-use Rattle.trie.specs.Table.{Letters}
+use Rattle.trie.specs.Table.{LettersBelow}
 use Rattle.trie.proofs.LettersBelow.{letters-at}
 use Rattle.head.specs.Fields.{mostLetters}
 use Rattle.key.specs.declared.Key.{Key}
@@ -88,6 +88,6 @@ module _ (hand : Key) (w : length (hand .letters) ≡ mostLetters) (s : hand .le
       drop-cons (lettersOf hand) i 0 (omega (arith, letters-count))
       ∙ ap (λ (x : ℕ). x ∷ drop (suc i) (lettersOf hand)) (getD-take (hand .len) (hand .letters) i 0 h)
 
-  pub letter-below : (n i : ℕ) → Letters n (lettersOf hand) → i < hand .len → getD (hand .letters) i 0 < n
+  pub letter-below : (n i : ℕ) → LettersBelow n (lettersOf hand) → i < hand .len → getD (hand .letters) i 0 < n
   letter-below n i l h =
       rw (getD-take (hand .len) (hand .letters) i 0 h) at (letters-at n (lettersOf hand) l i (omega (arith, letters-count)))

@@ -14,13 +14,13 @@ use Rattle.field.proofs.Range.{both, between-true}
 use Rattle.head.specs.declared.Head.{Head}
 use Rattle.head.specs.Fields.{permitted, mostLetters}
 use Rattle.head.proofs.Permitted.{bounds}
-use Rattle.trie.specs.Table.{Letters}
+use Rattle.trie.specs.Table.{LettersBelow}
 use Rattle.trie.proofs.LettersBelow.{letters-at, letters-of}
-use Rattle.alphabet.specs.Letters.{lettersIn, keyOfText}
-use Rattle.paper.specs.Hearing.{Row, given, first}
+use Rattle.alphabet.specs.Letters.{orEmpty, keyOfText}
+use Rattle.paper.specs.Hearing.{Row, rowWhen, first}
 use Rattle.paper.specs.Answers.{said}
 use Rattle.paper.specs.Rows.{row9, row9next, row10, row10text, allBelow, isNone}
-use Rattle.paper.specs.Orders.{byLetters, byNext, byText}
+use Rattle.paper.specs.Orders.{lettersRows, nextRows, textRows}
 use Rattle.paper.proofs.Hearing.{was-false, yes-row, no-row, passed-row}
 use Rattle.paper.proofs.Keying.{below-letters}
 use Rattle.paper.proofs.Named.{named-letters}
@@ -39,9 +39,9 @@ short h {len} p b = let m = bounds h p in let u = between-true len (h .min) (h .
 
 -- 10, by the letters of such a key
 pub ten-by : (h : Head) {hand : Key} {k : List ℕ} {b : Bool} → Holds hand k → hand .len ≤ mostLetters → allBelow (h .n) (lettersOf hand) ≡ b
-    → row10 h k ≡ given 10 0 (not b)
+    → row10 h k ≡ rowWhen 10 0 (not b)
 unfolding row10
-ten-by h o l e = ap (λ (t : Bool). given 10 0 (not t)) (rw (held o l) at e)
+ten-by h o l e = ap (λ (t : Bool). rowWhen 10 0 (not t)) (rw (held o l) at e)
 
 -- ---- 9 by a test of the length, then 10, of a key given by its letters
 
@@ -58,33 +58,33 @@ abbrev pub longer : Head → ℕ → Bool
 longer h len = ltb (h .max) len
 
 module _ (h : Head) (test : ℕ → Bool) {hand : Key} {k : List ℕ} (o : Holds hand k) where
-  pub nine-given : test (hand .len) ≡ true → first (given 9 0 (test (length k)) ∷ row10 h k ∷ []) ≡ some (said 9 0)
+  pub nine-given : test (hand .len) ≡ true → first (rowWhen 9 0 (test (length k)) ∷ row10 h k ∷ []) ≡ some (said 9 0)
   nine-given e = yes-row 9 0 _ (sym (ap test (o .len)) ∙ e)
 
-  pub ten-decides : test (hand .len) ≡ false → first (given 9 0 (test (length k)) ∷ row10 h k ∷ []) ≡ row10 h k
+  pub ten-decides : test (hand .len) ≡ false → first (rowWhen 9 0 (test (length k)) ∷ row10 h k ∷ []) ≡ row10 h k
   ten-decides e = no-row 9 0 _ (sym (ap test (o .len)) ∙ e) ∙ alone (row10 h k)
 
 -- ---- 10, then 9, of a key given by its text
 
 -- a text that names no key
-pub text-10 : (h : Head) → first (byText h none) ≡ some (said 10 0)
-unfolding byText row10text isNone
+pub text-10 : (h : Head) → first (textRows h none) ≡ some (said 10 0)
+unfolding textRows row10text isNone
 text-10 h = yes-row 10 0 _ refl
 
 -- one that names a key: 9 by its length
-text-by : (h : Head) (k : List ℕ) {b : Bool} → between (length k) (h .min) (h .max) ≡ b → first (byText h (some k)) ≡ given 9 0 (not b)
-unfolding byText row10text isNone row9 lettersIn
-text-by h k e = no-row 10 0 _ refl ∙ alone _ ∙ ap (λ (t : Bool). given 9 0 (not t)) e
+text-by : (h : Head) (k : List ℕ) {b : Bool} → between (length k) (h .min) (h .max) ≡ b → first (textRows h (some k)) ≡ rowWhen 9 0 (not b)
+unfolding textRows row10text isNone row9 orEmpty
+text-by h k e = no-row 10 0 _ refl ∙ alone _ ∙ ap (λ (t : Bool). rowWhen 9 0 (not t)) e
 
 -- the same of a typed key
 module _ (h : Head) (t : Typed) where
-  pub typed-10 : (named : Option (List ℕ)) → t ≡ typedAs named → t .named ≡ false → first (byText h named) ≡ some (said 10 0)
+  pub typed-10 : (named : Option (List ℕ)) → t ≡ typedAs named → t .named ≡ false → first (textRows h named) ≡ some (said 10 0)
   unfolding typedAs
   typed-10 none e f = text-10 h
   typed-10 (some k) e f = let z : _≡_ {A = Bool} true false = ap (λ (r : Typed). r .named) (sym e) ∙ f in absurd (true≢false z)
 
   pub typed-by : (named : Option (List ℕ)) → t ≡ typedAs named → t .named ≡ true → {b : Bool}
-      → between (t .key .len) (h .min) (h .max) ≡ b → first (byText h named) ≡ given 9 0 (not b)
+      → between (t .key .len) (h .min) (h .max) ≡ b → first (textRows h named) ≡ rowWhen 9 0 (not b)
   unfolding typedAs inHand
   typed-by none e f b = let z : _≡_ {A = Bool} true false = sym f ∙ ap (λ (r : Typed). r .named) e in absurd (true≢false z)
   typed-by (some k) e f b = text-by h k (rw (ap (λ (r : Typed). r .key .len) e) at b)
@@ -110,7 +110,7 @@ below-not n (x ∷ l) (suc i) (suc len) k m h = rw (below-not n l i len (omega a
 
 -- ---- what is known of a key that 9 and 10 have passed
 
-ready : (h : Head) {hand : Key} {k : List ℕ} → Holds hand k → length k ≤ mostLetters → Letters (h .n) k
+ready : (h : Head) {hand : Key} {k : List ℕ} → Holds hand k → length k ≤ mostLetters → LettersBelow (h .n) k
     → Ready h hand × (lettersOf hand ≡ k)
 ready h {hand} {k} o s l =
     let fits : hand .len ≤ mostLetters = rw (o .len) s in
@@ -118,7 +118,7 @@ ready h {hand} {k} o s l =
     (record { short = fits; letters = rw e l }, e)
 
 -- of the two rows of a key given by its letters, neither is given
-neither : (h : Head) (k : List ℕ) {test : Bool} → first (given 9 0 test ∷ row10 h k ∷ []) ≡ none → (test ≡ false) × Letters (h .n) k
+neither : (h : Head) (k : List ℕ) {test : Bool} → first (rowWhen 9 0 test ∷ row10 h k ∷ []) ≡ none → (test ≡ false) × LettersBelow (h .n) k
 unfolding row10
 neither h k {test} e =
     let u = passed-row _ _ e in
@@ -126,12 +126,12 @@ neither h k {test} e =
     (was-false 9 0 test (u .0), below-letters (h .n) k .0 (not-false _ (was-false 10 0 _ (v .0))))
 
 module _ (h : Head) {hand : Key} {k : List ℕ} (p : permitted h ≡ true) (o : Holds hand k) where
-  pub letters-ready : first (byLetters h k) ≡ none → Ready h hand × (lettersOf hand ≡ k)
-  unfolding byLetters row9
+  pub letters-ready : first (lettersRows h k) ≡ none → Ready h hand × (lettersOf hand ≡ k)
+  unfolding lettersRows row9
   letters-ready e = let u = neither h k e in ready h o (short h p (not-false _ (u .0))) (u .1)
 
-  pub next-ready : first (byNext h k) ≡ none → Ready h hand × (lettersOf hand ≡ k) × (hand .len ≤ h .max)
-  unfolding byNext row9next
+  pub next-ready : first (nextRows h k) ≡ none → Ready h hand × (lettersOf hand ≡ k) × (hand .len ≤ h .max)
+  unfolding nextRows row9next
   next-ready e =
       let u = neither h k e in
       let most : length k ≤ h .max = ltb-false _ _ (u .0) in
@@ -139,9 +139,9 @@ module _ (h : Head) {hand : Key} {k : List ℕ} (p : permitted h ≡ true) (o : 
       (r .0, r .1, rw (o .len) most)
 
 -- a text that names no key does not pass, and the length of one that does is allowed
-text-passing : (h : Head) (named : Option (List ℕ)) → first (byText h named) ≡ none
+text-passing : (h : Head) (named : Option (List ℕ)) → first (textRows h named) ≡ none
     → (k : List ℕ) × (named ≡ some k) × (between (length k) (h .min) (h .max) ≡ true)
-unfolding byText row10text isNone row9 lettersIn
+unfolding textRows row10text isNone row9 orEmpty
 text-passing h none e = let z : _≡_ {A = ℕ} 0 1 = cc (text-10 h) in absurd (omega arith)
 text-passing h (some k) e =
     let u = passed-row _ _ e in
@@ -150,7 +150,7 @@ text-passing h (some k) e =
 
 -- the same of a text, whose letters are those of an alphabet of at most N
 pub typed-ready : (h : Head) (t : Typed) (alphabet text : List ℕ) {named : Option (List ℕ)} → permitted h ≡ true → t ≡ typedAs named
-    → named ≡ keyOfText alphabet text → length alphabet ≤ h .n → first (byText h named) ≡ none
+    → named ≡ keyOfText alphabet text → length alphabet ≤ h .n → first (textRows h named) ≡ none
     → Ready h (t .key) × (named ≡ some (lettersOf (t .key)))
 unfolding typedAs
 typed-ready h t alphabet text {named} p e spelt few passed =

@@ -7,12 +7,12 @@ use mathlib.Core.List.{List}
 use lib.ListN.{length}
 use Rattle.head.specs.declared.Head.{Head}
 use Rattle.head.specs.Fields.{headOf}
-use Rattle.alphabet.specs.Letters.{letters, lettersIn, keyOfText}
+use Rattle.alphabet.specs.Letters.{letters, orEmpty, keyOfText}
 use Rattle.paper.specs.declared.Verdict.{Verdict}
 use Rattle.paper.specs.Hearing.{first}
 use Rattle.paper.specs.Answers.{rowOf}
 use Rattle.paper.specs.Given.{Given, asLetters, asText, alphabetIn, meantBy, meantIn, keyIn}
-use Rattle.paper.specs.Orders.{byLetters, byText, keyingBy, keying}
+use Rattle.paper.specs.Orders.{lettersRows, textRows, keyRowsBy, keyRows}
 use Rattle.paper.proofs.Hearing.{told-passed}
 use Rattle.paper.proofs.Known.{Known}
 use Rattle.paper.proofs.LookUpCall.{alphabet-most}
@@ -24,13 +24,13 @@ use Rattle.key.proofs.Judging.{letters-ready, typed-ready}
 
 -- The verdict on a key's rows and, where it passed them, the key in hand.
 pub record Keyed (l : List ℕ) (h : Head) (given : Given) (hand : Key) (v : Verdict) : Type 0 where
-  pub told : rowOf v ≡ first (keying l given)
+  pub told : rowOf v ≡ first (keyRows l given)
   pub ready : v ≡ Verdict.Passed → Ready h hand
   pub same : v ≡ Verdict.Passed → lettersOf hand ≡ keyIn l given
 
 module _ {l : List ℕ} {h : Head} (b : Known l h) where
   module _ (key : List ℕ) {hand : Key} (v : Verdict) (made : hand ≡ inHand key)
-      (told : (k : List ℕ) → Holds hand k → rowOf v ≡ first (byLetters h k)) where
+      (told : (k : List ℕ) → Holds hand k → rowOf v ≡ first (lettersRows h k)) where
     holds : Holds hand key
     holds = rw made (hand-holds key)
 
@@ -38,12 +38,12 @@ module _ {l : List ℕ} {h : Head} (b : Known l h) where
     hand-ready f = letters-ready h (b .image .head-permitted) holds (told-passed (told key holds) f)
 
     pub by-letters : Keyed l h (asLetters key) hand v
-    unfolding keying keyingBy keyIn meantIn meantBy lettersIn
+    unfolding keyRows keyRowsBy keyIn meantIn meantBy orEmpty
     by-letters = record { told = rw (b .own) at (told key holds); ready = λ f. hand-ready f .0; same = λ f. hand-ready f .1 }
 
   -- with the alphabet's letters decoded
   module _ {codes : List ℕ} (decoded : codes ≡ letters (alphabetIn (headOf l) l)) (text : List ℕ) {t : Typed} (v : Verdict)
-      (made : t ≡ typedAs (keyOfText codes text)) (told : (named : Option (List ℕ)) → t ≡ typedAs named → rowOf v ≡ first (byText h named)) where
+      (made : t ≡ typedAs (keyOfText codes text)) (told : (named : Option (List ℕ)) → t ≡ typedAs named → rowOf v ≡ first (textRows h named)) where
     abbrev named : Option (List ℕ)
     named = keyOfText (letters (alphabetIn (headOf l) l)) text
 
@@ -56,6 +56,6 @@ module _ {l : List ℕ} {h : Head} (b : Known l h) where
         typed-ready h t _ text (b .image .head-permitted) names refl few (told-passed (told _ names) f)
 
     pub by-text : Keyed l h (asText text) (t .key) v
-    unfolding keying keyingBy keyIn meantIn meantBy lettersIn
+    unfolding keyRows keyRowsBy keyIn meantIn meantBy orEmpty
     by-text =
-        record { told = rw (b .own) at (told _ names); ready = λ f. text-ready f .0; same = λ f. ap lettersIn (sym (text-ready f .1)) }
+        record { told = rw (b .own) at (told _ names); ready = λ f. text-ready f .0; same = λ f. ap orEmpty (sym (text-ready f .1)) }

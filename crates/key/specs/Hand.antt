@@ -6,7 +6,7 @@ use mathlib.Core.Bool.{true, false}
 use mathlib.Core.Option.{Option, none, some}
 use mathlib.Core.List.{List, [], _∷_}
 use lib.ListN.{length, take}
-use Rattle.trie.specs.Table.{Letters}
+use Rattle.trie.specs.Table.{LettersBelow}
 use Rattle.head.specs.declared.Head.{Head}
 use Rattle.head.specs.Fields.{mostLetters}
 use Rattle.key.specs.declared.Key.{Key}
@@ -41,4 +41,4 @@ lettersOf hand = take (hand .len) (hand .letters)
 -- what a key in hand is when 9 and 10 have passed: no longer than any max, of letters below N
 pub record Ready (h : Head) (hand : Key) : Type 0 where
   pub short : hand .len ≤ mostLetters
-  pub letters : Letters (h .n) (lettersOf hand)
+  pub letters : LettersBelow (h .n) (lettersOf hand)

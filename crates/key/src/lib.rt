@@ -12,7 +12,7 @@ ghost use Rattle.alphabet.specs.Letters.{keyOfText};
 ghost use Rattle.paper.specs.Hearing.{first};
 ghost use Rattle.paper.specs.Answers.{rowOf};
 ghost use Rattle.paper.specs.Rows.{allBelow, row10};
-ghost use Rattle.paper.specs.Orders.{byLetters, byNext, byText};
+ghost use Rattle.paper.specs.Orders.{lettersRows, nextRows, textRows};
 ghost use Rattle.key.specs.Hand.{inHand, Holds, typedAs};
 use head::Head;
 use paper::Refusal;
@@ -58,7 +58,7 @@ impl Key {
     // 9, then 10, of a key given by its letters.
     pub fn judge(self, h: Head) -> Verdict
         requires { ⌜ permitted h ≡ true ⌝ }
-        ensures { λ r. ⌜ ((k : List ℕ) → Holds self k → rowOf r ≡ first (byLetters h k)) ⌝ }
+        ensures { λ r. ⌜ ((k : List ℕ) → Holds self k → rowOf r ≡ first (lettersRows h k)) ⌝ }
     {
         let len = self.len;
         if !length_allowed(len, h) {
@@ -70,7 +70,7 @@ impl Key {
     // 9, then 10, of the key from which the next one is sought: here only a key longer than max is 9.
     pub fn judge_next(self, h: Head) -> Verdict
         requires { ⌜ permitted h ≡ true ⌝ }
-        ensures { λ r. ⌜ ((k : List ℕ) → Holds self k → rowOf r ≡ first (byNext h k)) ⌝ }
+        ensures { λ r. ⌜ ((k : List ℕ) → Holds self k → rowOf r ≡ first (nextRows h k)) ⌝ }
     {
         if (h.max as usize) < self.len {
             return Verdict::Refused(Refusal::KeyLength);
@@ -125,7 +125,7 @@ impl Typed {
     // 10, then 9, of a key given by its text.
     pub fn judge(self, h: Head) -> Verdict
         requires { ⌜ permitted h ≡ true ⌝ }
-        ensures { λ r. ⌜ ((named : Option (List ℕ)) → self ≡ typedAs named → rowOf r ≡ first (byText h named)) ⌝ }
+        ensures { λ r. ⌜ ((named : Option (List ℕ)) → self ≡ typedAs named → rowOf r ≡ first (textRows h named)) ⌝ }
     {
         if !self.named {
             return Verdict::Refused(Refusal::Letter);

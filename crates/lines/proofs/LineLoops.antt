@@ -10,7 +10,7 @@ use lib.ListN.{length, getD, set, take, drop, length-set, length-append, length-
 use lib.Seq.{sets, take-suc, length-take-le, drop-append-le, getD-take}
 use Rattle.field.specs.Field.{Bytes}
 use Rattle.field.proofs.Bytes.{bytes-take, bytes-drop}
-use Rattle.lines.specs.Lines.{decimal, dotted, keyText, Laid}
+use Rattle.lines.specs.Lines.{decimal, dotted, keyText, TextAt}
 use Rattle.lines.proofs.Digits.{decimal-one, decimal-more, decimal-long, letter-long, figures, length-figures, figures-all}
 use Rattle.lines.proofs.TextsAt.{laid-long, laid-as, laid-one, laid-join, sets-last}
 use Rattle.lines.proofs.LineTexts.{dotted-more, dotted-long, key-parts}
@@ -76,7 +76,7 @@ pub record Spelling (l : List ℕ) (start : ℕ) (path : List ℕ) (len : ℕ) (
   pub some : 0 < i
   pub within : i ≤ len
   pub inside : len ≤ length path
-  pub laid : Laid l start (dotted (drop 1 (take i path))) end s
+  pub laid : TextAt l start (dotted (drop 1 (take i path))) end s
 
 pub spelling-none : (l : List ℕ) (start : ℕ) (path : List ℕ) {len : ℕ} → 0 < len → len ≤ length path → Spelling l start path len l start 1
 unfolding dotted
@@ -92,7 +92,7 @@ taken {path} {i} p = length-take-le i path (omega (arith, p .within, p .inside))
 pub spelling-more : {l : List ℕ} {start : ℕ} {path : List ℕ} {len : ℕ} {s : List ℕ} {end i : ℕ} {s′ : List ℕ} {end′ : ℕ}
     → Spelling l start path len s end i
     → i < len
-    → Laid (set s end 46) (end + 1) (decimal (getD path i 0)) end′ s′
+    → TextAt (set s end 46) (end + 1) (decimal (getD path i 0)) end′ s′
     → Spelling l start path len s′ end′ (i + 1)
 spelling-more {path} {s} {end} {i} p h q =
     let e : dotted (drop 1 (take i path)) ++ (46 ∷ decimal (getD path i 0)) ≡ dotted (drop 1 (take (i + 1) path)) =
@@ -108,7 +108,7 @@ spelling-more {path} {s} {end} {i} p h q =
     }
 
 module _ {l′ : List ℕ} {at : ℕ} {l : List ℕ} {start : ℕ} {path : List ℕ} {len : ℕ} {s : List ℕ} {end i : ℕ}
-    (first : Laid l′ at (decimal (getD path 0 0)) start l)
+    (first : TextAt l′ at (decimal (getD path 0 0)) start l)
     (p : Spelling l start path len s end i) where
   -- a dot and a letter more have room
   pub spelling-room : Bytes path → i < len → at + (len * 4 + 1) ≤ length l′ → end + 4 ≤ length s
@@ -126,7 +126,7 @@ module _ {l′ : List ℕ} {at : ℕ} {l : List ℕ} {start : ℕ} {path : List 
         dotted-long (drop 1 (take i path)) (bytes-drop 1 (take i path) (bytes-take i path b)),
       )
 
-  pub spelling-all : len ≤ i → Laid l′ at (keyText (take len path)) end s
+  pub spelling-all : len ≤ i → TextAt l′ at (keyText (take len path)) end s
   spelling-all h =
       let e : i ≡ len = omega (arith, p .within) in
       let t : decimal (getD path 0 0) ++ dotted (drop 1 (take i path)) ≡ keyText (take i path) =

@@ -8,7 +8,7 @@ use mathlib.Core.List.{List, [], _∷_, _++_, append-assoc, append-nil}
 use lib.ListN.{length, getD, take, drop, length-append, length-take}
 use Rattle.field.specs.Field.{Bytes}
 use Rattle.field.proofs.Bytes.{bytes-take}
-use Rattle.lines.specs.Lines.{decimal, dotted, keyText, entryLine, entriesLine, refusedLine, entryRoom, entriesRoom, refusedRoom, Laid}
+use Rattle.lines.specs.Lines.{decimal, dotted, keyText, entryLine, entriesLine, refusedLine, entryRoom, entriesRoom, refusedRoom, TextAt}
 use Rattle.lines.proofs.Digits.{decimal-long, letter-long}
 
 -- ---- a key is its first letter and the dotted others, and one more of these is a dot and that letter more
@@ -31,7 +31,7 @@ key-parts (x ∷ k) h = refl
 
 -- ---- how long they are, and where a number ends
 
-pub decimal-end : (v : ℕ) {l : List ℕ} {at end : ℕ} {m : List ℕ} → Laid l at (decimal v) end m → end ≤ at + 20
+pub decimal-end : (v : ℕ) {l : List ℕ} {at end : ℕ} {m : List ℕ} → TextAt l at (decimal v) end m → end ≤ at + 20
 decimal-end v p = omega (arith, p .ends, decimal-long v)
 
 pub dotted-long : (k : List ℕ) → Bytes k → length (dotted k) ≤ length k * 4

@@ -8,25 +8,25 @@ use mathlib.Core.List.{List, [], _∷_, _++_}
 use lib.ListN.{length, set, length-append}
 use lib.Seq.{sets, length-sets}
 use Rattle.field.proofs.Sets.{sets-append, set-sets}
-use Rattle.lines.specs.Lines.{Laid}
+use Rattle.lines.specs.Lines.{TextAt}
 
-pub laid-long : {out : List ℕ} {at : ℕ} {text : List ℕ} {end : ℕ} {out′ : List ℕ} → Laid out at text end out′ → length out′ ≡ length out
+pub laid-long : {out : List ℕ} {at : ℕ} {text : List ℕ} {end : ℕ} {out′ : List ℕ} → TextAt out at text end out′ → length out′ ≡ length out
 laid-long {out} {at} {text} p = ap length (p .bytes) ∙ length-sets out at text
 
 -- the same text said in another way
 pub laid-as : {out : List ℕ} {at : ℕ} {text text′ : List ℕ} {end : ℕ} {out′ : List ℕ}
     → text ≡ text′
-    → Laid out at text end out′
-    → Laid out at text′ end out′
-laid-as {out} {at} {end} {out′} e p = subst (λ (t : List ℕ). Laid out at t end out′) e p
+    → TextAt out at text end out′
+    → TextAt out at text′ end out′
+laid-as {out} {at} {end} {out′} e p = subst (λ (t : List ℕ). TextAt out at t end out′) e p
 
-pub laid-one : (out : List ℕ) (at b : ℕ) {end : ℕ} → end ≡ at + 1 → Laid out at (b ∷ []) end (set out at b)
+pub laid-one : (out : List ℕ) (at b : ℕ) {end : ℕ} → end ≡ at + 1 → TextAt out at (b ∷ []) end (set out at b)
 laid-one out at b e = record { bytes = refl; ends = e }
 
 pub laid-join : {l : List ℕ} {at : ℕ} {a : List ℕ} {e : ℕ} {m b : List ℕ} {f : ℕ} {n : List ℕ}
-    → Laid l at a e m
-    → Laid m e b f n
-    → Laid l at (a ++ b) f n
+    → TextAt l at a e m
+    → TextAt m e b f n
+    → TextAt l at (a ++ b) f n
 laid-join {l} {at} {a} {e} {m} {b} {f} {n} p q =
     record {
       bytes = q .bytes ∙ ap₂ (λ (r : List ℕ) (k : ℕ). sets r k b) (p .bytes) (p .ends) ∙ sym (sets-append l at a b);

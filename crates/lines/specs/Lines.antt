@@ -56,6 +56,6 @@ abbrev pub refusedRoom : ℕ
 refusedRoom = 64
 
 -- a text laid at a place, all else kept, and where it ends
-pub record Laid (out : List ℕ) (at : ℕ) (text : List ℕ) (end : ℕ) (out′ : List ℕ) : Type 0 where
+pub record TextAt (out : List ℕ) (at : ℕ) (text : List ℕ) (end : ℕ) (out′ : List ℕ) : Type 0 where
   pub bytes : out′ ≡ sets out at text
   pub ends : end ≡ at + length text

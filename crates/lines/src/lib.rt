@@ -2,7 +2,7 @@
 ghost use mathlib.Core.Path.{_≡_};
 ghost use Prim.Native.Nat.{_+_, _*_, _≤_};
 ghost use lib.ListN.{length, take};
-ghost use Rattle.lines.specs.Lines.{Laid, decimal, entriesLine, entryLine, refusedLine, keyText, entryRoom, entriesRoom, refusedRoom};
+ghost use Rattle.lines.specs.Lines.{TextAt, decimal, entriesLine, entryLine, refusedLine, keyText, entryRoom, entriesRoom, refusedRoom};
 
 // The room for "refused N at P".
 pub const REFUSED_ROOM: usize = 64;
@@ -15,7 +15,7 @@ pub const VALUE_ROOM: usize = 32;
 // "entries N"
 pub fn entries(out: &mut [u8], at: usize, n: u32) -> usize
     requires { ⌜ at + entriesRoom ≤ length (now out) ⌝ }
-    ensures { λ r. ⌜ Laid (now (out .entry)) at (entriesLine n) r (now (out .exit)) ⌝ }
+    ensures { λ r. ⌜ TextAt (now (out .entry)) at (entriesLine n) r (now (out .exit)) ⌝ }
 {
     let mut end = word(out, at, b"entries ");
     end = number(out, end, n as u64);
@@ -25,7 +25,7 @@ pub fn entries(out: &mut [u8], at: usize, n: u32) -> usize
 // "refused N at P"
 pub fn refused(out: &mut [u8], at: usize, n: u32, place: u32) -> usize
     requires { ⌜ at + refusedRoom ≤ length (now out) ⌝ }
-    ensures { λ r. ⌜ Laid (now (out .entry)) at (refusedLine n place) r (now (out .exit)) ⌝ }
+    ensures { λ r. ⌜ TextAt (now (out .entry)) at (refusedLine n place) r (now (out .exit)) ⌝ }
 {
     let mut end = word(out, at, b"refused ");
     end = number(out, end, n as u64);
@@ -38,7 +38,7 @@ pub fn refused(out: &mut [u8], at: usize, n: u32, place: u32) -> usize
 pub fn entry(out: &mut [u8], at: usize, path: &[u8], len: usize, value: u64) -> usize
     requires { ⌜ len ≤ length (now path) ⌝ }
     requires { ⌜ at + entryRoom len ≤ length (now out) ⌝ }
-    ensures { λ r. ⌜ Laid (now (out .entry)) at (entryLine (take len (now (path .entry))) value) r (now (out .exit)) ⌝ }
+    ensures { λ r. ⌜ TextAt (now (out .entry)) at (entryLine (take len (now (path .entry))) value) r (now (out .exit)) ⌝ }
     ensures { λ r. ⌜ r ≤ at + entryRoom len ⌝ }
 {
     let mut end = letters(out, at, path, len);
@@ -52,7 +52,7 @@ pub fn entry(out: &mut [u8], at: usize, path: &[u8], len: usize, value: u64) -> 
 fn letters(out: &mut [u8], at: usize, path: &[u8], len: usize) -> usize
     requires { ⌜ len ≤ length (now path) ⌝ }
     requires { ⌜ at + (len * 4 + 1) ≤ length (now out) ⌝ }
-    ensures { λ r. ⌜ Laid (now (out .entry)) at (keyText (take len (now (path .entry)))) r (now (out .exit)) ⌝ }
+    ensures { λ r. ⌜ TextAt (now (out .entry)) at (keyText (take len (now (path .entry)))) r (now (out .exit)) ⌝ }
 {
     if len == 0 {
         out[at] = 45;
@@ -71,7 +71,7 @@ fn letters(out: &mut [u8], at: usize, path: &[u8], len: usize) -> usize
 // A letter number in decimal. It has three digits at most, and most lines are letters, so no loop is spent on it.
 fn letter(out: &mut [u8], at: usize, x: u8) -> usize
     requires { ⌜ at + 3 ≤ length (now out) ⌝ }
-    ensures { λ r. ⌜ Laid (now (out .entry)) at (decimal x) r (now (out .exit)) ⌝ }
+    ensures { λ r. ⌜ TextAt (now (out .entry)) at (decimal x) r (now (out .exit)) ⌝ }
 {
     if x < 10 {
         out[at] = 48 + x;
@@ -91,7 +91,7 @@ fn letter(out: &mut [u8], at: usize, x: u8) -> usize
 // A number in decimal, written from its last digit on.
 fn number(out: &mut [u8], at: usize, v: u64) -> usize
     requires { ⌜ at + 20 ≤ length (now out) ⌝ }
-    ensures { λ r. ⌜ Laid (now (out .entry)) at (decimal v) r (now (out .exit)) ⌝ }
+    ensures { λ r. ⌜ TextAt (now (out .entry)) at (decimal v) r (now (out .exit)) ⌝ }
 {
     let width = places(v);
     let mut x = v;
@@ -120,7 +120,7 @@ fn places(v: u64) -> usize
 // Text as it stands.
 fn word(out: &mut [u8], at: usize, text: &[u8]) -> usize
     requires { ⌜ at + length (now text) ≤ length (now out) ⌝ }
-    ensures { λ r. ⌜ Laid (now (out .entry)) at (now (text .entry)) r (now (out .exit)) ⌝ }
+    ensures { λ r. ⌜ TextAt (now (out .entry)) at (now (text .entry)) r (now (out .exit)) ⌝ }
 {
     field::lay(out, at, text);
     at + text.len()

@@ -13,9 +13,9 @@ use Rattle.paper.specs.declared.Verdict.{Verdict}
 use Rattle.paper.specs.declared.Looked.{Looked}
 use Rattle.paper.specs.Hearing.{Row, first, heard, outcome}
 use Rattle.paper.specs.Answers.{rowOf, refusalNumbers, lookedOf}
-use Rattle.paper.specs.Rows.{badLink, rowAt, row6path}
+use Rattle.paper.specs.Rows.{badLink, row6At, row6path}
 use Rattle.paper.specs.Given.{Given, keyIn}
-use Rattle.paper.specs.Orders.{openingOf, keying, lookingUp}
+use Rattle.paper.specs.Orders.{openingRowsOf, keyRows, lookUpOrder}
 use Rattle.paper.specs.Calls.{tableIn, telling, lookUpOf}
 use Rattle.paper.specs.Promises.{LooksUp}
 use Rattle.paper.proofs.Hearing.{first-part, second-part, first-some, first-none, first-nil, heard-refused, heard-done, told-refused, told-passed}
@@ -35,26 +35,26 @@ module _ (l : List ℕ) (given : Given) where
   path = row6path (headOf l) (tableOf (headOf l) l) key ∷ []
 
   asked : lookUpOf l given
-      ≡ heard (first (openingOf l ++ (keying l given ++ path))) [] (telling (answer (tableIn l) key))
-  unfolding lookUpOf lookingUp
+      ≡ heard (first (openingRowsOf l ++ (keyRows l given ++ path))) [] (telling (answer (tableIn l) key))
+  unfolding lookUpOf lookUpOrder
   asked = refl
 
-  module _ (opened : first (openingOf l) ≡ none) where
-    unkeyed : {v : Verdict} {why : Refusal} → rowOf v ≡ first (keying l given) → v ≡ Verdict.Refused why
+  module _ (opened : first (openingRowsOf l) ≡ none) where
+    unkeyed : {v : Verdict} {why : Refusal} → rowOf v ≡ first (keyRows l given) → v ≡ Verdict.Refused why
         → LooksUp l given (lookedOf (Looked.Refused why))
     unfolding lookedOf refusalNumbers
     unkeyed told e =
-        sym (asked ∙ heard-refused _ _ _ (second-part (openingOf l) _ opened ∙ first-part (keying l given) _ (told-refused told e)))
+        sym (asked ∙ heard-refused _ _ _ (second-part (openingRowsOf l) _ opened ∙ first-part (keyRows l given) _ (told-refused told e)))
 
-    module _ (passed : first (keying l given) ≡ none) where
-      path-left : first (openingOf l ++ (keying l given ++ path)) ≡ first path
-      path-left = second-part (openingOf l) _ opened ∙ second-part (keying l given) _ passed
+    module _ (passed : first (keyRows l given) ≡ none) where
+      path-left : first (openingRowsOf l ++ (keyRows l given ++ path)) ≡ first path
+      path-left = second-part (openingRowsOf l) _ opened ∙ second-part (keyRows l given) _ passed
 
       by-fault : (at : Option ℕ) → fault (badLink (headOf l .g)) (tableOf (headOf l) l) 0 key ≡ at
           → LooksUp l given (lookedOf (lookedBy at (answer (tableOf (headOf l) l) key)))
-      unfolding lookedBy lookedOf refusalNumbers row6path rowAt tableIn
-      by-fault none f = sym (asked ∙ heard-done _ _ _ (path-left ∙ first-none _ _ (ap rowAt f) ∙ first-nil))
-      by-fault (some q) f = sym (asked ∙ heard-refused _ _ _ (path-left ∙ first-some _ _ (ap rowAt f)))
+      unfolding lookedBy lookedOf refusalNumbers row6path row6At tableIn
+      by-fault none f = sym (asked ∙ heard-done _ _ _ (path-left ∙ first-none _ _ (ap row6At f) ∙ first-nil))
+      by-fault (some q) f = sym (asked ∙ heard-refused _ _ _ (path-left ∙ first-some _ _ (ap row6At f)))
 
       found : {x : Looked} → x ≡ lookedIn (headOf l .g) (tableOf (headOf l) l) key → LooksUp l given (lookedOf x)
       unfolding lookedIn
@@ -65,7 +65,7 @@ module _ (l : List ℕ) (given : Given) where
 pub looks-up-unopened : {l : List ℕ} {r : Opened} {codes : List ℕ} → Opens l r codes → (given : Given) {why : Refusal}
     → r .verdict ≡ Verdict.Refused why → LooksUp l given (lookedOf (Looked.Refused why))
 unfolding lookedOf refusalNumbers
-looks-up-unopened {l} o given e = sym (asked l given ∙ heard-refused _ _ _ (first-part (openingOf l) _ (told-refused (o .verdict) e)))
+looks-up-unopened {l} o given e = sym (asked l given ∙ heard-refused _ _ _ (first-part (openingRowsOf l) _ (told-refused (o .verdict) e)))
 
 module _ {l : List ℕ} {h : Head} (b : Known l h) {given : Given} {hand : Key} {v : Verdict} (j : Keyed l h given hand v) where
   pub looks-up-unkeyed : {why : Refusal} → v ≡ Verdict.Refused why → LooksUp l given (lookedOf (Looked.Refused why))

@@ -7,7 +7,7 @@ use mathlib.Core.List.{List, [], _∷_}
 use mathlib.Core.Option.{Option, none, some, Option·some-ne-none, Option·some-injective}
 use mathlib.Core.Path.{_≡_, refl, sym, _∙_, ap}
 use lib.ListN.{length, take}
-use Rattle.trie.specs.Keys.{listing, meets, sift}
+use Rattle.trie.specs.Keys.{listing, meets, filter}
 use Rattle.trie.specs.Beyond.{firstOf}
 use Rattle.trie.proofs.Listing.{keysUnder-ascending}
 use Rattle.trie.proofs.Filter.{first-sift, sift-length}
@@ -23,10 +23,10 @@ use Rattle.opening.specs.declared.Opened.{Opened}
 use Rattle.audit.specs.Audit.{Checked}
 use Rattle.depths.proofs.Walkable.{Walkable}
 use Rattle.traversal.specs.declared.Search.{Search}
-use Rattle.traversal.specs.Search.{sought, Told}
+use Rattle.traversal.specs.Search.{nextStored, SearchTells}
 use Rattle.traversal.proofs.Searching.{was-missing, was-found}
 use Rattle.traversal.proofs.Walking.{met, Walking}
-use Rattle.measure.specs.KeysMet.{walked, walkedBy, checkedWalk}
+use Rattle.measure.specs.KeysMet.{keysMet, keysMetBy, checkedKeysMet}
 
 module _ (h : Head) (l : List ℕ) where
   abbrev keys : List (List ℕ)
@@ -34,24 +34,24 @@ module _ (h : Head) (l : List ℕ) where
 
   -- how many keys come after a key
   abbrev pub toCome : List ℕ → ℕ
-  toCome m = length (sift (meets true m) keys)
+  toCome m = length (filter (meets true m) keys)
 
-  none-to-come : (m : List ℕ) → sought h l true m ≡ none → toCome m ≡ 0
+  none-to-come : (m : List ℕ) → nextStored h l true m ≡ none → toCome m ≡ 0
   unfolding firstOf
-  none-to-come m e = go (sift (meets true m) keys) (sym (first-sift (meets true m) keys) ∙ e)
+  none-to-come m e = go (filter (meets true m) keys) (sym (first-sift (meets true m) keys) ∙ e)
     where
       go : (ks : List (List ℕ)) → firstOf ks ≡ none → length ks ≡ 0
       go [] f = refl
       go (k ∷ ks) f = absurd (Option·some-ne-none k f)
 
-  one-less : (m : List ℕ) {k : List ℕ} → sought h l true m ≡ some k → toCome m ≡ suc (toCome k)
+  one-less : (m : List ℕ) {k : List ℕ} → nextStored h l true m ≡ some k → toCome m ≡ suc (toCome k)
   unfolding firstOf
-  one-less m {k} e = go (sift (meets true m) keys) refl (sym (first-sift (meets true m) keys) ∙ e)
+  one-less m {k} e = go (filter (meets true m) keys) refl (sym (first-sift (meets true m) keys) ∙ e)
     where
-      go : (ks : List (List ℕ)) → sift (meets true m) keys ≡ ks → firstOf ks ≡ some k → length ks ≡ suc (toCome k)
+      go : (ks : List (List ℕ)) → filter (meets true m) keys ≡ ks → firstOf ks ≡ some k → length ks ≡ suc (toCome k)
       go [] f g = absurd (Option·some-ne-none k (sym g))
       go (j ∷ ks) f g =
-          let rest : sift (meets true j) keys ≡ ks = sift-next keys m (keysUnder-ascending (tableOf h l) (h .n) (h .min) (h .max) 0) f in
+          let rest : filter (meets true j) keys ≡ ks = sift-next keys m (keysUnder-ascending (tableOf h l) (h .n) (h .min) (h .max) 0) f in
           ap (λ (xs : List (List ℕ)). suc (length xs)) (sym rest)
           ∙ ap (λ (x : List ℕ). suc (toCome x)) (Option·some-injective j k g)
 
@@ -67,9 +67,9 @@ module _ {h : Head} {l path nodes : List ℕ} {n count : ℕ} (w : Meeting h l p
   pub meeting-few : Walkable h l → count < 2 ^ 32
   meeting-few a = omega (arith, w .all, a .few, sift-length (meets true []) (keys h l))
 
-  module _ {r : Search} {path₁ nodes₁ : List ℕ} (told : Told h l (sought h l true (take n path)) r path₁ nodes₁) where
-    pub meeting-end : h ≡ headOf l → r ≡ Search.Missing → count ≡ walked l
-    unfolding walked storedKeys tableIn
+  module _ {r : Search} {path₁ nodes₁ : List ℕ} (told : SearchTells h l (nextStored h l true (take n path)) r path₁ nodes₁) where
+    pub meeting-end : h ≡ headOf l → r ≡ Search.Missing → count ≡ keysMet l
+    unfolding keysMet storedKeys tableIn
     meeting-end same e =
         let none-left = none-to-come h l (take n path) (was-missing h l told e) in
         let total : count ≡ toCome h l [] = omega (arith, w .all, none-left) in
@@ -92,10 +92,10 @@ module _ {h : Head} {l path nodes : List ℕ} {n count : ℕ} (w : Meeting h l p
 -- ---- after the check
 
 module _ {l work : List ℕ} {r : Opened} {work′ codes : List ℕ} (o : Checked l work r work′ codes) where
-  pub walk-refused : {why : Refusal} → r .verdict ≡ Verdict.Refused why → 0 ≡ checkedWalk l work
-  unfolding walkedBy
+  pub walk-refused : {why : Refusal} → r .verdict ≡ Verdict.Refused why → 0 ≡ checkedKeysMet l work
+  unfolding keysMetBy
   walk-refused e = rw (told-refused (o .verdict) e)
 
-  pub walk-passed : {n : ℕ} → r .verdict ≡ Verdict.Passed → n ≡ walked l → n ≡ checkedWalk l work
-  unfolding walkedBy
+  pub walk-passed : {n : ℕ} → r .verdict ≡ Verdict.Passed → n ≡ keysMet l → n ≡ checkedKeysMet l work
+  unfolding keysMetBy
   walk-passed e f = rw (told-passed (o .verdict) e) f

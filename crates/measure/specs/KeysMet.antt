@@ -5,21 +5,21 @@ use mathlib.Core.Bool.{true}
 use mathlib.Core.Option.{none, some}
 use mathlib.Core.List.{List, []}
 use lib.ListN.{length}
-use Rattle.trie.specs.Keys.{meets, sift}
+use Rattle.trie.specs.Keys.{meets, filter}
 use Rattle.paper.specs.Hearing.{Row, first}
-use Rattle.paper.specs.Orders.{checking}
+use Rattle.paper.specs.Orders.{checkOrder}
 use Rattle.paper.specs.Calls.{storedKeys}
 
 -- the stored keys after the empty one
-unfoldable pub walked : List ℕ → ℕ
-unfolding sift meets storedKeys
-walked l = length (sift (meets true []) (storedKeys l))
+unfoldable pub keysMet : List ℕ → ℕ
+unfolding filter meets storedKeys
+keysMet l = length (filter (meets true []) (storedKeys l))
 
 -- 0 where the check refuses the image
-unfoldable pub walkedBy : Row → List ℕ → ℕ
-unfolding walked
-walkedBy none l = walked l
-walkedBy (some s) l = 0
+unfoldable pub keysMetBy : Row → List ℕ → ℕ
+unfolding keysMet
+keysMetBy none l = keysMet l
+keysMetBy (some s) l = 0
 
-abbrev pub checkedWalk : List ℕ → List ℕ → ℕ
-checkedWalk l work = walkedBy (first (checking l work)) l
+abbrev pub checkedKeysMet : List ℕ → List ℕ → ℕ
+checkedKeysMet l work = keysMetBy (first (checkOrder l work)) l

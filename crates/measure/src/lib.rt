@@ -4,7 +4,7 @@ ghost use mathlib.Core.Path.{_≡_};
 ghost use Rattle.head.specs.Fields.{headOf};
 ghost use Rattle.paper.specs.Accepted.{Accepted};
 ghost use Rattle.paper.specs.Calls.{workAfter};
-ghost use Rattle.measure.specs.KeysMet.{walked, checkedWalk};
+ghost use Rattle.measure.specs.KeysMet.{keysMet, checkedKeysMet};
 use head::Head;
 use traversal::Search;
 use paper::Verdict;
@@ -13,7 +13,7 @@ use paper::Verdict;
 // The working numbers are left as by every call that checks.
 #[no_mangle]
 pub extern "C" fn measure_walk(image: &[u8], work: &mut [u32]) -> u64
-    ensures { λ r. ⌜ r ≡ checkedWalk (now (image .entry)) (now (work .entry)) ⌝ }
+    ensures { λ r. ⌜ r ≡ checkedKeysMet (now (image .entry)) (now (work .entry)) ⌝ }
     ensures { λ _. ⌜ now (work .exit) ≡ workAfter (now (image .entry)) (now (work .entry)) ⌝ }
 {
     let mut codes = [0u32; Head::N_MOST as usize];
@@ -29,7 +29,7 @@ pub extern "C" fn measure_walk(image: &[u8], work: &mut [u32]) -> u64
 fn walk(image: &[u8], h: Head) -> u64
     requires { ⌜ Accepted (now image) ⌝ }
     requires { ⌜ h ≡ headOf (now image) ⌝ }
-    ensures { λ r. ⌜ r ≡ walked (now (image .entry)) ⌝ }
+    ensures { λ r. ⌜ r ≡ keysMet (now (image .entry)) ⌝ }
 {
     let mut path = [0u8; Head::MAX_MOST as usize];
     let mut nodes = [0u32; Head::PATH_MOST as usize];

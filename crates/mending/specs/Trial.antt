@@ -8,11 +8,11 @@ use Rattle.paper.specs.declared.Refusal.{Refusal}
 use Rattle.paper.specs.declared.Verdict.{Verdict}
 use Rattle.paper.specs.Hearing.{first}
 use Rattle.paper.specs.Answers.{rowOf}
-use Rattle.paper.specs.Orders.{checking}
+use Rattle.paper.specs.Orders.{checkOrder}
 use Rattle.paper.specs.Calls.{workAfter}
 
 pub record Lowers (l work : List ℕ) (p : ℕ) (r : Verdict) (l′ work′ : List ℕ) : Type 0 where
-  pub verdict : rowOf r ≡ first (checking (putTotal l (p - 1)) work)
+  pub verdict : rowOf r ≡ first (checkOrder (putTotal l (p - 1)) work)
   pub numbers : work′ ≡ workAfter (putTotal l (p - 1)) work
   pub lowered : r ≡ Verdict.Passed → l′ ≡ putTotal l (p - 1)
   pub kept : (why : Refusal) → r ≡ Verdict.Refused why → l′ ≡ l

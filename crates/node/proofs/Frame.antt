@@ -13,14 +13,14 @@ use lib.Seq.{sets}
 use Rattle.field.specs.Field.{digits, putField, cleared}
 use Rattle.field.proofs.Sets.{getD-outside}
 use Rattle.field.proofs.Field.{length-digits}
-use Rattle.trie.specs.Table.{Descent, Letters, complete, stopped, missing}
+use Rattle.trie.specs.Table.{Descent, LettersBelow, complete, stopped, missing}
 use Rattle.trie.specs.Storing.{added}
 use Rattle.head.specs.declared.Head.{Head}
 use Rattle.head.specs.Fields.{fieldsLen, totalAt, totalLen, putTotal, nodeWidth, nodePlace, usedLen}
 use Rattle.head.proofs.Places.{place-add, place-least, used-le}
 use Rattle.node.specs.Image.{linkPlace, dataPlace}
 use Rattle.node.specs.Writes.{carriedOut, pathNode, newNodes, totalWrite, linkWrite, dataWrite, storeWrites}
-use Rattle.node.specs.Frame.{Among, Touched, data-of-key, node-total, one-link, new-nodes}
+use Rattle.node.specs.Frame.{InBytes, Touched, data-of-key, node-total, one-link, new-nodes}
 use Rattle.node.proofs.FieldPlaces.{link-inside, data-inside, inside-least, inside-used, link-from}
 use Rattle.node.proofs.Heads.{withTotal, used-more}
 use Rattle.node.proofs.Nodes.{path-node, last-node}
@@ -29,11 +29,11 @@ use Rattle.node.proofs.StoreOnTable.{carried-append}
 -- where a key's walk can end: at a node there is, and what is left of the key are letters there are
 abbrev pub EndsIn : Head → Descent → Type 0
 EndsIn h (complete q) = q ≤ h .g
-EndsIn h (stopped q x xs) = (q ≤ h .g) × Letters (h .n) (x ∷ xs)
+EndsIn h (stopped q x xs) = (q ≤ h .g) × LettersBelow (h .n) (x ∷ xs)
 
 -- ---- a byte that a write misses
 
-beside : (l vs : List ℕ) (at p n : ℕ) → length vs ≡ n → ¬ Among at n p → getD (sets l at vs) p 0 ≡ getD l p 0
+beside : (l vs : List ℕ) (at p n : ℕ) → length vs ≡ n → ¬ InBytes at n p → getD (sets l at vs) p 0 ≡ getD l p 0
 beside l vs at p n e miss = getD-outside l vs at p 0 (go (decLt p at) (decLt p (at + n)))
   where
     go : Dec (p < at) → Dec (p < at + n) → (p < at) ⊎ (at + length vs ≤ p)
@@ -43,14 +43,14 @@ beside l vs at p n e miss = getD-outside l vs at p 0 (go (decLt p at) (decLt p (
 
 module _ (h : Head) (p : ℕ) where
   -- a number written inside a node of zeros
-  beside-node : (l : List ℕ) (q at w v : ℕ) → nodePlace h q ≤ at → at + w ≤ nodePlace h (q + 1) → ¬ Among (nodePlace h q) (nodeWidth h) p
+  beside-node : (l : List ℕ) (q at w v : ℕ) → nodePlace h q ≤ at → at + w ≤ nodePlace h (q + 1) → ¬ InBytes (nodePlace h q) (nodeWidth h) p
       → getD (putField (cleared l (nodePlace h q) (nodeWidth h)) at w v) p 0 ≡ getD l p 0
   beside-node l q at w v from to miss =
       beside (cleared l (nodePlace h q) (nodeWidth h)) (digits w v) at p w (length-digits w v) (λ b. miss (omega (arith, place-add h q 1)))
       ∙ beside l (replicate (nodeWidth h) 0) (nodePlace h q) p (nodeWidth h) (length-replicate (nodeWidth h) 0) miss
 
-  beside-nodes : (l : List ℕ) (q : ℕ) (ys : List ℕ) (v : ℕ) → Letters (h .n) ys
-      → ¬ Among (nodePlace h q) (suc (length ys) * nodeWidth h) p
+  beside-nodes : (l : List ℕ) (q : ℕ) (ys : List ℕ) (v : ℕ) → LettersBelow (h .n) ys
+      → ¬ InBytes (nodePlace h q) (suc (length ys) * nodeWidth h) p
       → getD (carriedOut l (newNodes h q ys v)) p 0 ≡ getD l p 0
   unfolding carriedOut newNodes
   beside-nodes l q [] v s miss =

@@ -13,7 +13,7 @@ use lib.ListN.{length, replicate}
 use lib.Seq.{sets, length-sets}
 use Rattle.field.specs.Field.{digits, cleared}
 use Rattle.field.proofs.Range.{both}
-use Rattle.trie.specs.Table.{Table, Letters, complete, stopped}
+use Rattle.trie.specs.Table.{Table, LettersBelow, complete, stopped}
 use Rattle.trie.specs.Storing.{put, grow, growPath, storedBy}
 use Rattle.head.specs.declared.Head.{Head}
 use Rattle.head.specs.Fields.{totalAt, totalLen, headOf, putTotal, nodeWidth, nodePlace, usedLen}
@@ -101,7 +101,7 @@ grow-before t q x d c (y ∷ ys) b =
     grow-before (grow t c y (suc c)) q x d (suc c) ys (omega arith)
     ∙ ap (λ (s : Table). growFrom s (suc c) ys) (grow-swap t q x d c y (suc c) (omega arith))
 
-new-nodes : (h : Head) (v : ℕ) → v < 256 ^ h .d → (l : List ℕ) (g : ℕ) (ys : List ℕ) → Letters (h .n) ys → g + suc (length ys) < 256 ^ h .a
+new-nodes : (h : Head) (v : ℕ) → v < 256 ^ h .d → (l : List ℕ) (g : ℕ) (ys : List ℕ) → LettersBelow (h .n) ys → g + suc (length ys) < 256 ^ h .a
     → nodePlace h (suc (g + suc (length ys))) ≤ length l
     → tableOf (withTotal h (g + suc (length ys))) (carriedOut l (newNodes h (suc g) ys v))
     ≡ put (growFrom (tableOf (withTotal h g) l) (suc g) ys) (g + suc (length ys)) v
@@ -121,7 +121,7 @@ new-nodes h v f l g (y ∷ ys) s a r =
 -- what a store that builds nodes asks
 pub record Storable (h : Head) (l : List ℕ) (q x : ℕ) (xs : List ℕ) (v : ℕ) : Type 0 where
   pub node : q ≤ h .g
-  pub letters : Letters (h .n) (x ∷ xs)
+  pub letters : LettersBelow (h .n) (x ∷ xs)
   pub addresses : h .g + suc (length xs) < 256 ^ h .a
   pub value : v < 256 ^ h .d
   pub room : usedLen (withTotal h (h .g + suc (length xs))) ≤ length l

@@ -10,13 +10,13 @@ use Rattle.head.specs.Fields.{totalAt, totalLen, nodeWidth, usedLen}
 use Rattle.node.specs.Image.{linkPlace, dataPlace}
 
 -- byte p is one of the n bytes from a place on
-abbrev pub Among : ℕ → ℕ → ℕ → Type 0
-Among place n p = (place ≤ p) × (p < place + n)
+abbrev pub InBytes : ℕ → ℕ → ℕ → Type 0
+InBytes place n p = (place ≤ p) × (p < place + n)
 
 -- the bytes that a store of a value may change, given how the key's walk ended
 pub data Touched (h : Head) : Descent → ℕ → ℕ → Type 0 where
-  data-of-key : {q v p : ℕ} → Among (dataPlace h q) (h .d) p → Touched h (complete q) v p
-  node-total : {q x : ℕ} {xs : List ℕ} {v p : ℕ} → Among totalAt totalLen p → Touched h (stopped q x xs) (suc v) p
-  one-link : {q x : ℕ} {xs : List ℕ} {v p : ℕ} → Among (linkPlace h q x) (h .a) p → Touched h (stopped q x xs) (suc v) p
-  new-nodes : {q x : ℕ} {xs : List ℕ} {v p : ℕ} → Among (usedLen h) (suc (length xs) * nodeWidth h) p
+  data-of-key : {q v p : ℕ} → InBytes (dataPlace h q) (h .d) p → Touched h (complete q) v p
+  node-total : {q x : ℕ} {xs : List ℕ} {v p : ℕ} → InBytes totalAt totalLen p → Touched h (stopped q x xs) (suc v) p
+  one-link : {q x : ℕ} {xs : List ℕ} {v p : ℕ} → InBytes (linkPlace h q x) (h .a) p → Touched h (stopped q x xs) (suc v) p
+  new-nodes : {q x : ℕ} {xs : List ℕ} {v p : ℕ} → InBytes (usedLen h) (suc (length xs) * nodeWidth h) p
       → Touched h (stopped q x xs) (suc v) p

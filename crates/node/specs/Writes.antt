@@ -22,9 +22,9 @@ carriedOut l [] = l
 carriedOut l (w ∷ ws) = carriedOut (sets l (w .place) (w .bytes)) ws
 
 -- the writes as they are listed: a place and a length for each write in order
-unfoldable pub listed : List Write → List ℕ
-listed [] = []
-listed (w ∷ ws) = w .place ∷ length (w .bytes) ∷ listed ws
+unfoldable pub noted : List Write → List ℕ
+noted [] = []
+noted (w ∷ ws) = w .place ∷ length (w .bytes) ∷ noted ws
 
 -- a whole node with no link and this data
 unfoldable pub lastNode : Head → ℕ → List ℕ

@@ -10,18 +10,18 @@ use native.Mathlib.Omega.{arith}
 use lib.ListN.{length, drop}
 use lib.Seq.{sets}
 use Rattle.field.proofs.Field.{length-digits}
-use Rattle.trie.specs.Table.{Letters, missing}
+use Rattle.trie.specs.Table.{LettersBelow, missing}
 use Rattle.trie.specs.Storing.{added}
 use Rattle.head.specs.declared.Head.{Head}
 use Rattle.head.specs.Fields.{totalLen, nodeWidth, nodePlace, usedLen}
 use Rattle.head.proofs.Places.{row, place-add}
 use Rattle.node.specs.Image.{linkPlace, dataPlace}
-use Rattle.node.specs.Writes.{Write, listed, newNodes, totalWrite, linkWrite, dataWrite, storeWrites}
+use Rattle.node.specs.Writes.{Write, noted, newNodes, totalWrite, linkWrite, dataWrite, storeWrites}
 use Rattle.node.proofs.Nodes.{length-path, length-last, nodes-count}
 use Rattle.walk.specs.declared.Position.{Position}
 use Rattle.walk.specs.declared.Walked.{Walked}
 use Rattle.storing.specs.StoreStage.{endOf, stoppedAt}
-use Rattle.noting.specs.Noting.{Lists}
+use Rattle.noting.specs.Noting.{Notes}
 
 -- ---- the writes of a new path
 
@@ -31,24 +31,24 @@ nodesAt place width zero = []
 nodesAt place width (suc k) = place ∷ width ∷ nodesAt (place + width) width k
 
 module _ (h : Head) (v : ℕ) (ws : List Write) where
-  nodes-listed : (q : ℕ) (ys : List ℕ) → Letters (h .n) ys
-      → listed (newNodes h q ys v ++ ws) ≡ nodesAt (nodePlace h q) (nodeWidth h) (suc (length ys)) ++ listed ws
-  unfolding listed newNodes nodesAt
-  nodes-listed q [] s = ap (λ (w : ℕ). nodePlace h q ∷ w ∷ listed ws) (length-last h v)
+  nodes-listed : (q : ℕ) (ys : List ℕ) → LettersBelow (h .n) ys
+      → noted (newNodes h q ys v ++ ws) ≡ nodesAt (nodePlace h q) (nodeWidth h) (suc (length ys)) ++ noted ws
+  unfolding noted newNodes nodesAt
+  nodes-listed q [] s = ap (λ (w : ℕ). nodePlace h q ∷ w ∷ noted ws) (length-last h v)
   nodes-listed q (y ∷ ys) s =
       let next : nodePlace h (suc q) ≡ nodePlace h q + nodeWidth h = ap (nodePlace h) (sym (add-one q)) ∙ omega (arith, place-add h q 1) in
       rw (length-path h y (suc q) (s .0), nodes-listed (suc q) ys (s .1), next)
 
 -- by the letters left, which are as many as the nodes missing; behind the nodes stand the node total and the link
 pub lists-path : (h : Head) (q x : ℕ) (xs list : List ℕ) {left list′ : List ℕ} {r nodes from width place : ℕ} → left ≡ x ∷ xs
-    → Letters (h .n) left → nodes ≡ length left → from ≡ usedLen h → width ≡ nodeWidth h → place ≡ linkPlace h q x → r ≡ nodes + 2
+    → LettersBelow (h .n) left → nodes ≡ length left → from ≡ usedLen h → width ≡ nodeWidth h → place ≡ linkPlace h q x → r ≡ nodes + 2
     → list′ ≡ sets list 0 (nodesAt from width nodes ++ (0 ∷ 4 ∷ place ∷ h .a ∷ [])) → (v : ℕ)
-    → Lists h (stoppedAt q left) (suc v) list r list′
-unfolding stoppedAt storeWrites totalWrite linkWrite listed usedLen
+    → Notes h (stoppedAt q left) (suc v) list r list′
+unfolding stoppedAt storeWrites totalWrite linkWrite noted usedLen
 lists-path h q x xs list {nodes = nodes} e s n used wide place r w v =
     let total : ℕ = h .g + suc (length xs) in
     let ws : List Write = totalWrite total ∷ linkWrite h q x (suc (h .g)) ∷ [] in
-    let below : Letters (h .n) xs = (rw e at s) .1 in
+    let below : LettersBelow (h .n) xs = (rw e at s) .1 in
     let k : nodes ≡ suc (length xs) = rw e at n in
     rw e
     (record {
@@ -84,18 +84,18 @@ missing-left k (suc v) {p = p} e z = rw e (missing-all (p .node) (drop (p .depth
 module _ (h : Head) (k list : List ℕ) {o : Walked} where
   -- the data alone
   pub lists-data : (value : ℕ) {q place : ℕ} {list′ : List ℕ} → o ≡ Walked.Complete q → place ≡ dataPlace h q
-      → list′ ≡ sets list 0 (place ∷ h .d ∷ []) → Lists h (endOf k o) value list 1 list′
-  unfolding endOf storeWrites dataWrite listed
+      → list′ ≡ sets list 0 (place ∷ h .d ∷ []) → Notes h (endOf k o) value list 1 list′
+  unfolding endOf storeWrites dataWrite noted
   lists-data value {q} e p w = rw e (record { count = refl; entries = rw (length-digits (h .d) value, ← p) w })
 
   module _ {p : Position} (e : o ≡ Walked.Stopped p) where
     -- nothing for 0
-    pub lists-none : (value x : ℕ) (xs : List ℕ) → value ≡ 0 → drop (p .depth) k ≡ x ∷ xs → Lists h (endOf k o) value list 0 list
-    unfolding endOf stoppedAt storeWrites listed
+    pub lists-none : (value x : ℕ) (xs : List ℕ) → value ≡ 0 → drop (p .depth) k ≡ x ∷ xs → Notes h (endOf k o) value list 0 list
+    unfolding endOf stoppedAt storeWrites noted
     lists-none value x xs z left = rw (e, z, left) (record { count = refl; entries = refl })
 
     pub lists-value : (value : ℕ) {r : ℕ} {list′ : List ℕ} → value ≢ 0
-        → ((v : ℕ) → Lists h (stoppedAt (p .node) (drop (p .depth) k)) (suc v) list r list′) → Lists h (endOf k o) value list r list′
+        → ((v : ℕ) → Notes h (stoppedAt (p .node) (drop (p .depth) k)) (suc v) list r list′) → Notes h (endOf k o) value list r list′
     unfolding endOf
     lists-value zero z all = absurd (z refl)
     lists-value (suc v) z all = rw e (all v)

@@ -14,15 +14,15 @@ use Rattle.trie.specs.Storing.{added}
 use Rattle.head.specs.declared.Head.{Head}
 use Rattle.head.specs.Fields.{longestImage, headOf, nodeWidth, usedLen}
 use Rattle.node.specs.Image.{tableOf}
-use Rattle.node.specs.Writes.{Write, listed}
+use Rattle.node.specs.Writes.{Write, noted}
 use Rattle.paper.specs.declared.Refusal.{Refusal}
 use Rattle.paper.specs.declared.Stored.{Stored}
 use Rattle.paper.specs.declared.Listed.{Listed}
-use Rattle.paper.specs.Hearing.{Outcome, outcome, doneNumbers, refusedNumbers, first, given, heard}
-use Rattle.paper.specs.Answers.{refusalNumbers, storedOf, listedOf}
+use Rattle.paper.specs.Hearing.{Outcome, outcome, doneNumbers, refusedNumbers, first, rowWhen, heard}
+use Rattle.paper.specs.Answers.{refusalNumbers, storedOf, notedOf}
 use Rattle.paper.specs.Rows.{row11, row12, row13}
-use Rattle.paper.specs.Orders.{adding}
-use Rattle.paper.specs.Calls.{tableIn, writesIn, withList}
+use Rattle.paper.specs.Orders.{addingRows}
+use Rattle.paper.specs.Calls.{tableIn, writesIn, withWrites}
 use Rattle.paper.specs.Accepted.{Accepted}
 use Rattle.paper.proofs.Hearing.{not-given}
 use Rattle.paper.proofs.StoreCall.{none-13}
@@ -32,25 +32,25 @@ use Rattle.walk.specs.Descent.{atRoot, walkedFrom}
 use Rattle.storing.specs.StoreStage.{storeAt, endOf}
 use Rattle.storing.proofs.Adding.{Leaves}
 use Rattle.storing.proofs.StoreStage.{in-hand, stores}
-use Rattle.noting.specs.Noting.{ListsIn, Lists}
+use Rattle.noting.specs.Noting.{NotesIn, Notes}
 
 -- ---- the list behind the store's outcome
 
 module _ (ws : List Write) (list : List ℕ) {o : Outcome} {l′ : List ℕ} where
   refused-list : (why : Refusal) → outcome (storedOf (Stored.Refused why)) (l′ ∷ []) ≡ o
-      → outcome (listedOf (Listed.Refused why)) (l′ ∷ list ∷ []) ≡ withList ws list o
-  unfolding withList storedOf listedOf refusalNumbers refusedNumbers
+      → outcome (notedOf (Listed.Refused why)) (l′ ∷ list ∷ []) ≡ withWrites ws list o
+  unfolding withWrites storedOf notedOf refusalNumbers refusedNumbers
   refused-list why e = rw (← e, refusal-said why)
 
-  done-list : (c : ℤ) {n : ℕ} {list′ : List ℕ} → n ≡ length ws → list′ ≡ sets list 0 (listed ws)
-      → outcome (storedOf (Stored.Change c)) (l′ ∷ []) ≡ o → outcome (listedOf (Listed.Change c n)) (l′ ∷ list′ ∷ []) ≡ withList ws list o
-  unfolding withList storedOf listedOf doneNumbers
+  done-list : (c : ℤ) {n : ℕ} {list′ : List ℕ} → n ≡ length ws → list′ ≡ sets list 0 (noted ws)
+      → outcome (storedOf (Stored.Change c)) (l′ ∷ []) ≡ o → outcome (notedOf (Listed.Change c n)) (l′ ∷ list′ ∷ []) ≡ withWrites ws list o
+  unfolding withWrites storedOf notedOf doneNumbers
   done-list c n w e = rw (← e, n, w)
 
 -- 11, 12 and 13 are no answers with number 0
 none-given : (x y z : Bool) (kept : List (List ℕ)) (done : Outcome)
-    → 0 ≡ heard (first (given 11 0 x ∷ given 12 0 y ∷ given 13 0 z ∷ [])) kept done .numbers .number → z ≡ false
-unfolding first given heard refusedNumbers
+    → 0 ≡ heard (first (rowWhen 11 0 x ∷ rowWhen 12 0 y ∷ rowWhen 13 0 z ∷ [])) kept done .numbers .number → z ≡ false
+unfolding first rowWhen heard refusedNumbers
 none-given true y z kept done e = absurd (omega arith)
 none-given false true z kept done e = absurd (omega arith)
 none-given false false true kept done e = absurd (omega arith)
@@ -59,7 +59,7 @@ none-given false false false kept done e = refl
 -- a store that was done had the room for its new nodes
 room : (h : Head) (l : List ℕ) (d : Descent) (value : ℕ) (c : ℤ) {l′ : List ℕ} → Leaves h l d value (Stored.Change c) l′
     → 0 < added (missing d) value → usedLen h + added (missing d) value * nodeWidth h ≤ length l
-unfolding storeAt adding row11 row12 row13 storedOf doneNumbers
+unfolding storeAt addingRows row11 row12 row13 storedOf doneNumbers
 room h l d value c e =
     let k : ℕ = added (missing d) value in
     none-13 h k (length l) .0
@@ -72,7 +72,7 @@ room h l d value c e =
 -- s is what the store answered
 module _ {l : List ℕ} {h : Head} (a : Accepted l) (same : h ≡ headOf l) (k : List ℕ) {o : Walked} (walked : o ≡ walkedFrom (h .g) (tableOf h l) atRoot k)
     (value : ℕ) {s : Stored} {l′ : List ℕ} (e : Leaves h l (endOf k o) value s l′) where
-  pub lists-refused : (list : List ℕ) {why : Refusal} → s ≡ Stored.Refused why → ListsIn l k value list (Listed.Refused why) l′ list
+  pub lists-refused : (list : List ℕ) {why : Refusal} → s ≡ Stored.Refused why → NotesIn l k value list (Listed.Refused why) l′ list
   lists-refused list {why} f = refused-list (writesIn l k value) list why (stores a same k walked value (Stored.Refused why) (rw f at e))
 
   module _ {c : ℤ} (f : s ≡ Stored.Change c) where
@@ -84,8 +84,8 @@ module _ {l : List ℕ} {h : Head} (a : Accepted l) (same : h ≡ headOf l) (k :
         go zero far = let used : usedLen h ≤ length l = rw same (a .room) in omega (arith, a .short-enough)
         go (suc n) far = omega (arith, a .short-enough, far (omega arith))
 
-    pub lists-done : (list : List ℕ) {b : ℤ} {n : ℕ} {list′ : List ℕ} → b ≡ c → Lists h (endOf k o) value list n list′
-        → ListsIn l k value list (Listed.Change b n) l′ list′
+    pub lists-done : (list : List ℕ) {b : ℤ} {n : ℕ} {list′ : List ℕ} → b ≡ c → Notes h (endOf k o) value list n list′
+        → NotesIn l k value list (Listed.Change b n) l′ list′
     lists-done list {n = n} {list′} same-change w =
-        let own : Lists (headOf l) (descend (tableIn l) 0 k) value list n list′ = rw (in-hand a same k walked, same) at w in
+        let own : Notes (headOf l) (descend (tableIn l) 0 k) value list n list′ = rw (in-hand a same k walked, same) at w in
         rw same-change (done-list (writesIn l k value) list c (own .count) (own .entries) (stores a same k walked value (Stored.Change c) (rw f at e)))

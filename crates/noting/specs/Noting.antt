@@ -8,19 +8,19 @@ use lib.Seq.{sets}
 use Rattle.trie.specs.Table.{Descent, descend}
 use Rattle.head.specs.declared.Head.{Head}
 use Rattle.head.specs.Fields.{headOf}
-use Rattle.node.specs.Writes.{listed, storeWrites}
+use Rattle.node.specs.Writes.{noted, storeWrites}
 use Rattle.paper.specs.declared.Listed.{Listed}
 use Rattle.paper.specs.Hearing.{outcome}
-use Rattle.paper.specs.Answers.{listedOf}
-use Rattle.paper.specs.Calls.{tableIn, writesIn, withList}
+use Rattle.paper.specs.Answers.{notedOf}
+use Rattle.paper.specs.Calls.{tableIn, writesIn, withWrites}
 use Rattle.storing.specs.StoreStage.{storeAt}
 
 -- the walk is the key's own, as in `storing`'s StoresIn; the list follows the image
-abbrev pub ListsIn : List ℕ → List ℕ → ℕ → List ℕ → Listed → List ℕ → List ℕ → Type 0
-ListsIn l key value list r l′ list′ =
-    outcome (listedOf r) (l′ ∷ list′ ∷ []) ≡ withList (writesIn l key value) list (storeAt (headOf l) l (descend (tableIn l) 0 key) value)
+abbrev pub NotesIn : List ℕ → List ℕ → ℕ → List ℕ → Listed → List ℕ → List ℕ → Type 0
+NotesIn l key value list r l′ list′ =
+    outcome (notedOf r) (l′ ∷ list′ ∷ []) ≡ withWrites (writesIn l key value) list (storeAt (headOf l) l (descend (tableIn l) 0 key) value)
 
 -- what a store wrote, given how the key's walk ended, listed from the front of the lent numbers on, and how many writes it is
-pub record Lists (h : Head) (d : Descent) (value : ℕ) (list : List ℕ) (r : ℕ) (list′ : List ℕ) : Type 0 where
+pub record Notes (h : Head) (d : Descent) (value : ℕ) (list : List ℕ) (r : ℕ) (list′ : List ℕ) : Type 0 where
   pub count : r ≡ length (storeWrites h d value)
-  pub entries : list′ ≡ sets list 0 (listed (storeWrites h d value))
+  pub entries : list′ ≡ sets list 0 (noted (storeWrites h d value))

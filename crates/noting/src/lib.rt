@@ -12,7 +12,7 @@ ghost use Rattle.head.specs.Fields.{mostWrites, headOf, longestImage, permitted
 ghost use Rattle.paper.specs.Accepted.{Accepted};
 ghost use Rattle.key.specs.Hand.{Ready, lettersOf};
 ghost use Rattle.storing.specs.StoreStage.{Stop, endOf, stoppedAt, Ends};
-ghost use Rattle.noting.specs.Noting.{ListsIn, Lists};
+ghost use Rattle.noting.specs.Noting.{NotesIn, Notes};
 use head::Head;
 use key::Key;
 use paper::Listed;
@@ -29,7 +29,7 @@ pub fn store_listed(
     writes: &mut [u32; Head::LISTED_MOST as usize],
 ) -> Listed
     requires { ⌜ Accepted (now image) ⌝ ∗ ⌜ h ≡ headOf (now image) ⌝ ∗ ⌜ Ready h key ⌝ }
-    ensures { λ r. ⌜ ListsIn (now (image .entry)) (lettersOf key) value (now (writes .entry)) r (now (image .exit)) (now (writes .exit)) ⌝ }
+    ensures { λ r. ⌜ NotesIn (now (image .entry)) (lettersOf key) value (now (writes .entry)) r (now (image .exit)) (now (writes .exit)) ⌝ }
 {
     let walked = walk::walk(image, h, key);
     let stored = storing::store_at(image, h, key, walked, value);
@@ -51,7 +51,7 @@ fn list(
     value: u64,
 ) -> u32
     requires { ⌜ permitted h ≡ true ⌝ ∗ ⌜ Ready h key ⌝ ∗ ⌜ Ends h key walked ⌝ ∗ ⌜ usedLen h + added (missing (endOf (lettersOf key) walked)) value * nodeWidth h ≤ longestImage ⌝ }
-    ensures { λ r. ⌜ Lists h (endOf (lettersOf key) walked) value (now (writes .entry)) r (now (writes .exit)) ⌝ }
+    ensures { λ r. ⌜ Notes h (endOf (lettersOf key) walked) value (now (writes .entry)) r (now (writes .exit)) ⌝ }
 {
     match walked {
         Walked::Complete(node) => {
@@ -71,7 +71,7 @@ fn list(
 // A new path: the new nodes by rising address, the node total, the link.
 fn list_path(writes: &mut [u32; Head::LISTED_MOST as usize], h: Head, key: Key, at: Position) -> u32
     requires { ⌜ permitted h ≡ true ⌝ ∗ ⌜ Ready h key ⌝ ∗ ⌜ Stop h key at ⌝ ∗ ⌜ usedLen h + (key .len - at .depth) * nodeWidth h ≤ longestImage ⌝ }
-    ensures { λ r. ⌜ ((v : ℕ) → Lists h (stoppedAt (at .node) (drop (at .depth) (lettersOf key))) (suc v) (now (writes .entry)) r (now (writes .exit))) ⌝ }
+    ensures { λ r. ⌜ ((v : ℕ) → Notes h (stoppedAt (at .node) (drop (at .depth) (lettersOf key))) (suc v) (now (writes .entry)) r (now (writes .exit))) ⌝ }
 {
     let depth = at.depth;
     let letters = key.letters;

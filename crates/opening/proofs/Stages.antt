@@ -17,13 +17,13 @@ use Rattle.paper.specs.Hearing.{first}
 use Rattle.paper.specs.Answers.{saidOf, rowOf}
 use Rattle.paper.specs.Rows.{row4}
 use Rattle.paper.specs.Given.{alphabetIn}
-use Rattle.paper.specs.Orders.{opening, openingOf}
+use Rattle.paper.specs.Orders.{openingRows, openingRowsOf}
 use Rattle.paper.proofs.Opening.{spoilt, passed, good-unspoilt, alphabet-whole}
 use Rattle.opening.specs.declared.Opened.{Opened}
-use Rattle.opening.specs.Opened.{Judged, Opens, RoomOf, RefusedOf}
+use Rattle.opening.specs.Opened.{OpensWith, Opens, RoomOf, RefusedOf}
 
 module _ (h : Head) (alphabet : List ℕ) (len : ℕ) where
-  pub judged-refused : {why : Refusal} {r : Opened} {codes : List ℕ} → RefusedOf h why r → first (opening h alphabet len) ≡ some (saidOf why) → Judged h alphabet len r codes
+  pub judged-refused : {why : Refusal} {r : Opened} {codes : List ℕ} → RefusedOf h why r → first (openingRows h alphabet len) ≡ some (saidOf why) → OpensWith h alphabet len r codes
   unfolding rowOf
   judged-refused {why} {r} o e =
       let heard : rowOf (r .verdict) ≡ some (saidOf why) = ap rowOf (o .verdict) in
@@ -33,8 +33,8 @@ module _ (h : Head) (alphabet : List ℕ) (len : ℕ) where
         decoded = λ n _. let z : _≡_ {A = ℕ} 0 1 = cc in absurd (omega arith);
       }
 
-  pub judged-room : {count : ℕ} {r : Opened} {codes : List ℕ} → RoomOf h len count r → first (opening h alphabet len) ≡ row4 h len → count ≤ mostLinks
-      → (length alphabet ≡ h .f → take count codes ≡ letters alphabet) → Judged h alphabet len r codes
+  pub judged-room : {count : ℕ} {r : Opened} {codes : List ℕ} → RoomOf h len count r → first (openingRows h alphabet len) ≡ row4 h len → count ≤ mostLinks
+      → (length alphabet ≡ h .f → take count codes ≡ letters alphabet) → OpensWith h alphabet len r codes
   judged-room o e b d =
       record {
         verdict = o .verdict ∙ sym e;
@@ -57,7 +57,7 @@ module _ (h : Head) (alphabet : List ℕ) (len : ℕ) where
 
 -- ---- an image
 
-pub opens-refused : (l : List ℕ) {h : Head} {why : Refusal} {r : Opened} {codes : List ℕ} → RefusedOf h why r → first (openingOf l) ≡ some (saidOf why) → Opens l r codes
+pub opens-refused : (l : List ℕ) {h : Head} {why : Refusal} {r : Opened} {codes : List ℕ} → RefusedOf h why r → first (openingRowsOf l) ≡ some (saidOf why) → Opens l r codes
 unfolding rowOf
 opens-refused l {h} {why} {r} o e =
     let heard : rowOf (r .verdict) ≡ some (saidOf why) = ap rowOf (o .verdict) in
@@ -81,12 +81,12 @@ part l f end h e = go (leb (fieldsLen + f) (length l)) refl
         take-all (end - fieldsLen) (drop fieldsLen l) (omega (arith, length-drop fieldsLen l)) ∙ sym (take-all f (drop fieldsLen l) (omega (arith, length-drop fieldsLen l)))
 
 pub opens-judged : (l : List ℕ) {h : Head} {end : ℕ} {r : Opened} {codes : List ℕ} → h ≡ headOf l → end ≡ min (fieldsLen + h .f) (length l) → fieldsLen ≤ length l
-    → Judged h (take (end - fieldsLen) (drop fieldsLen l)) (length l) r codes → Opens l r codes
-unfolding openingOf alphabetIn
+    → OpensWith h (take (end - fieldsLen) (drop fieldsLen l)) (length l) r codes → Opens l r codes
+unfolding openingRowsOf alphabetIn
 opens-judged l {h} {end} {r} {codes} e b k j =
     let alphabet : List ℕ = take (headOf l .f) (drop fieldsLen l) in
     let same : take (end - fieldsLen) (drop fieldsLen l) ≡ alphabet = part l (h .f) end k b ∙ ap (λ (g : Head). take (g .f) (drop fieldsLen l)) e in
-    let o : Judged (headOf l) alphabet (length l) r codes = rw (e, same) at j in
+    let o : OpensWith (headOf l) alphabet (length l) r codes = rw (e, same) at j in
     record {
       verdict = o .verdict;
       head = λ _. o .head;

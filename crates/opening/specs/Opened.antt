@@ -13,7 +13,7 @@ use Rattle.paper.specs.declared.Verdict.{Verdict}
 use Rattle.paper.specs.Hearing.{first}
 use Rattle.paper.specs.Answers.{rowOf}
 use Rattle.paper.specs.Given.{alphabetIn}
-use Rattle.paper.specs.Orders.{opening, openingOf}
+use Rattle.paper.specs.Orders.{openingRows, openingRowsOf}
 use Rattle.paper.specs.Rows.{row4}
 use Rattle.opening.specs.declared.Opened.{Opened}
 
@@ -23,14 +23,14 @@ pub record Decoded (alphabet : List ℕ) (r : Opened) (decoded : List ℕ) : Typ
   pub codes : take (r .count) decoded ≡ letters alphabet
 
 -- 1 to 4 of a head, an alphabet and the length of an image
-pub record Judged (h : Head) (alphabet : List ℕ) (len : ℕ) (r : Opened) (codes : List ℕ) : Type 0 where
-  pub verdict : rowOf (r .verdict) ≡ first (opening h alphabet len)
+pub record OpensWith (h : Head) (alphabet : List ℕ) (len : ℕ) (r : Opened) (codes : List ℕ) : Type 0 where
+  pub verdict : rowOf (r .verdict) ≡ first (openingRows h alphabet len)
   pub head : r .head ≡ h
   pub decoded : rowOf (r .verdict) ≡ none → length alphabet ≡ h .f → Decoded alphabet r codes
 
 -- 1 to 4 of an image
 pub record Opens (l : List ℕ) (r : Opened) (codes : List ℕ) : Type 0 where
-  pub verdict : rowOf (r .verdict) ≡ first (openingOf l)
+  pub verdict : rowOf (r .verdict) ≡ first (openingRowsOf l)
   pub head : rowOf (r .verdict) ≡ none → r .head ≡ headOf l
   pub decoded : rowOf (r .verdict) ≡ none → Decoded (alphabetIn (headOf l) l) r codes
 

@@ -4,7 +4,7 @@ ghost use mathlib.Core.Path.{_≡_};
 ghost use mathlib.Core.Bool.{true};
 ghost use Prim.Native.Nat.{_+_, min};
 ghost use Rattle.head.specs.Fields.{fieldsLen, permitted};
-ghost use Rattle.opening.specs.Opened.{Judged, Opens, RoomOf, RefusedOf};
+ghost use Rattle.opening.specs.Opened.{OpensWith, Opens, RoomOf, RefusedOf};
 use head::Head;
 use paper::Refusal;
 use paper::Verdict;
@@ -48,7 +48,7 @@ pub fn judge(
     len: usize,
     codes: &mut [u32; Head::N_MOST as usize],
 ) -> Opened
-    ensures { λ r. ⌜ Judged h (now (alphabet .entry)) len r (now (codes .exit)) ⌝ }
+    ensures { λ r. ⌜ OpensWith h (now (alphabet .entry)) len r (now (codes .exit)) ⌝ }
 {
     if !head::length_allowed(len) {
         return refused(h, Refusal::ImageLength);

@@ -19,7 +19,7 @@ use Rattle.node.proofs.Tables.{framed}
 use Rattle.paper.specs.Hearing.{first, heard, doneNumbers}
 use Rattle.paper.specs.Rows.{row5}
 use Rattle.paper.specs.Given.{alphabetIn}
-use Rattle.paper.specs.Orders.{openingOf, linking, checking}
+use Rattle.paper.specs.Orders.{openingRowsOf, linkRows, checkOrder}
 use Rattle.paper.specs.Calls.{tableIn, checkOf}
 use Rattle.paper.specs.Accepted.{Accepted}
 use Rattle.paper.proofs.Hearing.{was-false, no-row, second-part, passed-row, passed-parts}
@@ -29,8 +29,8 @@ use Rattle.paper.proofs.Linking.{rules-pass, passed-rules, linking-says
 
 -- ---- 1 to 5
 
-pub accepted-opens : {l : List ℕ} → Accepted l → first (openingOf l) ≡ none
-unfolding openingOf
+pub accepted-opens : {l : List ℕ} → Accepted l → first (openingRowsOf l) ≡ none
+unfolding openingRowsOf
 accepted-opens {l} a =
     let h : Head = headOf l in
     let long = true-between (length l) shortestImage longestImage (a .long-enough) (a .short-enough) in
@@ -46,23 +46,23 @@ checkNumbers = 1 ∷ 2 ∷ 3 ∷ 4 ∷ 5 ∷ 6 ∷ 7 ∷ 8 ∷ []
 
 module _ (l work : List ℕ) where
   -- where 1 to 5 have passed, what is heard is of 6 to 8
-  pub left-6 : first (openingOf l) ≡ none → headOf l .g + 1 ≤ length work
-      → first (checking l work) ≡ first (linking (headOf l) (tableOf (headOf l) l))
-  unfolding checking row5
-  left-6 e b = second-part (openingOf l) _ e ∙ no-row 5 0 _ (le-ltb (length work) (headOf l .g + 1) b)
+  pub left-6 : first (openingRowsOf l) ≡ none → headOf l .g + 1 ≤ length work
+      → first (checkOrder l work) ≡ first (linkRows (headOf l) (tableOf (headOf l) l))
+  unfolding checkOrder row5
+  left-6 e b = second-part (openingRowsOf l) _ e ∙ no-row 5 0 _ (le-ltb (length work) (headOf l .g + 1) b)
 
   -- what a check that passed tells
   pub record Checked : Type 0 where
     pub opened : Passed (headOf l) (alphabetIn (headOf l) l) (length l)
     pub lent : headOf l .g + 1 ≤ length work
-    pub links : first (linking (headOf l) (tableOf (headOf l) l)) ≡ none
+    pub links : first (linkRows (headOf l) (tableOf (headOf l) l)) ≡ none
 
-  pub checked : first (checking l work) ≡ none → Checked
-  unfolding checking openingOf row5
+  pub checked : first (checkOrder l work) ≡ none → Checked
+  unfolding checkOrder openingRowsOf row5
   checked e =
       let h : Head = headOf l in
-      let parts = passed-parts (openingOf l) (row5 h (length work) ∷ linking h (tableOf h l)) e in
-      let after5 = passed-row (row5 h (length work)) (linking h (tableOf h l)) (parts .1) in
+      let parts = passed-parts (openingRowsOf l) (row5 h (length work) ∷ linkRows h (tableOf h l)) e in
+      let after5 = passed-row (row5 h (length work)) (linkRows h (tableOf h l)) (parts .1) in
       record {
         opened = passed h (alphabetIn h l) (length l) (parts .0);
         lent = ltb-false (length work) (h .g + 1) (was-false 5 0 _ (after5 .0));
@@ -71,7 +71,7 @@ module _ (l work : List ℕ) where
 
   -- ---- the theorem
 
-  pub check-accepts : first (checking l work) ≡ none → Accepted l
+  pub check-accepts : first (checkOrder l work) ≡ none → Accepted l
   unfolding tableIn
   check-accepts e =
       let h : Head = headOf l in
@@ -87,15 +87,15 @@ module _ (l work : List ℕ) where
         links = passed-rules h (tableOf h l) (framed h l) (c .links);
       }
 
-  pub accepted-checks : Accepted l → headOf l .g + 1 ≤ length work → first (checking l work) ≡ none
+  pub accepted-checks : Accepted l → headOf l .g + 1 ≤ length work → first (checkOrder l work) ≡ none
   unfolding tableIn
   accepted-checks a b =
       left-6 (accepted-opens a) b ∙ rules-pass (headOf l) (tableIn l) (framed (headOf l) l) (a .links)
 
   -- ---- in the words of the outcome
 
-  pub checking-says : AllSay checkNumbers (checking l work)
-  unfolding checking openingOf row5 among
+  pub checking-says : AllSay checkNumbers (checkOrder l work)
+  unfolding checkOrder openingRowsOf row5 among
   checking-says =
       let h : Head = headOf l in
       let five : AllSay (5 ∷ []) (row5 h (length work) ∷ []) = given-says 5 0 (ltb (length work) (h .g + 1)) refl then end in

@@ -10,7 +10,7 @@ use native.Mathlib.Omega.{arith}
 use Rattle.paper.specs.declared.Refusal.{Refusal}
 use Rattle.paper.specs.declared.Verdict.{Verdict}
 use Rattle.paper.specs.Answers.{saidOf, rowOf}
-use Rattle.paper.specs.Hearing.{Said, Row, Outcome, given, first, heard, outcome, refusedNumbers}
+use Rattle.paper.specs.Hearing.{Said, Row, Outcome, rowWhen, first, heard, outcome, refusedNumbers}
 
 -- ---- one row
 
@@ -21,17 +21,17 @@ untrue e = rw e
 pub unfalse : {b : Bool} → b ≡ false → not b ≡ true
 unfalse e = rw e
 
-pub is-given : (number place : ℕ) {test : Bool} → test ≡ true → given number place test ≡ some (record { number = number; place = place })
-unfolding given
+pub is-given : (number place : ℕ) {test : Bool} → test ≡ true → rowWhen number place test ≡ some (record { number = number; place = place })
+unfolding rowWhen
 is-given number place e = rw e
 
-pub not-given : (number place : ℕ) {test : Bool} → test ≡ false → given number place test ≡ none
-unfolding given
+pub not-given : (number place : ℕ) {test : Bool} → test ≡ false → rowWhen number place test ≡ none
+unfolding rowWhen
 not-given number place e = rw e
 
 -- a row that is not given has a test that failed
-pub was-false : (number place : ℕ) (test : Bool) → given number place test ≡ none → test ≡ false
-unfolding given
+pub was-false : (number place : ℕ) (test : Bool) → rowWhen number place test ≡ none → test ≡ false
+unfolding rowWhen
 was-false number place true e = let z : _≡_ {A = ℕ} 0 1 = cc in absurd (omega arith)
 was-false number place false e = refl
 
@@ -50,11 +50,11 @@ unfolding first
 first-none r rows e = rw e
 
 -- a row that is given is heard, whatever follows
-pub yes-row : (number place : ℕ) {test : Bool} (rows : List Row) → test ≡ true → first (given number place test ∷ rows) ≡ some (record { number = number; place = place })
+pub yes-row : (number place : ℕ) {test : Bool} (rows : List Row) → test ≡ true → first (rowWhen number place test ∷ rows) ≡ some (record { number = number; place = place })
 yes-row number place rows e = first-some _ rows (is-given number place e)
 
 -- a row that is not given is passed over
-pub no-row : (number place : ℕ) {test : Bool} (rows : List Row) → test ≡ false → first (given number place test ∷ rows) ≡ first rows
+pub no-row : (number place : ℕ) {test : Bool} (rows : List Row) → test ≡ false → first (rowWhen number place test ∷ rows) ≡ first rows
 no-row number place rows e = first-none _ rows (not-given number place e)
 
 -- the first part of a joined order is heard first

@@ -9,16 +9,16 @@ use Rattle.head.specs.Fields.{headOf}
 use Rattle.node.specs.Image.{Open}
 use Rattle.paper.specs.Hearing.{first}
 use Rattle.paper.specs.Given.{alphabetIn}
-use Rattle.paper.specs.Orders.{openingOf}
+use Rattle.paper.specs.Orders.{openingRowsOf}
 use Rattle.paper.proofs.Opening.{passed}
 
 pub record Known (l : List ℕ) (h : Head) : Type 0 where
-  pub opened : first (openingOf l) ≡ none
+  pub opened : first (openingRowsOf l) ≡ none
   pub own : h ≡ headOf l
   pub image : Open h l
 
-pub known : {l : List ℕ} {h : Head} → first (openingOf l) ≡ none → h ≡ headOf l → Known l h
-unfolding openingOf
+pub known : {l : List ℕ} {h : Head} → first (openingRowsOf l) ≡ none → h ≡ headOf l → Known l h
+unfolding openingRowsOf
 known {l} opened own =
     let p = passed (headOf l) (alphabetIn (headOf l) l) (length l) opened in
     record { opened = opened; own = own; image = rw own (record { head-permitted = p .head-permitted; room = p .room }) }

@@ -21,10 +21,10 @@ use Rattle.trie.proofs.Counted.{Sums, one-part, two-parts, some-part, one-at-mo
 use Rattle.trie.proofs.Unlinked.{unlinked-within, unlinked-rising, unlinked-once, unlinked-names, unlinked-none}
 use Rattle.head.specs.declared.Head.{Head}
 use Rattle.alphabet.specs.Letters.{among}
-use Rattle.paper.specs.Hearing.{Said, Row, given, first}
+use Rattle.paper.specs.Hearing.{Said, Row, rowWhen, first}
 use Rattle.paper.specs.Answers.{said}
-use Rattle.paper.specs.Rows.{badLink, holdsBad, givenLowest, row6, timesIn, times, row7, row8}
-use Rattle.paper.specs.Orders.{linking}
+use Rattle.paper.specs.Rows.{badLink, holdsBad, rowWhenLowest, row6, timesIn, times, row7, row8}
+use Rattle.paper.specs.Orders.{linkRows}
 use Rattle.paper.proofs.Hearing.{not-given, is-given, was-false, first-nil, first-none, first-some, passed-row}
 use Rattle.paper.proofs.Numbers.{AllSay, end, _then_, lowest-says, pass-row}
 
@@ -153,12 +153,12 @@ module _ (t : Table) (x : ℕ) where
 
 -- the lowest that passes is heard; nothing is heard where none passes; and then none passed
 module _ (number : ℕ) (test : ℕ → Bool) (a k : ℕ) where
-  pub lowest-passed : NonePasses test a k → givenLowest number test a k ≡ none
-  unfolding givenLowest
+  pub lowest-passed : NonePasses test a k → rowWhenLowest number test a k ≡ none
+  unfolding rowWhenLowest
   lowest-passed h = not-given number _ (le-ltb (lowest test a k) (a + k) (omega (arith, lowest-none test a k h)))
 
-  pub passed-lowest : givenLowest number test a k ≡ none → NonePasses test a k
-  unfolding givenLowest
+  pub passed-lowest : rowWhenLowest number test a k ≡ none → NonePasses test a k
+  unfolding rowWhenLowest
   passed-lowest e = none-lowest test a k (ltb-false (lowest test a k) (a + k) (was-false number _ _ e))
 
 module _ (h : Head) (t : Table) where
@@ -264,16 +264,16 @@ module _ (h : Head) (t : Table) (f : Framed t (h .g) (h .n)) where
       omega (arith, counted t x (h .n) {q = q} {i = i} {k = h .g + 1} (omega arith) b′ e))
 
   -- 6 to 8 of a table, in both directions
-  pub rules-pass : LinkRules t (h .g) → first (linking h t) ≡ none
-  unfolding linking
+  pub rules-pass : LinkRules t (h .g) → first (linkRows h t) ≡ none
+  unfolding linkRows
   rules-pass r =
       first-none _ _ (rules-6 (r .within) (r .rising))
       ∙ first-none _ _ (rules-7 (r .once))
       ∙ first-none _ _ (rules-8 (r .named))
       ∙ first-nil
 
-  pub passed-rules : first (linking h t) ≡ none → LinkRules t (h .g)
-  unfolding linking
+  pub passed-rules : first (linkRows h t) ≡ none → LinkRules t (h .g)
+  unfolding linkRows
   passed-rules e =
       let after6 = passed-row (row6 h t) (row7 h t ∷ row8 h t ∷ []) e in
       let after7 = passed-row (row7 h t) (row8 h t ∷ []) (after6 .1) in
@@ -286,8 +286,8 @@ pub ruled-link : {t : Table} {g : ℕ} → LinkRules t g → (q i : ℕ) → t .
 ruled-link {t} {g} r q i d = not-bad g q (t .child q i) .1 (inr (r .within q i, r .rising q i d))
 
 -- the numbers that 6 to 8 say
-pub linking-says : (h : Head) (t : Table) → AllSay (6 ∷ 7 ∷ 8 ∷ []) (linking h t)
-unfolding linking row6 row7 row8 among
+pub linking-says : (h : Head) (t : Table) → AllSay (6 ∷ 7 ∷ 8 ∷ []) (linkRows h t)
+unfolding linkRows row6 row7 row8 among
 linking-says h t =
     lowest-says 6 (holds h t) 0 (h .g + 1) refl
     then lowest-says 7 (twice h t) 1 (h .g) refl
@@ -297,18 +297,18 @@ linking-says h t =
 -- ---- what an 8 tells
 
 -- the place of a row that has one
-lowest-said : (number : ℕ) (test : ℕ → Bool) (a k : ℕ) {s : Said} → givenLowest number test a k ≡ some s → (a ≤ s .place) × (s .place < a + k)
-unfolding givenLowest given
+lowest-said : (number : ℕ) (test : ℕ → Bool) (a k : ℕ) {s : Said} → rowWhenLowest number test a k ≡ some s → (a ≤ s .place) × (s .place < a + k)
+unfolding rowWhenLowest rowWhen
 lowest-said number test a k {s} e = go (ltb (lowest test a k) (a + k)) refl e
   where
-    go : (b : Bool) → ltb (lowest test a k) (a + k) ≡ b → given number (lowest test a k) b ≡ some s → (a ≤ s .place) × (s .place < a + k)
+    go : (b : Bool) → ltb (lowest test a k) (a + k) ≡ b → rowWhen number (lowest test a k) b ≡ some s → (a ≤ s .place) × (s .place < a + k)
     go true f g =
         let same : lowest test a k ≡ s .place = cc in
         (omega (arith, lowest-least test a k), omega (arith, ltb-true (lowest test a k) (a + k) f))
     go false f g = let z : _≡_ {A = ℕ} 0 1 = cc in absurd (omega arith)
 
-pub eight-place : (h : Head) (t : Table) {s : Said} → first (linking h t) ≡ some s → s .number ≡ 8 → (1 ≤ s .place) × (s .place ≤ h .g)
-unfolding linking row6 row7 row8 among first
+pub eight-place : (h : Head) (t : Table) {s : Said} → first (linkRows h t) ≡ some s → s .number ≡ 8 → (1 ≤ s .place) × (s .place ≤ h .g)
+unfolding linkRows row6 row7 row8 among first
 eight-place h t e n =
     let after6 = pass-row (row7 h t ∷ row8 h t ∷ []) 8 (lowest-says {numbers = 6 ∷ []} 6 (holds h t) 0 (h .g + 1) refl) refl n e in
     let after7 = pass-row (row8 h t ∷ []) 8 (lowest-says {numbers = 7 ∷ []} 7 (twice h t) 1 (h .g) refl) refl n (after6 .1) in
@@ -345,15 +345,15 @@ module _ (h : Head) (t : Table) (f : Framed t (h .g) (h .n)) {q x c : ℕ} (u : 
       omega (arith, counted t y (h .n) {q = p} {i = i} {k = h .g + 1} (omega arith) b e)
 
   said-8 : row8 h t ≡ some (said 8 c)
-  unfolding row8 givenLowest
+  unfolding row8 rowWhenLowest
   said-8 =
       let at : lowest (nowhere h t) 1 (h .g) ≡ c =
       lowest-at (nowhere h t) 1 (h .g) c (u .least) (omega (arith, u .most)) (eq-eqb (count h t c) 0 none-counted)
       (λ y low high. ne-eqb (count h t y) 0 (others-counted y low high)) in
       rw at (is-given 8 c (lt-ltb c (1 + h .g) (omega (arith, u .most))))
 
-  pub unlinked-8 : first (linking h t) ≡ some (said 8 c)
-  unfolding linking
+  pub unlinked-8 : first (linkRows h t) ≡ some (said 8 c)
+  unfolding linkRows
   unlinked-8 =
       first-none _ _
       (rules-6 h t f (unlinked-within t q x c (u .empty) (u .rules .within)) (unlinked-rising t q x c (u .empty) (u .rules .rising)))

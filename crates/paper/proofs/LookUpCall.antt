@@ -14,20 +14,20 @@ use borrow.Author.Tests.{le-ltb, lt-leb}
 use Rattle.field.specs.Field.{fieldAt}
 use Rattle.field.proofs.Range.{between-true}
 use Rattle.utf8.specs.Text.{chars}
-use Rattle.trie.specs.Table.{Letters, follow, descend, valueAt, answer, fault}
+use Rattle.trie.specs.Table.{LettersBelow, follow, descend, valueAt, answer, fault}
 use Rattle.trie.proofs.LettersBelow.{letters-more}
 use Rattle.trie.proofs.Walk.{follow-empty, follow-on}
 use Rattle.trie.proofs.Faults.{fault-none, value-nil, value-empty, value-on}
 use Rattle.head.specs.declared.Head.{Head}
 use Rattle.head.specs.Fields.{headOf, nodeWidth, nodePlace}
-use Rattle.alphabet.specs.Letters.{among, letters, lettersIn, letterOf, withLetter, lettersOf, keyOfChars, keyOfText}
+use Rattle.alphabet.specs.Letters.{among, letters, orEmpty, letterOf, withLetter, lettersOfChars, keyOfChars, keyOfText}
 use Rattle.alphabet.proofs.Alphabets.{good-length, no-letters}
 use Rattle.node.specs.Image.{linkPlace, dataPlace, tableOf}
 use Rattle.node.proofs.Tables.{child-in, value-in}
 use Rattle.paper.specs.Hearing.{Said, Row, Outcome, first, doneNumbers}
-use Rattle.paper.specs.Rows.{badLink, isNone, rowAt, row6path}
+use Rattle.paper.specs.Rows.{badLink, isNone, row6At, row6path}
 use Rattle.paper.specs.Given.{Given, asLetters, asText, alphabetIn, meantBy, meantIn, keyIn}
-use Rattle.paper.specs.Orders.{openingOf, keyingBy, keying, lookingUp}
+use Rattle.paper.specs.Orders.{openingRowsOf, keyRowsBy, keyRows, lookUpOrder}
 use Rattle.paper.specs.Calls.{tableIn, lookUpOf}
 use Rattle.paper.specs.Walk002.{dataRead, linkRead, unlessEmpty, queryFrom, query002, indexOf, queryChars, queryOf002}
 use Rattle.paper.specs.Granted.{Fit}
@@ -68,7 +68,7 @@ module _ (h : Head) (l : List ℕ) where
   -- from a node up to G on, the walks agree
   abbrev Agree : ℕ → List ℕ → Type 0
   Agree q k =
-      q ≤ h .g → Letters (h .n) k → fault (badLink (h .g)) (tableOf h l) q k ≡ none
+      q ≤ h .g → LettersBelow (h .n) k → fault (badLink (h .g)) (tableOf h l) q k ≡ none
       → valueAt (tableOf h l) (descend (tableOf h l) q k) ≡ queryFrom h l q k
 
   agree-nil : (q : ℕ) → Agree q []
@@ -118,18 +118,18 @@ module _ (h : Head) (alphabet : List ℕ) where
       go true e = rw e (rw (index-in c e, s))
       go false e = rw e tt
 
-  spells : (cs : List ℕ) → Spells h alphabet cs (lettersOf alphabet cs)
-  unfolding lettersOf
+  spells : (cs : List ℕ) → Spells h alphabet cs (lettersOfChars alphabet cs)
+  unfolding lettersOfChars
   spells [] = refl
-  spells (c ∷ cs) = spells-more c cs (lettersOf alphabet cs) (spells cs)
+  spells (c ∷ cs) = spells-more c cs (lettersOfChars alphabet cs) (spells cs)
 
 -- the letters of the image's alphabet
 abbrev allowedIn : List ℕ → List ℕ
 allowedIn l = letters (alphabetIn (headOf l) l)
 
 -- in an image that was opened there are N of them, or none where F is 0
-pub alphabet-most : (l : List ℕ) → first (openingOf l) ≡ none → length (allowedIn l) ≤ headOf l .n
-unfolding openingOf
+pub alphabet-most : (l : List ℕ) → first (openingRowsOf l) ≡ none → length (allowedIn l) ≤ headOf l .n
+unfolding openingRowsOf
 alphabet-most l e = go (ℕ-discrete (headOf l .f) 0)
   where
     p : Passed (headOf l) (alphabetIn (headOf l) l) (length l)
@@ -149,26 +149,26 @@ alphabet-most l e = go (ℕ-discrete (headOf l .f) 0)
 
 -- a text that names a key: 002 makes the same of it
 named-002 : (l : List ℕ) (cs : Option (List ℕ)) → isNone (keyOfChars (allowedIn l) cs) ≡ false
-    → queryChars l cs ≡ query002 l (lettersIn (keyOfChars (allowedIn l) cs))
-unfolding keyOfChars queryChars isNone lettersIn
+    → queryChars l cs ≡ query002 l (orEmpty (keyOfChars (allowedIn l) cs))
+unfolding keyOfChars queryChars isNone orEmpty
 named-002 l none e = let z : _≡_ {A = ℕ} 0 1 = cc in absurd (omega arith)
-named-002 l (some cs) e = go (lettersOf (allowedIn l) cs) (spells (headOf l) (allowedIn l) cs) e
+named-002 l (some cs) e = go (lettersOfChars (allowedIn l) cs) (spells (headOf l) (allowedIn l) cs) e
   where
     go : (named : Option (List ℕ)) → Spells (headOf l) (allowedIn l) cs named → isNone named ≡ false
-        → queryChars l (some cs) ≡ query002 l (lettersIn named)
+        → queryChars l (some cs) ≡ query002 l (orEmpty named)
     go none s f = let z : _≡_ {A = ℕ} 0 1 = cc in absurd (omega arith)
     go (some k) s f = ap (query002 l) s
 
 -- the letters of the key that is meant are letters of the image
-pub given-fit : (l : List ℕ) (given : Given) → first (openingOf l) ≡ none → first (keying l given) ≡ none → Fit (headOf l) (keyIn l given)
-unfolding keying keyingBy keyIn meantIn meantBy lettersIn
+pub given-fit : (l : List ℕ) (given : Given) → first (openingRowsOf l) ≡ none → first (keyRows l given) ≡ none → Fit (headOf l) (keyIn l given)
+unfolding keyRows keyRowsBy keyIn meantIn meantBy orEmpty
 given-fit l (asLetters key) opened passes = letters-fit (headOf l) key passes
 given-fit l (asText text) opened passes =
     let named : Option (List ℕ) = keyOfText (allowedIn l) text in
     let t = text-fit (headOf l) named passes in
     record {
       allowed = t .1;
-      below = letters-more _ _ (lettersIn named) (alphabet-most l opened) (named-letters (allowedIn l) text (some-found named (t .0)));
+      below = letters-more _ _ (orEmpty named) (alphabet-most l opened) (named-letters (allowedIn l) text (some-found named (t .0)));
     }
 
 -- ---- a lookup that is not refused
@@ -179,41 +179,41 @@ lookUpNumbers = 1 ∷ 2 ∷ 3 ∷ 4 ∷ 9 ∷ 10 ∷ 6 ∷ []
 
 -- what a lookup that is not refused has passed
 pub record Unrefused (l : List ℕ) (given : Given) : Type 0 where
-  pub none-given : first (lookingUp l given) ≡ none
-  pub opened : first (openingOf l) ≡ none
-  pub key-passed : first (keying l given) ≡ none
+  pub none-given : first (lookUpOrder l given) ≡ none
+  pub opened : first (openingRowsOf l) ≡ none
+  pub key-passed : first (keyRows l given) ≡ none
   pub path : fault (badLink (headOf l .g)) (tableIn l) 0 (keyIn l given) ≡ none
 
-no-fault : (at : Option ℕ) → rowAt at ≡ none → at ≡ none
-unfolding rowAt
+no-fault : (at : Option ℕ) → row6At at ≡ none → at ≡ none
+unfolding row6At
 no-fault none e = refl
 no-fault (some q) e = let z : _≡_ {A = ℕ} 0 1 = cc in absurd (omega arith)
 
 -- where the key passed, 002 makes the same of what is given
-meant-002 : (l : List ℕ) (given : Given) → first (keying l given) ≡ none → queryOf002 l given ≡ query002 l (keyIn l given)
-unfolding keying keyingBy keyIn meantIn meantBy lettersIn queryOf002 keyOfText
+meant-002 : (l : List ℕ) (given : Given) → first (keyRows l given) ≡ none → queryOf002 l given ≡ query002 l (keyIn l given)
+unfolding keyRows keyRowsBy keyIn meantIn meantBy orEmpty queryOf002 keyOfText
 meant-002 l (asLetters key) e = refl
 meant-002 l (asText text) e = named-002 l (chars text) (text-fit (headOf l) (keyOfText (allowedIn l) text) e .0)
 
 module _ (l : List ℕ) (given : Given) where
-  pub looking-says : Says lookUpNumbers (first (lookingUp l given))
-  unfolding lookingUp keying openingOf row6path among
+  pub looking-says : Says lookUpNumbers (first (lookUpOrder l given))
+  unfolding lookUpOrder keyRows openingRowsOf row6path among
   looking-says =
       let path = at-says {numbers = 6 ∷ []} (fault (badLink (headOf l .g)) (tableOf (headOf l) l) 0 (keyIn l given)) refl in
       let keyed = given-says-key (headOf l) (alphabetIn (headOf l) l) given in
       first-says (parts-say (opening-says (headOf l) (alphabetIn (headOf l) l) (length l)) (parts-say keyed (path then end)))
 
   -- a lookup's refusals have these numbers alone
-  pub looking-refuses : {s : Said} → first (lookingUp l given) ≡ some s → among (s .number) lookUpNumbers ≡ true
+  pub looking-refuses : {s : Said} → first (lookUpOrder l given) ≡ some s → among (s .number) lookUpNumbers ≡ true
   looking-refuses e = one-of looking-says e
 
   pub unrefused : lookUpOf l given .numbers .number ≡ 0 → Unrefused l given
-  unfolding lookUpOf lookingUp row6path tableIn among
+  unfolding lookUpOf lookUpOrder row6path tableIn among
   unrefused e =
-      let passes : first (lookingUp l given) ≡ none = none-heard [] _ looking-says refl e in
+      let passes : first (lookUpOrder l given) ≡ none = none-heard [] _ looking-says refl e in
       let last : List Row = row6path (headOf l) (tableOf (headOf l) l) (keyIn l given) ∷ [] in
-      let after4 = passed-parts (openingOf l) (keying l given ++ last) passes in
-      let after10 = passed-parts (keying l given) last (after4 .1) in
+      let after4 = passed-parts (openingRowsOf l) (keyRows l given ++ last) passes in
+      let after10 = passed-parts (keyRows l given) last (after4 .1) in
       record {
         none-given = passes;
         opened = after4 .0;
@@ -228,7 +228,7 @@ module _ (l : List ℕ) (given : Given) where
       let key : List ℕ = keyIn l given in
       let k = given-fit l given (o .opened) (o .key-passed) in
       let b = between-true (length key) (headOf l .min) (headOf l .max) (k .allowed) in
-      ap (λ (r : Outcome). r .numbers .value) (heard-done (first (lookingUp l given)) [] _ (o .none-given))
+      ap (λ (r : Outcome). r .numbers .value) (heard-done (first (lookUpOrder l given)) [] _ (o .none-given))
       ∙ agree (headOf l) l 0 key (omega arith) (k .below) (o .path)
       ∙ sym (rw (le-ltb (length key) (headOf l .min) (b .0), le-ltb (headOf l .max) (length key) (b .1)))
 

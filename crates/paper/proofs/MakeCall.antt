@@ -26,7 +26,7 @@ use Rattle.node.proofs.Tables.{framed}
 use Rattle.node.proofs.Nodes.{Blank, blank-child, blank-value, blank-cleared}
 use Rattle.paper.specs.Hearing.{first, outcome, doneNumbers}
 use Rattle.paper.specs.Given.{alphabetIn}
-use Rattle.paper.specs.Orders.{opening}
+use Rattle.paper.specs.Orders.{openingRows}
 use Rattle.paper.specs.Calls.{tableIn, freshHead, freshImage, makeOf, storedKeys}
 use Rattle.paper.specs.Accepted.{Accepted}
 use Rattle.paper.proofs.Hearing.{heard-done}
@@ -75,7 +75,7 @@ module _ (image : List ℕ) (n a d : ℕ) (alphabet : List ℕ) (least most : �
   abbrev h : Head
   h = freshHead n a d alphabet least most
 
-  passes : first (opening h alphabet (length image)) ≡ none
+  passes : first (openingRows h alphabet (length image)) ≡ none
   unfolding makeOf among
   passes = none-heard _ _ (first-says (opening-says h alphabet (length image))) refl done
 
@@ -85,7 +85,7 @@ module _ (image : List ℕ) (n a d : ℕ) (alphabet : List ℕ) (least most : �
 
   pub make-leaves : makeOf image n a d alphabet least most ≡ outcome (doneNumbers 0 (pos 0) 0) (freshImage h alphabet image ∷ [])
   unfolding makeOf
-  make-leaves = heard-done (first (opening h alphabet (length image))) _ _ passes
+  make-leaves = heard-done (first (openingRows h alphabet (length image))) _ _ passes
 
 module _ {h : Head} {alphabet image : List ℕ} (m : Made h alphabet image) where
   pub fresh-length : length (freshImage h alphabet image) ≡ length image

@@ -21,7 +21,7 @@ use Rattle.node.specs.Image.{tableOf}
 use Rattle.paper.specs.Hearing.{Said, Row, Outcome, outcome, first, heard, refusedNumbers, doneNumbers}
 use Rattle.paper.specs.Rows.{row5}
 use Rattle.paper.specs.Given.{alphabetIn}
-use Rattle.paper.specs.Orders.{openingOf, linking, checking}
+use Rattle.paper.specs.Orders.{openingRowsOf, linkRows, checkOrder}
 use Rattle.paper.specs.Calls.{clearedBy, workAfter, checkOf, isAccepted, mends, mendBy, mendOf}
 use Rattle.paper.specs.Accepted.{Accepted}
 use Rattle.paper.proofs.Hearing.{was-false, first-nil, no-row, second-part}
@@ -42,7 +42,7 @@ module _ (l work : List ℕ) where
   -- however the check ends, the working numbers are left as 01 says
   pub check-lent : checkOf l work .lent ≡ workAfter l work ∷ []
   unfolding checkOf heard
-  check-lent = go (first (checking l work))
+  check-lent = go (first (checkOrder l work))
     where
       go : (r : Row) → heard r (workAfter l work ∷ []) (outcome (doneNumbers 0 (pos 0) 0) (workAfter l work ∷ [])) .lent ≡ workAfter l work ∷ []
       go none = refl
@@ -66,31 +66,31 @@ module _ (l work : List ℕ) where
   place = checkOf l work .numbers .place
 
   pub record Eight : Type 0 where
-    pub opened : first (openingOf l) ≡ none
+    pub opened : first (openingRowsOf l) ≡ none
     pub lent : headOf l .g + 1 ≤ length work
     pub least : 1 ≤ place
     pub most : place ≤ headOf l .g
 
   -- the row that was heard
-  heard-eight : checkOf l work .numbers .number ≡ 8 → first (checking l work) ≡ some (record { number = 8; place = place })
+  heard-eight : checkOf l work .numbers .number ≡ 8 → first (checkOrder l work) ≡ some (record { number = 8; place = place })
   unfolding checkOf heard refusedNumbers doneNumbers
-  heard-eight e = go (first (checking l work)) refl e
+  heard-eight e = go (first (checkOrder l work)) refl e
     where
       done : Outcome
       done = outcome (doneNumbers 0 (pos 0) 0) (workAfter l work ∷ [])
 
-      go : (r : Row) → first (checking l work) ≡ r → heard r (workAfter l work ∷ []) done .numbers .number ≡ 8
+      go : (r : Row) → first (checkOrder l work) ≡ r → heard r (workAfter l work ∷ []) done .numbers .number ≡ 8
           → r ≡ some (record { number = 8; place = heard r (workAfter l work ∷ []) done .numbers .place })
       go none f z = absurd (omega arith)
       go (some s) f z = ap (λ (n : ℕ). some (record { number = n; place = s .place })) z
 
   pub eight : checkOf l work .numbers .number ≡ 8 → Eight
-  unfolding checking openingOf row5 among
+  unfolding checkOrder openingRowsOf row5 among
   eight e =
       let h : Head = headOf l in
       let t : Table = tableOf h l in
-      let after4 = pass-part (row5 h (length work) ∷ linking h t) 8 (opening-says h (alphabetIn h l) (length l)) refl refl (heard-eight e) in
-      let after5 = pass-row (linking h t) 8 (given-says {numbers = 5 ∷ []} 5 0 (ltb (length work) (h .g + 1)) refl) refl refl (after4 .1) in
+      let after4 = pass-part (row5 h (length work) ∷ linkRows h t) 8 (opening-says h (alphabetIn h l) (length l)) refl refl (heard-eight e) in
+      let after5 = pass-row (linkRows h t) 8 (given-says {numbers = 5 ∷ []} 5 0 (ltb (length work) (h .g + 1)) refl) refl refl (after4 .1) in
       let b = eight-place h t (after5 .1) refl in
       record {
         opened = after4 .0;
@@ -118,7 +118,7 @@ module _ (l work : List ℕ) (e : checkOf l work .numbers .number ≡ 8) where
 
   -- the check came past 1
   pub eight-long : totalAt + totalLen ≤ length l
-  unfolding openingOf
+  unfolding openingRowsOf
   eight-long =
       let p = passed (headOf l) (alphabetIn (headOf l) l) (length l) (eight l work e .opened) in
       omega (arith, between-true (length l) shortestImage longestImage (p .allowed) .0)
@@ -128,10 +128,10 @@ module _ (l work : List ℕ) (e : checkOf l work .numbers .number ≡ 8) where
   eight-work =
       let g = eight l work e in
       ap (λ (r : Row). clearedBy r (headOf l .g + 1) work)
-      (second-part (openingOf l) (row5 (headOf l) (length work) ∷ []) (g .opened) ∙ no-row 5 0 [] (le-ltb (length work) (headOf l .g + 1) (g .lent)) ∙ first-nil)
+      (second-part (openingRowsOf l) (row5 (headOf l) (length work) ∷ []) (g .opened) ∙ no-row 5 0 [] (le-ltb (length work) (headOf l .g + 1) (g .lent)) ∙ first-nil)
 
   -- a trial that passed is one of an accepted image
-  pub trial-mends : (w : List ℕ) → first (checking (putTotal l lower) w) ≡ none → mends l (checkOf l work .numbers) ≡ true
+  pub trial-mends : (w : List ℕ) → first (checkOrder (putTotal l lower) w) ≡ none → mends l (checkOf l work .numbers) ≡ true
   unfolding mends
   trial-mends w f = rw (eq-eqb _ 8 e, accepted-exactly (putTotal l lower) .1 (check-accepts (putTotal l lower) w f))
 
@@ -145,7 +145,7 @@ module _ (l work : List ℕ) (e : checkOf l work .numbers .number ≡ 8) where
     trial-work =
         let g = eight l work e in
         rw eight-work
-        (cleared-kept (first (openingOf (putTotal l lower) ++ (row5 (headOf (putTotal l lower)) _ ∷ []))) (headOf (putTotal l lower) .g + 1) (headOf l .g + 1)
+        (cleared-kept (first (openingRowsOf (putTotal l lower) ++ (row5 (headOf (putTotal l lower)) _ ∷ []))) (headOf (putTotal l lower) .g + 1) (headOf l .g + 1)
         (drop (headOf l .g + 1) work)
         (omega (arith, trial-total, g .least, g .most)))
 
@@ -158,7 +158,7 @@ module _ (l work : List ℕ) (e : checkOf l work .numbers .number ≡ 8) where
         omega (arith, trial-total, g .least, g .most, g .lent, ap length eight-work ∙ n)
 
     -- so a trial that was refused is not one of an accepted image
-    pub trial-keeps : {s : Said} → first (checking (putTotal l lower) (workAfter l work)) ≡ some s → mends l (checkOf l work .numbers) ≡ false
+    pub trial-keeps : {s : Said} → first (checkOrder (putTotal l lower) (workAfter l work)) ≡ some s → mends l (checkOf l work .numbers) ≡ false
     unfolding mends
     trial-keeps {s} f = go (isAccepted (putTotal l lower)) refl
       where

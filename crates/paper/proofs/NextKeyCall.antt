@@ -13,8 +13,8 @@ use lib.Dec.{ltb}
 use lib.ListN.{length, take, drop}
 use lib.Seq.{sets, sets-eq, take-at}
 use borrow.Author.Tests.{le-ltb, ltb-false}
-use Rattle.trie.specs.Table.{Letters, answer}
-use Rattle.trie.specs.Keys.{meets, sift, withKey, Ascending}
+use Rattle.trie.specs.Table.{LettersBelow, answer}
+use Rattle.trie.specs.Keys.{meets, filter, withKey, Ascending}
 use Rattle.trie.specs.Beyond.{firstOf}
 use Rattle.trie.proofs.Before.{before-irrefl}
 use Rattle.trie.proofs.Listing.{First, first-some, first-none, under-listed, listing-holds, keysUnder-ascending}
@@ -24,12 +24,12 @@ use Rattle.trie.proofs.Few.{listing-few}
 use Rattle.head.specs.Fields.{headOf}
 use Rattle.head.proofs.Permitted.{bounds}
 use Rattle.head.proofs.Places.{used, width-least}
-use Rattle.alphabet.specs.Letters.{among, lettersIn}
+use Rattle.alphabet.specs.Letters.{among, orEmpty}
 use Rattle.node.proofs.Tables.{framed}
 use Rattle.paper.specs.Hearing.{Row, Outcome, first, outcome, refusedNumbers, doneNumbers}
 use Rattle.paper.specs.Answers.{said}
 use Rattle.paper.specs.Rows.{isNone, row14, row15}
-use Rattle.paper.specs.Orders.{checking, byNext, nexting}
+use Rattle.paper.specs.Orders.{checkOrder, nextRows, nextKeyOrder}
 use Rattle.paper.specs.Calls.{tableIn, workAfter, storedKeys, nextIn, foundIn, nextKeyOf}
 use Rattle.paper.specs.Repeated.{keyLeft, keyHeard, askedAfter, askedForAll}
 use Rattle.paper.specs.Accepted.{Accepted}
@@ -86,21 +86,21 @@ module _ (l work key : List ℕ) (after : Bool) (buffer : List ℕ) where
     pub value-told : nextKeyOf l work key after buffer .numbers .value ≡ answer (tableIn l) k
     pub lent-left : nextKeyOf l work key after buffer .lent ≡ workAfter l work ∷ sets buffer 0 k ∷ []
 
-  nexting-says : (found : Option (List ℕ)) → AllSay nextNumbers (nexting l work key (length buffer) found)
-  unfolding nexting row14 row15 among
+  nexting-says : (found : Option (List ℕ)) → AllSay nextNumbers (nextKeyOrder l work key (length buffer) found)
+  unfolding nextKeyOrder row14 row15 among
   nexting-says found =
       parts-say (checking-says l work)
       (parts-say (next-says (headOf l) key)
       (given-says 14 0 (ltb (length buffer) (headOf l .max)) refl then given-says 15 0 (isNone found) refl then end))
 
   -- where the check, 9, 10 and 14 pass, 15 decides
-  module _ (checked : first (checking l work) ≡ none) (keyed : first (byNext (headOf l) key) ≡ none)
+  module _ (checked : first (checkOrder l work) ≡ none) (keyed : first (nextRows (headOf l) key) ≡ none)
       (room : headOf l .max ≤ length buffer) where
-    left-15 : (found : Option (List ℕ)) → first (nexting l work key (length buffer) found) ≡ first (row15 found ∷ [])
-    unfolding nexting row14
+    left-15 : (found : Option (List ℕ)) → first (nextKeyOrder l work key (length buffer) found) ≡ first (row15 found ∷ [])
+    unfolding nextKeyOrder row14
     left-15 found =
-        second-part (checking l work) _ checked
-        ∙ second-part (byNext (headOf l) key) _ keyed
+        second-part (checkOrder l work) _ checked
+        ∙ second-part (nextRows (headOf l) key) _ keyed
         ∙ no-row 14 0 _ (le-ltb (length buffer) (headOf l .max) room)
 
     pub leaves-none : nextIn l key after ≡ none
@@ -109,7 +109,7 @@ module _ (l work key : List ℕ) (after : Bool) (buffer : List ℕ) where
     leaves-none e = rw e (heard-refused _ _ _ (left-15 none ∙ yes-row 15 0 [] refl))
 
     pub leaves-some : {k : List ℕ} → nextIn l key after ≡ some k → nextKeyOf l work key after buffer ≡ foundIn l work buffer k
-    unfolding nextKeyOf row15 isNone lettersIn
+    unfolding nextKeyOf row15 isNone orEmpty
     leaves-some {k} e = rw e (heard-done _ _ _ (left-15 (some k) ∙ no-row 15 0 [] refl ∙ first-nil))
 
     gives : {k : List ℕ} → nextIn l key after ≡ some k → Gives k
@@ -151,23 +151,23 @@ module _ (l work key : List ℕ) (after : Bool) (buffer : List ℕ) where
 
   -- "gives the first stored key that meets it"
   pub next-is-first : nextKeyOf l work key after buffer .numbers .number ≡ 0 → (k : List ℕ) × Gives k
-  unfolding nextKeyOf nexting row14 row15 among
+  unfolding nextKeyOf nextKeyOrder row14 row15 among
   next-is-first z =
       let found : Option (List ℕ) = nextIn l key after in
       let last : List Row = row14 (headOf l) (length buffer) ∷ row15 found ∷ [] in
       let passes = none-heard _ _ (first-says (nexting-says found)) refl z in
-      let after8 = passed-parts (checking l work) (byNext (headOf l) key ++ last) passes in
-      let after10 = passed-parts (byNext (headOf l) key) last (after8 .1) in
+      let after8 = passed-parts (checkOrder l work) (nextRows (headOf l) key ++ last) passes in
+      let after10 = passed-parts (nextRows (headOf l) key) last (after8 .1) in
       let after14 = passed-row (row14 (headOf l) (length buffer)) (row15 found ∷ []) (after10 .1) in
       let after15 = passed-row (row15 found) [] (after14 .1) in
       let room = ltb-false (length buffer) (headOf l .max) (was-false 14 0 _ (after14 .0)) in
-      (lettersIn found, gives (after8 .0) (after10 .0) room (some-found found (was-false 15 0 _ (after15 .0))))
+      (orEmpty found, gives (after8 .0) (after10 .0) room (some-found found (was-false 15 0 _ (after15 .0))))
 
 -- ---- calls one after the other
 
 -- the first key, then those after it
 first-and-after : (keys : List (List ℕ)) (rest : List ℕ → List (List ℕ)) → Ascending keys
-    → ((m : List ℕ) → List·Memᴰ m keys → rest m ≡ sift (meets true m) keys)
+    → ((m : List ℕ) → List·Memᴰ m keys → rest m ≡ filter (meets true m) keys)
     → withKey (firstOf keys) (λ m. m ∷ rest m) ≡ keys
 unfolding withKey firstOf meets
 first-and-after [] rest up e = refl
@@ -180,8 +180,8 @@ module _ (l work buffer : List ℕ) (a : Accepted l) (lent : headOf l .g + 1 ≤
   asked key after s =
       hears l work key after buffer (accepted-checks l work a lent) (askable-passes (headOf l) key s) room
 
-  pub listed-after : (k : List ℕ) → Letters (headOf l .n) k → length k ≤ headOf l .max → (times : ℕ) → length (storedKeys l) ≤ times
-      → askedAfter l work buffer times k ≡ sift (meets true k) (storedKeys l)
+  pub listed-after : (k : List ℕ) → LettersBelow (headOf l .n) k → length k ≤ headOf l .max → (times : ℕ) → length (storedKeys l) ≤ times
+      → askedAfter l work buffer times k ≡ filter (meets true k) (storedKeys l)
   unfolding askedAfter nextIn
   listed-after k below short times enough =
       same-turns (λ j. keyHeard (nextKeyOf l work j true buffer)) (λ j. nextIn l j true) (Askable (headOf l))

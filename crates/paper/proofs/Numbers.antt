@@ -10,8 +10,8 @@ use lib.Dec.{ltb}
 use Rattle.trie.specs.Lowest.{lowest}
 use Rattle.alphabet.specs.Letters.{among}
 use Rattle.alphabet.proofs.Alphabets.{among-append}
-use Rattle.paper.specs.Hearing.{Said, Row, Outcome, given, first, heard, refusedNumbers}
-use Rattle.paper.specs.Rows.{givenLowest, rowAt}
+use Rattle.paper.specs.Hearing.{Said, Row, Outcome, rowWhen, first, heard, refusedNumbers}
+use Rattle.paper.specs.Rows.{rowWhenLowest, row6At}
 
 -- a row that is given says one of these numbers
 pub data Says (numbers : List ℕ) : Row → Type 0 where
@@ -25,18 +25,18 @@ pub data AllSay (numbers : List ℕ) : List Row → Type 0 where
 
 -- ---- one row
 
-pub given-says : {numbers : List ℕ} (number place : ℕ) (test : Bool) → among number numbers ≡ true → Says numbers (given number place test)
-unfolding given
+pub given-says : {numbers : List ℕ} (number place : ℕ) (test : Bool) → among number numbers ≡ true → Says numbers (rowWhen number place test)
+unfolding rowWhen
 given-says number place true e = saying e
 given-says number place false e = silent
 
 pub lowest-says : {numbers : List ℕ} (number : ℕ) (test : ℕ → Bool) (a k : ℕ) → among number numbers ≡ true
-    → Says numbers (givenLowest number test a k)
-unfolding givenLowest
+    → Says numbers (rowWhenLowest number test a k)
+unfolding rowWhenLowest
 lowest-says number test a k e = given-says number (lowest test a k) (ltb (lowest test a k) (a + k)) e
 
-pub at-says : {numbers : List ℕ} (at : Option ℕ) → among 6 numbers ≡ true → Says numbers (rowAt at)
-unfolding rowAt
+pub at-says : {numbers : List ℕ} (at : Option ℕ) → among 6 numbers ≡ true → Says numbers (row6At at)
+unfolding row6At
 at-says none e = silent
 at-says (some q) e = saying e
 

@@ -20,7 +20,7 @@ use Rattle.paper.specs.Hearing.{Row, first}
 use Rattle.paper.specs.Answers.{said}
 use Rattle.paper.specs.Rows.{row1, row2, row3, row4}
 use Rattle.paper.specs.Given.{alphabetIn}
-use Rattle.paper.specs.Orders.{opening}
+use Rattle.paper.specs.Orders.{openingRows}
 use Rattle.paper.proofs.Hearing.{is-given, not-given, untrue, unfalse, yes-row, no-row, passed-row, was-false}
 use Rattle.paper.proofs.Numbers.{AllSay, given-says, end, _then_}
 
@@ -44,21 +44,21 @@ module _ (h : Head) (alphabet : List ℕ) (len : ℕ) where
   abbrev pub spoilt : Bool
   spoilt = ltb 0 (h .f) && eqb (length alphabet) (h .f) && not (goodAlphabet (h .n) alphabet)
 
-  pub heard-1 : between len shortestImage longestImage ≡ false → first (opening h alphabet len) ≡ some (said 1 0)
-  unfolding opening row1
+  pub heard-1 : between len shortestImage longestImage ≡ false → first (openingRows h alphabet len) ≡ some (said 1 0)
+  unfolding openingRows row1
   heard-1 e = yes-row 1 0 _ (unfalse e)
 
-  pub heard-2 : between len shortestImage longestImage ≡ true → permitted h ≡ false → first (opening h alphabet len) ≡ some (said 2 0)
-  unfolding opening row1 row2
+  pub heard-2 : between len shortestImage longestImage ≡ true → permitted h ≡ false → first (openingRows h alphabet len) ≡ some (said 2 0)
+  unfolding openingRows row1 row2
   heard-2 e p = no-row 1 0 _ (untrue e) ∙ yes-row 2 0 _ (unfalse p)
 
-  pub heard-3 : between len shortestImage longestImage ≡ true → permitted h ≡ true → spoilt ≡ true → first (opening h alphabet len) ≡ some (said 3 0)
-  unfolding opening row1 row2 row3
+  pub heard-3 : between len shortestImage longestImage ≡ true → permitted h ≡ true → spoilt ≡ true → first (openingRows h alphabet len) ≡ some (said 3 0)
+  unfolding openingRows row1 row2 row3
   heard-3 e p s = no-row 1 0 _ (untrue e) ∙ no-row 2 0 _ (untrue p) ∙ yes-row 3 0 _ s
 
   -- where 1 to 3 have passed, what is heard is row 4
-  pub left-4 : between len shortestImage longestImage ≡ true → permitted h ≡ true → spoilt ≡ false → first (opening h alphabet len) ≡ row4 h len
-  unfolding opening row1 row2 row3
+  pub left-4 : between len shortestImage longestImage ≡ true → permitted h ≡ true → spoilt ≡ false → first (openingRows h alphabet len) ≡ row4 h len
+  unfolding openingRows row1 row2 row3
   left-4 e p s = no-row 1 0 _ (untrue e) ∙ no-row 2 0 _ (untrue p) ∙ no-row 3 0 _ s ∙ last-row (row4 h len)
 
   -- what an image that was opened is known to be
@@ -68,8 +68,8 @@ module _ (h : Head) (alphabet : List ℕ) (len : ℕ) where
     pub unspoilt : spoilt ≡ false
     pub room : usedLen h ≤ len
 
-  pub passed : first (opening h alphabet len) ≡ none → Passed
-  unfolding opening row1 row2 row3 row4
+  pub passed : first (openingRows h alphabet len) ≡ none → Passed
+  unfolding openingRows row1 row2 row3 row4
   passed e =
       let after1 = passed-row (row1 len) (row2 h ∷ row3 h alphabet ∷ row4 h len ∷ []) e in
       let after2 = passed-row (row2 h) (row3 h alphabet ∷ row4 h len ∷ []) (after1 .1) in
@@ -82,8 +82,8 @@ module _ (h : Head) (alphabet : List ℕ) (len : ℕ) where
         room = ltb-false len (usedLen h) (was-false 4 0 _ (after4 .0));
       }
 
-  pub opening-says : AllSay (1 ∷ 2 ∷ 3 ∷ 4 ∷ []) (opening h alphabet len)
-  unfolding opening row1 row2 row3 row4 among
+  pub opening-says : AllSay (1 ∷ 2 ∷ 3 ∷ 4 ∷ []) (openingRows h alphabet len)
+  unfolding openingRows row1 row2 row3 row4 among
   opening-says =
       given-says 1 0 (not (between len shortestImage longestImage)) refl
       then given-says 2 0 (not (permitted h)) refl

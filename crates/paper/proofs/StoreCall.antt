@@ -30,7 +30,7 @@ use Rattle.head.specs.Fields.{fieldsLen, headOf, permitted, nodeWidth, usedLen}
 use Rattle.head.proofs.Fields.{head-outside}
 use Rattle.head.proofs.Permitted.{bounds, addresses-fit}
 use Rattle.head.proofs.Places.{place-least}
-use Rattle.alphabet.specs.Letters.{among, lettersIn}
+use Rattle.alphabet.specs.Letters.{among, orEmpty}
 use Rattle.node.specs.Image.{dataPlace, tableOf}
 use Rattle.node.specs.Writes.{carriedOut, dataWrite, storeWrites}
 use Rattle.node.specs.Frame.{Touched}
@@ -40,9 +40,9 @@ use Rattle.node.proofs.Tables.{framed}
 use Rattle.node.proofs.StoreOnTable.{length-carried, Storable, store-new, store-over, store-head}
 use Rattle.node.proofs.Frame.{EndsIn, frame, none-before, spare}
 use Rattle.paper.specs.Hearing.{Said, Row, Outcome, first, heard, outcome, doneNumbers}
-use Rattle.paper.specs.Rows.{row5, badLink, row9, row10, row11, row12, row13, rowAt, row6path}
+use Rattle.paper.specs.Rows.{row5, badLink, row9, row10, row11, row12, row13, row6At, row6path}
 use Rattle.paper.specs.Given.{Given, asLetters, asText, alphabetIn, meantBy, meantIn, keyIn}
-use Rattle.paper.specs.Orders.{openingOf, checking, byLetters, byText, keyingBy, keying, lookingUp, adding, newOf, storing}
+use Rattle.paper.specs.Orders.{openingRowsOf, checkOrder, lettersRows, textRows, keyRowsBy, keyRows, lookUpOrder, addingRows, newOf, storeOrder}
 use Rattle.paper.specs.Calls.{tableIn, workAfter, storedKeys, telling, lookUpOf, storedImage, storeOf}
 use Rattle.paper.specs.Accepted.{Accepted}
 use Rattle.paper.specs.Granted.{Granted}
@@ -177,18 +177,18 @@ module _ {l key : List ℕ} {value : ℕ} (s : Granted l key value) where
 
 -- ---- a lookup in an image that was opened, on a path with no bad link
 
-quiet : {at : Option ℕ} → at ≡ none → rowAt at ≡ none
-unfolding rowAt
-quiet e = ap rowAt e
+quiet : {at : Option ℕ} → at ≡ none → row6At at ≡ none
+unfolding row6At
+quiet e = ap row6At e
 
-module _ (l : List ℕ) (given : Given) (opened : first (openingOf l) ≡ none)
+module _ (l : List ℕ) (given : Given) (opened : first (openingRowsOf l) ≡ none)
     (fair : fault (badLink (headOf l .g)) (tableIn l) 0 (keyIn l given) ≡ none) where
   -- none of 1 to 4 and no 6 is heard, so the part for the key alone decides
-  key-decides : first (lookingUp l given) ≡ first (keying l given)
-  unfolding lookingUp row6path tableIn
-  key-decides = second-part (openingOf l) _ opened ∙ silent-end (keying l given) _ (first-none _ [] (quiet fair) ∙ first-nil)
+  key-decides : first (lookUpOrder l given) ≡ first (keyRows l given)
+  unfolding lookUpOrder row6path tableIn
+  key-decides = second-part (openingRowsOf l) _ opened ∙ silent-end (keyRows l given) _ (first-none _ [] (quiet fair) ∙ first-nil)
 
-  pub looks-up-open : lookUpOf l given ≡ heard (first (keying l given)) [] (telling (answer (tableIn l) (keyIn l given)))
+  pub looks-up-open : lookUpOf l given ≡ heard (first (keyRows l given)) [] (telling (answer (tableIn l) (keyIn l given)))
   unfolding lookUpOf
   looks-up-open = ap (λ (r : Row). heard r [] (telling (answer (tableIn l) (keyIn l given)))) key-decides
 
@@ -211,22 +211,22 @@ module _ {l : List ℕ} (a : Accepted l) where
       go (no e) rest =
           fault-on bad (tableIn l) q x xs refl e (ruled-link (a .links) q x e) ∙ rest
 
-  pub looks-up-accepted : (given : Given) → lookUpOf l given ≡ heard (first (keying l given)) [] (telling (answer (tableIn l) (keyIn l given)))
+  pub looks-up-accepted : (given : Given) → lookUpOf l given ≡ heard (first (keyRows l given)) [] (telling (answer (tableIn l) (keyIn l given)))
   looks-up-accepted given = looks-up-open l given (accepted-opens a) (unfaulted 0 (keyIn l given))
 
 -- ---- the part for the key, where G alone changed and the alphabet did not
 
-pub keying-total : (h : Head) (g : ℕ) (alphabet : List ℕ) (given : Given) → keyingBy (withTotal h g) alphabet given ≡ keyingBy h alphabet given
-unfolding keyingBy byLetters byText row9 row10
+pub keying-total : (h : Head) (g : ℕ) (alphabet : List ℕ) (given : Given) → keyRowsBy (withTotal h g) alphabet given ≡ keyRowsBy h alphabet given
+unfolding keyRowsBy lettersRows textRows row9 row10
 keying-total h g alphabet (asLetters key) = refl
 keying-total h g alphabet (asText text) = refl
 
 module _ (a b : List ℕ) {g : ℕ} (heads : headOf a ≡ withTotal (headOf b) g) (alphabets : alphabetIn (headOf a) a ≡ alphabetIn (headOf b) b)
     (given : Given) where
-  pub same-keying : keying a given ≡ keying b given
-  unfolding keying
+  pub same-keying : keyRows a given ≡ keyRows b given
+  unfolding keyRows
   same-keying =
-      ap₂ (λ (h : Head) (alphabet : List ℕ). keyingBy h alphabet given) heads alphabets ∙ keying-total (headOf b) g (alphabetIn (headOf b) b) given
+      ap₂ (λ (h : Head) (alphabet : List ℕ). keyRowsBy h alphabet given) heads alphabets ∙ keying-total (headOf b) g (alphabetIn (headOf b) b) given
 
   pub same-meant : meantIn a given ≡ meantIn b given
   unfolding meantIn
@@ -234,7 +234,7 @@ module _ (a b : List ℕ) {g : ℕ} (heads : headOf a ≡ withTotal (headOf b) g
 
   pub same-key : keyIn a given ≡ keyIn b given
   unfolding keyIn
-  same-key = ap lettersIn same-meant
+  same-key = ap orEmpty same-meant
 
 -- ---- what keys answer after a store
 
@@ -243,7 +243,7 @@ module _ {l key : List ℕ} {value : ℕ} (s : Granted l key value) (given : Giv
   after = storedImage l key value
 
   -- 9 and 10 are what they were, and the key that is meant is the same
-  looks-after : lookUpOf after given ≡ heard (first (keying l given)) [] (telling (answer (tableIn after) (keyIn l given)))
+  looks-after : lookUpOf after given ≡ heard (first (keyRows l given)) [] (telling (answer (tableIn after) (keyIn l given)))
   looks-after =
       looks-up-accepted (accepted-again s) given
       ∙ ap₂ (λ (rows : List Row) (k : List ℕ). heard (first rows) [] (telling (answer (tableIn after) k)))
@@ -251,26 +251,26 @@ module _ {l key : List ℕ} {value : ℕ} (s : Granted l key value) (given : Giv
 
   -- the key answers the value, by letters and by every text that means it
   pub stored-answers : meantIn l given ≡ some key → lookUpOf after given ≡ telling value
-  unfolding keying keyIn meantIn lettersIn
+  unfolding keyRows keyIn meantIn orEmpty
   stored-answers e =
       looks-after
       ∙ heard-done _ [] _ (fit-given (headOf l) (alphabetIn (headOf l) l) given e (s .fit))
-      ∙ ap (λ (k : List ℕ). telling (answer (tableIn after) k)) (ap lettersIn e)
+      ∙ ap (λ (k : List ℕ). telling (answer (tableIn after) k)) (ap orEmpty e)
       ∙ ap (λ (t : Table). telling (answer t key)) (stored-table s)
       ∙ ap telling (stored-answer (accepted-linked (s .accepted)) key (s .fit .below) value)
 
   -- every other key answers, or is refused, as before
   pub others-answer : meantIn l given ≢ some key → lookUpOf after given ≡ lookUpOf l given
-  unfolding keying keyIn meantIn
+  unfolding keyRows keyIn meantIn
   others-answer other =
       let k : List ℕ = keyIn l given in
-      let same : first (keying l given) ≡ none → answer (tableIn after) k ≡ answer (tableIn l) k =
+      let same : first (keyRows l given) ≡ none → answer (tableIn after) k ≡ answer (tableIn l) k =
       λ e.
       let meant = given-meant (headOf l) (alphabetIn (headOf l) l) given e in
       ap (λ (t : Table). answer t k) (stored-table s)
       ∙ stored-answer-other (accepted-linked (s .accepted)) key (s .fit .below) value k (λ f. other (meant ∙ ap (λ (x : List ℕ). some x) f)) in
       looks-after
-      ∙ heard-alike (first (keying l given)) [] (λ e. ap telling (same e))
+      ∙ heard-alike (first (keyRows l given)) [] (λ e. ap telling (same e))
       ∙ sym (looks-up-accepted (s .accepted) given)
 
 module _ {l key : List ℕ} {value : ℕ} (s : Granted l key value) where
@@ -332,10 +332,10 @@ acceptedNumbers = 5 ∷ 9 ∷ 10 ∷ 11 ∷ 12 ∷ 13 ∷ []
 
 -- the part for the value: 11, 12 and 13
 abbrev pub valued : List ℕ → List ℕ → ℕ → List Row
-valued l key value = adding (headOf l) value (newOf (headOf l) l key value) (length l)
+valued l key value = addingRows (headOf l) value (newOf (headOf l) l key value) (length l)
 
 pub valued-says : (l key : List ℕ) (value : ℕ) → AllSay (11 ∷ 12 ∷ 13 ∷ []) (valued l key value)
-unfolding adding row11 row12 row13 among
+unfolding addingRows row11 row12 row13 among
 valued-says l key value =
     let h : Head = headOf l in
     let k : ℕ = newOf h l key value in
@@ -349,17 +349,17 @@ module _ (l work : List ℕ) (given : Given) (value : ℕ) where
   key = keyIn l given
 
   -- what an order that passed tells of its parts
-  pub order-passed : first (storing l work given value) ≡ none
-      → (first (checking l work) ≡ none) × (first (keying l given) ≡ none) × (first (valued l key value) ≡ none)
-  unfolding storing
+  pub order-passed : first (storeOrder l work given value) ≡ none
+      → (first (checkOrder l work) ≡ none) × (first (keyRows l given) ≡ none) × (first (valued l key value) ≡ none)
+  unfolding storeOrder
   order-passed e =
-      let after8 = passed-parts (checking l work) (keying l given ++ valued l key value) e in
-      let after10 = passed-parts (keying l given) (valued l key value) (after8 .1) in
+      let after8 = passed-parts (checkOrder l work) (keyRows l given ++ valued l key value) e in
+      let after10 = passed-parts (keyRows l given) (valued l key value) (after8 .1) in
       (after8 .0, after10 .0, after10 .1)
 
   -- a store that passes every row is granted
-  pub granted : first (storing l work given value) ≡ none → Granted l key value
-  unfolding adding
+  pub granted : first (storeOrder l work given value) ≡ none → Granted l key value
+  unfolding addingRows
   granted e =
       let h : Head = headOf l in
       let k : ℕ = newOf h l key value in
@@ -377,13 +377,13 @@ module _ (l work : List ℕ) (given : Given) (value : ℕ) where
       }
 
   -- and one that is granted passes them, where its key does and the working numbers are enough
-  pub grants : Granted l key value → headOf l .g + 1 ≤ length work → first (keying l given) ≡ none → first (storing l work given value) ≡ none
-  unfolding storing adding
+  pub grants : Granted l key value → headOf l .g + 1 ≤ length work → first (keyRows l given) ≡ none → first (storeOrder l work given value) ≡ none
+  unfolding storeOrder addingRows
   grants s lent passes =
       let h : Head = headOf l in
       let k : ℕ = newOf h l key value in
-      second-part (checking l work) (keying l given ++ valued l key value) (accepted-checks l work (s .accepted) lent)
-      ∙ second-part (keying l given) (valued l key value) passes
+      second-part (checkOrder l work) (keyRows l given ++ valued l key value) (accepted-checks l work (s .accepted) lent)
+      ∙ second-part (keyRows l given) (valued l key value) passes
       ∙ first-none (row11 h value) _ (none-11 h value .1 (s .value-fits))
       ∙ first-none (row12 h k) _ (none-12 h k .1 (s .addresses))
       ∙ first-none (row13 h k (length l)) _ (none-13 h k (length l) .1 (s .room))
@@ -391,40 +391,40 @@ module _ (l work : List ℕ) (given : Given) (value : ℕ) where
 
   -- in an accepted image 5 is asked, then the key's part, then the value's
   pub accepted-order : Accepted l
-      → first (storing l work given value) ≡ first (row5 (headOf l) (length work) ∷ (keying l given ++ valued l key value))
-  unfolding storing checking row5
+      → first (storeOrder l work given value) ≡ first (row5 (headOf l) (length work) ∷ (keyRows l given ++ valued l key value))
+  unfolding storeOrder checkOrder row5
   accepted-order a = go (decLe (headOf l .g + 1) (length work))
     where
       rest : List Row
-      rest = keying l given ++ valued l key value
+      rest = keyRows l given ++ valued l key value
 
-      go : Dec (headOf l .g + 1 ≤ length work) → first (storing l work given value) ≡ first (row5 (headOf l) (length work) ∷ rest)
+      go : Dec (headOf l .g + 1 ≤ length work) → first (storeOrder l work given value) ≡ first (row5 (headOf l) (length work) ∷ rest)
       go (yes b) =
-          second-part (checking l work) rest (accepted-checks l work a b)
+          second-part (checkOrder l work) rest (accepted-checks l work a b)
           ∙ sym (no-row 5 0 rest (le-ltb (length work) (headOf l .g + 1) b))
       go (no b) =
           let few : ltb (length work) (headOf l .g + 1) ≡ true = lt-ltb (length work) (headOf l .g + 1) (omega arith) in
-          first-part (checking l work) rest (second-part (openingOf l) _ (accepted-opens a) ∙ yes-row 5 0 _ few)
+          first-part (checkOrder l work) rest (second-part (openingRowsOf l) _ (accepted-opens a) ∙ yes-row 5 0 _ few)
           ∙ sym (yes-row 5 0 rest few)
 
-  says : AllSay keyNumbers (keying l given)
-  unfolding keying
+  says : AllSay keyNumbers (keyRows l given)
+  unfolding keyRows
   says = given-says-key (headOf l) (alphabetIn (headOf l) l) given
 
   -- the reasons for which a store in an accepted image is refused
-  pub store-refuses : {s : Said} → Accepted l → first (storing l work given value) ≡ some s → among (s .number) acceptedNumbers ≡ true
+  pub store-refuses : {s : Said} → Accepted l → first (storeOrder l work given value) ≡ some s → among (s .number) acceptedNumbers ≡ true
   unfolding row5 among
   store-refuses a e =
       let five : AllSay (5 ∷ []) (row5 (headOf l) (length work) ∷ []) =
       given-says 5 0 (ltb (length work) (headOf l .g + 1)) refl then end in
       one-of (first-says (parts-say five (parts-say says (valued-says l key value)))) (sym (accepted-order a) ∙ e)
 
-  pub storing-says : AllSay storeNumbers (storing l work given value)
-  unfolding storing
+  pub storing-says : AllSay storeNumbers (storeOrder l work given value)
+  unfolding storeOrder
   storing-says = parts-say (checking-says l work) (parts-say says (valued-says l key value))
 
   -- number 0 is said by no row
-  pub store-passed : storeOf l work given value .numbers .number ≡ 0 → first (storing l work given value) ≡ none
+  pub store-passed : storeOf l work given value .numbers .number ≡ 0 → first (storeOrder l work given value) ≡ none
   unfolding storeOf among
   store-passed z = none-heard _ _ (first-says storing-says) refl z
 
@@ -433,7 +433,7 @@ module _ (l work : List ℕ) (given : Given) (value : ℕ) where
 
   -- the key that it means
   pub store-means : storeOf l work given value .numbers .number ≡ 0 → meantIn l given ≡ some key
-  unfolding keying keyIn meantIn
+  unfolding keyRows keyIn meantIn
   store-means z = given-meant (headOf l) (alphabetIn (headOf l) l) given (order-passed (store-passed z) .1)
 
   -- what a store that is done answers and leaves
@@ -441,17 +441,17 @@ module _ (l work : List ℕ) (given : Given) (value : ℕ) where
       → storeOf l work given value
       ≡ outcome (doneNumbers 0 (changeOf (answer (tableIn l) key) value) 0) (storedImage l key value ∷ workAfter l work ∷ [])
   unfolding storeOf
-  store-leaves z = heard-done (first (storing l work given value)) _ _ (store-passed z)
+  store-leaves z = heard-done (first (storeOrder l work given value)) _ _ (store-passed z)
 
   -- it is done exactly where enough working numbers are lent, a key is meant, and it is granted for that key
   pub store-done-exactly : (storeOf l work given value .numbers .number ≡ 0)
       ↔ ((headOf l .g + 1 ≤ length work) × (k : List ℕ) × (meantIn l given ≡ some k) × Granted l k value)
-  unfolding storeOf doneNumbers keying keyIn meantIn lettersIn
+  unfolding storeOf doneNumbers keyRows keyIn meantIn orEmpty
   store-done-exactly = (
     λ z. (checked l work (order-passed (store-passed z) .0) .lent, key, store-means z, store-granted z),
     λ s.
         let (lent, k, e, g) = s in
-        let same : key ≡ k = ap lettersIn e in
+        let same : key ≡ k = ap orEmpty e in
         let passes = fit-given (headOf l) (alphabetIn (headOf l) l) given e (g .fit) in
         ap (λ (o : Outcome). o .numbers .number) (heard-done _ _ _ (grants (subst (λ (j : List ℕ). Granted l j value) (sym same) g) lent passes)),
   )
@@ -459,4 +459,4 @@ module _ (l work : List ℕ) (given : Given) (value : ℕ) where
   -- "A refused call changes nothing in the image or in any other lent buffer but the working numbers"
   pub refused-keeps : storeOf l work given value .numbers .number ≢ 0 → storeOf l work given value .lent ≡ l ∷ workAfter l work ∷ []
   unfolding storeOf doneNumbers
-  refused-keeps z = kept-lent (first (storing l work given value)) (l ∷ workAfter l work ∷ []) _ refl z
+  refused-keeps z = kept-lent (first (storeOrder l work given value)) (l ∷ workAfter l work ∷ []) _ refl z

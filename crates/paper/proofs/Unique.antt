@@ -20,9 +20,9 @@ use Rattle.paper.specs.declared.Stored.{Stored}
 use Rattle.paper.specs.declared.Listed.{Listed}
 use Rattle.paper.specs.declared.Found.{Found}
 use Rattle.paper.specs.Hearing.{Numbers, Outcome, outcome, refusedNumbers, doneNumbers}
-use Rattle.paper.specs.Answers.{saidOf, refusalNumbers, doneOf, countedOf, placedOf, lookedOf, storedOf, listedOf, foundOf}
+use Rattle.paper.specs.Answers.{saidOf, refusalNumbers, doneOf, countedOf, placedOf, lookedOf, storedOf, notedOf, foundOf}
 use Rattle.paper.specs.Given.{Given}
-use Rattle.paper.specs.Promises.{Makes, Checks, Counts, LooksUp, Stores, StoresWrites, Mends, Nexts}
+use Rattle.paper.specs.Promises.{Makes, Checks, CountsKeys, LooksUp, Stores, StoresWrites, Mends, Nexts}
 
 -- ---- an answer, from its numbers
 
@@ -138,11 +138,11 @@ told-stored = record { back = tellBy (λ m. Stored.Change (m .change)) Stored.Re
     inverse (Stored.Change c) = refl
     inverse (Stored.Refused r) = tell-refused (λ m. Stored.Change (m .change)) Stored.Refused r
 
-pub told-listed : Told Listed listedOf
-unfolding tellBy byNumber listedOf doneNumbers
+pub told-listed : Told Listed notedOf
+unfolding tellBy byNumber notedOf doneNumbers
 told-listed = record { back = tellBy (λ m. Listed.Change (m .change) (m .length)) Listed.Refused; inverse = inverse }
   where
-    inverse : (r : Listed) → tellBy (λ m. Listed.Change (m .change) (m .length)) Listed.Refused (listedOf r) ≡ r
+    inverse : (r : Listed) → tellBy (λ m. Listed.Change (m .change) (m .length)) Listed.Refused (notedOf r) ≡ r
     inverse (Listed.Change change writes) = refl
     inverse (Listed.Refused r) = tell-refused (λ m. Listed.Change (m .change) (m .length)) Listed.Refused r
 
@@ -182,7 +182,7 @@ module _ {R : Type 0} {numbersOf : R → Numbers} (told : Told R numbersOf) {r s
   pub checks-once : (l work : List ℕ) {i j : List ℕ} → Checks l work (numbersOf r) i → Checks l work (numbersOf s) j → (r ≡ s) × (i ≡ j)
   checks-once l work p q = let u = one-outcome told r s _ _ _ p q in (u .0, one (u .1))
 
-  pub counts-once : (l work : List ℕ) {i j : List ℕ} → Counts l work (numbersOf r) i → Counts l work (numbersOf s) j → (r ≡ s) × (i ≡ j)
+  pub counts-once : (l work : List ℕ) {i j : List ℕ} → CountsKeys l work (numbersOf r) i → CountsKeys l work (numbersOf s) j → (r ≡ s) × (i ≡ j)
   counts-once l work p q = let u = one-outcome told r s _ _ _ p q in (u .0, one (u .1))
 
   pub looks-up-once : (l : List ℕ) (given : Given) → LooksUp l given (numbersOf r) → LooksUp l given (numbersOf s) → r ≡ s

@@ -70,10 +70,10 @@ unfolding refusalNumbers doneNumbers
 storedOf (Stored.Change c) = doneNumbers 0 c 0
 storedOf (Stored.Refused r) = refusalNumbers r
 
-unfoldable pub listedOf : Listed → Numbers
+unfoldable pub notedOf : Listed → Numbers
 unfolding refusalNumbers doneNumbers
-listedOf (Listed.Change c n) = doneNumbers n c 0
-listedOf (Listed.Refused r) = refusalNumbers r
+notedOf (Listed.Change c n) = doneNumbers n c 0
+notedOf (Listed.Refused r) = refusalNumbers r
 
 unfoldable pub foundOf : Found → Numbers
 unfolding refusalNumbers doneNumbers

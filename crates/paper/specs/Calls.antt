@@ -14,13 +14,13 @@ use Rattle.trie.specs.Keys.{listing, meets, firstMeeting}
 use Rattle.trie.specs.Storing.{changeOf}
 use Rattle.head.specs.declared.Head.{Head}
 use Rattle.head.specs.Fields.{headOf, headBytes, putTotal, nodeWidth}
-use Rattle.alphabet.specs.Letters.{lettersIn}
+use Rattle.alphabet.specs.Letters.{orEmpty}
 use Rattle.node.specs.Image.{tableOf}
-use Rattle.node.specs.Writes.{Write, carriedOut, listed, storeWrites}
+use Rattle.node.specs.Writes.{Write, carriedOut, noted, storeWrites}
 use Rattle.paper.specs.Hearing.{Row, Numbers, Outcome, outcome, doneNumbers, first, heard}
 use Rattle.paper.specs.Rows.{row5}
 use Rattle.paper.specs.Given.{Given, keyIn}
-use Rattle.paper.specs.Orders.{opening, openingOf, checking, lookingUp, storing, nexting}
+use Rattle.paper.specs.Orders.{openingRows, openingRowsOf, checkOrder, lookUpOrder, storeOrder, nextKeyOrder}
 
 -- the image's own table
 unfoldable pub tableIn : List ℕ → Table
@@ -34,8 +34,8 @@ clearedBy none nodes work = replicate nodes 0 ++ drop nodes work
 clearedBy (some s) nodes work = work
 
 unfoldable pub workAfter : List ℕ → List ℕ → List ℕ
-unfolding clearedBy first openingOf row5 headOf
-workAfter l work = clearedBy (first (openingOf l ++ (row5 (headOf l) (length work) ∷ []))) (headOf l .g + 1) work
+unfolding clearedBy first openingRowsOf row5 headOf
+workAfter l work = clearedBy (first (openingRowsOf l ++ (row5 (headOf l) (length work) ∷ []))) (headOf l .g + 1) work
 
 -- make
 
@@ -50,16 +50,16 @@ unfolding headBytes nodeWidth
 freshImage h alphabet image = sets image 0 (headBytes h ++ (alphabet ++ replicate (nodeWidth h) 0))
 
 unfoldable pub makeOf : List ℕ → ℕ → ℕ → ℕ → List ℕ → ℕ → ℕ → Outcome
-unfolding heard first opening freshHead freshImage doneNumbers
+unfolding heard first openingRows freshHead freshImage doneNumbers
 makeOf image n a d alphabet least most =
-    heard (first (opening (freshHead n a d alphabet least most) alphabet (length image))) (image ∷ [])
+    heard (first (openingRows (freshHead n a d alphabet least most) alphabet (length image))) (image ∷ [])
     (outcome (doneNumbers 0 (pos 0) 0) (freshImage (freshHead n a d alphabet least most) alphabet image ∷ []))
 
 -- check
 
 unfoldable pub checkOf : List ℕ → List ℕ → Outcome
-unfolding heard first checking workAfter doneNumbers
-checkOf l work = heard (first (checking l work)) (workAfter l work ∷ []) (outcome (doneNumbers 0 (pos 0) 0) (workAfter l work ∷ []))
+unfolding heard first checkOrder workAfter doneNumbers
+checkOf l work = heard (first (checkOrder l work)) (workAfter l work ∷ []) (outcome (doneNumbers 0 (pos 0) 0) (workAfter l work ∷ []))
 
 -- number of keys
 
@@ -69,9 +69,9 @@ unfolding tableIn headOf
 storedKeys l = listing (tableIn l) (headOf l .n) (headOf l .min) (headOf l .max)
 
 unfoldable pub countOf : List ℕ → List ℕ → Outcome
-unfolding heard first checking workAfter doneNumbers storedKeys
+unfolding heard first checkOrder workAfter doneNumbers storedKeys
 countOf l work =
-    heard (first (checking l work)) (workAfter l work ∷ [])
+    heard (first (checkOrder l work)) (workAfter l work ∷ [])
     (outcome (doneNumbers 0 (pos 0) (length (storedKeys l))) (workAfter l work ∷ []))
 
 -- look up
@@ -81,8 +81,8 @@ abbrev pub telling : ℕ → Outcome
 telling v = outcome (doneNumbers 0 (pos 0) v) []
 
 unfoldable pub lookUpOf : List ℕ → Given → Outcome
-unfolding heard first lookingUp doneNumbers answer tableIn keyIn
-lookUpOf l given = heard (first (lookingUp l given)) [] (telling (answer (tableIn l) (keyIn l given)))
+unfolding heard first lookUpOrder doneNumbers answer tableIn keyIn
+lookUpOf l given = heard (first (lookUpOrder l given)) [] (telling (answer (tableIn l) (keyIn l given)))
 
 -- store
 
@@ -96,9 +96,9 @@ unfolding carriedOut storeWrites descend tableIn headOf
 storedImage l key value = carriedOut l (writesIn l key value)
 
 unfoldable pub storeOf : List ℕ → List ℕ → Given → ℕ → Outcome
-unfolding heard first storing workAfter doneNumbers storedImage changeOf answer keyIn
+unfolding heard first storeOrder workAfter doneNumbers storedImage changeOf answer keyIn
 storeOf l work given value =
-    heard (first (storing l work given value)) (l ∷ workAfter l work ∷ [])
+    heard (first (storeOrder l work given value)) (l ∷ workAfter l work ∷ [])
     (outcome (doneNumbers 0 (changeOf (answer (tableIn l) (keyIn l given)) value) 0)
     (storedImage l (keyIn l given) value ∷ workAfter l work ∷ []))
 
@@ -106,16 +106,16 @@ storeOf l work given value =
 
 -- As a store, and besides its writes are listed from the front of a lent array on: `length` says how many they are. Entries after the
 -- last keep what they held, and a refusal changes none.
-unfoldable pub withList : List Write → List ℕ → Outcome → Outcome
-unfolding doneNumbers listed
-withList ws list o =
+unfoldable pub withWrites : List Write → List ℕ → Outcome → Outcome
+unfolding doneNumbers noted
+withWrites ws list o =
     cond (eqb (o .numbers .number) 0)
-    (outcome (doneNumbers (length ws) (o .numbers .change) 0) (o .lent ++ (sets list 0 (listed ws) ∷ [])))
+    (outcome (doneNumbers (length ws) (o .numbers .change) 0) (o .lent ++ (sets list 0 (noted ws) ∷ [])))
     (outcome (o .numbers) (o .lent ++ (list ∷ [])))
 
 unfoldable pub storeWritesOf : List ℕ → List ℕ → Given → ℕ → List ℕ → Outcome
-unfolding withList storeOf storeWrites descend tableIn headOf keyIn
-storeWritesOf l work given value list = withList (writesIn l (keyIn l given) value) list (storeOf l work given value)
+unfolding withWrites storeOf storeWrites descend tableIn headOf keyIn
+storeWritesOf l work given value list = withWrites (writesIn l (keyIn l given) value) list (storeOf l work given value)
 
 -- mend
 
@@ -153,7 +153,7 @@ foundIn l work buffer k =
     outcome (doneNumbers (length k) (pos 0) (answer (tableIn l) k)) (workAfter l work ∷ sets buffer 0 k ∷ [])
 
 unfoldable pub nextKeyOf : List ℕ → List ℕ → List ℕ → Bool → List ℕ → Outcome
-unfolding heard first nexting workAfter nextIn foundIn lettersIn
+unfolding heard first nextKeyOrder workAfter nextIn foundIn orEmpty
 nextKeyOf l work key after buffer =
-    heard (first (nexting l work key (length buffer) (nextIn l key after))) (workAfter l work ∷ buffer ∷ [])
-    (foundIn l work buffer (lettersIn (nextIn l key after)))
+    heard (first (nextKeyOrder l work key (length buffer) (nextIn l key after))) (workAfter l work ∷ buffer ∷ [])
+    (foundIn l work buffer (orEmpty (nextIn l key after)))

@@ -6,7 +6,7 @@ use mathlib.Core.List.{List}
 use lib.ListN.{take, drop}
 use Rattle.head.specs.declared.Head.{Head}
 use Rattle.head.specs.Fields.{headOf, fieldsLen}
-use Rattle.alphabet.specs.Letters.{letters, lettersIn, keyOfText}
+use Rattle.alphabet.specs.Letters.{letters, orEmpty, keyOfText}
 
 pub data Given : Type 0 where
   asLetters : (key : List ℕ) → Given
@@ -29,5 +29,5 @@ meantIn l given = meantBy (alphabetIn (headOf l) l) given
 
 -- its letters. Where no key is meant, 10 is heard before they are looked at.
 unfoldable pub keyIn : List ℕ → Given → List ℕ
-unfolding meantIn lettersIn
-keyIn l given = lettersIn (meantIn l given)
+unfolding meantIn orEmpty
+keyIn l given = orEmpty (meantIn l given)

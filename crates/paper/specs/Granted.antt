@@ -6,7 +6,7 @@ use mathlib.Core.Bool.{true}
 use mathlib.Core.List.{List}
 use lib.ListN.{length}
 use Rattle.field.specs.Range.{between}
-use Rattle.trie.specs.Table.{Letters}
+use Rattle.trie.specs.Table.{LettersBelow}
 use Rattle.head.specs.declared.Head.{Head}
 use Rattle.head.specs.Fields.{headOf, nodeWidth, usedLen}
 use Rattle.paper.specs.Orders.{newOf}
@@ -15,7 +15,7 @@ use Rattle.paper.specs.Accepted.{Accepted}
 -- a key whose length is in min..max and whose letter numbers are below N
 pub record Fit (h : Head) (key : List ℕ) : Type 0 where
   pub allowed : between (length key) (h .min) (h .max) ≡ true
-  pub below : Letters (h .n) key
+  pub below : LettersBelow (h .n) key
 
 pub record Granted (l key : List ℕ) (value : ℕ) : Type 0 where
   pub accepted : Accepted l

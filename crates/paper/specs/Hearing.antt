@@ -17,8 +17,8 @@ abbrev pub Row : Type 0
 Row = Option Said
 
 -- "Given exactly when"
-unfoldable pub given : ℕ → ℕ → Bool → Row
-given number place test = cond test (some (record { number = number; place = place })) none
+unfoldable pub rowWhen : ℕ → ℕ → Bool → Row
+rowWhen number place test = cond test (some (record { number = number; place = place })) none
 
 -- the first row of an order that is given
 unfoldable pub first : List Row → Row

@@ -6,7 +6,7 @@ use mathlib.Core.List.{List, [], _∷_, _++_}
 use lib.ListN.{length}
 use Rattle.trie.specs.Table.{Table, descend, missing}
 use Rattle.trie.specs.Storing.{added}
-use Rattle.alphabet.specs.Letters.{lettersIn}
+use Rattle.alphabet.specs.Letters.{orEmpty}
 use Rattle.head.specs.declared.Head.{Head}
 use Rattle.head.specs.Fields.{headOf}
 use Rattle.node.specs.Image.{tableOf}
@@ -15,54 +15,54 @@ use Rattle.paper.specs.Given.{Given, asLetters, asText, alphabetIn, mean
 use Rattle.paper.specs.Rows.{row1, row2, row3, row4, row5, row6, row6path, row7, row8, row9, row9next, row10, row10text, row11, row12, row13, row14, row15}
 
 -- 1 to 4, of a head, its alphabet and the length of the image
-unfoldable pub opening : Head → List ℕ → ℕ → List Row
-opening h alphabet len = row1 len ∷ row2 h ∷ row3 h alphabet ∷ row4 h len ∷ []
+unfoldable pub openingRows : Head → List ℕ → ℕ → List Row
+openingRows h alphabet len = row1 len ∷ row2 h ∷ row3 h alphabet ∷ row4 h len ∷ []
 
 -- 1 to 4, of an image
-unfoldable pub openingOf : List ℕ → List Row
-unfolding opening alphabetIn headOf
-openingOf l = opening (headOf l) (alphabetIn (headOf l) l) (length l)
+unfoldable pub openingRowsOf : List ℕ → List Row
+unfolding openingRows alphabetIn headOf
+openingRowsOf l = openingRows (headOf l) (alphabetIn (headOf l) l) (length l)
 
 -- 6 to 8
-unfoldable pub linking : Head → Table → List Row
-linking h t = row6 h t ∷ row7 h t ∷ row8 h t ∷ []
+unfoldable pub linkRows : Head → Table → List Row
+linkRows h t = row6 h t ∷ row7 h t ∷ row8 h t ∷ []
 
 -- "check and number of keys: 1 to 8"
-unfoldable pub checking : List ℕ → List ℕ → List Row
-unfolding openingOf linking tableOf
-checking l work = openingOf l ++ (row5 (headOf l) (length work) ∷ linking (headOf l) (tableOf (headOf l) l))
+unfoldable pub checkOrder : List ℕ → List ℕ → List Row
+unfolding openingRowsOf linkRows tableOf
+checkOrder l work = openingRowsOf l ++ (row5 (headOf l) (length work) ∷ linkRows (headOf l) (tableOf (headOf l) l))
 
 -- 9, 10 for letters
-unfoldable pub byLetters : Head → List ℕ → List Row
-byLetters h key = row9 h key ∷ row10 h key ∷ []
+unfoldable pub lettersRows : Head → List ℕ → List Row
+lettersRows h key = row9 h key ∷ row10 h key ∷ []
 
 -- "For text, 10 stands before 9." A text that names no key has no length; 10 is given before it is asked.
-unfoldable pub byText : Head → Option (List ℕ) → List Row
-unfolding lettersIn
-byText h named = row10text named ∷ row9 h (lettersIn named) ∷ []
+unfoldable pub textRows : Head → Option (List ℕ) → List Row
+unfolding orEmpty
+textRows h named = row10text named ∷ row9 h (orEmpty named) ∷ []
 
 -- 9 and 10 of a key as it is given, with this head and this alphabet, and in an image
-unfoldable pub keyingBy : Head → List ℕ → Given → List Row
-unfolding byLetters byText meantBy
-keyingBy h alphabet (asLetters key) = byLetters h key
-keyingBy h alphabet (asText text) = byText h (meantBy alphabet (asText text))
+unfoldable pub keyRowsBy : Head → List ℕ → Given → List Row
+unfolding lettersRows textRows meantBy
+keyRowsBy h alphabet (asLetters key) = lettersRows h key
+keyRowsBy h alphabet (asText text) = textRows h (meantBy alphabet (asText text))
 
-unfoldable pub keying : List ℕ → Given → List Row
-unfolding keyingBy alphabetIn headOf
-keying l given = keyingBy (headOf l) (alphabetIn (headOf l) l) given
+unfoldable pub keyRows : List ℕ → Given → List Row
+unfolding keyRowsBy alphabetIn headOf
+keyRows l given = keyRowsBy (headOf l) (alphabetIn (headOf l) l) given
 
 -- 9, 10 of the key from which the next one is sought. "For next key, 9 means only a key longer than max."
-unfoldable pub byNext : Head → List ℕ → List Row
-byNext h key = row9next h key ∷ row10 h key ∷ []
+unfoldable pub nextRows : Head → List ℕ → List Row
+nextRows h key = row9next h key ∷ row10 h key ∷ []
 
 -- "look up: 1 to 4, 9, 10, then 6"
-unfoldable pub lookingUp : List ℕ → Given → List Row
-unfolding openingOf keying keyIn tableOf
-lookingUp l given = openingOf l ++ (keying l given ++ (row6path (headOf l) (tableOf (headOf l) l) (keyIn l given) ∷ []))
+unfoldable pub lookUpOrder : List ℕ → Given → List Row
+unfolding openingRowsOf keyRows keyIn tableOf
+lookUpOrder l given = openingRowsOf l ++ (keyRows l given ++ (row6path (headOf l) (tableOf (headOf l) l) (keyIn l given) ∷ []))
 
 -- 11, 12, 13, with k missing nodes
-unfoldable pub adding : Head → ℕ → ℕ → ℕ → List Row
-adding h value k len = row11 h value ∷ row12 h k ∷ row13 h k len ∷ []
+unfoldable pub addingRows : Head → ℕ → ℕ → ℕ → List Row
+addingRows h value k len = row11 h value ∷ row12 h k ∷ row13 h k len ∷ []
 
 -- "Here k is the number of nodes missing on the key's path, but 0 where the value is 0."
 unfoldable pub newOf : Head → List ℕ → List ℕ → ℕ → ℕ
@@ -70,12 +70,12 @@ unfolding added missing descend tableOf
 newOf h l key value = added (missing (descend (tableOf h l) 0 key)) value
 
 -- "store: 1 to 8, 9, 10, 11, 12, 13"
-unfoldable pub storing : List ℕ → List ℕ → Given → ℕ → List Row
-unfolding checking keying keyIn adding newOf
-storing l work given value =
-    checking l work ++ (keying l given ++ adding (headOf l) value (newOf (headOf l) l (keyIn l given) value) (length l))
+unfoldable pub storeOrder : List ℕ → List ℕ → Given → ℕ → List Row
+unfolding checkOrder keyRows keyIn addingRows newOf
+storeOrder l work given value =
+    checkOrder l work ++ (keyRows l given ++ addingRows (headOf l) value (newOf (headOf l) l (keyIn l given) value) (length l))
 
 -- "next key: 1 to 8, 9, 10, 14, 15"
-unfoldable pub nexting : List ℕ → List ℕ → List ℕ → ℕ → Option (List ℕ) → List Row
-unfolding checking byNext
-nexting l work key lent found = checking l work ++ (byNext (headOf l) key ++ (row14 (headOf l) lent ∷ row15 found ∷ []))
+unfoldable pub nextKeyOrder : List ℕ → List ℕ → List ℕ → ℕ → Option (List ℕ) → List Row
+unfolding checkOrder nextRows
+nextKeyOrder l work key lent found = checkOrder l work ++ (nextRows (headOf l) key ++ (row14 (headOf l) lent ∷ row15 found ∷ []))

@@ -14,8 +14,8 @@ Makes image n a d alphabet least most m image′ = outcome m (image′ ∷ []) �
 abbrev pub Checks : List ℕ → List ℕ → Numbers → List ℕ → Type 0
 Checks l work m work′ = outcome m (work′ ∷ []) ≡ checkOf l work
 
-abbrev pub Counts : List ℕ → List ℕ → Numbers → List ℕ → Type 0
-Counts l work m work′ = outcome m (work′ ∷ []) ≡ countOf l work
+abbrev pub CountsKeys : List ℕ → List ℕ → Numbers → List ℕ → Type 0
+CountsKeys l work m work′ = outcome m (work′ ∷ []) ≡ countOf l work
 
 abbrev pub LooksUp : List ℕ → Given → Numbers → Type 0
 LooksUp l given m = outcome m [] ≡ lookUpOf l given

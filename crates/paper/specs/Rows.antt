@@ -12,32 +12,32 @@ use Rattle.trie.specs.Lowest.{lowest}
 use Rattle.head.specs.declared.Head.{Head}
 use Rattle.head.specs.Fields.{shortestImage, longestImage, permitted, nodeWidth, usedLen}
 use Rattle.alphabet.specs.Letters.{goodAlphabet}
-use Rattle.paper.specs.Hearing.{Row, given}
+use Rattle.paper.specs.Hearing.{Row, rowWhen}
 
 -- image shorter than 28 or longer than 16,777,216 bytes
 unfoldable pub row1 : ℕ → Row
-unfolding given
-row1 len = given 1 0 (not (between len shortestImage longestImage))
+unfolding rowWhen
+row1 len = rowWhen 1 0 (not (between len shortestImage longestImage))
 
 -- a head field outside the table
 unfoldable pub row2 : Head → Row
-unfolding given permitted
-row2 h = given 2 0 (not (permitted h))
+unfolding rowWhen permitted
+row2 h = rowWhen 2 0 (not (permitted h))
 
 -- F above 0, the F bytes all inside the image (for make: the alphabet given), and not N different well-formed characters
 unfoldable pub row3 : Head → List ℕ → Row
-unfolding given goodAlphabet
-row3 h alphabet = given 3 0 (ltb 0 (h .f) && eqb (length alphabet) (h .f) && not (goodAlphabet (h .n) alphabet))
+unfolding rowWhen goodAlphabet
+row3 h alphabet = rowWhen 3 0 (ltb 0 (h .f) && eqb (length alphabet) (h .f) && not (goodAlphabet (h .n) alphabet))
 
 -- U exceeds the image's length
 unfoldable pub row4 : Head → ℕ → Row
-unfolding given usedLen
-row4 h len = given 4 0 (ltb len (usedLen h))
+unfolding rowWhen usedLen
+row4 h len = rowWhen 4 0 (ltb len (usedLen h))
 
 -- fewer than G+1 working numbers lent
 unfoldable pub row5 : Head → ℕ → Row
-unfolding given
-row5 h lent = given 5 0 (ltb lent (h .g + 1))
+unfolding rowWhen
+row5 h lent = rowWhen 5 0 (ltb lent (h .g + 1))
 
 -- "every link that isn't empty is at most G and greater than the address of the node it stands in": link c of node q breaks that
 unfoldable pub badLink : ℕ → ℕ → ℕ → Bool
@@ -51,14 +51,14 @@ holdsBad g t q zero = false
 holdsBad g t q (suc m) = holdsBad g t q m || badLink g q (t .child q m)
 
 -- a place among a..a+k-1, where there is one
-unfoldable pub givenLowest : ℕ → (ℕ → Bool) → ℕ → ℕ → Row
-unfolding given lowest
-givenLowest number test a k = given number (lowest test a k) (ltb (lowest test a k) (a + k))
+unfoldable pub rowWhenLowest : ℕ → (ℕ → Bool) → ℕ → ℕ → Row
+unfolding rowWhen lowest
+rowWhenLowest number test a k = rowWhen number (lowest test a k) (ltb (lowest test a k) (a + k))
 
 -- a link breaks the first link rule; place the lowest node that holds one
 unfoldable pub row6 : Head → Table → Row
-unfolding givenLowest holdsBad
-row6 h t = givenLowest 6 (λ q. holdsBad (h .g) t q (h .n)) 0 (h .g + 1)
+unfolding rowWhenLowest holdsBad
+row6 h t = rowWhenLowest 6 (λ q. holdsBad (h .g) t q (h .n)) 0 (h .g + 1)
 
 -- how many of the first m links of node q are x
 unfoldable pub timesIn : Table → ℕ → ℕ → ℕ → ℕ
@@ -73,23 +73,23 @@ times t n x (suc k) = times t n x k + timesIn t x k n
 
 -- an address stands in two links or more; place the lowest such address. An address above G is row 6's.
 unfoldable pub row7 : Head → Table → Row
-unfolding givenLowest times
-row7 h t = givenLowest 7 (λ x. leb 2 (times t (h .n) x (h .g + 1))) 1 (h .g)
+unfolding rowWhenLowest times
+row7 h t = rowWhenLowest 7 (λ x. leb 2 (times t (h .n) x (h .g + 1))) 1 (h .g)
 
 -- an address in 1..G stands in no link; place the lowest such address
 unfoldable pub row8 : Head → Table → Row
-unfolding givenLowest times
-row8 h t = givenLowest 8 (λ x. eqb (times t (h .n) x (h .g + 1)) 0) 1 (h .g)
+unfolding rowWhenLowest times
+row8 h t = rowWhenLowest 8 (λ x. eqb (times t (h .n) x (h .g + 1)) 0) 1 (h .g)
 
 -- key length outside min..max
 unfoldable pub row9 : Head → List ℕ → Row
-unfolding given
-row9 h key = given 9 0 (not (between (length key) (h .min) (h .max)))
+unfolding rowWhen
+row9 h key = rowWhen 9 0 (not (between (length key) (h .min) (h .max)))
 
 -- "For next key, 9 means only a key longer than max."
 unfoldable pub row9next : Head → List ℕ → Row
-unfolding given
-row9next h key = given 9 0 (ltb (h .max) (length key))
+unfolding rowWhen
+row9next h key = rowWhen 9 0 (ltb (h .max) (length key))
 
 -- all letter numbers are below n
 unfoldable pub allBelow : ℕ → List ℕ → Bool
@@ -98,8 +98,8 @@ allBelow n (x ∷ xs) = ltb x n && allBelow n xs
 
 -- a letter number is N or more
 unfoldable pub row10 : Head → List ℕ → Row
-unfolding given allBelow
-row10 h key = given 10 0 (not (allBelow (h .n) key))
+unfolding rowWhen allBelow
+row10 h key = rowWhen 10 0 (not (allBelow (h .n) key))
 
 unfoldable pub isNone : Option (List ℕ) → Bool
 isNone none = true
@@ -107,40 +107,40 @@ isNone (some k) = false
 
 -- or the text is not well-formed or has a character outside the alphabet: it names no key
 unfoldable pub row10text : Option (List ℕ) → Row
-unfolding given isNone
-row10text named = given 10 0 (isNone named)
+unfolding rowWhen isNone
+row10text named = rowWhen 10 0 (isNone named)
 
 -- value above 256^D - 1
 unfoldable pub row11 : Head → ℕ → Row
-unfolding given
-row11 h value = given 11 0 (ltb (256 ^ h .d - 1) value)
+unfolding rowWhen
+row11 h value = rowWhen 11 0 (ltb (256 ^ h .d - 1) value)
 
 -- G + k above 256^A - 1, with k above 0
 unfoldable pub row12 : Head → ℕ → Row
-unfolding given
-row12 h k = given 12 0 (ltb 0 k && ltb (256 ^ h .a - 1) (h .g + k))
+unfolding rowWhen
+row12 h k = rowWhen 12 0 (ltb 0 k && ltb (256 ^ h .a - 1) (h .g + k))
 
 -- U + k*W exceeds the image's length, with k above 0
 unfoldable pub row13 : Head → ℕ → ℕ → Row
-unfolding given usedLen nodeWidth
-row13 h k len = given 13 0 (ltb 0 k && ltb len (usedLen h + k * nodeWidth h))
+unfolding rowWhen usedLen nodeWidth
+row13 h k len = rowWhen 13 0 (ltb 0 k && ltb len (usedLen h + k * nodeWidth h))
 
 -- key buffer shorter than max
 unfoldable pub row14 : Head → ℕ → Row
-unfolding given
-row14 h lent = given 14 0 (ltb lent (h .max))
+unfolding rowWhen
+row14 h lent = rowWhen 14 0 (ltb lent (h .max))
 
 -- no stored key meets the request
 unfoldable pub row15 : Option (List ℕ) → Row
-unfolding given isNone
-row15 found = given 15 0 (isNone found)
+unfolding rowWhen isNone
+row15 found = rowWhen 15 0 (isNone found)
 
 -- "In a lookup, 6 speaks only of the links on the key's path; the first refusal met on the way down is the answer, and its place is the
 -- node that holds that link."
-unfoldable pub rowAt : Option ℕ → Row
-rowAt none = none
-rowAt (some q) = some (record { number = 6; place = q })
+unfoldable pub row6At : Option ℕ → Row
+row6At none = none
+row6At (some q) = some (record { number = 6; place = q })
 
 unfoldable pub row6path : Head → Table → List ℕ → Row
-unfolding rowAt fault badLink
-row6path h t key = rowAt (fault (badLink (h .g)) t 0 key)
+unfolding row6At fault badLink
+row6path h t key = row6At (fault (badLink (h .g)) t 0 key)

@@ -8,7 +8,7 @@ use mathlib.Core.List.{List, [], _∷_, _++_, append-assoc}
 use mathlib.Core.Path.{_≡_, refl, sym, _∙_, ap}
 use lib.Dec.{eqb}
 use lib.ListN.{length}
-use Rattle.trie.specs.Table.{Table, complete, follow, descend, missing, Letters}
+use Rattle.trie.specs.Table.{Table, complete, follow, descend, missing, LettersBelow}
 use Rattle.trie.specs.Rules.{Linked}
 use Rattle.trie.specs.Storing.{put, grow, growPath, stored, added}
 use Rattle.trie.proofs.Walk.{descend-append, where-stopped}
@@ -64,7 +64,7 @@ unfolding growPath
 path-descend {t} {g} {n} {q} {x} [] k b e = grow-descend t q x (suc g) 0 k (b .empty) e
 path-descend {t} {g} {n} {q} {x} (y ∷ ys) k b e = path-descend ys k (room-next b) (grow-descend t q x (suc g) 0 k (b .empty) e)
 
-module _ {t : Table} {g n : ℕ} (l : Linked t g n) (k : List ℕ) (letters : Letters n k) where
+module _ {t : Table} {g n : ℕ} (l : Linked t g n) (k : List ℕ) (letters : LettersBelow n k) where
   new-passes : {s : Table} {g′ v : ℕ} → Store t g k v s g′ → (q : ℕ) → g < q → q ≤ g′ → passes s q 0 k ≡ true
   new-passes (over e) q low high = absurd (omega arith)
   new-passes (unchanged e) q low high = absurd (omega arith)

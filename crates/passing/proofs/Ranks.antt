@@ -10,7 +10,7 @@ use mathlib.Core.Option.{none, some, Option·some-injective, Option·some-ne-non
 use mathlib.Core.Path.{_≡_, refl, sym, _∙_, ap, subst}
 use lib.ListN.{length, length-append, length-map}
 use Rattle.trie.specs.Table.{Table}
-use Rattle.trie.specs.Keys.{ownKey, before, meets, firstMeeting, sift, Ascending}
+use Rattle.trie.specs.Keys.{ownKey, before, meets, firstMeeting, filter, Ascending}
 use Rattle.trie.specs.Beyond.{firstOf}
 use Rattle.trie.proofs.Before.{before-cons, before-lower, before-irrefl, before-asym}
 use Rattle.trie.proofs.Listing.{own-cases}
@@ -70,7 +70,7 @@ rank-few keys k = sift-length (λ m. before m k) keys
 pub rank-append : (xs ys : List (List ℕ)) (k : List ℕ) → rankIn (xs ++ ys) k ≡ rankIn xs k + rankIn ys k
 unfolding rankIn
 rank-append xs ys k =
-    ap length (sift-append (λ m. before m k) xs ys) ∙ length-append (sift (λ m. before m k) xs) (sift (λ m. before m k) ys)
+    ap length (sift-append (λ m. before m k) xs ys) ∙ length-append (filter (λ m. before m k) xs) (filter (λ m. before m k) ys)
 
 -- where none does, where all do
 rank-none : (keys : List (List ℕ)) (k : List ℕ) → ((m : List ℕ) → List·Memᴰ m keys → before m k ≡ false) → rankIn keys k ≡ 0
@@ -102,7 +102,7 @@ pub rank-same : (x : ℕ) (keys : List (List ℕ)) (k : List ℕ) → rankIn (ma
 unfolding rankIn
 rank-same x keys k =
     ap length (sift-map (λ m. before m (x ∷ k)) (λ m. before m k) x keys (λ m. before-cons x m k))
-    ∙ length-map (sift (λ m. before m k) keys) (x ∷_)
+    ∙ length-map (filter (λ m. before m k) keys) (x ∷_)
 
 pub rank-higher : (i x : ℕ) (keys : List (List ℕ)) (k : List ℕ) → x < i → rankIn (map (i ∷_) keys) (x ∷ k) ≡ 0
 rank-higher i x keys k h =
@@ -163,12 +163,12 @@ at-first keys = first-sift (meets false []) keys ∙ ap firstOf (sift-all keys) 
 
 -- what comes after the key at a position, sifted
 after-at : (keys : List (List ℕ)) (i : ℕ) {k : List ℕ} → Ascending keys → keyAt keys i ≡ some k
-    → firstOf (sift (meets true k) keys) ≡ keyAt keys (suc i)
+    → firstOf (filter (meets true k) keys) ≡ keyAt keys (suc i)
 unfolding keyAt meets
 after-at [] i {k} up e = absurd (Option·some-ne-none k (sym e))
 after-at (m ∷ keys) zero {k} up e =
     subst
-    (λ (j : List ℕ). firstOf (sift (meets true j) (m ∷ keys)) ≡ keyAt keys 0)
+    (λ (j : List ℕ). firstOf (filter (meets true j) (m ∷ keys)) ≡ keyAt keys 0)
     (Option·some-injective m k e)
     (ap firstOf (sift-out (meets true m) m keys (before-irrefl m) ∙ sift-every (meets true m) keys (up .0)) ∙ first-at keys)
 after-at (m ∷ keys) (suc i) {k} up e =

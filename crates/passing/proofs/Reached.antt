@@ -7,7 +7,7 @@ use mathlib.Core.List.{List, [], _∷_, _++_, map, List·Memᴰ, Memᴰ·map, Me
 use mathlib.Core.Path.{_≡_, refl, sym, _∙_, ap, ap₂}
 use lib.ListN.{length, length-append, length-map, getD}
 use Rattle.trie.specs.Table.{Table, complete, descend, valueAt}
-use Rattle.trie.specs.Keys.{keysUnder, listing, before, sift, Ascending}
+use Rattle.trie.specs.Keys.{keysUnder, listing, before, filter, Ascending}
 use Rattle.trie.specs.Rules.{Within, Linked}
 use Rattle.trie.proofs.Before.{before-cons}
 use Rattle.trie.proofs.Filter.{sift-none, sift-length, sift-holds, sift-ascending}
@@ -73,17 +73,17 @@ module _ {t : Table} {g n : ℕ} (linked : Linked t g n) (least most : ℕ) wher
 
   -- the keys that pass a node: its own key, followed by what stands at or under it
   pub passing-keys : (k : List ℕ) {p : ℕ} → descend t 0 k ≡ complete p → length k ≤ most
-      → sift (passes t p 0) (listing t n least most) ≡ map (k ++_) (keysUnder t n (least - length k) (most - length k) p)
+      → filter (passes t p 0) (listing t n least most) ≡ map (k ++_) (keysUnder t n (least - length k) (most - length k) p)
   passing-keys k {p} e deep =
       same-keys
-      (sift (passes t p 0) (listing t n least most))
+      (filter (passes t p 0) (listing t n least most))
       (map (k ++_) (rests k p))
       (sift-ascending (passes t p 0) (listing t n least most) (keysUnder-ascending t n least most 0))
       (path-ascending k (rests k p) (keysUnder-ascending t n (least - length k) (most - length k) p))
       to
       from
     where
-      to : (j : List ℕ) → List·Memᴰ j (sift (passes t p 0) (listing t n least most))
+      to : (j : List ℕ) → List·Memᴰ j (filter (passes t p 0) (listing t n least most))
           → List·Memᴰ j (map (k ++_) (rests k p))
       to j a =
           let h = sift-holds (passes t p 0) (listing t n least most) j .0 a in
@@ -91,7 +91,7 @@ module _ {t : Table} {g n : ℕ} (linked : Linked t g n) (least most : ℕ) wher
           Memᴰ·cast f (Memᴰ·map (k ++_) (onward k e r (Memᴰ·cast (sym f) (h .0))))
 
       from : (j : List ℕ) → List·Memᴰ j (map (k ++_) (rests k p))
-          → List·Memᴰ j (sift (passes t p 0) (listing t n least most))
+          → List·Memᴰ j (filter (passes t p 0) (listing t n least most))
       from j a =
           let (r, hr, f) = Memᴰ·of-map (k ++_) (rests k p) a in
           let met : passes t p 0 (k ++ r) ≡ true = prefix-passes t p 0 k r e in

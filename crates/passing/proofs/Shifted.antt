@@ -9,8 +9,8 @@ use mathlib.Core.Logic.{_↔_, _≢_}
 use mathlib.Core.Path.{_≡_, refl, sym, _∙_, ap}
 use lib.Dec.{eqb}
 use lib.ListN.{length}
-use Rattle.trie.specs.Table.{Table, Descent, complete, stopped, descend, answer, Letters}
-use Rattle.trie.specs.Keys.{listing, sift, Ascending}
+use Rattle.trie.specs.Table.{Table, Descent, complete, stopped, descend, answer, LettersBelow}
+use Rattle.trie.specs.Keys.{listing, filter, Ascending}
 use Rattle.trie.specs.Rules.{Framed, Linked}
 use Rattle.trie.specs.Storing.{stored}
 use Rattle.trie.proofs.Walk.{Walk, end, on, walk, follow-on, answer-stopped, where-stopped}
@@ -88,12 +88,12 @@ counted l m k true (suc x) (suc y) hl hm in-l in-m others =
 -- two tables that answer alike for every key but k, and a test for each; the tests are the same on what the first table stores
 shift : {t s : Table} {g h n least most : ℕ} {k : List ℕ} → Alike t s g h n least most k → (p r : List ℕ → Bool)
     → ((j : List ℕ) → answer t j ≢ 0 → r j ≡ p j)
-    → length (sift r (listing s n least most)) + cond (r k) (one (answer t k)) 0
-    ≡ length (sift p (listing t n least most)) + cond (r k) (one (answer s k)) 0
+    → length (filter r (listing s n least most)) + cond (r k) (one (answer t k)) 0
+    ≡ length (filter p (listing t n least most)) + cond (r k) (one (answer s k)) 0
 shift {t} {s} {n = n} {least} {most} {k} a p r same =
     counted
-    (sift p (listing t n least most))
-    (sift r (listing s n least most))
+    (filter p (listing t n least most))
+    (filter r (listing s n least most))
     k
     (r k)
     (answer t k)
@@ -115,14 +115,14 @@ shift {t} {s} {n = n} {least} {most} {k} a p r same =
     full j c = listing-holds (a .from) least most j .0 c .2
 
     -- in the first listing too the second test decides
-    passed : (j : List ℕ) → List·Memᴰ j (sift p (listing t n least most)) ↔ (List·Memᴰ j (listing t n least most) × (r j ≡ true))
+    passed : (j : List ℕ) → List·Memᴰ j (filter p (listing t n least most)) ↔ (List·Memᴰ j (listing t n least most) × (r j ≡ true))
     passed j = (
       λ b. let (c, e) = sift-holds p (listing t n least most) j .0 b in (c, same j (full j c) ∙ e),
       λ f. sift-holds p (listing t n least most) j .1 (f .0, sym (same j (full j (f .0))) ∙ f .1),
     )
 
 -- the count at a node is greater or less by the key stored, where that passes the node
-pub stored-counts : {t : Table} {g n : ℕ} → Linked t g n → (k : List ℕ) → Letters n k
+pub stored-counts : {t : Table} {g n : ℕ} → Linked t g n → (k : List ℕ) → LettersBelow n k
     → (v least most : ℕ) → least ≤ length k → length k ≤ most → (q : ℕ)
     → countAt (stored t g k v) n least most q + cond (passes (stored t g k v) q 0 k) (one (answer t k)) 0
     ≡ countAt t n least most q + cond (passes (stored t g k v) q 0 k) (one v) 0
@@ -132,7 +132,7 @@ stored-counts {t} {g} l k letters v least most low high q =
     rw (stored-answer l k letters v) at (shift a (passes t q 0) (passes (stored t g k v) q 0) (stored-passes (l .framed) k v q))
 
 -- off the key's path counts stay
-pub stored-counts-off : {t : Table} {g n : ℕ} → Linked t g n → (k : List ℕ) → Letters n k
+pub stored-counts-off : {t : Table} {g n : ℕ} → Linked t g n → (k : List ℕ) → LettersBelow n k
     → (v least most : ℕ) → least ≤ length k → length k ≤ most → (q : ℕ)
     → passes (stored t g k v) q 0 k ≡ false
     → countAt (stored t g k v) n least most q ≡ countAt t n least most q

@@ -12,7 +12,7 @@ use lib.Dec.{eqb}
 use lib.ListN.{length, length-append, length-map}
 use borrow.Author.Tests.{eq-eqb, ne-eqb}
 use Rattle.trie.specs.Table.{Table, complete, follow, descend}
-use Rattle.trie.specs.Keys.{ownKey, byLetter, keysUnder, sift}
+use Rattle.trie.specs.Keys.{ownKey, byLetter, keysUnder, filter}
 use Rattle.trie.specs.Rules.{Once, Linked}
 use Rattle.trie.specs.Beyond.{keysFrom}
 use Rattle.trie.proofs.Walk.{descend-nil, follow-empty, follow-on}
@@ -139,10 +139,10 @@ module _ (t : Table) (n : ℕ) where
 -- ---- the sums are the counts
 
 sum-sift : (test : List ℕ → Bool) (keys : ℕ → List (List ℕ)) (f : ℕ → ℕ)
-    → ((i : ℕ) → f i ≡ length (sift test (map (i ∷_) (keys i))))
+    → ((i : ℕ) → f i ≡ length (filter test (map (i ∷_) (keys i))))
     → (x m : ℕ)
-    → sumFrom f x m ≡ length (sift test (byLetter keys x m))
-unfolding sumFrom byLetter sift
+    → sumFrom f x m ≡ length (filter test (byLetter keys x m))
+unfolding sumFrom byLetter filter
 sum-sift test keys f h x zero = refl
 sum-sift test keys f h x (suc m) =
     omega (
@@ -150,33 +150,33 @@ sum-sift test keys f h x (suc m) =
       h x,
       sum-sift test keys f h (suc x) m,
       ap length (sift-append test (map (x ∷_) (keys x)) (byLetter keys (suc x) m)),
-      length-append (sift test (map (x ∷_) (keys x))) (sift test (byLetter keys (suc x) m)),
+      length-append (filter test (map (x ∷_) (keys x))) (filter test (byLetter keys (suc x) m)),
     )
 
 module _ (t : Table) (n : ℕ) (once : Once t) (q : ℕ) where
   -- what is to be shown of node p
   abbrev Weighed : ℕ → ℕ → ℕ → Type 0
-  Weighed short left p = weightAt t n short left q p ≡ length (sift (passes t q p) (keysUnder t n short left p))
+  Weighed short left p = weightAt t n short left q p ≡ length (filter (passes t q p) (keysUnder t n short left p))
 
   -- one link, where a test asks of the keys by its letter what its node asks of what follows
   link-weighed : (test : List ℕ → Bool) (short left i c : ℕ)
       → (c ≢ 0 → Weighed short left c)
       → (c ≢ 0 → (k : List ℕ) → test (i ∷ k) ≡ passes t q c k)
-      → follow c 0 (λ p. weightAt t n short left q p) ≡ length (sift test (map (i ∷_) (follow c [] (λ p. keysUnder t n short left p))))
-  unfolding follow sift
+      → follow c 0 (λ p. weightAt t n short left q p) ≡ length (filter test (map (i ∷_) (follow c [] (λ p. keysUnder t n short left p))))
+  unfolding follow filter
   link-weighed test short left i zero below asks = refl
   link-weighed test short left i (suc c) below asks =
       let full : suc c ≢ 0 = λ e. omega arith in
       let keys : List (List ℕ) = keysUnder t n short left (suc c) in
       below full
-      ∙ sym (length-map (sift (passes t q (suc c)) keys) (i ∷_))
+      ∙ sym (length-map (filter (passes t q (suc c)) keys) (i ∷_))
       ∙ ap length (sym (sift-map test (passes t q (suc c)) i keys (asks full)))
 
   weighed-below : (test : List ℕ → Bool) (short left p : ℕ)
       → ((x : ℕ) → t .child p x ≢ 0 → 0 < left → Weighed (pred short) (pred left) (t .child p x))
       → ((x : ℕ) → t .child p x ≢ 0 → (k : List ℕ) → test (x ∷ k) ≡ passes t q (t .child p x) k)
-      → weightFrom t n short left q p 0 ≡ length (sift test (keysFrom t n short left p 0))
-  unfolding weightFrom keysFrom sift
+      → weightFrom t n short left q p 0 ≡ length (filter test (keysFrom t n short left p 0))
+  unfolding weightFrom keysFrom filter
   weighed-below test short zero p below asks = refl
   weighed-below test short (suc left) p below asks =
       sum-sift
@@ -201,7 +201,7 @@ module _ (t : Table) (n : ℕ) (once : Once t) (q : ℕ) where
 
       go : Dec (p ≡ q) → Weighed short left p
       go (yes same) =
-          let every : sift (passes t q p) (keysUnder t n short left p) ≡ keysUnder t n short left p =
+          let every : filter (passes t q p) (keysUnder t n short left p) ≡ keysUnder t n short left p =
           sift-every _ _ (λ j a. subst (λ (z : ℕ). passes t q z j ≡ true) (sym same) (passes-here t q j)) in
           let again : (x : ℕ) → t .child p x ≢ 0 → (j : List ℕ) → false ≡ passes t q (t .child p x) j =
           λ x full j. sym (subst (λ (z : ℕ). passes t z (t .child p x) j ≡ false) same (never-again t k x once e full j)) in
@@ -211,16 +211,16 @@ module _ (t : Table) (n : ℕ) (once : Once t) (q : ℕ) where
           omega (arith, weight-split t n short left q p, nothing, met, ap length every)
       go (no other) =
           let unmet : cond (eqb p q) (length (keysUnder t n short left p)) 0 ≡ 0 = rw (ne-eqb p q other) in
-          let out : sift (passes t q p) own ≡ [] =
+          let out : filter (passes t q p) own ≡ [] =
           sift-none (passes t q p) own (λ j a. ap (passes t q p) (own-cases t short p a .0) ∙ passes-nil t q p other) in
           omega (
             arith,
             weight-split t n short left q p,
             unmet,
             weighed-below (passes t q p) short left p below (λ x full j. passes-link t q p x j other full),
-            ap (λ (l : List (List ℕ)). length (sift (passes t q p) l)) (under-split t n short left p),
+            ap (λ (l : List (List ℕ)). length (filter (passes t q p) l)) (under-split t n short left p),
             ap length (sift-append (passes t q p) own from),
-            length-append (sift (passes t q p) own) (sift (passes t q p) from),
+            length-append (filter (passes t q p) own) (filter (passes t q p) from),
             ap length out,
           )
 

@@ -7,7 +7,7 @@ use mathlib.Core.List.{List, [], _∷_}
 use lib.Dec.{eqb}
 use lib.ListN.{length}
 use Rattle.trie.specs.Table.{Table, follow}
-use Rattle.trie.specs.Keys.{listing, before, sift}
+use Rattle.trie.specs.Keys.{listing, before, filter}
 
 -- does the walk of a key from node p pass node q? It passes the nodes at its beginning and at its end too.
 unfoldable pub passes : Table → ℕ → ℕ → List ℕ → Bool
@@ -17,8 +17,8 @@ passes t q p (x ∷ xs) = eqb p q || follow (t .child p x) false (λ c. passes t
 
 -- "how many stored keys lie at or under it", for keys of least to most letters in a table with n letters
 unfoldable pub countAt : Table → ℕ → ℕ → ℕ → ℕ → ℕ
-unfolding sift passes
-countAt t n least most q = length (sift (passes t q 0) (listing t n least most))
+unfolding filter passes
+countAt t n least most q = length (filter (passes t q 0) (listing t n least most))
 
 -- "one for each node": what f gives for the k nodes from a on
 unfoldable pub oneForEach : (ℕ → ℕ) → ℕ → ℕ → List ℕ
@@ -33,8 +33,8 @@ keyAt (k ∷ keys) (suc i) = keyAt keys i
 
 -- "the position of a stored key": how many keys of the listing come before it
 unfoldable pub rankIn : List (List ℕ) → List ℕ → ℕ
-unfolding sift before
-rankIn keys k = length (sift (λ m. before m k) keys)
+unfolding filter before
+rankIn keys k = length (filter (λ m. before m k) keys)
 
 -- one key, where the data is not 0
 unfoldable pub one : ℕ → ℕ

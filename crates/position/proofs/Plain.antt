@@ -18,10 +18,10 @@ use Rattle.trie.specs.Table.{answer}
 use Rattle.head.specs.declared.Head.{Head}
 use Rattle.head.specs.Fields.{headOf}
 use Rattle.alphabet.specs.Letters.{among}
-use Rattle.paper.specs.Hearing.{Said, Row, Numbers, Outcome, given, first, heard, outcome, refusedNumbers, doneNumbers}
+use Rattle.paper.specs.Hearing.{Said, Row, Numbers, Outcome, rowWhen, first, heard, outcome, refusedNumbers, doneNumbers}
 use Rattle.paper.specs.Rows.{row5}
 use Rattle.paper.specs.Given.{Given, alphabetIn, keyIn}
-use Rattle.paper.specs.Orders.{openingOf, checking, keying, newOf, storing}
+use Rattle.paper.specs.Orders.{openingRowsOf, checkOrder, keyRows, newOf, storeOrder}
 use Rattle.paper.specs.Calls.{tableIn, clearedBy, workAfter, storedImage, storeOf}
 use Rattle.paper.specs.Accepted.{Accepted}
 use Rattle.paper.proofs.Hearing.{first-nil, no-row, second-part, passed-row, passed-parts, heard-done, kept-lent}
@@ -30,7 +30,7 @@ use Rattle.paper.proofs.CheckCall.{accepted-opens, checked, check-accepts, acce
 use Rattle.paper.proofs.Keying.{given-says-key}
 use Rattle.paper.proofs.StoreCall.{valued, valued-says}
 use Rattle.position.specs.Counts.{countIn, row25, row5again}
-use Rattle.position.specs.Orders.{usable, workingOut, checkingCounts, storingCounts}
+use Rattle.position.specs.Orders.{usable, countsOrder, checkCountsOrder, storeCountsOrder}
 use Rattle.position.specs.Calls.{workLeft, worked, storeCountsOf}
 
 -- ---- the list that the check is lent
@@ -47,9 +47,9 @@ both-lent l work counts =
 
 -- "5, in its old place, also if the list is shorter than G+1"
 pub five-either : (h : Head) (work counts : List ℕ)
-    → row5 h (length (usable work counts)) ≡ given 5 0 (ltb (length work) (h .g + 1) || ltb (length counts) (h .g + 1))
+    → row5 h (length (usable work counts)) ≡ rowWhen 5 0 (ltb (length work) (h .g + 1) || ltb (length counts) (h .g + 1))
 unfolding row5
-five-either h work counts = ap (given 5 0) (go (decLt (length work) (h .g + 1)) (decLt (length counts) (h .g + 1)))
+five-either h work counts = ap (rowWhen 5 0) (go (decLt (length work) (h .g + 1)) (decLt (length counts) (h .g + 1)))
   where
     lent : ℕ
     lent = length (usable work counts)
@@ -75,7 +75,7 @@ cleared : (l work : List ℕ) → Accepted l → headOf l .g + 1 ≤ length work
 unfolding workAfter clearedBy row5
 cleared l work a b =
     ap (λ (r : Row). clearedBy r (headOf l .g + 1) work)
-    (second-part (openingOf l) (row5 (headOf l) (length work) ∷ []) (accepted-opens a)
+    (second-part (openingRowsOf l) (row5 (headOf l) (length work) ∷ []) (accepted-opens a)
     ∙ no-row 5 0 [] (le-ltb (length work) (headOf l .g + 1) b)
     ∙ first-nil)
 
@@ -83,7 +83,7 @@ cleared l work a b =
 rest-joined : (n m : ℕ) (l : List ℕ) → n ≤ length (take m l) → drop n (take m l) ++ drop m l ≡ drop n l
 rest-joined n m l b = sym (drop-append-le n (take m l) (drop m l) b) ∙ ap (drop n) (take-append-drop m l)
 
-pub work-left : (l work counts : List ℕ) → first (checking l (usable work counts)) ≡ none
+pub work-left : (l work counts : List ℕ) → first (checkOrder l (usable work counts)) ≡ none
     → (workLeft l work counts ≡ workAfter l work)
     × (workLeft l work counts ≡ replicate (headOf l .g + 1) 0 ++ drop (headOf l .g + 1) work)
 unfolding workLeft usable
@@ -100,7 +100,7 @@ work-left l work counts e =
 
 -- "If the call stops at 5, where its order first names it, or before that, all keep what they held."
 pub work-kept : (l work counts : List ℕ) {s : Said}
-    → first (openingOf l ++ (row5 (headOf l) (length (usable work counts)) ∷ [])) ≡ some s
+    → first (openingRowsOf l ++ (row5 (headOf l) (length (usable work counts)) ∷ [])) ≡ some s
     → workLeft l work counts ≡ work
 unfolding workLeft usable workAfter clearedBy
 work-kept l work counts e =
@@ -114,22 +114,22 @@ unfolding row25 among
 says-only-25 l counts = lowest-says 25 (λ q. not (eqb (getD counts q 0) (countIn l q))) 0 (headOf l .g + 1) refl then end
 
 -- the check's numbers, and 25
-pub counts-say : (l work counts : List ℕ) → AllSay (checkNumbers ++ (25 ∷ [])) (checkingCounts l work counts)
-unfolding checkingCounts workingOut
+pub counts-say : (l work counts : List ℕ) → AllSay (checkNumbers ++ (25 ∷ [])) (checkCountsOrder l work counts)
+unfolding checkCountsOrder countsOrder
 counts-say l work counts = parts-say (checking-says l (usable work counts)) (says-only-25 l counts)
 
 -- what a check with counts that passed tells
 pub record CountsChecked (l work counts : List ℕ) : Type 0 where
-  pub passes : first (checking l (usable work counts)) ≡ none
+  pub passes : first (checkOrder l (usable work counts)) ≡ none
   pub accepted : Accepted l
   pub lent : headOf l .g + 1 ≤ length work
   pub listed : headOf l .g + 1 ≤ length counts
   pub same : row25 l counts ≡ none
 
-pub counts-checked : (l work counts : List ℕ) → first (checkingCounts l work counts) ≡ none → CountsChecked l work counts
-unfolding checkingCounts workingOut
+pub counts-checked : (l work counts : List ℕ) → first (checkCountsOrder l work counts) ≡ none → CountsChecked l work counts
+unfolding checkCountsOrder countsOrder
 counts-checked l work counts e =
-    let (passes, rest) = passed-parts (checking l (usable work counts)) (row25 l counts ∷ []) e in
+    let (passes, rest) = passed-parts (checkOrder l (usable work counts)) (row25 l counts ∷ []) e in
     let both = both-lent l work counts .0 (checked l (usable work counts) passes .lent) in
     record {
       passes = passes;
@@ -157,16 +157,16 @@ module _ (l work : List ℕ) (given : Given) (value : ℕ) (counts : List ℕ) w
   -- what an order that passed tells of its parts
   pub record StorePassed : Type 0 where
     pub counts-passed : CountsChecked l work counts
-    pub keys : first (keying l given) ≡ none
+    pub keys : first (keyRows l given) ≡ none
     pub values : first (valued l key value) ≡ none
     pub again : row5again (headOf l) new (length counts) ≡ none
 
-  pub store-order : first (storingCounts l work given value counts) ≡ none → StorePassed
-  unfolding storingCounts
+  pub store-order : first (storeCountsOrder l work given value counts) ≡ none → StorePassed
+  unfolding storeCountsOrder
   store-order e =
       let last : List Row = row5again (headOf l) new (length counts) ∷ [] in
-      let after25 = passed-parts (checkingCounts l work counts) (keying l given ++ (valued l key value ++ last)) e in
-      let after10 = passed-parts (keying l given) (valued l key value ++ last) (after25 .1) in
+      let after25 = passed-parts (checkCountsOrder l work counts) (keyRows l given ++ (valued l key value ++ last)) e in
+      let after10 = passed-parts (keyRows l given) (valued l key value ++ last) (after25 .1) in
       let after13 = passed-parts (valued l key value) last (after10 .1) in
       record {
         counts-passed = counts-checked l work counts (after25 .0);
@@ -175,8 +175,8 @@ module _ (l work : List ℕ) (given : Given) (value : ℕ) (counts : List ℕ) w
         again = passed-row (row5again (headOf l) new (length counts)) [] (after13 .1) .0;
       }
 
-  pub storing-counts-say : AllSay storeCountsNumbers (storingCounts l work given value counts)
-  unfolding storingCounts keying row5again among
+  pub storing-counts-say : AllSay storeCountsNumbers (storeCountsOrder l work given value counts)
+  unfolding storeCountsOrder keyRows row5again among
   storing-counts-say =
       parts-say (counts-say l work counts)
       (parts-say (given-says-key (headOf l) (alphabetIn (headOf l) l) given)
@@ -184,17 +184,17 @@ module _ (l work : List ℕ) (given : Given) (value : ℕ) (counts : List ℕ) w
       (given-says 5 0 (ltb (length counts) (headOf l .g + new + 1)) refl then end)))
 
   pub store-counts-passed : storeCountsOf l work given value counts .numbers .number ≡ 0
-      → first (storingCounts l work given value counts) ≡ none
+      → first (storeCountsOrder l work given value counts) ≡ none
   unfolding storeCountsOf among
   store-counts-passed z = none-heard _ _ (first-says storing-counts-say) refl z
 
   -- then the plain order passes too
-  pub plain-passes : StorePassed → first (storing l work given value) ≡ none
-  unfolding storing
+  pub plain-passes : StorePassed → first (storeOrder l work given value) ≡ none
+  unfolding storeOrder
   plain-passes p =
       let c = p .counts-passed in
-      second-part (checking l work) (keying l given ++ valued l key value) (accepted-checks l work (c .accepted) (c .lent))
-      ∙ second-part (keying l given) (valued l key value) (p .keys)
+      second-part (checkOrder l work) (keyRows l given ++ valued l key value) (accepted-checks l work (c .accepted) (c .lent))
+      ∙ second-part (keyRows l given) (valued l key value) (p .keys)
       ∙ p .values
 
   -- ---- held against the plain store
@@ -226,7 +226,7 @@ module _ (l work : List ℕ) (given : Given) (value : ℕ) (counts : List ℕ) w
   store-counts-kept z = (kept-lent r kept done refl z, no-change r z)
     where
       r : Row
-      r = first (storingCounts l work given value counts)
+      r = first (storeCountsOrder l work given value counts)
 
       kept : List (List ℕ)
       kept = l ∷ workLeft l work counts ∷ counts ∷ []

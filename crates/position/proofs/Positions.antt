@@ -16,14 +16,14 @@ use borrow.Author.Tests.{le-ltb, eq-eqb, ne-eqb}
 use Rattle.field.proofs.Range.{between-true, true-between}
 use Rattle.trie.specs.Table.{answer}
 use Rattle.head.specs.Fields.{headOf}
-use Rattle.alphabet.specs.Letters.{among, lettersIn}
+use Rattle.alphabet.specs.Letters.{among, orEmpty}
 use Rattle.passing.specs.Passing.{keyAt, rankIn}
 use Rattle.passing.proofs.Ranks.{at-some, at-none, at-held, at-first, at-next, at-rank, rank-at}
 use Rattle.paper.specs.Hearing.{Row, Outcome, first, outcome, refusedNumbers, doneNumbers}
 use Rattle.paper.specs.Answers.{said}
 use Rattle.paper.specs.Rows.{isNone, row14, row15}
 use Rattle.paper.specs.Given.{Given, alphabetIn, meantIn, keyIn}
-use Rattle.paper.specs.Orders.{checking, keying, byNext}
+use Rattle.paper.specs.Orders.{checkOrder, keyRows, nextRows}
 use Rattle.paper.specs.Calls.{tableIn, workAfter, storedKeys, nextIn, foundIn, nextKeyOf}
 use Rattle.paper.specs.Repeated.{keyLeft, keyHeard}
 use Rattle.paper.specs.Accepted.{Accepted}
@@ -35,7 +35,7 @@ use Rattle.paper.proofs.CheckCall.{accepted-opens, accepted-checks}
 use Rattle.paper.proofs.LookUpCall.{given-fit}
 use Rattle.paper.proofs.NextKeyCall.{stored-exactly, stored-ascending, stored-askable, front, leaves-none, leaves-some}
 use Rattle.position.specs.Counts.{RightCounts}
-use Rattle.position.specs.Orders.{workingOut, checkingCounts, gettingKey, ifStored, gettingPosition}
+use Rattle.position.specs.Orders.{countsOrder, checkCountsOrder, keyAtOrder, ifStored, positionOrder}
 use Rattle.position.specs.Calls.{workLeft, placedKey, keyAtOf, positionOf}
 use Rattle.position.specs.Steps.{stepOn, stepsOn}
 use Rattle.position.proofs.Plain.{work-left, counts-say}
@@ -50,17 +50,17 @@ stored-fit l k m =
 module _ (l work counts : List ℕ) (a : Accepted l) (lent : headOf l .g + 1 ≤ length work) (right : RightCounts l counts) where
   -- the working numbers are left as by the calls without counts
   pub left-cleared : workLeft l work counts ≡ workAfter l work
-  unfolding workingOut
+  unfolding countsOrder
   left-cleared = work-left l work counts (works-out l work counts a lent (right .long)) .0
 
   -- ---- the key at a position
 
   module _ (buffer : List ℕ) (room : headOf l .max ≤ length buffer) where
     -- where the check, 25 and 14 pass, 15 decides
-    at-15 : (i : ℕ) → first (gettingKey l work counts i (length buffer)) ≡ first (row15 (keyAt (storedKeys l) i) ∷ [])
-    unfolding gettingKey row14
+    at-15 : (i : ℕ) → first (keyAtOrder l work counts i (length buffer)) ≡ first (row15 (keyAt (storedKeys l) i) ∷ [])
+    unfolding keyAtOrder row14
     at-15 i =
-        second-part (checkingCounts l work counts) (row14 (headOf l) (length buffer) ∷ row15 (keyAt (storedKeys l) i) ∷ [])
+        second-part (checkCountsOrder l work counts) (row14 (headOf l) (length buffer) ∷ row15 (keyAt (storedKeys l) i) ∷ [])
         (checks-counts l work counts a lent right)
         ∙ no-row 14 0 _ (le-ltb (length buffer) (headOf l .max) room)
 
@@ -72,10 +72,10 @@ module _ (l work counts : List ℕ) (a : Accepted l) (lent : headOf l .g + 1 ≤
         ∙ ap (λ (w : List ℕ). outcome (refusedNumbers (said 15 0)) (w ∷ buffer ∷ [])) left-cleared
 
     one-key-at : (i : ℕ) {k : List ℕ} → keyAt (storedKeys l) i ≡ some k → keyAtOf l work counts i buffer ≡ foundIn l work buffer k
-    unfolding keyAtOf row15 isNone placedKey foundIn lettersIn
+    unfolding keyAtOf row15 isNone placedKey foundIn orEmpty
     one-key-at i {k} e =
         heard-done _ _ _ (at-15 i ∙ ap (λ (o : Option (List ℕ)). first (row15 o ∷ [])) e ∙ no-row 15 0 [] refl ∙ first-nil)
-        ∙ ap (λ (o : Option (List ℕ)). placedKey l work counts buffer (lettersIn o)) e
+        ∙ ap (λ (o : Option (List ℕ)). placedKey l work counts buffer (orEmpty o)) e
         ∙ ap (λ (w : List ℕ). outcome (doneNumbers (length k) (pos 0) (answer (tableIn l) k)) (w ∷ sets buffer 0 k ∷ [])) left-cleared
 
     -- what is heard is the key at the position
@@ -95,10 +95,10 @@ module _ (l work counts : List ℕ) (a : Accepted l) (lent : headOf l .g + 1 ≤
         → keyAtOf l work counts i buffer ≡ nextKeyOf l work key after buffer
     as-next i key after s same = go (keyAt (storedKeys l) i) refl
       where
-        checks : first (checking l work) ≡ none
+        checks : first (checkOrder l work) ≡ none
         checks = accepted-checks l work a lent
 
-        keyed : first (byNext (headOf l) key) ≡ none
+        keyed : first (nextRows (headOf l) key) ≡ none
         keyed = askable-passes (headOf l) key s
 
         go : (found : Option (List ℕ)) → keyAt (storedKeys l) i ≡ found
@@ -162,16 +162,16 @@ module _ (l work counts : List ℕ) (a : Accepted l) (lent : headOf l .g + 1 ≤
     key = keyIn l given
 
     -- where the check, 25, 9 and 10 pass, 15 decides
-    position-at-15 : first (keying l given) ≡ none
-        → first (gettingPosition l work counts given) ≡ first (row15 (ifStored l key) ∷ [])
-    unfolding gettingPosition
+    position-at-15 : first (keyRows l given) ≡ none
+        → first (positionOrder l work counts given) ≡ first (row15 (ifStored l key) ∷ [])
+    unfolding positionOrder
     position-at-15 keyed =
-        second-part (checkingCounts l work counts) (keying l given ++ (row15 (ifStored l key) ∷ []))
+        second-part (checkCountsOrder l work counts) (keyRows l given ++ (row15 (ifStored l key) ∷ []))
         (checks-counts l work counts a lent right)
-        ∙ second-part (keying l given) (row15 (ifStored l key) ∷ []) keyed
+        ∙ second-part (keyRows l given) (row15 (ifStored l key) ∷ []) keyed
 
     -- a key that passed 9 and 10 is stored where it answers anything
-    answers-stored : first (keying l given) ≡ none → answer (tableIn l) key ≢ 0 → List·Memᴰ key (storedKeys l)
+    answers-stored : first (keyRows l given) ≡ none → answer (tableIn l) key ≢ 0 → List·Memᴰ key (storedKeys l)
     answers-stored keyed full =
         let fit = given-fit l given (accepted-opens a) keyed in
         let (low, high) = between-true (length key) (headOf l .min) (headOf l .max) (fit .allowed) in
@@ -181,7 +181,7 @@ module _ (l work counts : List ℕ) (a : Accepted l) (lent : headOf l .g + 1 ≤
     unfolding ifStored
     held m = rw (ne-eqb (answer (tableIn l) key) 0 (stored-exactly l key .0 m .2))
 
-    not-held : first (keying l given) ≡ none → ¬ List·Memᴰ key (storedKeys l) → ifStored l key ≡ none
+    not-held : first (keyRows l given) ≡ none → ¬ List·Memᴰ key (storedKeys l) → ifStored l key ≡ none
     unfolding ifStored
     not-held keyed none-there = go (ℕ-discrete (answer (tableIn l) key) 0)
       where
@@ -189,7 +189,7 @@ module _ (l work counts : List ℕ) (a : Accepted l) (lent : headOf l .g + 1 ≤
         go (yes z) = rw (eq-eqb (answer (tableIn l) key) 0 z)
         go (no full) = absurd (none-there (answers-stored keyed full))
 
-    at-key : first (keying l given) ≡ none → List·Memᴰ key (storedKeys l)
+    at-key : first (keyRows l given) ≡ none → List·Memᴰ key (storedKeys l)
         → positionOf l work counts given
         ≡ outcome (doneNumbers 0 (pos 0) (rankIn (storedKeys l) key)) (workLeft l work counts ∷ [])
     unfolding positionOf row15 isNone
@@ -201,22 +201,22 @@ module _ (l work counts : List ℕ) (a : Accepted l) (lent : headOf l .g + 1 ≤
     pub position-of : {k : List ℕ} → meantIn l given ≡ some k → List·Memᴰ k (storedKeys l)
         → positionOf l work counts given
         ≡ outcome (doneNumbers 0 (pos 0) (rankIn (storedKeys l) k)) (workLeft l work counts ∷ [])
-    unfolding keying keyIn meantIn lettersIn
+    unfolding keyRows keyIn meantIn orEmpty
     position-of {k} e m =
-        let same : k ≡ key = sym (ap lettersIn e) in
+        let same : k ≡ key = sym (ap orEmpty e) in
         let keyed = fit-given (headOf l) (alphabetIn (headOf l) l) given e (stored-fit l k m) in
         rw same (at-key keyed (rw same at m))
 
     position-passed : positionOf l work counts given .numbers .number ≡ 0
-        → (first (keying l given) ≡ none) × List·Memᴰ key (storedKeys l)
-    unfolding positionOf gettingPosition keying row15 isNone ifStored among
+        → (first (keyRows l given) ≡ none) × List·Memᴰ key (storedKeys l)
+    unfolding positionOf positionOrder keyRows row15 isNone ifStored among
     position-passed z =
         let last : List Row = row15 (ifStored l key) ∷ [] in
         let says : AllSay (15 ∷ []) last = given-says 15 0 (isNone (ifStored l key)) refl then end in
         let passes = none-heard _ _ (first-says (parts-say (counts-say l work counts)
         (parts-say (given-says-key (headOf l) (alphabetIn (headOf l) l) given) says))) refl z in
-        let after25 = passed-parts (checkingCounts l work counts) (keying l given ++ last) passes in
-        let after10 = passed-parts (keying l given) last (after25 .1) in
+        let after25 = passed-parts (checkCountsOrder l work counts) (keyRows l given ++ last) passes in
+        let after10 = passed-parts (keyRows l given) last (after25 .1) in
         let found = was-false 15 0 (isNone (ifStored l key)) (passed-row (row15 (ifStored l key)) [] (after10 .1) .0) in
         (after10 .0, answers-stored (after10 .0) (full found))
       where
@@ -224,7 +224,7 @@ module _ (l work counts : List ℕ) (a : Accepted l) (lent : headOf l .g + 1 ≤
         full f z = let e : isNone (ifStored l key) ≡ true = rw (eq-eqb (answer (tableIn l) key) 0 z) in true≢false (sym e ∙ f)
 
     -- "15 for ... a key not stored"
-    pub position-15 : first (keying l given) ≡ none
+    pub position-15 : first (keyRows l given) ≡ none
         → (positionOf l work counts given .numbers .number ≡ 15) ↔ (¬ List·Memᴰ key (storedKeys l))
     unfolding positionOf row15 isNone refusedNumbers doneNumbers
     position-15 keyed = (

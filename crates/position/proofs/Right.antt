@@ -17,8 +17,8 @@ use Rattle.trie.specs.Lowest.{lowest}
 use Rattle.head.specs.Fields.{headOf}
 use Rattle.alphabet.specs.Letters.{among}
 use Rattle.passing.proofs.Reached.{each-length, each-at}
-use Rattle.paper.specs.Hearing.{Said, Row, Outcome, given, first, heard, outcome, doneNumbers}
-use Rattle.paper.specs.Rows.{givenLowest}
+use Rattle.paper.specs.Hearing.{Said, Row, Outcome, rowWhen, first, heard, outcome, doneNumbers}
+use Rattle.paper.specs.Rows.{rowWhenLowest}
 use Rattle.paper.specs.Calls.{workAfter}
 use Rattle.paper.specs.Accepted.{Accepted}
 use Rattle.paper.proofs.Hearing.{untrue, first-nil, first-none, second-part, heard-done, kept-lent}
@@ -26,7 +26,7 @@ use Rattle.paper.proofs.Numbers.{first-says, none-heard}
 use Rattle.paper.proofs.CheckCall.{checked, check-accepts, accepted-checks, checking-says}
 use Rattle.paper.proofs.Linking.{lowest-passed, passed-lowest}
 use Rattle.position.specs.Counts.{countIn, countsIn, row25, RightCounts}
-use Rattle.position.specs.Orders.{usable, workingOut, checkingCounts}
+use Rattle.position.specs.Orders.{usable, countsOrder, checkCountsOrder}
 use Rattle.position.specs.Calls.{workLeft, worked, countsOf, checkCountsOf}
 use Rattle.position.proofs.Plain.{both-lent, work-left, counts-say, counts-checked}
 
@@ -77,13 +77,13 @@ module _ (l counts : List ℕ) where
       × (s .place ≤ headOf l .g)
       × (getD counts (s .place) 0 ≢ countIn l (s .place))
       × ((q : ℕ) → q < s .place → getD counts q 0 ≡ countIn l q)
-  unfolding row25 givenLowest given
+  unfolding row25 rowWhenLowest rowWhen
   says-25 {s} e = go (ltb low (0 + (headOf l .g + 1))) refl e
     where
       low : ℕ
       low = lowest differs 0 (headOf l .g + 1)
 
-      go : (b : Bool) → ltb low (0 + (headOf l .g + 1)) ≡ b → given 25 low b ≡ some s
+      go : (b : Bool) → ltb low (0 + (headOf l .g + 1)) ≡ b → rowWhen 25 low b ≡ some s
           → (s .number ≡ 25)
           × (s .place ≤ headOf l .g)
           × (getD counts (s .place) 0 ≢ countIn l (s .place))
@@ -147,17 +147,17 @@ module _ (l counts : List ℕ) where
 
 module _ (l work counts : List ℕ) where
   -- where the lists are long enough, an accepted image passes the check
-  pub works-out : Accepted l → headOf l .g + 1 ≤ length work → headOf l .g + 1 ≤ length counts → first (workingOut l work counts) ≡ none
-  unfolding workingOut
+  pub works-out : Accepted l → headOf l .g + 1 ≤ length work → headOf l .g + 1 ≤ length counts → first (countsOrder l work counts) ≡ none
+  unfolding countsOrder
   works-out a lent long = accepted-checks l (usable work counts) a (both-lent l work counts .1 (lent, long))
 
-  pub counts-passed : countsOf l work counts .numbers .number ≡ 0 → first (workingOut l work counts) ≡ none
-  unfolding countsOf workingOut among
+  pub counts-passed : countsOf l work counts .numbers .number ≡ 0 → first (countsOrder l work counts) ≡ none
+  unfolding countsOf countsOrder among
   counts-passed z = none-heard _ _ (first-says (checking-says l (usable work counts))) refl z
 
   pub counts-exactly : (countsOf l work counts .numbers .number ≡ 0)
       ↔ ((headOf l .g + 1 ≤ length work) × (headOf l .g + 1 ≤ length counts) × Accepted l)
-  unfolding countsOf workingOut doneNumbers
+  unfolding countsOf countsOrder doneNumbers
   counts-exactly = (
     λ z.
         let e = counts-passed z in
@@ -168,7 +168,7 @@ module _ (l work counts : List ℕ) where
 
   pub counts-leaves : countsOf l work counts .numbers .number ≡ 0
       → countsOf l work counts ≡ outcome (doneNumbers 0 (pos 0) 0) (workAfter l work ∷ worked l counts ∷ [])
-  unfolding countsOf workingOut
+  unfolding countsOf countsOrder
   counts-leaves z =
       let e = counts-passed z in
       heard-done _ _ _ e
@@ -176,17 +176,17 @@ module _ (l work counts : List ℕ) where
 
   pub counts-kept : countsOf l work counts .numbers .number ≢ 0 → countsOf l work counts .lent ≡ workLeft l work counts ∷ counts ∷ []
   unfolding countsOf doneNumbers
-  counts-kept z = kept-lent (first (workingOut l work counts)) (workLeft l work counts ∷ counts ∷ []) _ refl z
+  counts-kept z = kept-lent (first (countsOrder l work counts)) (workLeft l work counts ∷ counts ∷ []) _ refl z
 
   -- with right counts, 25 is passed too
-  pub checks-counts : Accepted l → headOf l .g + 1 ≤ length work → RightCounts l counts → first (checkingCounts l work counts) ≡ none
-  unfolding checkingCounts
+  pub checks-counts : Accepted l → headOf l .g + 1 ≤ length work → RightCounts l counts → first (checkCountsOrder l work counts) ≡ none
+  unfolding checkCountsOrder
   checks-counts a lent r =
-      second-part (workingOut l work counts) (row25 l counts ∷ []) (works-out a lent (r .long))
+      second-part (countsOrder l work counts) (row25 l counts ∷ []) (works-out a lent (r .long))
       ∙ first-none (row25 l counts) [] (none-25 l counts .1 (r .each))
       ∙ first-nil
 
-  pub check-counts-passed : checkCountsOf l work counts .numbers .number ≡ 0 → first (checkingCounts l work counts) ≡ none
+  pub check-counts-passed : checkCountsOf l work counts .numbers .number ≡ 0 → first (checkCountsOrder l work counts) ≡ none
   unfolding checkCountsOf among
   check-counts-passed z = none-heard _ _ (first-says (counts-say l work counts)) refl z
 
@@ -203,7 +203,7 @@ module _ (l work counts : List ℕ) where
   -- done or refused, the working numbers alone are left changed
   pub check-counts-kept : checkCountsOf l work counts .lent ≡ workLeft l work counts ∷ []
   unfolding checkCountsOf heard
-  check-counts-kept = go (first (checkingCounts l work counts))
+  check-counts-kept = go (first (checkCountsOrder l work counts))
     where
       go : (r : Row) → heard r (workLeft l work counts ∷ []) (outcome (doneNumbers 0 (pos 0) 0) (workLeft l work counts ∷ [])) .lent
           ≡ workLeft l work counts ∷ []

@@ -18,14 +18,14 @@ use Rattle.trie.specs.Storing.{changeOf}
 use Rattle.head.specs.declared.Head.{Head}
 use Rattle.head.specs.Fields.{headOf}
 use Rattle.node.specs.Image.{tableOf}
-use Rattle.alphabet.specs.Letters.{among, lettersIn}
+use Rattle.alphabet.specs.Letters.{among, orEmpty}
 use Rattle.passing.specs.Passing.{passes, countAt}
 use Rattle.passing.proofs.Shifted.{stored-counts-off}
 use Rattle.passing.proofs.Added.{stored-new-passes}
-use Rattle.paper.specs.Hearing.{Said, Row, Numbers, Outcome, given, first, heard, outcome, refusedNumbers, doneNumbers}
+use Rattle.paper.specs.Hearing.{Said, Row, Numbers, Outcome, rowWhen, first, heard, outcome, refusedNumbers, doneNumbers}
 use Rattle.paper.specs.Rows.{row5}
 use Rattle.paper.specs.Given.{Given, alphabetIn, meantIn, keyIn}
-use Rattle.paper.specs.Orders.{openingOf, linking, checking, keying, newOf, storing}
+use Rattle.paper.specs.Orders.{openingRowsOf, linkRows, checkOrder, keyRows, newOf, storeOrder}
 use Rattle.paper.specs.Calls.{tableIn, workAfter, storedImage, storeOf}
 use Rattle.paper.specs.Accepted.{Accepted}
 use Rattle.paper.specs.Granted.{Granted}
@@ -37,7 +37,7 @@ use Rattle.paper.proofs.CheckCall.{accepted-opens, accepted-linked}
 use Rattle.paper.proofs.StoreCall.{stored-head, stored-table, accepted-again, valued, valued-says, order-passed}
 use Rattle.paper.proofs.StoreCall.{store-passed, store-granted, store-means, store-done-exactly}
 use Rattle.position.specs.Counts.{countIn, row25, row5again, RightCounts}
-use Rattle.position.specs.Orders.{usable, workingOut, checkingCounts, storingCounts}
+use Rattle.position.specs.Orders.{usable, countsOrder, checkCountsOrder, storeCountsOrder}
 use Rattle.position.specs.Calls.{workLeft, worked, checkCountsOf, storeCountsOf}
 use Rattle.position.proofs.Plain.{both-lent, five-either, says-only-25, store-order, store-counts-passed, store-counts-plain}
 use Rattle.position.proofs.Right.{none-25, says-25, worked-at, worked-rest, worked-right}
@@ -75,15 +75,15 @@ five-again n h = go (eqb n 5) refl
     go false e = rw e (rw e at h)
 
 -- where the counts are long enough, 5 is of the working numbers alone
-same-check : (l work counts : List ℕ) → headOf l .g + 1 ≤ length counts → workingOut l work counts ≡ checking l work
-unfolding workingOut checking row5
+same-check : (l work counts : List ℕ) → headOf l .g + 1 ≤ length counts → countsOrder l work counts ≡ checkOrder l work
+unfolding countsOrder checkOrder row5
 same-check l work counts long =
     let h : Head = headOf l in
     let same : row5 h (length (usable work counts)) ≡ row5 h (length work) =
     five-either h work counts
-    ∙ ap (given 5 0)
+    ∙ ap (rowWhen 5 0)
     (ap (ltb (length work) (h .g + 1) ||_) (le-ltb (length counts) (h .g + 1) long) ∙ or-false (ltb (length work) (h .g + 1))) in
-    ap (λ (r : Row). openingOf l ++ (r ∷ linking h (tableOf h l))) same
+    ap (λ (r : Row). openingRowsOf l ++ (r ∷ linkRows h (tableOf h l))) same
 
 module _ (l work : List ℕ) (given : Given) (value : ℕ) (counts : List ℕ) where
   abbrev key : List ℕ
@@ -97,20 +97,20 @@ module _ (l work : List ℕ) (given : Given) (value : ℕ) (counts : List ℕ) w
 
   -- 9 to 13, and 5 again
   abbrev rest : List Row
-  rest = keying l given ++ (valued l key value ++ (row5again (headOf l) new (length counts) ∷ []))
+  rest = keyRows l given ++ (valued l key value ++ (row5again (headOf l) new (length counts) ∷ []))
 
   -- ---- where it is done
 
   -- with right counts that are long enough, a plain store that is done is done with counts
   module _ (right : RightCounts l counts) (done : storeOf l work given value .numbers .number ≡ 0) where
-    left-5 : first (storingCounts l work given value counts) ≡ first (row5again (headOf l) new (length counts) ∷ [])
-    unfolding storingCounts
+    left-5 : first (storeCountsOrder l work given value counts) ≡ first (row5again (headOf l) new (length counts) ∷ [])
+    unfolding storeCountsOrder
     left-5 =
         let (_, keys, values) = order-passed l work given value (store-passed l work given value done) in
         let granted = store-granted l work given value done in
         let lent = store-done-exactly l work given value .0 done .0 in
-        second-part (checkingCounts l work counts) rest (checks-counts l work counts (granted .accepted) lent right)
-        ∙ second-part (keying l given) (valued l key value ++ (row5again (headOf l) new (length counts) ∷ [])) keys
+        second-part (checkCountsOrder l work counts) rest (checks-counts l work counts (granted .accepted) lent right)
+        ∙ second-part (keyRows l given) (valued l key value ++ (row5again (headOf l) new (length counts) ∷ [])) keys
         ∙ second-part (valued l key value) (row5again (headOf l) new (length counts) ∷ []) values
 
     done-too : headOf l .g + new + 1 ≤ length counts → storeCountsOf l work given value counts .numbers .number ≡ 0
@@ -156,7 +156,7 @@ module _ (l work : List ℕ) (given : Given) (value : ℕ) (counts : List ℕ) w
       × (meantIn l given ≡ some k)
       × Granted l k value
       × (headOf l .g + newOf (headOf l) l k value + 1 ≤ length counts))
-  unfolding keyIn lettersIn
+  unfolding keyIn orEmpty
   store-counts-done-exactly = (
     λ z.
         let plain = store-counts-plain l work given value counts z .0 in (
@@ -169,7 +169,7 @@ module _ (l work : List ℕ) (given : Given) (value : ℕ) (counts : List ℕ) w
         ),
     λ s.
         let (lent, right, k, meant, granted, long) = s in
-        let same : k ≡ key = sym (ap lettersIn meant) in
+        let same : k ≡ key = sym (ap orEmpty meant) in
         let fits : headOf l .g + new + 1 ≤ length counts =
         subst (λ (j : List ℕ). headOf l .g + newOf (headOf l) l j value + 1 ≤ length counts) same long in
         done-too right (store-done-exactly l work given value .1 (lent, k, meant, granted)) fits,
@@ -228,31 +228,31 @@ module _ (l work : List ℕ) (given : Given) (value : ℕ) (counts : List ℕ) w
   five = row5 (headOf l) (length (usable work counts))
 
   -- in an accepted image 5 is asked, then 25, then the rest
-  accepted-order : Accepted l → first (storingCounts l work given value counts) ≡ first (five ∷ row25 l counts ∷ rest)
-  unfolding storingCounts checkingCounts workingOut checking row5
+  accepted-order : Accepted l → first (storeCountsOrder l work given value counts) ≡ first (five ∷ row25 l counts ∷ rest)
+  unfolding storeCountsOrder checkCountsOrder countsOrder checkOrder row5
   accepted-order a = go (decLe (headOf l .g + 1) (length (usable work counts)))
     where
       go : Dec (headOf l .g + 1 ≤ length (usable work counts))
-          → first (storingCounts l work given value counts) ≡ first (five ∷ row25 l counts ∷ rest)
+          → first (storeCountsOrder l work given value counts) ≡ first (five ∷ row25 l counts ∷ rest)
       go (yes b) =
           let both = both-lent l work counts .0 b in
-          ap first (append-assoc (workingOut l work counts) (row25 l counts ∷ []) rest)
-          ∙ second-part (workingOut l work counts) (row25 l counts ∷ rest) (works-out l work counts a (both .0) (both .1))
+          ap first (append-assoc (countsOrder l work counts) (row25 l counts ∷ []) rest)
+          ∙ second-part (countsOrder l work counts) (row25 l counts ∷ rest) (works-out l work counts a (both .0) (both .1))
           ∙ sym (no-row 5 0 (row25 l counts ∷ rest) (le-ltb (length (usable work counts)) (headOf l .g + 1) b))
       go (no b) =
           let few : ltb (length (usable work counts)) (headOf l .g + 1) ≡ true =
           lt-ltb (length (usable work counts)) (headOf l .g + 1) (omega arith) in
-          first-part (checkingCounts l work counts) rest
-          (first-part (workingOut l work counts) (row25 l counts ∷ []) (second-part (openingOf l) _ (accepted-opens a) ∙ yes-row 5 0 _ few))
+          first-part (checkCountsOrder l work counts) rest
+          (first-part (countsOrder l work counts) (row25 l counts ∷ []) (second-part (openingRowsOf l) _ (accepted-opens a) ∙ yes-row 5 0 _ few))
           ∙ sym (yes-row 5 0 (row25 l counts ∷ rest) few)
 
   rest-says : AllSay (9 ∷ 10 ∷ 11 ∷ 12 ∷ 13 ∷ 5 ∷ []) rest
-  unfolding keying row5again among
+  unfolding keyRows row5again among
   rest-says =
       parts-say (given-says-key (headOf l) (alphabetIn (headOf l) l) given)
       (parts-say (valued-says l key value) (given-says 5 0 (ltb (length counts) (headOf l .g + new + 1)) refl then end))
 
-  pub store-counts-refuses : {s : Said} → Accepted l → first (storingCounts l work given value counts) ≡ some s
+  pub store-counts-refuses : {s : Said} → Accepted l → first (storeCountsOrder l work given value counts) ≡ some s
       → among (s .number) acceptedCountsNumbers ≡ true
   unfolding row5 among
   store-counts-refuses {s} a e =
@@ -261,7 +261,7 @@ module _ (l work : List ℕ) (given : Given) (value : ℕ) (counts : List ℕ) w
       (one-of (first-says (parts-say five-says (parts-say (says-only-25 l counts) rest-says))) (sym (accepted-order a) ∙ e))
 
   module _ (a : Accepted l) (lent : headOf l .g + 1 ≤ length work) (long : headOf l .g + 1 ≤ length counts) where
-    left-25 : first (storingCounts l work given value counts) ≡ first (row25 l counts ∷ rest)
+    left-25 : first (storeCountsOrder l work given value counts) ≡ first (row25 l counts ∷ rest)
     unfolding row5
     left-25 =
         accepted-order a
@@ -272,7 +272,7 @@ module _ (l work : List ℕ) (given : Given) (value : ℕ) (counts : List ℕ) w
     unfolding storeCountsOf among refusedNumbers doneNumbers
     store-counts-25 = (
       λ z r.
-          let past : first (storingCounts l work given value counts) ≡ first rest =
+          let past : first (storeCountsOrder l work given value counts) ≡ first rest =
           left-25 ∙ first-none (row25 l counts) rest (none-25 l counts .1 (r .each)) in
           not-heard _ _ 25 (subst (Says (9 ∷ 10 ∷ 11 ∷ 12 ∷ 13 ∷ 5 ∷ [])) (sym past) (first-says rest-says)) refl (omega arith) refl z,
       λ wrong. go wrong (row25 l counts) refl,
@@ -288,16 +288,16 @@ module _ (l work : List ℕ) (given : Given) (value : ℕ) (counts : List ℕ) w
 
   -- 25 and the second 5 say nothing, and what is left is the plain order
   same-order : RightCounts l counts → headOf l .g + new + 1 ≤ length counts
-      → first (storingCounts l work given value counts) ≡ first (storing l work given value)
-  unfolding storingCounts checkingCounts storing row5again
+      → first (storeCountsOrder l work given value counts) ≡ first (storeOrder l work given value)
+  unfolding storeCountsOrder checkCountsOrder storeOrder row5again
   same-order right long =
       ap (λ (c : List Row). first ((c ++ (row25 l counts ∷ [])) ++ rest)) (same-check l work counts (right .long)) ∙ go (first c) refl
     where
       c : List Row
-      c = checking l work
+      c = checkOrder l work
 
       plain : List Row
-      plain = keying l given ++ valued l key value
+      plain = keyRows l given ++ valued l key value
 
       last : List Row
       last = row5again (headOf l) new (length counts) ∷ []
@@ -312,7 +312,7 @@ module _ (l work : List ℕ) (given : Given) (value : ℕ) (counts : List ℕ) w
       go none e =
           second-part (c ++ (row25 l counts ∷ [])) rest
           (second-part c (row25 l counts ∷ []) e ∙ first-none (row25 l counts) [] silent-25 ∙ first-nil)
-          ∙ ap first (sym (append-assoc (keying l given) (valued l key value) last))
+          ∙ ap first (sym (append-assoc (keyRows l given) (valued l key value) last))
           ∙ silent-end plain last silent-5
           ∙ sym (second-part c plain e)
       go (some s) e = first-part (c ++ (row25 l counts ∷ [])) rest (first-part c (row25 l counts ∷ []) e) ∙ sym (first-part c plain e)
@@ -326,5 +326,5 @@ module _ (l work : List ℕ) (given : Given) (value : ℕ) (counts : List ℕ) w
       let without : List (List ℕ) = image ∷ workAfter l work ∷ [] in
       let kept : List (List ℕ) = l ∷ workLeft l work counts ∷ counts ∷ [] in
       ap (λ (r : Row). heard r kept (outcome told with-counts) .numbers) (same-order right long)
-      ∙ same-numbers (first (storing l work given value))
+      ∙ same-numbers (first (storeOrder l work given value))
       kept (l ∷ workAfter l work ∷ []) (outcome told with-counts) (outcome told without) refl

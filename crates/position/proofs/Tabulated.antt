@@ -5,25 +5,25 @@ use Rattle.field.specs.Field.{fieldAt, digits}
 use Rattle.utf8.specs.Table37.{inRange, inRanges, fitsRow, lengthBy, charLen}
 use Rattle.utf8.specs.Text.{charAt, inFront, charsFrom, chars}
 use Rattle.trie.specs.Table.{follow, descend, valueAt, answer, missing}
-use Rattle.trie.specs.Keys.{present, ownKey, byLetter, keysUnder, before, sift}
+use Rattle.trie.specs.Keys.{present, ownKey, byLetter, keysUnder, before, filter}
 use Rattle.trie.specs.Storing.{added, changeOf}
 use Rattle.trie.specs.Lowest.{lowest}
 use Rattle.passing.specs.Passing.{passes, countAt, oneForEach, keyAt, rankIn}
 use Rattle.head.specs.Fields.{headOf, permitted, nodeWidth, nodePlace, usedLen}
-use Rattle.alphabet.specs.Letters.{among, allDifferent, isAlphabet, goodAlphabet, lettersIn, letters, letterOf, withLetter, lettersOf, keyOfChars, keyOfText}
+use Rattle.alphabet.specs.Letters.{among, allDifferent, isAlphabet, goodAlphabet, orEmpty, letters, letterOf, withLetter, lettersOfChars, keyOfChars, keyOfText}
 use Rattle.node.specs.Image.{linkPlace, dataPlace, tableOf}
 use Rattle.node.specs.Writes.{carriedOut, lastNode, pathNode, newNodes, totalWrite, linkWrite, dataWrite, storeWrites}
-use Rattle.paper.specs.Hearing.{given, first, refusedNumbers, doneNumbers, heard}
-use Rattle.paper.specs.Rows.{row1, row2, row3, row4, row5, badLink, holdsBad, givenLowest, row6, timesIn, times, row7, row8, row9, allBelow, row10, isNone, row10text, row11, row12, row13, row14, row15}
+use Rattle.paper.specs.Hearing.{rowWhen, first, refusedNumbers, doneNumbers, heard}
+use Rattle.paper.specs.Rows.{row1, row2, row3, row4, row5, badLink, holdsBad, rowWhenLowest, row6, timesIn, times, row7, row8, row9, allBelow, row10, isNone, row10text, row11, row12, row13, row14, row15}
 use Rattle.paper.specs.Given.{alphabetIn, meantBy, meantIn, keyIn}
-use Rattle.paper.specs.Orders.{opening, openingOf, linking, checking, byLetters, byText, keyingBy, keying, adding, newOf}
+use Rattle.paper.specs.Orders.{openingRows, openingRowsOf, linkRows, checkOrder, lettersRows, textRows, keyRowsBy, keyRows, addingRows, newOf}
 use Rattle.paper.specs.Calls.{tableIn, clearedBy, workAfter, storedKeys, storedImage}
 use Rattle.paper.specs.Cases.{Case}
 use Rattle.position.specs.Counts.{countIn, countsIn, row25, row5again}
-use Rattle.position.specs.Orders.{usable, workingOut, checkingCounts, storingCounts, gettingKey, ifStored, gettingPosition}
+use Rattle.position.specs.Orders.{usable, countsOrder, checkCountsOrder, storeCountsOrder, keyAtOrder, ifStored, positionOrder}
 use Rattle.position.specs.Calls.{workLeft, worked, countsOf, checkCountsOf, storeCountsOf, placedKey, keyAtOf, positionOf}
 use Rattle.position.specs.Cases.{cases}
 
 pub tabulated : map (λ (c : Case). c .call) cases ≡ map (λ (c : Case). c .leaves) cases
-unfolding fieldAt digits inRange inRanges fitsRow lengthBy charLen charAt inFront charsFrom chars follow descend valueAt answer missing present ownKey byLetter keysUnder before sift added changeOf lowest passes countAt oneForEach keyAt rankIn headOf permitted nodeWidth nodePlace usedLen among allDifferent isAlphabet goodAlphabet lettersIn letters letterOf withLetter lettersOf keyOfChars keyOfText linkPlace dataPlace tableOf carriedOut lastNode pathNode newNodes totalWrite linkWrite dataWrite storeWrites given first refusedNumbers doneNumbers heard row1 row2 row3 row4 row5 badLink holdsBad givenLowest row6 timesIn times row7 row8 row9 allBelow row10 isNone row10text row11 row12 row13 row14 row15 alphabetIn meantBy meantIn keyIn opening openingOf linking checking byLetters byText keyingBy keying adding newOf tableIn clearedBy workAfter storedKeys storedImage countIn countsIn row25 row5again usable workingOut checkingCounts storingCounts gettingKey ifStored gettingPosition workLeft worked countsOf checkCountsOf storeCountsOf placedKey keyAtOf positionOf
+unfolding fieldAt digits inRange inRanges fitsRow lengthBy charLen charAt inFront charsFrom chars follow descend valueAt answer missing present ownKey byLetter keysUnder before filter added changeOf lowest passes countAt oneForEach keyAt rankIn headOf permitted nodeWidth nodePlace usedLen among allDifferent isAlphabet goodAlphabet orEmpty letters letterOf withLetter lettersOfChars keyOfChars keyOfText linkPlace dataPlace tableOf carriedOut lastNode pathNode newNodes totalWrite linkWrite dataWrite storeWrites rowWhen first refusedNumbers doneNumbers heard row1 row2 row3 row4 row5 badLink holdsBad rowWhenLowest row6 timesIn times row7 row8 row9 allBelow row10 isNone row10text row11 row12 row13 row14 row15 alphabetIn meantBy meantIn keyIn openingRows openingRowsOf linkRows checkOrder lettersRows textRows keyRowsBy keyRows addingRows newOf tableIn clearedBy workAfter storedKeys storedImage countIn countsIn row25 row5again usable countsOrder checkCountsOrder storeCountsOrder keyAtOrder ifStored positionOrder workLeft worked countsOf checkCountsOf storeCountsOf placedKey keyAtOf positionOf
 tabulated = refl

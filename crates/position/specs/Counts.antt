@@ -9,8 +9,8 @@ use lib.ListN.{length, getD}
 use Rattle.head.specs.declared.Head.{Head}
 use Rattle.head.specs.Fields.{headOf}
 use Rattle.passing.specs.Passing.{countAt, oneForEach}
-use Rattle.paper.specs.Hearing.{Row, given}
-use Rattle.paper.specs.Rows.{givenLowest}
+use Rattle.paper.specs.Hearing.{Row, rowWhen}
+use Rattle.paper.specs.Rows.{rowWhenLowest}
 use Rattle.paper.specs.Calls.{tableIn}
 
 -- how many stored keys lie at or under a node of an image
@@ -25,13 +25,13 @@ countsIn l = oneForEach (countIn l) 0 (headOf l .g + 1)
 
 -- "25, counts differ, ... place the lowest such node"
 unfoldable pub row25 : List ℕ → List ℕ → Row
-unfolding givenLowest countIn headOf
-row25 l counts = givenLowest 25 (λ q. not (eqb (getD counts q 0) (countIn l q))) 0 (headOf l .g + 1)
+unfolding rowWhenLowest countIn headOf
+row25 l counts = rowWhenLowest 25 (λ q. not (eqb (getD counts q 0) (countIn l q))) 0 (headOf l .g + 1)
 
 -- "for a store 5 again, after 13, if the list is shorter than G+k+1"
 unfoldable pub row5again : Head → ℕ → ℕ → Row
-unfolding given
-row5again h k lent = given 5 0 (ltb lent (h .g + k + 1))
+unfolding rowWhen
+row5again h k lent = rowWhen 5 0 (ltb lent (h .g + k + 1))
 
 -- a list of counts that is right for an image: long enough, and its first G+1 are the image's counts
 pub record RightCounts (l counts : List ℕ) : Type 0 where

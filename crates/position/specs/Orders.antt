@@ -11,7 +11,7 @@ use Rattle.passing.specs.Passing.{keyAt}
 use Rattle.paper.specs.Hearing.{Row}
 use Rattle.paper.specs.Rows.{row14, row15}
 use Rattle.paper.specs.Given.{Given, keyIn}
-use Rattle.paper.specs.Orders.{checking, keying, adding, newOf}
+use Rattle.paper.specs.Orders.{checkOrder, keyRows, addingRows, newOf}
 use Rattle.paper.specs.Calls.{tableIn, storedKeys}
 use Rattle.position.specs.Counts.{row25, row5again}
 
@@ -20,29 +20,29 @@ unfoldable pub usable : List ℕ → List ℕ → List ℕ
 usable work counts = take (length counts) work
 
 -- working the counts out: 1 to 8, with 5 for either list, and never 25
-unfoldable pub workingOut : List ℕ → List ℕ → List ℕ → List Row
-unfolding checking usable
-workingOut l work counts = checking l (usable work counts)
+unfoldable pub countsOrder : List ℕ → List ℕ → List ℕ → List Row
+unfolding checkOrder usable
+countsOrder l work counts = checkOrder l (usable work counts)
 
 -- "25 ... after all the check's answers"
-unfoldable pub checkingCounts : List ℕ → List ℕ → List ℕ → List Row
-unfolding workingOut row25
-checkingCounts l work counts = workingOut l work counts ++ (row25 l counts ∷ [])
+unfoldable pub checkCountsOrder : List ℕ → List ℕ → List ℕ → List Row
+unfolding countsOrder row25
+checkCountsOrder l work counts = countsOrder l work counts ++ (row25 l counts ∷ [])
 
 -- "25 ... before 9 and 10; for a store 5 again, after 13"
-unfoldable pub storingCounts : List ℕ → List ℕ → Given → ℕ → List ℕ → List Row
-unfolding checkingCounts keying keyIn adding newOf row5again
-storingCounts l work given value counts =
-    checkingCounts l work counts
-    ++ (keying l given
-    ++ (adding (headOf l) value (newOf (headOf l) l (keyIn l given) value) (length l)
+unfoldable pub storeCountsOrder : List ℕ → List ℕ → Given → ℕ → List ℕ → List Row
+unfolding checkCountsOrder keyRows keyIn addingRows newOf row5again
+storeCountsOrder l work given value counts =
+    checkCountsOrder l work counts
+    ++ (keyRows l given
+    ++ (addingRows (headOf l) value (newOf (headOf l) l (keyIn l given) value) (length l)
     ++ (row5again (headOf l) (newOf (headOf l) l (keyIn l given) value) (length counts) ∷ [])))
 
 -- "15 for a position past the end ... after 14"
-unfoldable pub gettingKey : List ℕ → List ℕ → List ℕ → ℕ → ℕ → List Row
-unfolding checkingCounts row14 row15 keyAt storedKeys
-gettingKey l work counts position lent =
-    checkingCounts l work counts ++ (row14 (headOf l) lent ∷ row15 (keyAt (storedKeys l) position) ∷ [])
+unfoldable pub keyAtOrder : List ℕ → List ℕ → List ℕ → ℕ → ℕ → List Row
+unfolding checkCountsOrder row14 row15 keyAt storedKeys
+keyAtOrder l work counts position lent =
+    checkCountsOrder l work counts ++ (row14 (headOf l) lent ∷ row15 (keyAt (storedKeys l) position) ∷ [])
 
 -- a key whose length has passed 9, where it is stored: "A stored key is one with length in min..max whose data is not 0"
 unfoldable pub ifStored : List ℕ → List ℕ → Option (List ℕ)
@@ -50,6 +50,6 @@ unfolding answer tableIn
 ifStored l key = cond (eqb (answer (tableIn l) key) 0) none (some key)
 
 -- "15 for ... a key not stored"
-unfoldable pub gettingPosition : List ℕ → List ℕ → List ℕ → Given → List Row
-unfolding checkingCounts keying keyIn row15 ifStored
-gettingPosition l work counts given = checkingCounts l work counts ++ (keying l given ++ (row15 (ifStored l (keyIn l given)) ∷ []))
+unfoldable pub positionOrder : List ℕ → List ℕ → List ℕ → Given → List Row
+unfolding checkCountsOrder keyRows keyIn row15 ifStored
+positionOrder l work counts given = checkCountsOrder l work counts ++ (keyRows l given ++ (row15 (ifStored l (keyIn l given)) ∷ []))

@@ -20,7 +20,7 @@ use Rattle.paper.specs.Accepted.{Accepted}
 use Rattle.paper.proofs.CheckCall.{accepted-open, accepted-linked}
 use Rattle.paper.proofs.NextKeyCall.{counted-fits}
 use Rattle.position.specs.Counts.{RightCounts, countIn}
-use Rattle.ranking.specs.Ranking.{Below}
+use Rattle.ranking.specs.Ranking.{ChildCounts}
 use Rattle.ranking.proofs.ByLetter.{by-child}
 
 -- the keys at or under a node at a depth
@@ -67,7 +67,7 @@ module _ {h : Head} {l counts : List ℕ} (w : Counted h l counts) where
   within k e = complete-within (tableOf h l) (h .g) k (w .linked .within) e
 
   pub below : (k : List ℕ) {p : ℕ} (depth : ℕ) → descend (tableOf h l) 0 k ≡ complete p → length k ≡ depth → depth < h .max
-      → Below h l p depth counts
+      → ChildCounts h l p depth counts
   below k {p} depth e deep room i full =
       let c = tableOf h l .child p i in
       let reached : descend (tableOf h l) 0 (k ++ (i ∷ [])) ≡ complete c = one-more k i e refl full in

@@ -19,7 +19,7 @@ use Rattle.passing.specs.Passing.{keyAt, rankIn}
 use Rattle.passing.specs.Weights.{sumFrom}
 use Rattle.passing.proofs.Ranks.{at-left, at-right, at-map, rank-few, rank-append, rank-lower, rank-same, rank-higher}
 use Rattle.ranking.specs.declared.Branch.{Branch}
-use Rattle.ranking.specs.Ranking.{underLetter, Below, lower, Branches}
+use Rattle.ranking.specs.Ranking.{underLetter, ChildCounts, underLower, Branches}
 
 module _ (h : Head) (l : List ℕ) (p depth : ℕ) where
   -- the keys from letter i on, and those by letter i
@@ -38,7 +38,7 @@ module _ (h : Head) (l : List ℕ) (p depth : ℕ) where
   by-child i full = follow-on (tableOf h l .child p i) [] _ full
 
   -- the count of a child that is linked
-  pub below-link : (counts : List ℕ) (i : ℕ) {c : ℕ} → Below h l p depth counts → c ≡ tableOf h l .child p i → c ≢ 0
+  pub below-link : (counts : List ℕ) (i : ℕ) {c : ℕ} → ChildCounts h l p depth counts → c ≡ tableOf h l .child p i → c ≢ 0
       → (c < length counts) × (getD counts c 0 ≡ sizes i)
   below-link counts i below e full = rw e (below i (λ z. full (e ∙ z)))
 
@@ -157,8 +157,8 @@ module _ (h : Head) (l : List ℕ) (p depth : ℕ) where
         ∙ omega (arith, rest, first)
 
     pub rank-letters : (x : ℕ) (k : List ℕ) → x < h .n
-        → rankIn (onward 0) (x ∷ k) ≡ lower h l p depth x + rankIn (underLetter h l p depth x) k
-    unfolding lower
+        → rankIn (onward 0) (x ∷ k) ≡ underLower h l p depth x + rankIn (underLetter h l p depth x) k
+    unfolding underLower
     rank-letters x k low = rank-through x k low x 0 (omega arith)
 
   -- ---- the keys by the lower letters, counted
@@ -167,8 +167,8 @@ module _ (h : Head) (l : List ℕ) (p depth : ℕ) where
   abbrev pub rest : ℕ → ℕ → ℕ
   rest x i = sumFrom sizes i (x - i)
 
-  pub rest-all : (x : ℕ) → rest x 0 ≡ lower h l p depth x
-  unfolding lower
+  pub rest-all : (x : ℕ) → rest x 0 ≡ underLower h l p depth x
+  unfolding underLower
   rest-all x = let e : x - 0 ≡ x = omega arith in rw e
 
   pub rest-none : (x i : ℕ) → x ≤ i → rest x i ≡ 0

@@ -21,7 +21,7 @@ use Rattle.passing.specs.Passing.{rankIn}
 use Rattle.passing.proofs.Ranks.{rank-nil, rank-few, rank-append, rank-own}
 use Rattle.paper.specs.Calls.{tableIn, storedKeys}
 use Rattle.ranking.specs.declared.Ranked.{Ranked}
-use Rattle.ranking.specs.Ranking.{rankedOf, underLetter, Below, lower, Room}
+use Rattle.ranking.specs.Ranking.{rankedOf, underLetter, ChildCounts, underLower, RankFits}
 use Rattle.ranking.proofs.ByLetter.{onward, by-child, rank-letters}
 use Rattle.ranking.proofs.Below.{Counted, held, within, one-more, below}
 
@@ -103,10 +103,10 @@ module _ {h : Head} {l counts : List ℕ} (w : Counted h l counts) (k : List ℕ
         pub placing-deep : depth < h .max
         placing-deep = omega (arith, further)
 
-        pub placing-below : Below h l node depth counts
+        pub placing-below : ChildCounts h l node depth counts
         placing-below = below w (take depth k) depth (s .reaches) (length-take-le depth k (s .short)) placing-deep
 
-        parts : passed + (owned h l node depth + (lower h l node depth x + rankIn (underLetter h l node depth x) xs))
+        parts : passed + (owned h l node depth + (underLower h l node depth x + rankIn (underLetter h l node depth x) xs))
             ≡ rankIn (listing (tableOf h l) (h .n) (h .min) (h .max)) k
         parts =
             ap (passed +_)
@@ -123,10 +123,10 @@ module _ {h : Head} {l counts : List ℕ} (w : Counted h l counts) (k : List ℕ
         placing-own = omega (arith, parts, few)
 
         module _ {behind : ℕ} (own : behind ≡ passed + owned h l node depth) where
-          pub placing-room : Room h l node depth x behind
+          pub placing-room : RankFits h l node depth x behind
           placing-room = omega (arith, parts, few, own)
 
-          pub placing-on : c ≢ 0 → {sum : ℕ} → sum ≡ behind + lower h l node depth x → Placing h l k c (depth + 1) sum
+          pub placing-on : c ≢ 0 → {sum : ℕ} → sum ≡ behind + underLower h l node depth x → Placing h l k c (depth + 1) sum
           placing-on full {sum} e =
               let linked : tableOf h l .child node x ≢ 0 = λ z. full (link ∙ z) in
               let longer : take (suc depth) k ≡ take depth k ++ (x ∷ []) =

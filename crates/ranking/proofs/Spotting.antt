@@ -22,7 +22,7 @@ use Rattle.passing.specs.Passing.{keyAt}
 use Rattle.passing.proofs.Ranks.{at-right}
 use Rattle.paper.specs.Calls.{storedKeys}
 use Rattle.ranking.specs.declared.Branch.{Branch}
-use Rattle.ranking.specs.Ranking.{Spotted, underLetter, Below, Branches}
+use Rattle.ranking.specs.Ranking.{Spotted, underLetter, ChildCounts, Branches}
 use Rattle.ranking.proofs.ByLetter.{onward, by-child}
 use Rattle.ranking.proofs.Below.{Counted, held, within, one-more, below}
 
@@ -116,7 +116,7 @@ module _ {h : Head} {l counts : List ℕ} (w : Counted h l counts) {position : �
               let empty : onward h l node depth 0 ≡ [] = rw none-left (from-shallow (tableOf h l) (h .n) (h .min - depth) node 0) in
               absurd (omega (arith, b .inside, ap length empty))
 
-      pub spotting-below : Below h l node depth counts
+      pub spotting-below : ChildCounts h l node depth counts
       spotting-below = below w (take depth path) depth (s .reaches) so-many spotting-deep
 
       pub spotting-room : depth < length path

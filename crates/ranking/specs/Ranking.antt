@@ -39,20 +39,20 @@ underLetter h l p depth i =
     follow (tableOf h l .child p i) [] (λ c. keysUnder (tableOf h l) (h .n) (h .min - suc depth) (h .max - suc depth) c)
 
 -- the children of node p at a depth: each has in the list the number of the keys at or under it
-abbrev pub Below : Head → List ℕ → ℕ → ℕ → List ℕ → Type 0
-Below h l p depth counts =
+abbrev pub ChildCounts : Head → List ℕ → ℕ → ℕ → List ℕ → Type 0
+ChildCounts h l p depth counts =
     (i : ℕ) → tableOf h l .child p i ≢ 0
     → (tableOf h l .child p i < length counts)
     × (getD counts (tableOf h l .child p i) 0 ≡ length (underLetter h l p depth i))
 
 -- the keys at or under the children whose letters are below x
-unfoldable pub lower : Head → List ℕ → ℕ → ℕ → ℕ → ℕ
+unfoldable pub underLower : Head → List ℕ → ℕ → ℕ → ℕ → ℕ
 unfolding sumFrom follow keysUnder
-lower h l p depth x = sumFrom (λ i. length (underLetter h l p depth i)) 0 x
+underLower h l p depth x = sumFrom (λ i. length (underLetter h l p depth i)) 0 x
 
 -- they fit a number of 32 bits with those passed before
-abbrev pub Room : Head → List ℕ → ℕ → ℕ → ℕ → ℕ → Type 0
-Room h l p depth x before = before + lower h l p depth x < 2 ^ 32
+abbrev pub RankFits : Head → List ℕ → ℕ → ℕ → ℕ → ℕ → Type 0
+RankFits h l p depth x before = before + underLower h l p depth x < 2 ^ 32
 
 -- the child under which a position lies, where it lies under one
 pub record Under (h : Head) (l : List ℕ) (p depth position : ℕ) (r : Branch) : Type 0 where

@@ -11,7 +11,7 @@ ghost use Rattle.paper.specs.Accepted.{Accepted};
 ghost use Rattle.paper.specs.Calls.{storedKeys};
 ghost use Rattle.position.specs.Counts.{RightCounts};
 ghost use Rattle.key.specs.Hand.{Ready, lettersOf};
-ghost use Rattle.ranking.specs.Ranking.{Spotted, rankedOf, Below, Branches, lower, Room};
+ghost use Rattle.ranking.specs.Ranking.{Spotted, rankedOf, ChildCounts, Branches, underLower, RankFits};
 use head::Head;
 use key::Key;
 
@@ -74,7 +74,7 @@ fn branch_at(
     position: u32,
 ) -> Branch
     requires { ⌜ Open h (now image) ⌝ ∗ ⌜ Masks h mask ⌝ ∗ ⌜ node ≤ h .g ⌝ ∗ ⌜ depth < h .max ⌝ }
-    requires { ⌜ Below h (now image) node depth (now counts) ⌝ }
+    requires { ⌜ ChildCounts h (now image) node depth (now counts) ⌝ }
     ensures { λ r. ⌜ Branches h (now (image .entry)) node depth position r ⌝ }
 {
     let mut left = position;
@@ -144,9 +144,9 @@ fn passed(
     before: u32,
 ) -> u32
     requires { ⌜ Open h (now image) ⌝ ∗ ⌜ Masks h mask ⌝ ∗ ⌜ node ≤ h .g ⌝ ∗ ⌜ depth < h .max ⌝ ∗ ⌜ letter ≤ h .n ⌝ }
-    requires { ⌜ Below h (now image) node depth (now counts) ⌝ }
-    requires { ⌜ Room h (now image) node depth letter before ⌝ }
-    ensures { λ r. ⌜ r ≡ before + lower h (now (image .entry)) node depth letter ⌝ }
+    requires { ⌜ ChildCounts h (now image) node depth (now counts) ⌝ }
+    requires { ⌜ RankFits h (now image) node depth letter before ⌝ }
+    ensures { λ r. ⌜ r ≡ before + underLower h (now (image .entry)) node depth letter ⌝ }
 {
     let mut sum = before;
     for i in 0..letter {

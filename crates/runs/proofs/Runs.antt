@@ -19,13 +19,13 @@ use Rattle.trie.specs.Storing.{stored, changeOf}
 use Rattle.trie.proofs.Storing.{stored-answer, stored-answer-other}
 use Rattle.head.specs.declared.Head.{Head}
 use Rattle.head.specs.Fields.{headOf, putTotal}
-use Rattle.alphabet.specs.Letters.{lettersIn}
+use Rattle.alphabet.specs.Letters.{orEmpty}
 use Rattle.node.specs.Writes.{Write}
 use Rattle.node.proofs.Heads.{withTotal}
 use Rattle.paper.specs.Hearing.{Row, Numbers, Outcome, outcome, first, heard, refusedNumbers, doneNumbers}
 use Rattle.paper.specs.Given.{Given, alphabetIn, meantBy, meantIn, keyIn}
-use Rattle.paper.specs.Orders.{newOf, checking, keyingBy, keying, lookingUp, storing, nexting}
-use Rattle.paper.specs.Calls.{tableIn, workAfter, freshHead, freshImage, makeOf, storedKeys, countOf, telling, lookUpOf, writesIn, storedImage, storeOf, withList, checkOf, isAccepted, mends, nextIn}
+use Rattle.paper.specs.Orders.{newOf, checkOrder, keyRowsBy, keyRows, lookUpOrder, storeOrder, nextKeyOrder}
+use Rattle.paper.specs.Calls.{tableIn, workAfter, freshHead, freshImage, makeOf, storedKeys, countOf, telling, lookUpOf, writesIn, storedImage, storeOf, withWrites, checkOf, isAccepted, mends, nextIn}
 use Rattle.paper.specs.Accepted.{Accepted}
 use Rattle.paper.specs.Granted.{Fit, Granted}
 use Rattle.paper.proofs.Hearing.{heard-done, heard-alike}
@@ -35,9 +35,9 @@ use Rattle.paper.proofs.StoreCall.{accepted-again, stored-head, stored-alphabet
 use Rattle.paper.proofs.MendCall.{mend-kept, eight}
 use Rattle.paper.proofs.MakeCall.{Made, make-done, fresh-head, fresh-alphabet, fresh-accepted, fresh-answers, fresh-keys}
 use Rattle.position.specs.Calls.{worked, storeCountsOf}
-use Rattle.position.specs.Orders.{workingOut, checkingCounts, gettingKey, gettingPosition}
+use Rattle.position.specs.Orders.{countsOrder, checkCountsOrder, keyAtOrder, positionOrder}
 use Rattle.position.proofs.Plain.{store-counts-plain, store-counts-kept}
-use Rattle.runs.specs.Runs.{sameKey, lastOf, Call, check, count, lookUp, store, storeWrites, mend, nextKey, counts, checkCounts, storeCounts, keyAt, position, firstLeft, notedBy, Run, after, ran, startOf, ranFrom}
+use Rattle.runs.specs.Runs.{sameKey, lastOf, Call, check, count, lookUp, store, storeWrites, mend, nextKey, counts, checkCounts, storeCounts, keyAt, position, firstLeft, plainBy, Run, after, ran, startOf, ranFrom}
 
 -- ---- the plain list
 
@@ -91,17 +91,17 @@ data Ended (l key : List ℕ) (value : ℕ) : Outcome → Type 0 where
 
 ended : (l work : List ℕ) (given : Given) (value : ℕ) → Ended l (keyIn l given) value (storeOf l work given value)
 unfolding storeOf heard refusedNumbers
-ended l work given value = go (first (storing l work given value)) refl
+ended l work given value = go (first (storeOrder l work given value)) refl
   where
-    go : (row : Row) → first (storing l work given value) ≡ row → Ended l (keyIn l given) value (storeOf l work given value)
+    go : (row : Row) → first (storeOrder l work given value) ≡ row → Ended l (keyIn l given) value (storeOf l work given value)
     go none e = rw e (was-done 0 (granted l work given value e))
     go (some s) e =
         rw e (was-refused (refusedNumbers s) (λ z. Option·some-ne-none s (sym e ∙ store-passed l work given value (rw e z))) refl)
 
 -- the list of its writes is one buffer more, and changes neither the number nor the change
 ended-listed : {l key : List ℕ} {value : ℕ} (ws : List Write) (list : List ℕ) {o : Outcome} → Ended l key value o
-    → Ended l key value (withList ws list o)
-unfolding withList doneNumbers refusedNumbers
+    → Ended l key value (withWrites ws list o)
+unfolding withWrites doneNumbers refusedNumbers
 ended-listed ws list (was-done n s) = was-done (length ws) s
 ended-listed ws list (was-refused n d c) = rw (ne-eqb (n .number) 0 d) (was-refused n d c)
 
@@ -130,7 +130,7 @@ abbrev storedRun : Run → List ℕ → ℕ → Outcome → Run
 storedRun r key value o =
     record {
       image = firstLeft (o .lent);
-      plain = notedBy o key value (r .plain);
+      plain = plainBy o key value (r .plain);
       sum = r .sum +ℤ o .numbers .change;
     }
 
@@ -163,7 +163,7 @@ module _ {h : Head} {alphabet : List ℕ} {r : Run} (i : Holds h alphabet r) whe
 
   -- however a store ended
   step-store : {key : List ℕ} {value : ℕ} {o : Outcome} → Ended (r .image) key value o → Holds h alphabet (storedRun r key value o)
-  unfolding firstLeft notedBy doneNumbers refusedNumbers
+  unfolding firstLeft plainBy doneNumbers refusedNumbers
   step-store {key} {value} (was-done n s) =
       let g : ℕ = headOf (r .image) .g + newOf (headOf (r .image)) (r .image) key value in
       record {
@@ -201,22 +201,22 @@ no-change (some s) kept done e = refl
 module _ {h : Head} {alphabet : List ℕ} where
   step : (r : Run) (c : Call) → Holds h alphabet r → Holds h alphabet (after r c)
   unfolding after doneNumbers
-  step r (check work) i = unchanged i (no-change (first (checking (r .image) work)) _ _ refl)
-  step r (count work) i = unchanged i (no-change (first (checking (r .image) work)) _ _ refl)
-  step r (lookUp given) i = unchanged i (no-change (first (lookingUp (r .image) given)) _ _ refl)
+  step r (check work) i = unchanged i (no-change (first (checkOrder (r .image) work)) _ _ refl)
+  step r (count work) i = unchanged i (no-change (first (checkOrder (r .image) work)) _ _ refl)
+  step r (lookUp given) i = unchanged i (no-change (first (lookUpOrder (r .image) given)) _ _ refl)
   step r (store work given value) i = step-store i (ended (r .image) work given value)
   step r (storeWrites work given value list) i =
       step-store i (ended-listed (writesIn (r .image) (keyIn (r .image) given) value) list (ended (r .image) work given value))
   step r (mend work) i =
       rw (mend-kept (r .image) work (not-mended (i .accepted) work))
-      (unchanged i (no-change (first (checking (r .image) work)) _ _ refl))
+      (unchanged i (no-change (first (checkOrder (r .image) work)) _ _ refl))
   step r (nextKey work key onward buffer) i =
-      unchanged i (no-change (first (nexting (r .image) work key (length buffer) (nextIn (r .image) key onward))) _ _ refl)
-  step r (counts work tally) i = unchanged i (no-change (first (workingOut (r .image) work tally)) _ _ refl)
-  step r (checkCounts work tally) i = unchanged i (no-change (first (checkingCounts (r .image) work tally)) _ _ refl)
+      unchanged i (no-change (first (nextKeyOrder (r .image) work key (length buffer) (nextIn (r .image) key onward))) _ _ refl)
+  step r (counts work tally) i = unchanged i (no-change (first (countsOrder (r .image) work tally)) _ _ refl)
+  step r (checkCounts work tally) i = unchanged i (no-change (first (checkCountsOrder (r .image) work tally)) _ _ refl)
   step r (storeCounts work given value tally) i = step-store i (ended-counts (r .image) work given value tally)
-  step r (keyAt work tally at buffer) i = unchanged i (no-change (first (gettingKey (r .image) work tally at (length buffer))) _ _ refl)
-  step r (position work tally given) i = unchanged i (no-change (first (gettingPosition (r .image) work tally given)) _ _ refl)
+  step r (keyAt work tally at buffer) i = unchanged i (no-change (first (keyAtOrder (r .image) work tally at (length buffer))) _ _ refl)
+  step r (position work tally given) i = unchanged i (no-change (first (positionOrder (r .image) work tally given)) _ _ refl)
 
   holds : (r : Run) (cs : List Call) → Holds h alphabet r → Holds h alphabet (ran r cs)
   unfolding ran
@@ -249,24 +249,24 @@ module _ (image : List ℕ) (n a d : ℕ) (alphabet : List ℕ) (least most : �
   fit-same f = record { allowed = rw (at-end .same-head) at (f .allowed); below = rw (at-end .same-head) at (f .below) }
 
   -- 9 and 10 ask what they asked at the start, and the key that is meant is the same
-  keyed-same : (given : Given) → keying (r .image) given ≡ keyingBy h alphabet given
-  unfolding keying
+  keyed-same : (given : Given) → keyRows (r .image) given ≡ keyRowsBy h alphabet given
+  unfolding keyRows
   keyed-same given =
-      ap₂ (λ (j : Head) (b : List ℕ). keyingBy j b given) (at-end .same-head) (at-end .same-alphabet)
+      ap₂ (λ (j : Head) (b : List ℕ). keyRowsBy j b given) (at-end .same-head) (at-end .same-alphabet)
       ∙ keying-total h (headOf (r .image) .g) alphabet given
 
-  meant-same : (given : Given) → keyIn (r .image) given ≡ lettersIn (meantBy alphabet given)
+  meant-same : (given : Given) → keyIn (r .image) given ≡ orEmpty (meantBy alphabet given)
   unfolding keyIn meantIn
-  meant-same given = ap (λ (b : List ℕ). lettersIn (meantBy b given)) (at-end .same-alphabet)
+  meant-same given = ap (λ (b : List ℕ). orEmpty (meantBy b given)) (at-end .same-alphabet)
 
   -- "answers as a plain list of last values": 9 or 10 for a key that no image with this head has, the last value for any other
   pub run-answers : (given : Given) → lookUpOf (r .image) given
-      ≡ heard (first (keyingBy h alphabet given)) [] (telling (lastOf (r .plain) (lettersIn (meantBy alphabet given))))
+      ≡ heard (first (keyRowsBy h alphabet given)) [] (telling (lastOf (r .plain) (orEmpty (meantBy alphabet given))))
   run-answers given =
-      let fit : first (keying (r .image) given) ≡ none → Fit h (keyIn (r .image) given) =
+      let fit : first (keyRows (r .image) given) ≡ none → Fit h (keyIn (r .image) given) =
       λ e. fit-same (given-fit (r .image) given (accepted-opens run-accepted) e) in
       looks-up-accepted run-accepted given
-      ∙ heard-alike (first (keying (r .image) given)) [] (λ e. ap telling (at-end .answers (keyIn (r .image) given) (fit e)))
+      ∙ heard-alike (first (keyRows (r .image) given)) [] (λ e. ap telling (at-end .answers (keyIn (r .image) given) (fit e)))
       ∙ ap₂ (λ (rows : List Row) (k : List ℕ). heard (first rows) [] (telling (lastOf (r .plain) k))) (keyed-same given) (meant-same given)
 
   -- "The sum of these from a fresh image equals the number of keys stored now", and that is the number that is told
@@ -279,5 +279,5 @@ module _ (image : List ℕ) (n a d : ℕ) (alphabet : List ℕ) (least most : �
   run-counts work b = (
     length (storedKeys (r .image)),
     sym run-sums,
-    heard-done (first (checking (r .image) work)) _ _ (accepted-checks (r .image) work run-accepted b),
+    heard-done (first (checkOrder (r .image) work)) _ _ (accepted-checks (r .image) work run-accepted b),
   )

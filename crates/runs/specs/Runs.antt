@@ -86,26 +86,26 @@ imageAfter l (keyAt work tally at buffer) = l
 imageAfter l (position work tally given) = l
 
 -- the plain list after a store that left this outcome: one that answers number 0 is noted
-unfoldable pub notedBy : Outcome → List ℕ → ℕ → List Entry → List Entry
-notedBy o key value plain = cond (eqb (o .numbers .number) 0) (record { key = key; value = value } ∷ plain) plain
+unfoldable pub plainBy : Outcome → List ℕ → ℕ → List Entry → List Entry
+plainBy o key value plain = cond (eqb (o .numbers .number) 0) (record { key = key; value = value } ∷ plain) plain
 
 -- and after any call on this image
-unfoldable pub noted : List ℕ → Call → List Entry → List Entry
-unfolding notedBy heardOf keyIn
-noted l (store work given value) plain = notedBy (heardOf l (store work given value)) (keyIn l given) value plain
-noted l (storeWrites work given value list) plain =
-    notedBy (heardOf l (storeWrites work given value list)) (keyIn l given) value plain
-noted l (storeCounts work given value tally) plain =
-    notedBy (heardOf l (storeCounts work given value tally)) (keyIn l given) value plain
-noted l (mend work) plain = plain
-noted l (check work) plain = plain
-noted l (count work) plain = plain
-noted l (lookUp given) plain = plain
-noted l (nextKey work key after buffer) plain = plain
-noted l (counts work tally) plain = plain
-noted l (checkCounts work tally) plain = plain
-noted l (keyAt work tally at buffer) plain = plain
-noted l (position work tally given) plain = plain
+unfoldable pub plainAfter : List ℕ → Call → List Entry → List Entry
+unfolding plainBy heardOf keyIn
+plainAfter l (store work given value) plain = plainBy (heardOf l (store work given value)) (keyIn l given) value plain
+plainAfter l (storeWrites work given value list) plain =
+    plainBy (heardOf l (storeWrites work given value list)) (keyIn l given) value plain
+plainAfter l (storeCounts work given value tally) plain =
+    plainBy (heardOf l (storeCounts work given value tally)) (keyIn l given) value plain
+plainAfter l (mend work) plain = plain
+plainAfter l (check work) plain = plain
+plainAfter l (count work) plain = plain
+plainAfter l (lookUp given) plain = plain
+plainAfter l (nextKey work key after buffer) plain = plain
+plainAfter l (counts work tally) plain = plain
+plainAfter l (checkCounts work tally) plain = plain
+plainAfter l (keyAt work tally at buffer) plain = plain
+plainAfter l (position work tally given) plain = plain
 
 -- ---- a run
 
@@ -116,11 +116,11 @@ pub record Run : Type 0 where
   pub sum : ℤ
 
 unfoldable pub after : Run → Call → Run
-unfolding imageAfter noted heardOf
+unfolding imageAfter plainAfter heardOf
 after r c =
     record {
       image = imageAfter (r .image) c;
-      plain = noted (r .image) c (r .plain);
+      plain = plainAfter (r .image) c (r .plain);
       sum = r .sum +ℤ heardOf (r .image) c .numbers .change;
     }
 

@@ -12,7 +12,7 @@ use lib.Seq.{sets, length-take-le}
 use Rattle.trie.specs.Table.{answer}
 use Rattle.head.specs.declared.Head.{Head}
 use Rattle.head.specs.Fields.{headOf, permitted}
-use Rattle.alphabet.specs.Letters.{lettersIn}
+use Rattle.alphabet.specs.Letters.{orEmpty}
 use Rattle.node.specs.Image.{tableOf}
 use Rattle.paper.specs.declared.Refusal.{Refusal}
 use Rattle.paper.specs.declared.Verdict.{Verdict}
@@ -20,7 +20,7 @@ use Rattle.paper.specs.declared.Found.{Found}
 use Rattle.paper.specs.Hearing.{Row, Outcome, first, heard}
 use Rattle.paper.specs.Answers.{saidOf, rowOf, refusalNumbers, foundOf}
 use Rattle.paper.specs.Rows.{row14, row15, isNone}
-use Rattle.paper.specs.Orders.{checking, byNext, nexting}
+use Rattle.paper.specs.Orders.{checkOrder, nextRows, nextKeyOrder}
 use Rattle.paper.specs.Calls.{tableIn, storedKeys, nextIn, foundIn, workAfter, nextKeyOf}
 use Rattle.paper.specs.Promises.{Nexts}
 use Rattle.paper.specs.Accepted.{Accepted}
@@ -30,11 +30,11 @@ use Rattle.key.specs.Hand.{inHand, Holds, lettersOf, Ready}
 use Rattle.key.proofs.Hand.{hand-holds}
 use Rattle.key.proofs.Judging.{next-ready}
 use Rattle.traversal.specs.declared.Search.{Search}
-use Rattle.traversal.specs.Search.{sought, toldOf, Room, Told}
+use Rattle.traversal.specs.Search.{nextStored, searchOf, PathRoom, SearchTells}
 use Rattle.traversal.proofs.Searching.{was-missing, was-found}
 use Rattle.depths.proofs.Walkable.{Walkable, walkable}
 use Rattle.traversal.proofs.Walking.{met}
-use Rattle.seeking.specs.Seeking.{Sought}
+use Rattle.seeking.specs.Seeking.{Seeks}
 
 -- ---- over the rows
 
@@ -43,13 +43,13 @@ module _ (l work key : List ℕ) (after : Bool) (buffer : List ℕ) where
   rest = row14 (headOf l) (length buffer) ∷ row15 (nextIn l key after) ∷ []
 
   abbrev order : List Row
-  order = checking l work ++ (byNext (headOf l) key ++ rest)
+  order = checkOrder l work ++ (nextRows (headOf l) key ++ rest)
 
   abbrev answered : Outcome
-  answered = foundIn l work buffer (lettersIn (nextIn l key after))
+  answered = foundIn l work buffer (orEmpty (nextIn l key after))
 
   asked : nextKeyOf l work key after buffer ≡ heard (first order) (workAfter l work ∷ buffer ∷ []) answered
-  unfolding nextKeyOf nexting
+  unfolding nextKeyOf nextKeyOrder
   asked = refl
 
   abbrev Leaves : Found → List ℕ → Type 0
@@ -60,15 +60,15 @@ module _ (l work key : List ℕ) (after : Bool) (buffer : List ℕ) where
   refuses why e = sym (asked ∙ heard-refused _ _ _ e)
 
   -- behind the check, behind 9 and 10, and behind 14
-  module _ (checked : first (checking l work) ≡ none) where
-    unkeyed : {v : Verdict} {why : Refusal} → rowOf v ≡ first (byNext (headOf l) key) → v ≡ Verdict.Refused why
+  module _ (checked : first (checkOrder l work) ≡ none) where
+    unkeyed : {v : Verdict} {why : Refusal} → rowOf v ≡ first (nextRows (headOf l) key) → v ≡ Verdict.Refused why
         → Leaves (Found.Refused why) buffer
     unkeyed {why = why} told e =
-        refuses why (second-part (checking l work) _ checked ∙ first-part (byNext (headOf l) key) _ (told-refused told e))
+        refuses why (second-part (checkOrder l work) _ checked ∙ first-part (nextRows (headOf l) key) _ (told-refused told e))
 
-    module _ (keyed : first (byNext (headOf l) key) ≡ none) where
+    module _ (keyed : first (nextRows (headOf l) key) ≡ none) where
       left : first order ≡ first rest
-      left = second-part (checking l work) _ checked ∙ second-part (byNext (headOf l) key) _ keyed
+      left = second-part (checkOrder l work) _ checked ∙ second-part (nextRows (headOf l) key) _ keyed
 
       short : length buffer < headOf l .max → Leaves (Found.Refused Refusal.ShortBuffer) buffer
       unfolding row14
@@ -85,11 +85,11 @@ module _ (l work key : List ℕ) (after : Bool) (buffer : List ℕ) where
 
         module _ (k : List ℕ) (e : nextIn l key after ≡ some k) where
           done : nextKeyOf l work key after buffer ≡ foundIn l work buffer k
-          unfolding row15 isNone lettersIn
+          unfolding row15 isNone orEmpty
           done =
               asked
               ∙ heard-done _ _ _ (left-15 ∙ no-row 15 0 [] (ap isNone e) ∙ first-nil)
-              ∙ ap (λ (f : Option (List ℕ)). foundIn l work buffer (lettersIn f)) e
+              ∙ ap (λ (f : Option (List ℕ)). foundIn l work buffer (orEmpty f)) e
 
           found : {n x : ℕ} {buffer′ : List ℕ} → n ≡ length k → x ≡ answer (tableIn l) k → buffer′ ≡ sets buffer 0 k
               → Leaves (Found.Key n x) buffer′
@@ -98,18 +98,18 @@ module _ (l work key : List ℕ) (after : Bool) (buffer : List ℕ) where
 
 -- ---- what the search told
 
-module _ {h : Head} {l : List ℕ} {o : Option (List ℕ)} {r : Search} {path nodes : List ℕ} (t : Told h l o r path nodes)
+module _ {h : Head} {l : List ℕ} {o : Option (List ℕ)} {r : Search} {path nodes : List ℕ} (t : SearchTells h l o r path nodes)
     {n x : ℕ} (f : r ≡ Search.Found n x) where
   -- the key found, whose letters are the first n of the path
   key-found : (k : List ℕ) × (o ≡ some k) × (n ≡ length k) × (x ≡ answer (tableOf h l) k) × (take n path ≡ k)
-  unfolding toldOf
+  unfolding searchOf
   key-found =
       let (k, is, count) = was-found h l t f in
-      let told : Search.Found n x ≡ toldOf (tableOf h l) (some k) = sym f ∙ t .answers ∙ ap (toldOf (tableOf h l)) is in
+      let told : Search.Found n x ≡ searchOf (tableOf h l) (some k) = sym f ∙ t .answers ∙ ap (searchOf (tableOf h l)) is in
       (k, is, count, cc, ap (λ (m : ℕ). take m path) count ∙ t .reached k is .letters)
 
   -- is no longer than max, and so stands in the path and has room in a buffer that 14 passed
-  module _ (room : Room h path nodes) where
+  module _ (room : PathRoom h path nodes) where
     pub found-within : n ≤ length path
     found-within = omega (arith, met t f .deep, room .letters)
 
@@ -125,7 +125,7 @@ module _ {h : Head} {l : List ℕ} {o : Option (List ℕ)} {r : Search} {path no
 pub record Behind (l : List ℕ) (h : Head) (key : List ℕ) (hand : Key) : Type 0 where
   pub same : h ≡ headOf l
   pub walk : Walkable h l
-  pub unheard : first (byNext (headOf l) key) ≡ none
+  pub unheard : first (nextRows (headOf l) key) ≡ none
   pub ready : Ready h hand
   pub letters : lettersOf hand ≡ key
   pub short : hand .len ≤ h .max
@@ -135,15 +135,15 @@ module _ {l : List ℕ} {h : Head} (a : Accepted l) (same : h ≡ headOf l) wher
   head-permitted = walkable a same .opened .head-permitted
 
   module _ (key : List ℕ) {hand : Key} (v : Verdict) (made : hand ≡ inHand key)
-      (told : (k : List ℕ) → Holds hand k → rowOf v ≡ first (byNext h k)) where
+      (told : (k : List ℕ) → Holds hand k → rowOf v ≡ first (nextRows h k)) where
     holds : Holds hand key
     holds = rw made (hand-holds key)
 
-    judged : rowOf v ≡ first (byNext (headOf l) key)
+    judged : rowOf v ≡ first (nextRows (headOf l) key)
     judged = rw same at (told key holds)
 
     pub sought-unkeyed : (after : Bool) (buffer : List ℕ) {why : Refusal} → v ≡ Verdict.Refused why
-        → Sought l key after buffer (Found.Refused why) buffer
+        → Seeks l key after buffer (Found.Refused why) buffer
     sought-unkeyed after buffer e work checked = unkeyed l work key after buffer checked judged e
 
     pub behind : v ≡ Verdict.Passed → Behind l h key hand
@@ -159,22 +159,22 @@ module _ {l : List ℕ} {h : Head} (a : Accepted l) (same : h ≡ headOf l) wher
         }
 
 module _ {l : List ℕ} {h : Head} {key : List ℕ} {hand : Key} (p : Behind l h key hand) (after : Bool) (buffer : List ℕ) where
-  pub sought-short : length buffer < h .max → Sought l key after buffer (Found.Refused Refusal.ShortBuffer) buffer
+  pub sought-short : length buffer < h .max → Seeks l key after buffer (Found.Refused Refusal.ShortBuffer) buffer
   sought-short b work checked = short l work key after buffer checked (p .unheard) (rw (p .same) at b)
 
   module _ (room : h .max ≤ length buffer) {r : Search} {path nodes : List ℕ}
-      (t : Told h l (sought h l after (lettersOf hand)) r path nodes) where
-    told-next : Told (headOf l) l (nextIn l key after) r path nodes
+      (t : SearchTells h l (nextStored h l after (lettersOf hand)) r path nodes) where
+    told-next : SearchTells (headOf l) l (nextIn l key after) r path nodes
     unfolding nextIn storedKeys tableIn
     told-next = rw (p .same, p .letters) at t
 
-    pub sought-missing : r ≡ Search.Missing → Sought l key after buffer (Found.Refused Refusal.NoKey) buffer
+    pub sought-missing : r ≡ Search.Missing → Seeks l key after buffer (Found.Refused Refusal.NoKey) buffer
     sought-missing f work checked =
         missing l work key after buffer checked (p .unheard) (rw (p .same) at room)
         (was-missing (headOf l) l told-next f)
 
     pub sought-found : {n x : ℕ} {buffer′ : List ℕ} → r ≡ Search.Found n x → buffer′ ≡ sets buffer 0 (take n path)
-        → Sought l key after buffer (Found.Key n x) buffer′
+        → Seeks l key after buffer (Found.Key n x) buffer′
     unfolding tableIn
     sought-found f laid work checked =
         let (k, is, count, value, front) = key-found told-next f in

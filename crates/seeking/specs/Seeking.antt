@@ -8,10 +8,10 @@ use mathlib.Core.List.{List}
 use Rattle.paper.specs.declared.Found.{Found}
 use Rattle.paper.specs.Answers.{foundOf}
 use Rattle.paper.specs.Hearing.{first}
-use Rattle.paper.specs.Orders.{checking}
+use Rattle.paper.specs.Orders.{checkOrder}
 use Rattle.paper.specs.Calls.{workAfter}
 use Rattle.paper.specs.Promises.{Nexts}
 
-abbrev pub Sought : List ℕ → List ℕ → Bool → List ℕ → Found → List ℕ → Type 0
-Sought l key after buffer r buffer′ =
-    (work : List ℕ) → first (checking l work) ≡ none → Nexts l work key after buffer (foundOf r) (workAfter l work) buffer′
+abbrev pub Seeks : List ℕ → List ℕ → Bool → List ℕ → Found → List ℕ → Type 0
+Seeks l key after buffer r buffer′ =
+    (work : List ℕ) → first (checkOrder l work) ≡ none → Nexts l work key after buffer (foundOf r) (workAfter l work) buffer′

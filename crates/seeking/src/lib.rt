@@ -2,7 +2,7 @@
 ghost use mathlib.Core.Path.{_≡_};
 ghost use Rattle.head.specs.Fields.{headOf};
 ghost use Rattle.paper.specs.Accepted.{Accepted};
-ghost use Rattle.seeking.specs.Seeking.{Sought};
+ghost use Rattle.seeking.specs.Seeking.{Seeks};
 use head::Head;
 use key::Key;
 use traversal::Search;
@@ -15,7 +15,7 @@ use paper::Verdict;
 pub fn sought(image: &[u8], h: Head, letters: &[u8], after: bool, buffer: &mut [u8]) -> Found
     requires { ⌜ Accepted (now image) ⌝ }
     requires { ⌜ h ≡ headOf (now image) ⌝ }
-    ensures { λ r. ⌜ Sought (now (image .entry)) (now (letters .entry)) after (now (buffer .entry)) r (now (buffer .exit)) ⌝ }
+    ensures { λ r. ⌜ Seeks (now (image .entry)) (now (letters .entry)) after (now (buffer .entry)) r (now (buffer .exit)) ⌝ }
 {
     let key = Key::of(letters);
     let judged = key.judge_next(h);

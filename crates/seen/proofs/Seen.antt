@@ -18,18 +18,18 @@ use Rattle.head.specs.declared.Head.{Head}
 use Rattle.head.specs.Fields.{shortestImage, longestImage, fieldsLen, totalAt, totalLen, headOf, permitted, usedLen}
 use Rattle.head.proofs.Fields.{head-same}
 use Rattle.head.proofs.Places.{used-le, place-least}
-use Rattle.alphabet.specs.Letters.{goodAlphabet, lettersIn}
+use Rattle.alphabet.specs.Letters.{goodAlphabet, orEmpty}
 use Rattle.node.specs.Image.{tableOf}
 use Rattle.node.proofs.Tables.{table-bytes}
 use Rattle.paper.specs.Hearing.{Row, Outcome, outcome, doneNumbers, first, heard}
 use Rattle.paper.specs.Given.{Given, alphabetIn, meantBy, meantIn, keyIn}
-use Rattle.paper.specs.Rows.{row5, givenLowest, row6path, row14, row15}
-use Rattle.paper.specs.Orders.{opening, openingOf, linking, checking, keyingBy, keying, byNext, lookingUp, nexting}
+use Rattle.paper.specs.Rows.{row5, rowWhenLowest, row6path, row14, row15}
+use Rattle.paper.specs.Orders.{openingRows, openingRowsOf, linkRows, checkOrder, keyRowsBy, keyRows, nextRows, lookUpOrder, nextKeyOrder}
 use Rattle.paper.specs.Calls.{tableIn, clearedBy, workAfter, checkOf, storedKeys, countOf, telling, lookUpOf, nextIn, foundIn, nextKeyOf}
 use Rattle.paper.specs.Accepted.{Accepted}
 use Rattle.paper.proofs.Opening.{alphabet-same}
 use Rattle.position.specs.Counts.{countIn, countsIn, row25}
-use Rattle.position.specs.Orders.{usable, workingOut, checkingCounts, gettingKey, ifStored, gettingPosition}
+use Rattle.position.specs.Orders.{usable, countsOrder, checkCountsOrder, keyAtOrder, ifStored, positionOrder}
 use Rattle.position.specs.Calls.{workLeft, worked, countsOf, checkCountsOf, placedKey, keyAtOf, positionOf}
 use Rattle.seen.specs.Seen.{Seen, seenIn, SameAnswers}
 
@@ -50,10 +50,10 @@ pub same-alphabet : (h : Head) (a b : List ℕ) → length a ≡ length b → Sa
 same-alphabet h a b n e = alphabet-same h a b n (λ i c. e (fieldsLen + i) (omega arith) (omega arith))
 
 -- of 1 to 4 the nodes' bytes are no part
-pub opens-same : (a b : List ℕ) → headOf a ≡ headOf b → length a ≡ length b → SameUpTo (fieldsLen + headOf b .f) a b → openingOf a ≡ openingOf b
-unfolding openingOf
+pub opens-same : (a b : List ℕ) → headOf a ≡ headOf b → length a ≡ length b → SameUpTo (fieldsLen + headOf b .f) a b → openingRowsOf a ≡ openingRowsOf b
+unfolding openingRowsOf
 opens-same a b heads n e =
-    ap (λ (k : Head). opening k (alphabetIn k a) (length a)) heads ∙ ap₂ (opening (headOf b)) (same-alphabet (headOf b) a b n e) n
+    ap (λ (k : Head). openingRows k (alphabetIn k a) (length a)) heads ∙ ap₂ (openingRows (headOf b)) (same-alphabet (headOf b) a b n e) n
 
 -- where the heads are equal and the bytes after G, as far as is used
 pub seen-same : (a b : List ℕ) → headOf a ≡ headOf b → length a ≡ length b
@@ -76,10 +76,10 @@ seen-below a b n e =
 
 -- the orders and what is left, by what is seen
 abbrev opens : Seen → List Row
-opens s = opening (s .head) (s .alphabet) (s .len)
+opens s = openingRows (s .head) (s .alphabet) (s .len)
 
 abbrev checks : Seen → List ℕ → List Row
-checks s work = opens s ++ (row5 (s .head) (length work) ∷ linking (s .head) (s .table))
+checks s work = opens s ++ (row5 (s .head) (length work) ∷ linkRows (s .head) (s .table))
 
 abbrev clears : Seen → List ℕ → List ℕ
 clears s work = clearedBy (first (opens s ++ (row5 (s .head) (length work) ∷ []))) (s .head .g + 1) work
@@ -88,19 +88,19 @@ abbrev lists : Seen → List (List ℕ)
 lists s = listing (s .table) (s .head .n) (s .head .min) (s .head .max)
 
 abbrev means : Seen → Given → List ℕ
-means s given = lettersIn (meantBy (s .alphabet) given)
+means s given = orEmpty (meantBy (s .alphabet) given)
 
 abbrev looks : Seen → Given → Outcome
 looks s given =
-    heard (first (opens s ++ (keyingBy (s .head) (s .alphabet) given ++ (row6path (s .head) (s .table) (means s given) ∷ [])))) []
+    heard (first (opens s ++ (keyRowsBy (s .head) (s .alphabet) given ++ (row6path (s .head) (s .table) (means s given) ∷ [])))) []
     (telling (answer (s .table) (means s given)))
 
 abbrev nexts : Seen → List ℕ → List ℕ → List ℕ → Option (List ℕ) → Outcome
 nexts s work key buffer found =
-    heard (first (checks s work ++ (byNext (s .head) key ++ (row14 (s .head) (length buffer) ∷ row15 found ∷ []))))
+    heard (first (checks s work ++ (nextRows (s .head) key ++ (row14 (s .head) (length buffer) ∷ row15 found ∷ []))))
     (clears s work ∷ buffer ∷ [])
-    (outcome (doneNumbers (length (lettersIn found)) (pos 0) (answer (s .table) (lettersIn found)))
-    (clears s work ∷ sets buffer 0 (lettersIn found) ∷ []))
+    (outcome (doneNumbers (length (orEmpty found)) (pos 0) (answer (s .table) (orEmpty found)))
+    (clears s work ∷ sets buffer 0 (orEmpty found) ∷ []))
 
 -- and those of the calls with counts
 abbrev count : Seen → ℕ → ℕ
@@ -118,7 +118,7 @@ leaves s work counts = clears s (lets work counts) ++ drop (length counts) work
 abbrev compares : Seen → List ℕ → List ℕ → List Row
 compares s work counts =
     checks s (lets work counts)
-    ++ (givenLowest 25 (λ q. not (eqb (getD counts q 0) (count s q))) 0 (s .head .g + 1) ∷ [])
+    ++ (rowWhenLowest 25 (λ q. not (eqb (getD counts q 0) (count s q))) 0 (s .head .g + 1) ∷ [])
 
 abbrev works : Seen → List ℕ → List ℕ → Outcome
 works s work counts =
@@ -132,21 +132,21 @@ holds s work counts =
 abbrev places : Seen → List ℕ → List ℕ → List ℕ → Option (List ℕ) → Outcome
 places s work counts buffer found =
     heard (first (compares s work counts ++ (row14 (s .head) (length buffer) ∷ row15 found ∷ []))) (leaves s work counts ∷ buffer ∷ [])
-    (outcome (doneNumbers (length (lettersIn found)) (pos 0) (answer (s .table) (lettersIn found)))
-    (leaves s work counts ∷ sets buffer 0 (lettersIn found) ∷ []))
+    (outcome (doneNumbers (length (orEmpty found)) (pos 0) (answer (s .table) (orEmpty found)))
+    (leaves s work counts ∷ sets buffer 0 (orEmpty found) ∷ []))
 
 abbrev has : Seen → List ℕ → Option (List ℕ)
 has s key = cond (eqb (answer (s .table) key) 0) none (some key)
 
 abbrev ranks : Seen → List ℕ → List ℕ → Given → Outcome
 ranks s work counts given =
-    heard (first (compares s work counts ++ (keyingBy (s .head) (s .alphabet) given ++ (row15 (has s (means s given)) ∷ []))))
+    heard (first (compares s work counts ++ (keyRowsBy (s .head) (s .alphabet) given ++ (row15 (has s (means s given)) ∷ []))))
     (leaves s work counts ∷ [])
     (outcome (doneNumbers 0 (pos 0) (rankIn (lists s) (means s given))) (leaves s work counts ∷ []))
 
 module _ {a b : List ℕ} (e : seenIn a ≡ seenIn b) where
   pub same-answers : SameAnswers a b
-  unfolding openingOf checking keying meantIn keyIn lookingUp nexting tableIn workAfter checkOf storedKeys countOf lookUpOf nextIn foundIn nextKeyOf countIn countsIn row25 usable workingOut checkingCounts gettingKey ifStored gettingPosition workLeft worked countsOf checkCountsOf placedKey keyAtOf positionOf
+  unfolding openingRowsOf checkOrder keyRows meantIn keyIn lookUpOrder nextKeyOrder tableIn workAfter checkOf storedKeys countOf lookUpOf nextIn foundIn nextKeyOf countIn countsIn row25 usable countsOrder checkCountsOrder keyAtOrder ifStored positionOrder workLeft worked countsOf checkCountsOf placedKey keyAtOf positionOf
   same-answers =
       record {
         checks = λ work. ap (λ (s : Seen). heard (first (checks s work)) (clears s work ∷ []) (outcome (doneNumbers 0 (pos 0) 0) (clears s work ∷ []))) e;

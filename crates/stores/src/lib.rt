@@ -1,6 +1,6 @@
 // The stores. None has a `requires`: any bytes, key, text or value may be handed over. Each promises one line, that the numbers of its answer
 // and every lent buffer's last content are the outcome that document 01 states (crate `paper`).
-ghost use Rattle.paper.specs.Answers.{storedOf, listedOf};
+ghost use Rattle.paper.specs.Answers.{storedOf, notedOf};
 ghost use Rattle.paper.specs.Given.{asLetters, asText};
 ghost use Rattle.paper.specs.Promises.{Stores, StoresWrites};
 use head::Head;
@@ -44,7 +44,7 @@ pub fn store_writes(
     value: u32,
     writes: &mut [u32; Head::LISTED_MOST as usize],
 ) -> Listed
-    ensures { λ r. ⌜ StoresWrites (now (image .entry)) (now (work .entry)) (asLetters (now (letters .entry))) value (now (writes .entry)) (listedOf r) (now (image .exit)) (now (work .exit)) (now (writes .exit)) ⌝ }
+    ensures { λ r. ⌜ StoresWrites (now (image .entry)) (now (work .entry)) (asLetters (now (letters .entry))) value (now (writes .entry)) (notedOf r) (now (image .exit)) (now (work .exit)) (now (writes .exit)) ⌝ }
 {
     let asked = asking::ask(image, work, letters);
     let verdict = asked.verdict;
@@ -63,7 +63,7 @@ pub fn store_text_writes(
     value: u32,
     writes: &mut [u32; Head::LISTED_MOST as usize],
 ) -> Listed
-    ensures { λ r. ⌜ StoresWrites (now (image .entry)) (now (work .entry)) (asText (now (text .entry))) value (now (writes .entry)) (listedOf r) (now (image .exit)) (now (work .exit)) (now (writes .exit)) ⌝ }
+    ensures { λ r. ⌜ StoresWrites (now (image .entry)) (now (work .entry)) (asText (now (text .entry))) value (now (writes .entry)) (notedOf r) (now (image .exit)) (now (work .exit)) (now (writes .exit)) ⌝ }
 {
     let named = asking::ask_text(image, work, text);
     let verdict = named.verdict;

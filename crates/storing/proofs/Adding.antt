@@ -24,10 +24,10 @@ use Rattle.paper.specs.declared.Verdict.{Verdict}
 use Rattle.paper.specs.Hearing.{Row, outcome, first}
 use Rattle.paper.specs.Answers.{saidOf, rowOf, refusalNumbers, storedOf}
 use Rattle.paper.specs.Rows.{row11, row12, row13}
-use Rattle.paper.specs.Orders.{adding}
+use Rattle.paper.specs.Orders.{addingRows}
 use Rattle.paper.proofs.Hearing.{yes-row, first-none, first-nil, passed-row, heard-refused, heard-done}
 use Rattle.paper.proofs.StoreCall.{none-11, none-12, none-13}
-use Rattle.storing.specs.StoreStage.{storeAt, stoppedAt, Allowed, Space, Builds}
+use Rattle.storing.specs.StoreStage.{storeAt, stoppedAt, Unrefused, Space, Builds}
 use Rattle.storing.proofs.Building.{space}
 
 -- ---- the change
@@ -61,15 +61,15 @@ some-new k b = rw (lt-ltb 0 (suc k) (omega arith)) refl
 module _ (h : Head) (value len : ℕ) where
   -- at each way out of judging
   abbrev Judged : ℕ → Verdict → Type 0
-  Judged new v = rowOf v ≡ first (adding h value new len)
+  Judged new v = rowOf v ≡ first (addingRows h value new len)
 
   pub judged-11 : (new : ℕ) {most : ℕ} → most + 1 ≡ 256 ^ h .d → most < value → Judged new (Verdict.Refused Refusal.ValueTooGreat)
-  unfolding rowOf adding row11
+  unfolding rowOf addingRows row11
   judged-11 new m b = sym (yes-row 11 0 _ (lt-ltb (256 ^ h .d - 1) value (omega arith)))
 
   module _ (fits : value < 256 ^ h .d) where
-    left-12 : (k : ℕ) → first (adding h value k len) ≡ first (row12 h k ∷ row13 h k len ∷ [])
-    unfolding adding
+    left-12 : (k : ℕ) → first (addingRows h value k len) ≡ first (row12 h k ∷ row13 h k len ∷ [])
+    unfolding addingRows
     left-12 k = first-none _ _ (none-11 h value .1 fits)
 
     -- no node is new
@@ -90,7 +90,7 @@ module _ (h : Head) (value len : ℕ) where
     judged-12 (suc k) z m b = sym (left-12 (suc k) ∙ yes-row 12 0 _ (some-new k _ ∙ lt-ltb (256 ^ h .a - 1) (h .g + suc k) (omega arith)))
 
     module _ (new : ℕ) (few : h .g + new < 256 ^ h .a) where
-      left-13 : first (adding h value new len) ≡ first (row13 h new len ∷ [])
+      left-13 : first (addingRows h value new len) ≡ first (row13 h new len ∷ [])
       left-13 = left-12 new ∙ first-none _ _ (none-12 h new .1 (λ _. few))
 
       pub judged-passed : usedLen (withTotal h (h .g + new)) ≤ len → Judged new Verdict.Passed
@@ -112,8 +112,8 @@ module _ (h : Head) (value len : ℕ) where
     pub addresses : 0 < new → h .g + new < 256 ^ h .a
     pub room : 0 < new → usedLen h + new * nodeWidth h ≤ len
 
-  pub passed : (new : ℕ) → first (adding h value new len) ≡ none → Passed new
-  unfolding adding
+  pub passed : (new : ℕ) → first (addingRows h value new len) ≡ none → Passed new
+  unfolding addingRows
   passed new e =
       let after11 = passed-row (row11 h value) (row12 h new ∷ row13 h new len ∷ []) e in
       let after12 = passed-row (row12 h new) (row13 h new len ∷ []) (after11 .1) in
@@ -132,7 +132,7 @@ module _ (h : Head) (l : List ℕ) where
   Leaves d value r l′ = outcome (storedOf r) (l′ ∷ []) ≡ storeAt h l d value
 
   abbrev rows : Descent → ℕ → List Row
-  rows d value = adding h value (added (missing d) value) (length l)
+  rows d value = addingRows h value (added (missing d) value) (length l)
 
   pub refuses : (d : Descent) (value : ℕ) (why : Refusal) → first (rows d value) ≡ some (saidOf why) → Leaves d value (Stored.Refused why) l
   unfolding storeAt storedOf refusalNumbers
@@ -151,7 +151,7 @@ module _ (h : Head) (l : List ℕ) (q : ℕ) {left : List ℕ} (x : ℕ) (xs : L
   none-built value z = rw (z, e) refl
 
   -- addresses and room for all that is missing
-  pub path-space : (value : ℕ) → value ≢ 0 → Allowed h (length l) (stoppedAt q left) value → Space h l (h .g + length left)
+  pub path-space : (value : ℕ) → value ≢ 0 → Unrefused h (length l) (stoppedAt q left) value → Space h l (h .g + length left)
   unfolding stoppedAt missing added
   path-space zero z a = absurd (z refl)
   path-space (suc v) z a =

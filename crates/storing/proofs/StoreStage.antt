@@ -26,7 +26,7 @@ use Rattle.walk.specs.declared.Position.{Position}
 use Rattle.walk.specs.declared.Walked.{Walked}
 use Rattle.walk.specs.Descent.{atRoot, walkedFrom}
 use Rattle.walk.proofs.Descents.{Halted, walked-complete, walked-stopped, walked-bad}
-use Rattle.storing.specs.StoreStage.{StoresIn, endOf, stoppedAt, Ends, Allowed}
+use Rattle.storing.specs.StoreStage.{StoresIn, endOf, stoppedAt, Ends, Unrefused}
 use Rattle.storing.proofs.Adding.{Leaves}
 
 -- ---- by how the walk ended
@@ -68,8 +68,8 @@ module _ (h : Head) (l k : List ℕ) (value : ℕ) {o : Walked} where
 
 -- what is allowed where the walk stopped
 pub allowed-path : (h : Head) (len : ℕ) (k : List ℕ) (value : ℕ) {o : Walked} {p : Position} → o ≡ Walked.Stopped p
-    → Allowed h len (endOf k o) value
-    → Allowed h len (stoppedAt (p .node) (drop (p .depth) k)) value
+    → Unrefused h len (endOf k o) value
+    → Unrefused h len (stoppedAt (p .node) (drop (p .depth) k)) value
 unfolding endOf
 allowed-path h len k value e a = rw e at a
 

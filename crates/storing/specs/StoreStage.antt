@@ -14,7 +14,7 @@ use Rattle.node.specs.Writes.{carriedOut, newNodes, totalWrite, linkWrite, stor
 use Rattle.paper.specs.declared.Stored.{Stored}
 use Rattle.paper.specs.Hearing.{Outcome, outcome, doneNumbers, first, heard}
 use Rattle.paper.specs.Answers.{storedOf}
-use Rattle.paper.specs.Orders.{adding}
+use Rattle.paper.specs.Orders.{addingRows}
 use Rattle.paper.specs.Calls.{tableIn}
 use Rattle.key.specs.declared.Key.{Key}
 use Rattle.walk.specs.declared.Position.{Position}
@@ -22,9 +22,9 @@ use Rattle.walk.specs.declared.Walked.{Walked}
 
 -- the outcome of 11, 12, 13 and of the writes, where the key's walk ended so
 unfoldable pub storeAt : Head → List ℕ → Descent → ℕ → Outcome
-unfolding heard first adding added missing doneNumbers changeOf valueAt tableOf carriedOut storeWrites
+unfolding heard first addingRows added missing doneNumbers changeOf valueAt tableOf carriedOut storeWrites
 storeAt h l d value =
-    heard (first (adding h value (added (missing d) value) (length l))) (l ∷ [])
+    heard (first (addingRows h value (added (missing d) value) (length l))) (l ∷ [])
     (outcome (doneNumbers 0 (changeOf (valueAt (tableOf h l) d) value) 0) (carriedOut l (storeWrites h d value) ∷ []))
 
 -- the walk is the key's own
@@ -56,8 +56,8 @@ Ends h key (Walked.Stopped p) = Stop h key p
 Ends h key (Walked.Bad q) = ⊥
 
 -- none of 11, 12 and 13 is given, where the key's walk ended so in an image of a length
-abbrev pub Allowed : Head → ℕ → Descent → ℕ → Type 0
-Allowed h len d value = first (adding h value (added (missing d) value) len) ≡ none
+abbrev pub Unrefused : Head → ℕ → Descent → ℕ → Type 0
+Unrefused h len d value = first (addingRows h value (added (missing d) value) len) ≡ none
 
 -- addresses up to this one, and the bytes of their nodes
 pub record Space (h : Head) (l : List ℕ) (total : ℕ) : Type 0 where

@@ -12,10 +12,10 @@ ghost use Rattle.node.specs.Image.{Open, tableOf};
 ghost use Rattle.node.specs.Writes.{carriedOut, newNodes, dataWrite, storeWrites};
 ghost use Rattle.paper.specs.Hearing.{first, outcome};
 ghost use Rattle.paper.specs.Answers.{rowOf, storedOf};
-ghost use Rattle.paper.specs.Orders.{adding};
+ghost use Rattle.paper.specs.Orders.{addingRows};
 ghost use Rattle.paper.specs.Accepted.{Accepted};
 ghost use Rattle.key.specs.Hand.{Ready, lettersOf};
-ghost use Rattle.storing.specs.StoreStage.{storeAt, StoresIn, Stop, stoppedAt, endOf, Ends, Allowed, Space, Builds};
+ghost use Rattle.storing.specs.StoreStage.{storeAt, StoresIn, Stop, stoppedAt, endOf, Ends, Unrefused, Space, Builds};
 use head::Head;
 use key::Key;
 use paper::Refusal;
@@ -64,7 +64,7 @@ pub fn new_count(h: Head, key: Key, walked: Walked, value: u64) -> usize
 // bits.
 pub fn judge(h: Head, len: usize, new: usize, value: u64) -> Verdict
     requires { ⌜ permitted h ≡ true ⌝ ∗ ⌜ new ≤ mostLetters ⌝ }
-    ensures { λ r. ⌜ rowOf r ≡ first (adding h value new len) ⌝ }
+    ensures { λ r. ⌜ rowOf r ≡ first (addingRows h value new len) ⌝ }
 {
     if (node::greatest(h) as u64) < value {
         return Verdict::Refused(Refusal::ValueTooGreat);
@@ -93,7 +93,7 @@ pub fn judge(h: Head, len: usize, new: usize, value: u64) -> Verdict
 
 // The writes of a store that 11, 12 and 13 have passed, given how the key's walk ended, and the change in the number of stored keys.
 pub fn write_at(image: &mut [u8], h: Head, key: Key, walked: Walked, value: u64) -> i32
-    requires { ⌜ Open h (now image) ⌝ ∗ ⌜ Ready h key ⌝ ∗ ⌜ Ends h key walked ⌝ ∗ ⌜ Allowed h (length (now image)) (endOf (lettersOf key) walked) value ⌝ }
+    requires { ⌜ Open h (now image) ⌝ ∗ ⌜ Ready h key ⌝ ∗ ⌜ Ends h key walked ⌝ ∗ ⌜ Unrefused h (length (now image)) (endOf (lettersOf key) walked) value ⌝ }
     ensures { λ _. ⌜ now (image .exit) ≡ carriedOut (now (image .entry)) (storeWrites h (endOf (lettersOf key) walked) value) ⌝ }
     ensures { λ r. ⌜ r ≡ changeOf (valueAt (tableOf h (now (image .entry))) (endOf (lettersOf key) walked)) value ⌝ }
 {
@@ -133,7 +133,7 @@ fn change(old: u64, new: u64) -> i32
 
 // The path stops: a node is missing for each letter left, and none is built for 0.
 fn extend(image: &mut [u8], h: Head, key: Key, at: Position, value: u64) -> i32
-    requires { ⌜ Open h (now image) ⌝ ∗ ⌜ Ready h key ⌝ ∗ ⌜ Stop h key at ⌝ ∗ ⌜ Allowed h (length (now image)) (stoppedAt (at .node) (drop (at .depth) (lettersOf key))) value ⌝ }
+    requires { ⌜ Open h (now image) ⌝ ∗ ⌜ Ready h key ⌝ ∗ ⌜ Stop h key at ⌝ ∗ ⌜ Unrefused h (length (now image)) (stoppedAt (at .node) (drop (at .depth) (lettersOf key))) value ⌝ }
     ensures { λ _. ⌜ now (image .exit) ≡ carriedOut (now (image .entry)) (storeWrites h (stoppedAt (at .node) (drop (at .depth) (lettersOf key))) value) ⌝ }
     ensures { λ r. ⌜ r ≡ changeOf 0 value ⌝ }
 {

@@ -32,7 +32,7 @@ use Rattle.paper.proofs.StoreCall.{stored-head, stored-table, accepted-again}
 use Rattle.position.specs.Counts.{countIn, RightCounts}
 use Rattle.position.specs.Calls.{worked}
 use Rattle.position.proofs.Right.{worked-length, worked-rest, worked-at}
-use Rattle.tracking.specs.Tracking.{Whole, gainOf, lossOf, Room, Shifted, Cleared}
+use Rattle.tracking.specs.Tracking.{Whole, gainOf, lossOf, CountsFit, Shifted, Cleared}
 
 -- ---- the change
 
@@ -53,11 +53,11 @@ one-way (pos (suc (suc n))) = inl refl
 one-way (negsuc n) = inl refl
 
 module _ {t : Table} {k : List ℕ} {c : ℤ} {list : List ℕ} where
-  pub room-more : c ≡ pos 1 → Room t k (gainOf c) (lossOf c) list → Room t k 1 0 list
+  pub room-more : c ≡ pos 1 → CountsFit t k (gainOf c) (lossOf c) list → CountsFit t k 1 0 list
   unfolding gainOf lossOf
   room-more e r = rw e at r
 
-  pub room-fewer : c ≡ negsuc 0 → Room t k (gainOf c) (lossOf c) list → Room t k 0 1 list
+  pub room-fewer : c ≡ negsuc 0 → CountsFit t k (gainOf c) (lossOf c) list → CountsFit t k 0 1 list
   unfolding gainOf lossOf
   room-fewer e r = rw e at r
 
@@ -192,7 +192,7 @@ module _ {l k : List ℕ} {value : ℕ} (s : Granted l k value) where
             z .within q (omega arith) (omega arith)
             ∙ sym (count-outside (tableIn l) (h .g) (h .n) (h .min) (h .max) q (accepted-linked (s .accepted) .within) (omega arith))
 
-    pub room : Room (tableIn after) k (gainOf change) (lossOf change) start
+    pub room : CountsFit (tableIn after) k (gainOf change) (lossOf change) start
     room =
         record {
           over = λ q met. wide q met (one-way change);

@@ -14,7 +14,7 @@ use Rattle.trie.specs.Rules.{LinkRules}
 use Rattle.trie.proofs.Walk.{descend-nil, descend-empty, descend-append, complete-within}
 use Rattle.passing.specs.Passing.{passes}
 use Rattle.passing.proofs.Passing.{passes-here, passes-nil, passes-link, prefix-passes, child-reached, never-again}
-use Rattle.tracking.specs.Tracking.{Whole, Room, Shifted, Cleared}
+use Rattle.tracking.specs.Tracking.{Whole, CountsFit, Shifted, Cleared}
 
 -- ---- numbers set to 0
 
@@ -49,7 +49,7 @@ module _ {t : Table} {k : List ℕ} {gain loss : ℕ} {list₀ : List ℕ} where
   pub going-start : Going t k gain loss list₀ list₀ 0 0
   going-start = record { deep = omega arith; came = descend-nil t 0; long = refl; each = λ q. omega arith }
 
-  module _ {g : ℕ} (rules : LinkRules t g) (room : Room t k gain loss list₀) {list : List ℕ} {depth p : ℕ}
+  module _ {g : ℕ} (rules : LinkRules t g) (room : CountsFit t k gain loss list₀) {list : List ℕ} {depth p : ℕ}
       (w : Going t k gain loss list₀ list depth p) where
     pub going-within : p ≤ g
     going-within = complete-within t g (take depth k) (rules .within) (w .came)

@@ -26,7 +26,7 @@ use Rattle.paper.specs.declared.Refusal.{Refusal}
 use Rattle.paper.specs.declared.Stored.{Stored}
 use Rattle.paper.specs.Hearing.{Row, Outcome, outcome, doneNumbers, first}
 use Rattle.paper.specs.Answers.{saidOf, refusalNumbers, storedOf}
-use Rattle.paper.specs.Orders.{adding, newOf}
+use Rattle.paper.specs.Orders.{addingRows, newOf}
 use Rattle.paper.specs.Calls.{tableIn, storedImage}
 use Rattle.paper.specs.Accepted.{Accepted}
 use Rattle.paper.specs.Granted.{Granted}
@@ -42,7 +42,7 @@ use Rattle.walk.specs.Descent.{atRoot, walkedFrom}
 use Rattle.storing.specs.StoreStage.{endOf}
 use Rattle.storing.proofs.Adding.{passed}
 use Rattle.storing.proofs.StoreStage.{in-hand}
-use Rattle.tracking.specs.Tracking.{addingCounts, storeCounted, StoresCounted, Whole, gainOf, lossOf, Room, Shifted, Cleared}
+use Rattle.tracking.specs.Tracking.{addingCountsRows, storeCounted, StoresCounted, Whole, gainOf, lossOf, CountsFit, Shifted, Cleared}
 use Rattle.tracking.proofs.PathCounts.{whole, room, kept}
 
 -- what a store has in hand once its key has been walked: the image's head, the key, and how many nodes are new
@@ -62,8 +62,8 @@ module _ {l : List ℕ} {h : Head} {key : Key} {o : Walked} {value new : ℕ} (x
   unfolding newOf tableIn
   new-same = x .count ∙ ap (λ (d : Descent). added (missing d) value) (in-hand (x .accepted) (x .same) k (x .walked))
 
-  rows-same : first (adding h value new (length l)) ≡ first (adding (headOf l) value (newOf (headOf l) l k value) (length l))
-  rows-same = ap₂ (λ (h : Head) (n : ℕ). first (adding h value n (length l))) (x .same) new-same
+  rows-same : first (addingRows h value new (length l)) ≡ first (addingRows (headOf l) value (newOf (headOf l) l k value) (length l))
+  rows-same = ap₂ (λ (h : Head) (n : ℕ). first (addingRows h value n (length l))) (x .same) new-same
 
   last-same : h .g + new ≡ headOf l .g + newOf (headOf l) l k value
   last-same = ap₂ (λ (h : Head) (n : ℕ). h .g + n) (x .same) new-same
@@ -78,17 +78,17 @@ module _ {l : List ℕ} {h : Head} {key : Key} {o : Walked} {value new : ℕ} (x
   abbrev again : List ℕ → Row
   again counts = row5again (headOf l) (newOf (headOf l) l k value) (length counts)
 
-  refuses : (counts : List ℕ) (why : Refusal) → first (addingCounts l k value counts) ≡ some (saidOf why)
+  refuses : (counts : List ℕ) (why : Refusal) → first (addingCountsRows l k value counts) ≡ some (saidOf why)
       → StoresCounted l k value counts (Stored.Refused why) l counts
   unfolding storeCounted storedOf refusalNumbers
-  refuses counts why e = sym (heard-refused (first (addingCounts l k value counts)) (l ∷ counts ∷ []) (leaves counts) e)
+  refuses counts why e = sym (heard-refused (first (addingCountsRows l k value counts)) (l ∷ counts ∷ []) (leaves counts) e)
 
   -- 11, 12 and 13
-  pub refused : (counts : List ℕ) (why : Refusal) → first (adding h value new (length l)) ≡ some (saidOf why)
+  pub refused : (counts : List ℕ) (why : Refusal) → first (addingRows h value new (length l)) ≡ some (saidOf why)
       → StoresCounted l k value counts (Stored.Refused why) l counts
   refused counts why e = refuses counts why (first-part _ (again counts ∷ []) (sym rows-same ∙ e))
 
-  module _ (passes : first (adding h value new (length l)) ≡ none) where
+  module _ (passes : first (addingRows h value new (length l)) ≡ none) where
     pub granted : Granted l k value
     granted =
         let p = passed (headOf l) value (length l) (newOf (headOf l) l k value) (sym rows-same ∙ passes) in
@@ -101,10 +101,10 @@ module _ {l : List ℕ} {h : Head} {key : Key} {o : Walked} {value new : ℕ} (x
         }
 
     -- what the writes ask
-    pub allows : first (adding h value (added (missing (endOf k o)) value) (length l)) ≡ none
-    allows = ap (λ (n : ℕ). first (adding h value n (length l))) (sym (x .count)) ∙ passes
+    pub allows : first (addingRows h value (added (missing (endOf k o)) value) (length l)) ≡ none
+    allows = ap (λ (n : ℕ). first (addingRows h value n (length l))) (sym (x .count)) ∙ passes
 
-    left-5 : (counts : List ℕ) → first (addingCounts l k value counts) ≡ first (again counts ∷ [])
+    left-5 : (counts : List ℕ) → first (addingCountsRows l k value counts) ≡ first (again counts ∷ [])
     left-5 counts = second-part _ (again counts ∷ []) (sym rows-same ∙ passes)
 
     five : (counts : List ℕ) → length counts < h .g + new + 1 → first (again counts ∷ []) ≡ some (saidOf Refusal.TooFewNumbers)
@@ -170,7 +170,7 @@ module _ {l : List ℕ} {h : Head} {key : Key} {o : Walked} {value new : ℕ} (x
             × LinkRules (tableOf grown image) (h .g + new)
             × (h .g + new < length start)
             × (change ≢ pos 0 → Whole (tableOf grown image) k)
-            × Room (tableOf grown image) k (gainOf change) (lossOf change) start
+            × CountsFit (tableOf grown image) k (gainOf change) (lossOf change) start
         carries =
             let again = accepted-again granted in (
               subst (λ (m : List ℕ). Open (withTotal h (h .g + new)) m) (sym image-same) (head-open again head-same),
@@ -189,4 +189,4 @@ module _ {l : List ℕ} {h : Head} {key : Key} {o : Walked} {value new : ℕ} (x
             kept granted right cleared (omega (arith, last-same)) (rw (table-same, change-same) at w) in
             rw (change-same, image-same, last)
             (sym
-            (heard-done (first (addingCounts l k value counts)) (l ∷ counts ∷ []) (leaves counts) (left-5 counts ∙ no-five counts long)))
+            (heard-done (first (addingCountsRows l k value counts)) (l ∷ counts ∷ []) (leaves counts) (left-5 counts ∙ no-five counts long)))

@@ -13,21 +13,21 @@ use Rattle.passing.specs.Passing.{passes}
 use Rattle.paper.specs.declared.Stored.{Stored}
 use Rattle.paper.specs.Hearing.{Row, Outcome, outcome, doneNumbers, first, heard}
 use Rattle.paper.specs.Answers.{storedOf}
-use Rattle.paper.specs.Orders.{adding, newOf}
+use Rattle.paper.specs.Orders.{addingRows, newOf}
 use Rattle.paper.specs.Calls.{tableIn, storedImage}
 use Rattle.position.specs.Counts.{row5again}
 use Rattle.position.specs.Calls.{worked}
 
 -- 11, 12, 13, then 5 again
-abbrev pub addingCounts : List ℕ → List ℕ → ℕ → List ℕ → List Row
-addingCounts l key value counts =
-    adding (headOf l) value (newOf (headOf l) l key value) (length l)
+abbrev pub addingCountsRows : List ℕ → List ℕ → ℕ → List ℕ → List Row
+addingCountsRows l key value counts =
+    addingRows (headOf l) value (newOf (headOf l) l key value) (length l)
     ++ (row5again (headOf l) (newOf (headOf l) l key value) (length counts) ∷ [])
 
 unfoldable pub storeCounted : List ℕ → List ℕ → ℕ → List ℕ → Outcome
-unfolding heard first adding newOf row5again doneNumbers changeOf answer tableIn storedImage worked
+unfolding heard first addingRows newOf row5again doneNumbers changeOf answer tableIn storedImage worked
 storeCounted l key value counts =
-    heard (first (addingCounts l key value counts)) (l ∷ counts ∷ [])
+    heard (first (addingCountsRows l key value counts)) (l ∷ counts ∷ [])
     (outcome (doneNumbers 0 (changeOf (answer (tableIn l) key) value) 0) (storedImage l key value ∷ worked (storedImage l key value) counts ∷ []))
 
 abbrev pub StoresCounted : List ℕ → List ℕ → ℕ → List ℕ → Stored → List ℕ → List ℕ → Type 0
@@ -52,7 +52,7 @@ lossOf (negsuc zero) = 1
 lossOf (negsuc (suc n)) = 0
 
 -- the counts of the nodes that a key passes can be added to, and taken from
-pub record Room (t : Table) (k : List ℕ) (gain loss : ℕ) (list : List ℕ) : Type 0 where
+pub record CountsFit (t : Table) (k : List ℕ) (gain loss : ℕ) (list : List ℕ) : Type 0 where
   pub over : (q : ℕ) → passes t q 0 k ≡ true → getD list q 0 + gain < 2 ^ 32
   pub under : (q : ℕ) → passes t q 0 k ≡ true → loss ≤ getD list q 0 + gain
 

@@ -13,7 +13,7 @@ ghost use Rattle.node.specs.Image.{Open, tableOf};
 ghost use Rattle.paper.specs.Accepted.{Accepted};
 ghost use Rattle.position.specs.Counts.{RightCounts};
 ghost use Rattle.key.specs.Hand.{Ready, lettersOf};
-ghost use Rattle.tracking.specs.Tracking.{StoresCounted, Whole, gainOf, lossOf, Room, Shifted, Cleared};
+ghost use Rattle.tracking.specs.Tracking.{StoresCounted, Whole, gainOf, lossOf, CountsFit, Shifted, Cleared};
 use head::Head;
 use key::Key;
 use paper::Refusal;
@@ -70,7 +70,7 @@ fn clear(counts: &mut [u32], from: usize, to: usize)
 fn carry(image: &[u8], h: Head, key: Key, change: i32, counts: &mut [u32])
     requires { ⌜ Open h (now image) ⌝ ∗ ⌜ Ready h key ⌝ ∗ ⌜ LinkRules (tableOf h (now image)) (h .g) ⌝ ∗ ⌜ h .g < length (now counts) ⌝ }
     requires { ⌜ (change ≢ pos 0 → Whole (tableOf h (now image)) (lettersOf key)) ⌝ }
-    requires { ⌜ Room (tableOf h (now image)) (lettersOf key) (gainOf change) (lossOf change) (now counts) ⌝ }
+    requires { ⌜ CountsFit (tableOf h (now image)) (lettersOf key) (gainOf change) (lossOf change) (now counts) ⌝ }
     ensures { λ _. ⌜ Shifted (tableOf h (now (image .entry))) (lettersOf key) (gainOf change) (lossOf change) (now (counts .entry)) (now (counts .exit)) ⌝ }
 {
     if change == 1 {
@@ -86,7 +86,7 @@ fn carry(image: &[u8], h: Head, key: Key, change: i32, counts: &mut [u32])
 // Adds to the count of each node on the key's path, the root and the key's own node included, and takes from it.
 fn shift(image: &[u8], h: Head, key: Key, gain: u32, loss: u32, counts: &mut [u32])
     requires { ⌜ Open h (now image) ⌝ ∗ ⌜ Ready h key ⌝ ∗ ⌜ LinkRules (tableOf h (now image)) (h .g) ⌝ ∗ ⌜ h .g < length (now counts) ⌝ }
-    requires { ⌜ Whole (tableOf h (now image)) (lettersOf key) ⌝ ∗ ⌜ Room (tableOf h (now image)) (lettersOf key) gain loss (now counts) ⌝ }
+    requires { ⌜ Whole (tableOf h (now image)) (lettersOf key) ⌝ ∗ ⌜ CountsFit (tableOf h (now image)) (lettersOf key) gain loss (now counts) ⌝ }
     ensures { λ _. ⌜ Shifted (tableOf h (now (image .entry))) (lettersOf key) gain loss (now (counts .entry)) (now (counts .exit)) ⌝ }
 {
     let mask = node::mask(h);

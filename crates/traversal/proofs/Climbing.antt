@@ -16,8 +16,8 @@ use Rattle.trie.proofs.Beyond.{beyond-nil, beyond-up, beyond-found}
 use Rattle.head.specs.declared.Head.{Head}
 use Rattle.node.specs.Image.{tableOf}
 use Rattle.traversal.specs.declared.Search.{Search}
-use Rattle.depths.specs.Depths.{Bearing}
-use Rattle.traversal.specs.Search.{ahead, coming, Room, Along, Kept, Told}
+use Rattle.depths.specs.Depths.{KeysBelow}
+use Rattle.traversal.specs.Search.{ahead, coming, PathRoom, Along, PathKept, SearchTells}
 use Rattle.depths.proofs.Links.{from}
 use Rattle.traversal.proofs.Paths.{room-kept, kept-all, kept-front, kept-letter, along-root, along-kept, along-less, along-last}
 use Rattle.traversal.proofs.Searching.{first-none, was-missing, was-found, told-same, ahead-fruitless}
@@ -82,7 +82,7 @@ coming-front h l path path₁ depth x e = ap (λ (k : List ℕ). beyond (tableOf
 -- The first key to come from where the climb began is the first to come from here.
 pub record Climbing (h : Head) (l path₀ nodes₀ : List ℕ) (end first : ℕ) (path nodes : List ℕ) (depth x : ℕ) : Type 0 where
   pub deep : depth ≤ h .max
-  pub room : Room h path nodes
+  pub room : PathRoom h path nodes
   pub along : Along h l depth path nodes
   pub letters : length path ≡ length path₀
   pub ends : length nodes ≡ length nodes₀
@@ -93,21 +93,21 @@ pub record Climbing (h : Head) (l path₀ nodes₀ : List ℕ) (end first : ℕ)
 -- Nothing lies below the path's end, and the path up to there is what it was.
 pub record Nothing (h : Head) (l path nodes : List ℕ) (depth x : ℕ) (path₁ nodes₁ : List ℕ) : Type 0 where
   pub missing : firstOf (ahead h l path depth (getD nodes depth 0) x) ≡ none
-  pub kept : Kept depth path nodes path₁ nodes₁
+  pub kept : PathKept depth path nodes path₁ nodes₁
   pub letters : length path₁ ≡ length path
   pub ends : length nodes₁ ≡ length nodes
 
 module _ {h : Head} {l path nodes : List ℕ} {depth x : ℕ} {path₂ nodes₂ : List ℕ} where
   -- a search that found nothing tells so, and one that is spared because the node is fruitless
   pub nothing-missing : {r : Search} {path₁ nodes₁ : List ℕ}
-      → Told h l (firstOf (ahead h l path depth (getD nodes depth 0) x)) r path₁ nodes₁ → r ≡ Search.Missing
-      → Kept depth path nodes path₁ nodes₁ → length path₁ ≡ length path → length nodes₁ ≡ length nodes
+      → SearchTells h l (firstOf (ahead h l path depth (getD nodes depth 0) x)) r path₁ nodes₁ → r ≡ Search.Missing
+      → PathKept depth path nodes path₁ nodes₁ → length path₁ ≡ length path → length nodes₁ ≡ length nodes
       → path₂ ≡ path₁ → nodes₂ ≡ nodes₁
       → Nothing h l path nodes depth x path₂ nodes₂
   nothing-missing told f kept letters ends e g =
       rw (e, g) (record { missing = was-missing h l told f; kept = kept; letters = letters; ends = ends })
 
-  pub nothing-fruitless : {r : Bool} → Bearing h (tableOf h l) (getD nodes depth 0) depth r → r ≡ true → path₂ ≡ path → nodes₂ ≡ nodes
+  pub nothing-fruitless : {r : Bool} → KeysBelow h (tableOf h l) (getD nodes depth 0) depth r → r ≡ true → path₂ ≡ path → nodes₂ ≡ nodes
       → Nothing h l path nodes depth x path₂ nodes₂
   nothing-fruitless b f e g =
       rw (e, g)
@@ -119,7 +119,7 @@ module _ {h : Head} {l path nodes : List ℕ} {depth x : ℕ} {path₂ nodes₂ 
       })
 
 pub climbing-start : {h : Head} {l path nodes : List ℕ} {end : ℕ} (first : ℕ) → end ≤ h .max → (0 < first → end < h .max)
-    → Room h path nodes → Along h l end path nodes
+    → PathRoom h path nodes → Along h l end path nodes
     → Climbing h l path nodes end first path nodes end first
 climbing-start first deep deeper room along =
     record { deep = deep; room = room; along = along; letters = refl; ends = refl; same = refl; deeper = deeper }
@@ -127,9 +127,9 @@ climbing-start first deep deeper room along =
 module _ {h : Head} {l path₀ nodes₀ : List ℕ} {end first : ℕ} {path nodes : List ℕ} {depth x : ℕ}
     (c : Climbing h l path₀ nodes₀ end first path nodes depth x) {path₁ nodes₁ : List ℕ} where
   -- the first key below is the one sought
-  pub climbing-found : {r : Search} {n v : ℕ} → Told h l (firstOf (ahead h l path depth (getD nodes depth 0) x)) r path₁ nodes₁
+  pub climbing-found : {r : Search} {n v : ℕ} → SearchTells h l (firstOf (ahead h l path depth (getD nodes depth 0) x)) r path₁ nodes₁
       → r ≡ Search.Found n v
-      → Told h l (firstOf (coming h l path₀ end first)) r path₁ nodes₁
+      → SearchTells h l (firstOf (coming h l path₀ end first)) r path₁ nodes₁
   climbing-found told f =
       let (k, e, _) = was-found h l told f in
       told-same h l (c .same ∙ coming-found h l path nodes x (omega (arith, c .room .letters, c .deep)) (c .along) e ∙ sym e) told

@@ -7,15 +7,15 @@ use mathlib.Core.Logic.{_≢_}
 use mathlib.Core.Path.{_≡_, refl, sym, _∙_, ap}
 use lib.ListN.{length, getD, take, set, length-set}
 use lib.Seq.{take-suc, take-suc-set, getD-set-same}
-use Rattle.trie.specs.Table.{Letters}
+use Rattle.trie.specs.Table.{LettersBelow}
 use Rattle.trie.proofs.LettersBelow.{letters-at}
 use Rattle.head.specs.declared.Head.{Head}
 use Rattle.node.specs.Image.{tableOf}
-use Rattle.traversal.specs.Search.{Room, Along, Followed}
+use Rattle.traversal.specs.Search.{PathRoom, Along, Followed}
 use Rattle.traversal.proofs.Paths.{room-kept, along-none, along-more}
 
 pub record Following (h : Head) (l k path₀ nodes₀ path nodes : List ℕ) (q depth : ℕ) : Type 0 where
-  pub room : Room h path nodes
+  pub room : PathRoom h path nodes
   pub short : depth ≤ length k
   pub same : take depth path ≡ take depth k
   pub along : Along h l depth path nodes
@@ -24,7 +24,7 @@ pub record Following (h : Head) (l k path₀ nodes₀ path nodes : List ℕ) (q 
   pub ends : length nodes ≡ length nodes₀
 
 -- at the root, once it is noted as the first node
-pub following-start : (h : Head) (l k path nodes : List ℕ) → Room h path nodes → Following h l k path (set nodes 0 0) path (set nodes 0 0) 0 0
+pub following-start : (h : Head) (l k path nodes : List ℕ) → PathRoom h path nodes → Following h l k path (set nodes 0 0) path (set nodes 0 0) 0 0
 following-start h l k path nodes room =
     let root : getD (set nodes 0 0) 0 0 ≡ 0 = getD-set-same nodes 0 0 0 (omega (arith, room .ends)) in
     record {
@@ -50,7 +50,7 @@ module _ {h : Head} {l k path₀ nodes₀ path nodes : List ℕ} {q depth : ℕ}
     following-stop empty =
         record { short = f .short; letters = f .same; along = f .along; stops = λ low. rw letter (sym met ∙ empty) }
 
-    pub following-on : depth < length k → length k ≤ h .max → Letters (h .n) k → c ≢ 0
+    pub following-on : depth < length k → length k ≤ h .max → LettersBelow (h .n) k → c ≢ 0
         → Following h l k path₀ nodes₀ (set path depth x) (set nodes (depth + 1) c) c (depth + 1)
     following-on low deep allowed full =
         let r = f .room in

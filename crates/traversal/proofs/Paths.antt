@@ -1,5 +1,5 @@
 -- A path and its nodes, letter by letter. Nothing but the first letters and nodes counts, so what is written behind them changes nothing
--- (`Kept`), and a letter more is one link more.
+-- (`PathKept`), and a letter more is one link more.
 use Prim.Native.Nat.{ℕ, suc, _+_, _<_, _≤_}
 use native.Mathlib.Decide.{ℕ-discrete, decLe}
 use native.Mathlib.Numerals.{add-one}
@@ -9,18 +9,18 @@ use mathlib.Core.Logic.{_≢_}
 use mathlib.Core.Path.{_≡_, refl, sym, _∙_, ap, subst}
 use lib.ListN.{length, getD, take, drop, set, take-append-drop}
 use lib.Seq.{take-suc, take-take, take-set-le, take-suc-set, getD-take, getD-set-same}
-use Rattle.trie.specs.Table.{complete, descend, Letters}
+use Rattle.trie.specs.Table.{complete, descend, LettersBelow}
 use Rattle.trie.specs.Rules.{Within}
 use Rattle.trie.proofs.LettersBelow.{letters-before}
 use Rattle.trie.proofs.Walk.{descend-nil, descend-empty, descend-on, descend-append, complete-within}
 use Rattle.head.specs.declared.Head.{Head}
 use Rattle.node.specs.Image.{tableOf}
-use Rattle.traversal.specs.Search.{Room, Along, Kept}
+use Rattle.traversal.specs.Search.{PathRoom, Along, PathKept}
 
-letters-take : (n j : ℕ) (k : List ℕ) → Letters n k → Letters n (take j k)
+letters-take : (n j : ℕ) (k : List ℕ) → LettersBelow n k → LettersBelow n (take j k)
 letters-take n j k l = letters-before n (take j k) (drop j k) (rw (take-append-drop j k) l)
 
-letters-more : (n : ℕ) (k : List ℕ) (x : ℕ) → Letters n k → x < n → Letters n (k ++ (x ∷ []))
+letters-more : (n : ℕ) (k : List ℕ) (x : ℕ) → LettersBelow n k → x < n → LettersBelow n (k ++ (x ∷ []))
 letters-more n [] x l b = (b, tt)
 letters-more n (y ∷ k) x l b = (l .0, letters-more n k x (l .1) b)
 
@@ -31,18 +31,18 @@ fewer m n k l b e = sym (take-take m n k b) ∙ ap (take m) e ∙ take-take m n 
 alike-at : (n i : ℕ) (k l : List ℕ) → i < n → take n k ≡ take n l → getD k i 0 ≡ getD l i 0
 alike-at n i k l b e = sym (getD-take n k i 0 b) ∙ ap (λ (m : List ℕ). getD m i 0) e ∙ getD-take n l i 0 b
 
-pub room-kept : {h : Head} {path₀ nodes₀ path nodes : List ℕ} → Room h path₀ nodes₀ → length path ≡ length path₀ → length nodes ≡ length nodes₀
-    → Room h path nodes
+pub room-kept : {h : Head} {path₀ nodes₀ path nodes : List ℕ} → PathRoom h path₀ nodes₀ → length path ≡ length path₀ → length nodes ≡ length nodes₀
+    → PathRoom h path nodes
 room-kept r e f = record { letters = rw e (r .letters); ends = rw f (r .ends) }
 
 -- ---- what is kept
 
-pub kept-all : (depth : ℕ) (path nodes : List ℕ) → Kept depth path nodes path nodes
+pub kept-all : (depth : ℕ) (path nodes : List ℕ) → PathKept depth path nodes path nodes
 kept-all depth path nodes = record { letters = refl; ends = refl }
 
 -- a letter more, and its node
-pub kept-set : {depth : ℕ} {path₀ nodes₀ path nodes : List ℕ} (x c : ℕ) → Kept depth path₀ nodes₀ path nodes
-    → Kept depth path₀ nodes₀ (set path depth x) (set nodes (depth + 1) c)
+pub kept-set : {depth : ℕ} {path₀ nodes₀ path nodes : List ℕ} (x c : ℕ) → PathKept depth path₀ nodes₀ path nodes
+    → PathKept depth path₀ nodes₀ (set path depth x) (set nodes (depth + 1) c)
 kept-set {depth} {path = path} {nodes} x c k =
     record {
       letters = take-set-le depth path depth x (omega arith) ∙ k .letters;
@@ -50,9 +50,9 @@ kept-set {depth} {path = path} {nodes} x c k =
     }
 
 -- and what a search behind that letter keeps
-pub kept-below : {depth : ℕ} {path₀ nodes₀ path nodes path₁ nodes₁ : List ℕ} → Kept depth path₀ nodes₀ path nodes
-    → Kept (depth + 1) path nodes path₁ nodes₁
-    → Kept depth path₀ nodes₀ path₁ nodes₁
+pub kept-below : {depth : ℕ} {path₀ nodes₀ path nodes path₁ nodes₁ : List ℕ} → PathKept depth path₀ nodes₀ path nodes
+    → PathKept (depth + 1) path nodes path₁ nodes₁
+    → PathKept depth path₀ nodes₀ path₁ nodes₁
 kept-below {depth} {path = path} {nodes} {path₁} {nodes₁} k m =
     record {
       letters = fewer depth (depth + 1) path₁ path (omega arith) (m .letters) ∙ k .letters;
@@ -60,13 +60,13 @@ kept-below {depth} {path = path} {nodes} {path₁} {nodes₁} k m =
     }
 
 -- the letters and nodes up to the depth, and the node at it
-pub kept-front : {depth : ℕ} {path₀ nodes₀ path nodes : List ℕ} (j : ℕ) → Kept depth path₀ nodes₀ path nodes → j ≤ depth → take j path ≡ take j path₀
+pub kept-front : {depth : ℕ} {path₀ nodes₀ path nodes : List ℕ} (j : ℕ) → PathKept depth path₀ nodes₀ path nodes → j ≤ depth → take j path ≡ take j path₀
 kept-front {depth} {path₀} {path = path} j k b = fewer j depth path path₀ b (k .letters)
 
-pub kept-letter : {depth : ℕ} {path₀ nodes₀ path nodes : List ℕ} (j : ℕ) → Kept depth path₀ nodes₀ path nodes → j < depth → getD path j 0 ≡ getD path₀ j 0
+pub kept-letter : {depth : ℕ} {path₀ nodes₀ path nodes : List ℕ} (j : ℕ) → PathKept depth path₀ nodes₀ path nodes → j < depth → getD path j 0 ≡ getD path₀ j 0
 kept-letter {depth} {path₀} {path = path} j k b = alike-at depth j path path₀ b (k .letters)
 
-pub kept-end : {depth : ℕ} {path₀ nodes₀ path nodes : List ℕ} → Kept depth path₀ nodes₀ path nodes → getD nodes depth 0 ≡ getD nodes₀ depth 0
+pub kept-end : {depth : ℕ} {path₀ nodes₀ path nodes : List ℕ} → PathKept depth path₀ nodes₀ path nodes → getD nodes depth 0 ≡ getD nodes₀ depth 0
 kept-end {depth} {nodes₀ = nodes₀} {nodes = nodes} k = alike-at (suc depth) depth nodes nodes₀ (omega arith) (k .ends)
 
 module _ (h : Head) (l : List ℕ) where
@@ -84,11 +84,11 @@ module _ (h : Head) (l : List ℕ) where
   pub along-root : {depth : ℕ} {path nodes : List ℕ} → Along h l depth path nodes → getD nodes 0 0 ≡ 0
   along-root a = cc (a .ends 0 (omega arith), descend-nil (tableOf h l) 0)
 
-  pub along-kept : {depth : ℕ} {path₀ nodes₀ path nodes : List ℕ} → Along h l depth path₀ nodes₀ → Kept depth path₀ nodes₀ path nodes
+  pub along-kept : {depth : ℕ} {path₀ nodes₀ path nodes : List ℕ} → Along h l depth path₀ nodes₀ → PathKept depth path₀ nodes₀ path nodes
       → Along h l depth path nodes
   along-kept {depth} {path₀} {nodes₀} {path} {nodes} a k =
       record {
-        letters = subst (Letters (h .n)) (sym (k .letters)) (a .letters);
+        letters = subst (LettersBelow (h .n)) (sym (k .letters)) (a .letters);
         ends = λ j b.
             ap (descend (tableOf h l) 0) (kept-front j k b)
             ∙ a .ends j b

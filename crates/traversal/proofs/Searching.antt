@@ -17,8 +17,8 @@ use Rattle.trie.proofs.Walk.{answer-complete}
 use Rattle.head.specs.declared.Head.{Head}
 use Rattle.node.specs.Image.{tableOf}
 use Rattle.traversal.specs.declared.Search.{Search}
-use Rattle.depths.specs.Depths.{ownValue, Bearing}
-use Rattle.traversal.specs.Search.{ahead, Room, Along, Kept, Reached, toldOf, Told}
+use Rattle.depths.specs.Depths.{ownValue, KeysBelow}
+use Rattle.traversal.specs.Search.{ahead, PathRoom, Along, PathKept, Reached, searchOf, SearchTells}
 use Rattle.depths.proofs.Links.{own-data, own-long, own-empty, own-full, from, from-link}
 use Rattle.traversal.proofs.Paths.{room-kept, kept-all, kept-set, kept-below, kept-end, along-kept, along-more}
 
@@ -41,38 +41,38 @@ first-none a e = ap firstOf e
 -- ---- what is told
 
 -- what an answer says of the key that was sought
-pub was-missing : (h : Head) (l : List ℕ) {s : Option (List ℕ)} {r : Search} {path nodes : List ℕ} → Told h l s r path nodes
+pub was-missing : (h : Head) (l : List ℕ) {s : Option (List ℕ)} {r : Search} {path nodes : List ℕ} → SearchTells h l s r path nodes
     → r ≡ Search.Missing → s ≡ none
-unfolding toldOf
+unfolding searchOf
 was-missing h l {s} {r} told e = go s (sym e ∙ told .answers)
   where
-    go : (s : Option (List ℕ)) → Search.Missing ≡ toldOf (tableOf h l) s → s ≡ none
+    go : (s : Option (List ℕ)) → Search.Missing ≡ searchOf (tableOf h l) s → s ≡ none
     go none f = refl
     go (some k) f = let z : _≡_ {A = ℕ} 0 1 = cc in absurd (omega arith)
 
-pub was-found : (h : Head) (l : List ℕ) {s : Option (List ℕ)} {r : Search} {path nodes : List ℕ} {n v : ℕ} → Told h l s r path nodes
+pub was-found : (h : Head) (l : List ℕ) {s : Option (List ℕ)} {r : Search} {path nodes : List ℕ} {n v : ℕ} → SearchTells h l s r path nodes
     → r ≡ Search.Found n v → (k : List ℕ) × (s ≡ some k) × (n ≡ length k)
-unfolding toldOf
+unfolding searchOf
 was-found h l {s} {r} {n = n} {v} told e = go s (sym e ∙ told .answers)
   where
-    go : (s : Option (List ℕ)) → Search.Found n v ≡ toldOf (tableOf h l) s → (k : List ℕ) × (s ≡ some k) × (n ≡ length k)
+    go : (s : Option (List ℕ)) → Search.Found n v ≡ searchOf (tableOf h l) s → (k : List ℕ) × (s ≡ some k) × (n ≡ length k)
     go none f = let z : _≡_ {A = ℕ} 0 1 = cc in absurd (omega arith)
     go (some k) f = (k, refl, cc)
 
 module _ (h : Head) (l : List ℕ) where
-  pub told-same : {s s′ : Option (List ℕ)} {r : Search} {path nodes : List ℕ} → s ≡ s′ → Told h l s′ r path nodes → Told h l s r path nodes
-  told-same {r = r} {path} {nodes} e t = subst (λ (s : Option (List ℕ)). Told h l s r path nodes) (sym e) t
+  pub told-same : {s s′ : Option (List ℕ)} {r : Search} {path nodes : List ℕ} → s ≡ s′ → SearchTells h l s′ r path nodes → SearchTells h l s r path nodes
+  told-same {r = r} {path} {nodes} e t = subst (λ (s : Option (List ℕ)). SearchTells h l s r path nodes) (sym e) t
 
-  pub told-none : {s : Option (List ℕ)} {path nodes : List ℕ} → s ≡ none → Told h l s Search.Missing path nodes
-  unfolding toldOf
+  pub told-none : {s : Option (List ℕ)} {path nodes : List ℕ} → s ≡ none → SearchTells h l s Search.Missing path nodes
+  unfolding searchOf
   told-none e = record { answers = rw e; reached = λ k f. absurd (Option·some-ne-none k (sym f ∙ e)) }
 
   -- the key whose letters are the path's first, where its node has data and it is long enough
-  pub told-here : {s : Option (List ℕ)} {path nodes : List ℕ} {depth v : ℕ} → depth ≤ h .max → Room h path nodes → Along h l depth path nodes
+  pub told-here : {s : Option (List ℕ)} {path nodes : List ℕ} {depth v : ℕ} → depth ≤ h .max → PathRoom h path nodes → Along h l depth path nodes
       → v ≡ ownValue h (tableOf h l) (getD nodes depth 0) depth → v ≢ 0
       → s ≡ some (take depth path)
-      → Told h l s (Search.Found depth v) path nodes
-  unfolding toldOf
+      → SearchTells h l s (Search.Found depth v) path nodes
+  unfolding searchOf
   told-here {s} {path} {nodes} {depth} {v} deep room along e full first =
       told-same first
       (record {
@@ -99,7 +99,7 @@ module _ (h : Head) (l : List ℕ) where
 
   -- ---- the keys ahead
 
-  pub ahead-fruitless : (path : List ℕ) (depth q i : ℕ) {r : Bool} → Bearing h (tableOf h l) q depth r → r ≡ true
+  pub ahead-fruitless : (path : List ℕ) (depth q i : ℕ) {r : Bool} → KeysBelow h (tableOf h l) q depth r → r ≡ true
       → firstOf (ahead h l path depth q i) ≡ none
   unfolding ahead
   ahead-fruitless path depth q i b e = first-none _ (ap (map (take depth path ++_)) (b .nothing e i))
@@ -109,7 +109,7 @@ module _ (h : Head) (l : List ℕ) where
   ahead-past path depth q i b =
       first-none _ (ap (map (take depth path ++_)) (from-none (tableOf h l) (h .n) (h .min - depth) (h .max - depth) q i b))
 
-  ahead-kept : {path nodes path₁ nodes₁ : List ℕ} (depth q i : ℕ) → Kept depth path nodes path₁ nodes₁
+  ahead-kept : {path nodes path₁ nodes₁ : List ℕ} (depth q i : ℕ) → PathKept depth path nodes path₁ nodes₁
       → ahead h l path₁ depth q i ≡ ahead h l path depth q i
   unfolding ahead
   ahead-kept depth q i kept = ap (λ (k : List ℕ). map (k ++_) (from h (tableOf h l) q depth i)) (kept .letters)
@@ -164,10 +164,10 @@ module _ (h : Head) (l : List ℕ) where
 -- still that of q.
 pub record Passing (h : Head) (l path₀ nodes₀ : List ℕ) (depth q first : ℕ) (path nodes : List ℕ) (i : ℕ) : Type 0 where
   pub deep : depth < h .max
-  pub room : Room h path nodes
+  pub room : PathRoom h path nodes
   pub along : Along h l depth path nodes
   pub node : q ≡ getD nodes depth 0
-  pub kept : Kept depth path₀ nodes₀ path nodes
+  pub kept : PathKept depth path₀ nodes₀ path nodes
   pub letters : length path ≡ length path₀
   pub ends : length nodes ≡ length nodes₀
   pub passed : firstOf (ahead h l path₀ depth q first) ≡ firstOf (ahead h l path depth q i)
@@ -179,7 +179,7 @@ pub record Onto (h : Head) (l path₀ nodes₀ : List ℕ) (depth q first : ℕ)
   pub link : c ≡ tableOf h l .child q i
   pub full : c ≢ 0
 
-pub passing-start : {h : Head} {l path nodes : List ℕ} {depth q : ℕ} (first : ℕ) → depth < h .max → Room h path nodes → Along h l depth path nodes
+pub passing-start : {h : Head} {l path nodes : List ℕ} {depth q : ℕ} (first : ℕ) → depth < h .max → PathRoom h path nodes → Along h l depth path nodes
     → q ≡ getD nodes depth 0
     → Passing h l path nodes depth q first path nodes first
 passing-start {path = path} {nodes} {depth} first deep room along node =
@@ -218,7 +218,7 @@ module _ {h : Head} {l path₀ nodes₀ : List ℕ} {depth q first : ℕ} {path 
   longer = rw (add-one depth) (take-suc-set path depth i (omega (arith, o .passing .room .letters, o .passing .deep)))
 
   -- the path and its nodes, a letter further
-  pub onto-room : Room h (set path depth i) (set nodes (depth + 1) c)
+  pub onto-room : PathRoom h (set path depth i) (set nodes (depth + 1) c)
   onto-room = room-kept (o .passing .room) (length-set path depth i) (length-set nodes (depth + 1) c)
 
   pub onto-node : c ≡ getD (set nodes (depth + 1) c) (depth + 1) 0
@@ -229,12 +229,12 @@ module _ {h : Head} {l path₀ nodes₀ : List ℕ} {depth q first : ℕ} {path 
       let p = o .passing in
       along-more h l (p .along) (omega (arith, p .room .letters, p .deep)) (omega (arith, p .room .ends, p .deep)) (o .low) (rw (← p .node) (o .link)) (o .full)
 
-  pub onto-kept : Kept depth path₀ nodes₀ (set path depth i) (set nodes (depth + 1) c)
+  pub onto-kept : PathKept depth path₀ nodes₀ (set path depth i) (set nodes (depth + 1) c)
   onto-kept = kept-set i c (o .passing .kept)
 
   -- the child's own key is the one sought, where it has one
   pub onto-own : {v : ℕ} → v ≡ ownValue h (tableOf h l) c (depth + 1) → v ≢ 0
-      → Told h l (firstOf (ahead h l path₀ depth q first)) (Search.Found (depth + 1) v) (set path depth i) (set nodes (depth + 1) c)
+      → SearchTells h l (firstOf (ahead h l path₀ depth q first)) (Search.Found (depth + 1) v) (set path depth i) (set nodes (depth + 1) c)
   onto-own {v} e full =
       let p = o .passing in
       told-here h l (omega (arith, p .deep)) onto-room onto-along (rw (← onto-node) e) full
@@ -246,15 +246,15 @@ module _ {h : Head} {l path₀ nodes₀ : List ℕ} {depth q first : ℕ} {path 
 
     -- else the first below the child, where there is one
     pub onto-found : {r : Search} {path₁ nodes₁ : List ℕ} {n w : ℕ}
-        → Told h l (firstOf (ahead h l (set path depth i) (depth + 1) c 0)) r path₁ nodes₁ → r ≡ Search.Found n w
-        → Told h l (firstOf (ahead h l path₀ depth q first)) r path₁ nodes₁
+        → SearchTells h l (firstOf (ahead h l (set path depth i) (depth + 1) c 0)) r path₁ nodes₁ → r ≡ Search.Found n w
+        → SearchTells h l (firstOf (ahead h l path₀ depth q first)) r path₁ nodes₁
     onto-found told f =
         let (k, g, _) = was-found h l told f in
         told-same h l (o .passing .passed ∙ ap firstOf link-split ∙ first-front _ _ g ∙ sym g) told
 
     -- and else the letter is passed
     onto-none : {path₁ nodes₁ : List ℕ} → firstOf (ahead h l (set path depth i) (depth + 1) c 0) ≡ none
-        → Kept (depth + 1) (set path depth i) (set nodes (depth + 1) c) path₁ nodes₁
+        → PathKept (depth + 1) (set path depth i) (set nodes (depth + 1) c) path₁ nodes₁
         → length path₁ ≡ length (set path depth i) → length nodes₁ ≡ length (set nodes (depth + 1) c)
         → Passing h l path₀ nodes₀ depth q first path₁ nodes₁ (i + 1)
     onto-none {path₁} {nodes₁} nothing kept letters ends =
@@ -278,13 +278,13 @@ module _ {h : Head} {l path₀ nodes₀ : List ℕ} {depth q first : ℕ} {path 
         }
 
     pub onto-missing : {r : Search} {path₁ nodes₁ : List ℕ}
-        → Told h l (firstOf (ahead h l (set path depth i) (depth + 1) c 0)) r path₁ nodes₁ → r ≡ Search.Missing
-        → Kept (depth + 1) (set path depth i) (set nodes (depth + 1) c) path₁ nodes₁
+        → SearchTells h l (firstOf (ahead h l (set path depth i) (depth + 1) c 0)) r path₁ nodes₁ → r ≡ Search.Missing
+        → PathKept (depth + 1) (set path depth i) (set nodes (depth + 1) c) path₁ nodes₁
         → length path₁ ≡ length (set path depth i) → length nodes₁ ≡ length (set nodes (depth + 1) c)
         → Passing h l path₀ nodes₀ depth q first path₁ nodes₁ (i + 1)
     onto-missing told f kept letters ends = onto-none (was-missing h l told f) kept letters ends
 
-    pub onto-fruitless : {r : Bool} → Bearing h (tableOf h l) c (depth + 1) r → r ≡ true
+    pub onto-fruitless : {r : Bool} → KeysBelow h (tableOf h l) c (depth + 1) r → r ≡ true
         → Passing h l path₀ nodes₀ depth q first (set path depth i) (set nodes (depth + 1) c) (i + 1)
     onto-fruitless b f =
         onto-none (ahead-fruitless h l (set path depth i) (depth + 1) c 0 b f)

@@ -12,7 +12,7 @@ use Rattle.head.specs.declared.Head.{Head}
 use Rattle.node.specs.Image.{Open, tableOf}
 use Rattle.depths.proofs.Walkable.{Walkable, short}
 use Rattle.traversal.specs.declared.Search.{Search}
-use Rattle.traversal.specs.Search.{Room, Along, Told}
+use Rattle.traversal.specs.Search.{PathRoom, Along, SearchTells}
 use Rattle.traversal.proofs.Searching.{was-found}
 
 -- a key that was found is on the path, with its length
@@ -20,7 +20,7 @@ pub record Met (h : Head) (l path nodes : List ℕ) (n : ℕ) : Type 0 where
   pub deep : n ≤ h .max
   pub along : Along h l n path nodes
 
-pub met : {h : Head} {l : List ℕ} {s : Option (List ℕ)} {r : Search} {path nodes : List ℕ} {n v : ℕ} → Told h l s r path nodes
+pub met : {h : Head} {l : List ℕ} {s : Option (List ℕ)} {r : Search} {path nodes : List ℕ} {n v : ℕ} → SearchTells h l s r path nodes
     → r ≡ Search.Found n v → Met h l path nodes n
 met {h} {l} told e =
     let (k, is, same) = was-found h l told e in
@@ -34,10 +34,10 @@ pub record Walking (h : Head) (l path nodes : List ℕ) (n : ℕ) : Type 0 where
   pub key : Met h l path nodes n
 
 module _ {h : Head} {l path nodes : List ℕ} (w : Walkable h l) where
-  pub has-room : length path ≡ mostLetters → length nodes ≡ mostPath → Room h path nodes
+  pub has-room : length path ≡ mostLetters → length nodes ≡ mostPath → PathRoom h path nodes
   has-room p n = record { letters = omega (arith, short w); ends = omega (arith, short w) }
 
   -- what the search for the key after the last one asks for
   pub walks-on : {n : ℕ} → Walking h l path nodes n
-      → Open h l × (Within (tableOf h l) (h .g) × ((n ≤ h .max) × (Room h path nodes × Along h l n path nodes)))
+      → Open h l × (Within (tableOf h l) (h .g) × ((n ≤ h .max) × (PathRoom h path nodes × Along h l n path nodes)))
   walks-on k = (w .opened, (w .within, (k .key .deep, (has-room (k .letters) (k .ends), k .key .along))))

@@ -6,7 +6,7 @@ use mathlib.Core.Bool.{Bool}
 use mathlib.Core.Option.{Option, none, some}
 use mathlib.Core.List.{List, _++_, map}
 use lib.ListN.{length, getD, take}
-use Rattle.trie.specs.Table.{Table, complete, descend, answer, Letters}
+use Rattle.trie.specs.Table.{Table, complete, descend, answer, LettersBelow}
 use Rattle.trie.specs.Keys.{listing, meets, firstMeeting}
 use Rattle.trie.specs.Beyond.{keysFrom, beyond}
 use Rattle.head.specs.declared.Head.{Head}
@@ -14,13 +14,13 @@ use Rattle.node.specs.Image.{tableOf}
 use Rattle.traversal.specs.declared.Search.{Search}
 
 -- room for the longest key and for the nodes on its way
-pub record Room (h : Head) (path nodes : List ℕ) : Type 0 where
+pub record PathRoom (h : Head) (path nodes : List ℕ) : Type 0 where
   pub letters : h .max ≤ length path
   pub ends : h .max < length nodes
 
 -- the first `depth` letters of the path lead from the root to the nodes that stand beside them
 pub record Along (h : Head) (l : List ℕ) (depth : ℕ) (path nodes : List ℕ) : Type 0 where
-  pub letters : Letters (h .n) (take depth path)
+  pub letters : LettersBelow (h .n) (take depth path)
   pub ends : (j : ℕ) → j ≤ depth → descend (tableOf h l) 0 (take j path) ≡ complete (getD nodes j 0)
 
 -- the path is that of a key
@@ -30,17 +30,17 @@ pub record Reached (h : Head) (l k path nodes : List ℕ) : Type 0 where
   pub along : Along h l (length k) path nodes
 
 -- "the first stored key that meets it"
-abbrev pub sought : Head → List ℕ → Bool → List ℕ → Option (List ℕ)
-sought h l after k = firstMeeting (meets after k) (listing (tableOf h l) (h .n) (h .min) (h .max))
+abbrev pub nextStored : Head → List ℕ → Bool → List ℕ → Option (List ℕ)
+nextStored h l after k = firstMeeting (meets after k) (listing (tableOf h l) (h .n) (h .min) (h .max))
 
 -- what is answered of a key that there is or is not
-unfoldable pub toldOf : Table → Option (List ℕ) → Search
+unfoldable pub searchOf : Table → Option (List ℕ) → Search
 unfolding answer
-toldOf t none = Search.Missing
-toldOf t (some k) = Search.Found (length k) (answer t k)
+searchOf t none = Search.Missing
+searchOf t (some k) = Search.Found (length k) (answer t k)
 
-pub record Told (h : Head) (l : List ℕ) (sought : Option (List ℕ)) (r : Search) (path nodes : List ℕ) : Type 0 where
-  pub answers : r ≡ toldOf (tableOf h l) sought
+pub record SearchTells (h : Head) (l : List ℕ) (sought : Option (List ℕ)) (r : Search) (path nodes : List ℕ) : Type 0 where
+  pub answers : r ≡ searchOf (tableOf h l) sought
   pub reached : (k : List ℕ) → sought ≡ some k → Reached h l k path nodes
 
 -- What the searches inside are told by.
@@ -54,7 +54,7 @@ unfoldable pub coming : Head → List ℕ → List ℕ → ℕ → ℕ → List 
 coming h l path depth x = beyond (tableOf h l) (h .n) (h .min) (h .max) 0 (take depth path) x
 
 -- a search below a depth leaves the path up to there
-pub record Kept (depth : ℕ) (path₀ nodes₀ path nodes : List ℕ) : Type 0 where
+pub record PathKept (depth : ℕ) (path₀ nodes₀ path nodes : List ℕ) : Type 0 where
   pub letters : take depth path ≡ take depth path₀
   pub ends : take (suc depth) nodes ≡ take (suc depth) nodes₀
 

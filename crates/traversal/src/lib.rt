@@ -11,7 +11,7 @@ ghost use Rattle.trie.specs.Beyond.{firstOf};
 ghost use Rattle.node.specs.Image.{Open, Masks, tableOf};
 ghost use Rattle.key.specs.Hand.{Ready, lettersOf};
 ghost use Rattle.depths.specs.Depths.{ownValue};
-ghost use Rattle.traversal.specs.Search.{ahead, coming, Room, Along, Kept, Followed, sought, Told};
+ghost use Rattle.traversal.specs.Search.{ahead, coming, PathRoom, Along, PathKept, Followed, nextStored, SearchTells};
 use head::Head;
 use key::Key;
 
@@ -32,9 +32,9 @@ pub fn next(
     nodes: &mut [u32],
 ) -> Search
     requires { ⌜ Open h (now image) ⌝ ∗ ⌜ Within (tableOf h (now image)) (h .g) ⌝ }
-    requires { ⌜ Ready h key ⌝ ∗ ⌜ key .len ≤ h .max ⌝ ∗ ⌜ Room h (now path) (now nodes) ⌝ }
-    ensures { λ r. ⌜ Told h (now (image .entry)) (sought h (now (image .entry)) after (lettersOf key)) r (now (path .exit)) (now (nodes .exit)) ⌝ }
-    ensures { λ r. ⌜ Room h (now (path .exit)) (now (nodes .exit)) ⌝ }
+    requires { ⌜ Ready h key ⌝ ∗ ⌜ key .len ≤ h .max ⌝ ∗ ⌜ PathRoom h (now path) (now nodes) ⌝ }
+    ensures { λ r. ⌜ SearchTells h (now (image .entry)) (nextStored h (now (image .entry)) after (lettersOf key)) r (now (path .exit)) (now (nodes .exit)) ⌝ }
+    ensures { λ r. ⌜ PathRoom h (now (path .exit)) (now (nodes .exit)) ⌝ }
 {
     let mask = node::mask(h);
     let depth = along(image, h, mask, key, path, nodes);
@@ -66,9 +66,9 @@ pub fn next(
 // looked at once.
 pub fn onward(image: &[u8], h: Head, len: usize, path: &mut [u8], nodes: &mut [u32]) -> Search
     requires { ⌜ Open h (now image) ⌝ ∗ ⌜ Within (tableOf h (now image)) (h .g) ⌝ }
-    requires { ⌜ len ≤ h .max ⌝ ∗ ⌜ Room h (now path) (now nodes) ⌝ ∗ ⌜ Along h (now image) len (now path) (now nodes) ⌝ }
-    ensures { λ r. ⌜ Told h (now (image .entry)) (sought h (now (image .entry)) true (take len (now (path .entry)))) r (now (path .exit)) (now (nodes .exit)) ⌝ }
-    ensures { λ r. ⌜ Room h (now (path .exit)) (now (nodes .exit)) ⌝ }
+    requires { ⌜ len ≤ h .max ⌝ ∗ ⌜ PathRoom h (now path) (now nodes) ⌝ ∗ ⌜ Along h (now image) len (now path) (now nodes) ⌝ }
+    ensures { λ r. ⌜ SearchTells h (now (image .entry)) (nextStored h (now (image .entry)) true (take len (now (path .entry)))) r (now (path .exit)) (now (nodes .exit)) ⌝ }
+    ensures { λ r. ⌜ PathRoom h (now (path .exit)) (now (nodes .exit)) ⌝ }
 {
     climb(image, h, node::mask(h), len, 0, path, nodes)
 }
@@ -86,7 +86,7 @@ pub fn start(image: &[u8], h: Head, nodes: &mut [u32]) -> u64
 // Follows a key as far as its links go, and answers how far that is.
 fn along(image: &[u8], h: Head, mask: u32, key: Key, path: &mut [u8], nodes: &mut [u32]) -> usize
     requires { ⌜ Open h (now image) ⌝ ∗ ⌜ Within (tableOf h (now image)) (h .g) ⌝ ∗ ⌜ Masks h mask ⌝ }
-    requires { ⌜ Ready h key ⌝ ∗ ⌜ key .len ≤ h .max ⌝ ∗ ⌜ Room h (now path) (now nodes) ⌝ }
+    requires { ⌜ Ready h key ⌝ ∗ ⌜ key .len ≤ h .max ⌝ ∗ ⌜ PathRoom h (now path) (now nodes) ⌝ }
     ensures { λ r. ⌜ Followed h (now (image .entry)) (lettersOf key) (now (path .exit)) (now (nodes .exit)) r ⌝ }
 {
     let letters = key.letters;
@@ -121,8 +121,8 @@ fn climb(
 ) -> Search
     requires { ⌜ Open h (now image) ⌝ ∗ ⌜ Within (tableOf h (now image)) (h .g) ⌝ ∗ ⌜ Masks h mask ⌝ }
     requires { ⌜ end ≤ h .max ⌝ ∗ ⌜ (0 < first → end < h .max) ⌝ }
-    requires { ⌜ Room h (now path) (now nodes) ⌝ ∗ ⌜ Along h (now image) end (now path) (now nodes) ⌝ }
-    ensures { λ r. ⌜ Told h (now (image .entry)) (firstOf (coming h (now (image .entry)) (now (path .entry)) end first)) r (now (path .exit)) (now (nodes .exit)) ⌝ }
+    requires { ⌜ PathRoom h (now path) (now nodes) ⌝ ∗ ⌜ Along h (now image) end (now path) (now nodes) ⌝ }
+    ensures { λ r. ⌜ SearchTells h (now (image .entry)) (firstOf (coming h (now (image .entry)) (now (path .entry)) end first)) r (now (path .exit)) (now (nodes .exit)) ⌝ }
 {
     let mut depth = end;
     let mut from = first;
@@ -159,10 +159,10 @@ fn below(
     nodes: &mut [u32],
 ) -> Search
     requires { ⌜ Open h (now image) ⌝ ∗ ⌜ Within (tableOf h (now image)) (h .g) ⌝ ∗ ⌜ Masks h mask ⌝ }
-    requires { ⌜ depth < h .max ⌝ ∗ ⌜ Room h (now path) (now nodes) ⌝ }
+    requires { ⌜ depth < h .max ⌝ ∗ ⌜ PathRoom h (now path) (now nodes) ⌝ }
     requires { ⌜ Along h (now image) depth (now path) (now nodes) ⌝ ∗ ⌜ node ≡ getD (now nodes) depth 0 ⌝ }
-    ensures { λ r. ⌜ Told h (now (image .entry)) (firstOf (ahead h (now (image .entry)) (now (path .entry)) depth node from)) r (now (path .exit)) (now (nodes .exit)) ⌝ }
-    ensures { λ r. ⌜ Kept depth (now (path .entry)) (now (nodes .entry)) (now (path .exit)) (now (nodes .exit)) ⌝ }
+    ensures { λ r. ⌜ SearchTells h (now (image .entry)) (firstOf (ahead h (now (image .entry)) (now (path .entry)) depth node from)) r (now (path .exit)) (now (nodes .exit)) ⌝ }
+    ensures { λ r. ⌜ PathKept depth (now (path .entry)) (now (nodes .entry)) (now (path .exit)) (now (nodes .exit)) ⌝ }
 {
     for i in from..h.n {
         let c = node::link(image, h, mask, node, i);

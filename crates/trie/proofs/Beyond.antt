@@ -11,8 +11,8 @@ use mathlib.Core.Logic.{_≢_}
 use mathlib.Core.Option.{some}
 use mathlib.Core.Path.{_≡_, refl, sym, _∙_, ap, ap₂}
 use lib.ListN.{length, length-append}
-use Rattle.trie.specs.Table.{Table, complete, descend, Letters}
-use Rattle.trie.specs.Keys.{present, ownKey, byLetter, keysUnder, firstMeeting, meets, sift}
+use Rattle.trie.specs.Table.{Table, complete, descend, LettersBelow}
+use Rattle.trie.specs.Keys.{present, ownKey, byLetter, keysUnder, firstMeeting, meets, filter}
 use Rattle.trie.specs.Beyond.{firstOf, keysFrom, beyond}
 use Rattle.trie.proofs.LettersBelow.{letters-before, letters-after}
 use Rattle.trie.proofs.Before.{meets-empty, meets-lower, meets-cons, meets-higher, meets-none, meets-letter}
@@ -58,14 +58,14 @@ byLetter-none keys i (suc m) h = rw (h i) (byLetter-none keys (suc i) m h)
 -- those that begin with a later letter.
 
 sift-later : (after : Bool) (y : ℕ) (k : List ℕ) (keys : ℕ → List (List ℕ)) (i m : ℕ) → y < i
-    → sift (meets after (y ∷ k)) (byLetter keys i m) ≡ byLetter keys i m
+    → filter (meets after (y ∷ k)) (byLetter keys i m) ≡ byLetter keys i m
 sift-later after y k keys i m h =
     sift-every _ _ (λ j a.
     let (x, r, e, low, high, hr) = byLetter-cases keys i m a in
     ap (meets after (y ∷ k)) e ∙ meets-higher after x y k r (omega arith))
 
 sift-letter : (after : Bool) (y : ℕ) (k : List ℕ) (keys : ℕ → List (List ℕ)) (n i m : ℕ) → i + m ≡ n → i ≤ y → y < n
-    → sift (meets after (y ∷ k)) (byLetter keys i m) ≡ map (y ∷_) (sift (meets after k) (keys y)) ++ byLetter keys (suc y) (n - suc y)
+    → filter (meets after (y ∷ k)) (byLetter keys i m) ≡ map (y ∷_) (filter (meets after k) (keys y)) ++ byLetter keys (suc y) (n - suc y)
 unfolding byLetter
 sift-letter after y k keys n i zero size low high = absurd (omega arith)
 sift-letter after y k keys n i (suc m) size low high =
@@ -73,8 +73,8 @@ sift-letter after y k keys n i (suc m) size low high =
   where
     Met : ℕ → ℕ → Type 0
     Met i m =
-        sift (meets after (y ∷ k)) (byLetter keys i m)
-        ≡ map (y ∷_) (sift (meets after k) (keys y)) ++ byLetter keys (suc y) (n - suc y)
+        filter (meets after (y ∷ k)) (byLetter keys i m)
+        ≡ map (y ∷_) (filter (meets after k) (keys y)) ++ byLetter keys (suc y) (n - suc y)
 
     go : Dec (y ≡ i) → (i < y → Met (suc i) m) → Met i (suc m)
     go (yes e) rest =
@@ -83,7 +83,7 @@ sift-letter after y k keys n i (suc m) size low high =
         (sift-append _ (map (y ∷_) (keys y)) (byLetter keys (suc y) m)
         ∙ ap₂ _++_ (sift-map _ _ y (keys y) (meets-cons after y k)) (sift-later after y k keys (suc y) m (omega arith)))
     go (no other) rest =
-        let lower : sift (meets after (y ∷ k)) (map (i ∷_) (keys i)) ≡ [] =
+        let lower : filter (meets after (y ∷ k)) (map (i ∷_) (keys i)) ≡ [] =
         sift-none _ _ (λ j a.
         let (r, hr, e) = Memᴰ·of-map (i ∷_) (keys i) a in
         ap (meets after (y ∷ k)) (sym e) ∙ meets-lower after i y k r (omega arith)) in
@@ -203,21 +203,21 @@ module _ (t : Table) (n : ℕ) where
 
   -- at a node with a letter left, by the request's first letter; the node's own key comes before
   sift-node : (after : Bool) (y : ℕ) (k : List ℕ) (short left q : ℕ) → y < n
-      → sift (meets after (y ∷ k)) (keysUnder t n short (suc left) q)
-      ≡ map (y ∷_) (sift (meets after k) (under t n short left q y)) ++ keysFrom t n short (suc left) q (suc y)
+      → filter (meets after (y ∷ k)) (keysUnder t n short (suc left) q)
+      ≡ map (y ∷_) (filter (meets after k) (under t n short left q y)) ++ keysFrom t n short (suc left) q (suc y)
   unfolding keysUnder keysFrom
   sift-node after y k short left q h =
       sift-append _ (ownKey t short q) (byLetter (under t n short left q) 0 n)
       ∙ ap₂ _++_ own (sift-letter after y k (under t n short left q) n 0 n (omega arith) (omega arith) h)
     where
-      own : sift (meets after (y ∷ k)) (ownKey t short q) ≡ []
+      own : filter (meets after (y ∷ k)) (ownKey t short q) ≡ []
       own = sift-none _ _ (λ j a. ap (meets after (y ∷ k)) (own-cases t short q a .0) ∙ meets-empty after y k)
 
   -- along a path: what meets below its end, then all that stands behind it
   sift-path : {q p : ℕ} {k : List ℕ} → Walk t q k (complete p) → (after : Bool) (s : List ℕ) (short left : ℕ)
-      → Letters n k → length k ≤ left
-      → sift (meets after (k ++ s)) (keysUnder t n short left q)
-      ≡ map (k ++_) (sift (meets after s) (keysUnder t n (short - length k) (left - length k) p)) ++ beyond t n short left q k n
+      → LettersBelow n k → length k ≤ left
+      → filter (meets after (k ++ s)) (keysUnder t n short left q)
+      ≡ map (k ++_) (filter (meets after s) (keysUnder t n (short - length k) (left - length k) p)) ++ beyond t n short left q k n
   unfolding beyond
   sift-path (end {q}) after s short left letters deep =
       rw (sub-zero short, sub-zero left, map-id, from-none short left q n (omega arith), append-nil)
@@ -229,29 +229,29 @@ module _ (t : Table) (n : ℕ) where
       ∙ lead
       y
       k
-      (sift (meets after s) (keysUnder t n (short - suc (length k)) (suc left - suc (length k)) p))
+      (filter (meets after s) (keysUnder t n (short - suc (length k)) (suc left - suc (length k)) p))
       (beyond t n (pred short) left (t .child q y) k n)
       (keysFrom t n short (suc left) q (suc y))
-      (ap (sift (meets after (k ++ s))) (follow-on (t .child q y) [] _ h)
+      (ap (filter (meets after (k ++ s))) (follow-on (t .child q y) [] _ h)
       ∙ (rw (e, f) at (sift-path w after s (pred short) left (letters .1) (omega arith))))
 
   -- at the path's end: all but the node's own key is after the empty key
-  sift-below : (short left q : ℕ) → sift (meets true []) (keysUnder t n short left q) ≡ keysFrom t n short left q 0
+  sift-below : (short left q : ℕ) → filter (meets true []) (keysUnder t n short left q) ≡ keysFrom t n short left q 0
   sift-below short left q =
-      ap (sift (meets true [])) (under-split short left q)
+      ap (filter (meets true [])) (under-split short left q)
       ∙ sift-append _ (ownKey t short q) (keysFrom t n short left q 0)
       ∙ ap₂ _++_ own below
     where
-      own : sift (meets true []) (ownKey t short q) ≡ []
+      own : filter (meets true []) (ownKey t short q) ≡ []
       own = sift-none _ _ (λ j a. ap (meets true []) (own-cases t short q a .0) ∙ meets-none)
 
-      below : sift (meets true []) (keysFrom t n short left q 0) ≡ keysFrom t n short left q 0
+      below : filter (meets true []) (keysFrom t n short left q 0) ≡ keysFrom t n short left q 0
       below =
           sift-every _ _ (λ j a. let f = from-cases short left q 0 a in ap (meets true []) (f .2) ∙ meets-letter (f .0) (f .1))
 
   -- "after" the path's own key
-  pub sift-after : (short left q : ℕ) (k : List ℕ) {p : ℕ} → descend t q k ≡ complete p → Letters n k → length k ≤ left
-      → sift (meets true k) (keysUnder t n short left q) ≡ beyond t n short left q k 0
+  pub sift-after : (short left q : ℕ) (k : List ℕ) {p : ℕ} → descend t q k ≡ complete p → LettersBelow n k → length k ≤ left
+      → filter (meets true k) (keysUnder t n short left q) ≡ beyond t n short left q k 0
   sift-after short left q k {p} e letters deep =
       let w : Walk t q k (complete p) = walk t q k e in
       (rw (append-nil k) at (sift-path w true [] short left letters deep))
@@ -259,8 +259,8 @@ module _ (t : Table) (n : ℕ) where
       ∙ sym (split w short left 0)
 
   -- "at or after" it
-  pub sift-at : (short left q : ℕ) (k : List ℕ) {p : ℕ} → descend t q k ≡ complete p → Letters n k → length k ≤ left
-      → sift (meets false k) (keysUnder t n short left q)
+  pub sift-at : (short left q : ℕ) (k : List ℕ) {p : ℕ} → descend t q k ≡ complete p → LettersBelow n k → length k ≤ left
+      → filter (meets false k) (keysUnder t n short left q)
       ≡ map (k ++_) (ownKey t (short - length k) p) ++ beyond t n short left q k 0
   sift-at short left q k {p} e letters deep =
       let w : Walk t q k (complete p) = walk t q k e in
@@ -271,16 +271,16 @@ module _ (t : Table) (n : ℕ) where
 
   -- either, where the key goes on at an empty link
   sift-stop : (after : Bool) (y : ℕ) (ys : List ℕ) (short left q : ℕ) → 0 < left → y < n → t .child q y ≡ 0
-      → sift (meets after (y ∷ ys)) (keysUnder t n short left q) ≡ keysFrom t n short left q (suc y)
-  unfolding sift
+      → filter (meets after (y ∷ ys)) (keysUnder t n short left q) ≡ keysFrom t n short left q (suc y)
+  unfolding filter
   sift-stop after y ys short zero q deep h e = absurd (omega arith)
   sift-stop after y ys short (suc left) q deep h e =
       let empty : under t n short left q y ≡ [] = follow-empty (t .child q y) [] _ e in
-      rw (sift-node after y ys short left q h, empty, sift)
+      rw (sift-node after y ys short left q h, empty, filter)
 
   pub sift-stopped : (after : Bool) (short left q : ℕ) (k : List ℕ) (y : ℕ) (ys : List ℕ) {p : ℕ} → descend t q k ≡ complete p
-      → t .child p y ≡ 0 → Letters n (k ++ (y ∷ ys)) → length (k ++ (y ∷ ys)) ≤ left
-      → sift (meets after (k ++ (y ∷ ys))) (keysUnder t n short left q) ≡ beyond t n short left q k (suc y)
+      → t .child p y ≡ 0 → LettersBelow n (k ++ (y ∷ ys)) → length (k ++ (y ∷ ys)) ≤ left
+      → filter (meets after (k ++ (y ∷ ys))) (keysUnder t n short left q) ≡ beyond t n short left q k (suc y)
   sift-stopped after short left q k y ys {p} e f letters deep =
       let w : Walk t q k (complete p) = walk t q k e in
       let room : length k < left = omega (arith, length-append k (y ∷ ys)) in
@@ -292,21 +292,21 @@ module _ (t : Table) (n : ℕ) where
       ∙ sym (split w short left (suc y))
 
   -- the first key that meets
-  pub meets-after-path : (short left q : ℕ) (k : List ℕ) {p : ℕ} → descend t q k ≡ complete p → Letters n k → length k ≤ left
+  pub meets-after-path : (short left q : ℕ) (k : List ℕ) {p : ℕ} → descend t q k ≡ complete p → LettersBelow n k → length k ≤ left
       → firstMeeting (meets true k) (keysUnder t n short left q) ≡ firstOf (beyond t n short left q k 0)
   meets-after-path short left q k e letters deep = first-sift _ _ ∙ ap firstOf (sift-after short left q k e letters deep)
 
-  pub meets-at-path : (short left q : ℕ) (k : List ℕ) {p : ℕ} → descend t q k ≡ complete p → Letters n k → length k ≤ left
+  pub meets-at-path : (short left q : ℕ) (k : List ℕ) {p : ℕ} → descend t q k ≡ complete p → LettersBelow n k → length k ≤ left
       → firstMeeting (meets false k) (keysUnder t n short left q)
       ≡ firstOf (map (k ++_) (ownKey t (short - length k) p) ++ beyond t n short left q k 0)
   meets-at-path short left q k e letters deep = first-sift _ _ ∙ ap firstOf (sift-at short left q k e letters deep)
 
-  pub meets-at-none : (short left q : ℕ) (k : List ℕ) {p : ℕ} → descend t q k ≡ complete p → Letters n k → length k ≤ left
+  pub meets-at-none : (short left q : ℕ) (k : List ℕ) {p : ℕ} → descend t q k ≡ complete p → LettersBelow n k → length k ≤ left
       → ownKey t (short - length k) p ≡ []
       → firstMeeting (meets false k) (keysUnder t n short left q) ≡ firstOf (beyond t n short left q k 0)
   meets-at-none short left q k e letters deep own = rw (meets-at-path short left q k e letters deep, own)
 
-  pub meets-at-own : (short left q : ℕ) (k : List ℕ) {p : ℕ} → descend t q k ≡ complete p → Letters n k → length k ≤ left
+  pub meets-at-own : (short left q : ℕ) (k : List ℕ) {p : ℕ} → descend t q k ≡ complete p → LettersBelow n k → length k ≤ left
       → short ≤ length k → t .value p ≢ 0
       → firstMeeting (meets false k) (keysUnder t n short left q) ≡ some k
   unfolding firstOf
@@ -314,7 +314,7 @@ module _ (t : Table) (n : ℕ) where
       rw (meets-at-path short left q k e letters deep, own-there t (short - length k) p (omega arith) full, append-nil k)
 
   pub meets-stopped : (after : Bool) (short left q : ℕ) (k : List ℕ) (y : ℕ) (ys : List ℕ) {p : ℕ} → descend t q k ≡ complete p
-      → t .child p y ≡ 0 → Letters n (k ++ (y ∷ ys)) → length (k ++ (y ∷ ys)) ≤ left
+      → t .child p y ≡ 0 → LettersBelow n (k ++ (y ∷ ys)) → length (k ++ (y ∷ ys)) ≤ left
       → firstMeeting (meets after (k ++ (y ∷ ys))) (keysUnder t n short left q) ≡ firstOf (beyond t n short left q k (suc y))
   meets-stopped after short left q k y ys e f letters deep =
       first-sift _ _ ∙ ap firstOf (sift-stopped after short left q k y ys e f letters deep)

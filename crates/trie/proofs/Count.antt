@@ -11,7 +11,7 @@ use mathlib.Core.Path.{_≡_, refl, sym, _∙_, ap, subst}
 use lib.IntN.{pos, negsuc, _+ℤ_, +ℤ-idr}
 use lib.ListN.{length, length-append}
 use borrow.Author.Tests.{le-ltb}
-use Rattle.trie.specs.Table.{Table, descend, answer, missing, Letters}
+use Rattle.trie.specs.Table.{Table, descend, answer, missing, LettersBelow}
 use Rattle.trie.specs.Keys.{keysUnder, listing, Ascending}
 use Rattle.trie.specs.Rules.{Framed, Linked}
 use Rattle.trie.specs.Storing.{stored, added, changeOf}
@@ -163,7 +163,7 @@ listing-change {t} {s} {n = n} {least} {most} {k} a = go (answer t k) (answer s 
     go (suc b) (suc c) e f = level (omega arith)
 
 -- a store leaves the answers of all other keys
-pub stored-alike : {t : Table} {g n : ℕ} → Linked t g n → (k : List ℕ) → Letters n k
+pub stored-alike : {t : Table} {g n : ℕ} → Linked t g n → (k : List ℕ) → LettersBelow n k
     → (v least most : ℕ) → least ≤ length k → length k ≤ most
     → Alike t (stored t g k v) g (g + added (missing (descend t 0 k)) v) n least most k
 stored-alike l k letters v least most low high =
@@ -176,7 +176,7 @@ stored-alike l k letters v least most low high =
     }
 
 -- "the change in the number of stored keys: -1, 0 or 1"
-pub stored-count : {t : Table} {g n : ℕ} → Linked t g n → (k : List ℕ) → Letters n k
+pub stored-count : {t : Table} {g n : ℕ} → Linked t g n → (k : List ℕ) → LettersBelow n k
     → (v least most : ℕ) → least ≤ length k → length k ≤ most
     → pos (length (listing (stored t g k v) n least most)) ≡ pos (length (listing t n least most)) +ℤ changeOf (answer t k) v
 stored-count l k letters v least most low high =

@@ -9,7 +9,7 @@ use lib.Dec.{eqb}
 use lib.ListN.{length}
 use borrow.Author.Tests.{eqb-true, eqb-false, not-true, not-false}
 use Rattle.trie.specs.Table.{Table, Descent, complete, stopped, descend}
-use Rattle.trie.specs.Keys.{listing, sift, Ascending}
+use Rattle.trie.specs.Keys.{listing, filter, Ascending}
 use Rattle.trie.specs.Rules.{Linked}
 use Rattle.trie.proofs.Before.{before-apart}
 use Rattle.trie.proofs.Filter.{by-test, sift-every, sift-holds, sift-ascending}
@@ -19,8 +19,8 @@ use Rattle.trie.proofs.Walk.{one-key, complete-within}
 -- a test that one key fails at most takes out one key at most
 one-out : (p : List ℕ → Bool) (l : List (List ℕ)) → Ascending l
     → ((j k : List ℕ) → List·Memᴰ j l → List·Memᴰ k l → p j ≡ false → p k ≡ false → j ≡ k)
-    → length l ≤ suc (length (sift p l))
-unfolding sift
+    → length l ≤ suc (length (filter p l))
+unfolding filter
 one-out p [] up alone = omega arith
 one-out p (x ∷ l) up alone =
     let on = one-out p l (up .1) (λ j k a b. alone j k (List·Memᴰ·tail a) (List·Memᴰ·tail b)) in
@@ -40,16 +40,16 @@ few : (node : List ℕ → ℕ) (g : ℕ) (l : List (List ℕ)) → Ascending l
 few node zero [] up low alone = omega arith
 few node zero (x ∷ l) up low alone = absurd (omega (arith, low x (List·Memᴰ·head refl)))
 few node (suc g) l up low alone =
-    let on = few node g (sift p l) (sift-ascending p l up) lower (λ j k a b. alone j k (held j a .0) (held k b .0)) in
+    let on = few node g (filter p l) (sift-ascending p l up) lower (λ j k a b. alone j k (held j a .0) (held k b .0)) in
     omega (arith, one-out p l up (λ j k a b e f. alone j k a b (top j e ∙ sym (top k f))))
   where
     p : List ℕ → Bool
     p k = not (eqb (node k) g)
 
-    held : (k : List ℕ) → List·Memᴰ k (sift p l) → List·Memᴰ k l × (p k ≡ true)
+    held : (k : List ℕ) → List·Memᴰ k (filter p l) → List·Memᴰ k l × (p k ≡ true)
     held k = sift-holds p l k .0
 
-    lower : (k : List ℕ) → List·Memᴰ k (sift p l) → node k < g
+    lower : (k : List ℕ) → List·Memᴰ k (filter p l) → node k < g
     lower k a =
         let h = held k a in
         let other : node k ≡ g → ⊥ = eqb-false (node k) g (not-true _ (h .1)) in

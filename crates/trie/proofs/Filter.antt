@@ -9,16 +9,16 @@ use mathlib.Core.Logic.{_↔_, ⊎-elim}
 use mathlib.Core.Option.{some, Option·some-injective, Option·some-ne-none}
 use mathlib.Core.Path.{_≡_, refl, sym, _∙_, ap}
 use lib.ListN.{length}
-use Rattle.trie.specs.Keys.{firstMeeting, meets, sift, Ascending}
+use Rattle.trie.specs.Keys.{firstMeeting, meets, filter, Ascending}
 use Rattle.trie.specs.Beyond.{firstOf}
 use Rattle.trie.proofs.Before.{meets-any}
 
-pub sift-in : (p : List ℕ → Bool) (k : List ℕ) (l : List (List ℕ)) → p k ≡ true → sift p (k ∷ l) ≡ k ∷ sift p l
-unfolding sift
+pub sift-in : (p : List ℕ → Bool) (k : List ℕ) (l : List (List ℕ)) → p k ≡ true → filter p (k ∷ l) ≡ k ∷ filter p l
+unfolding filter
 sift-in p k l e = rw e
 
-pub sift-out : (p : List ℕ → Bool) (k : List ℕ) (l : List (List ℕ)) → p k ≡ false → sift p (k ∷ l) ≡ sift p l
-unfolding sift
+pub sift-out : (p : List ℕ → Bool) (k : List ℕ) (l : List (List ℕ)) → p k ≡ false → filter p (k ∷ l) ≡ filter p l
+unfolding filter
 sift-out p k l e = rw e
 
 -- what holds of a list's sifting whether its first key meets or not
@@ -29,8 +29,8 @@ by-test X p k met unmet = go (p k) refl
     go true e = met e
     go false e = unmet e
 
-pub sift-append : (p : List ℕ → Bool) (l m : List (List ℕ)) → sift p (l ++ m) ≡ sift p l ++ sift p m
-unfolding sift
+pub sift-append : (p : List ℕ → Bool) (l m : List (List ℕ)) → filter p (l ++ m) ≡ filter p l ++ filter p m
+unfolding filter
 sift-append p [] m = refl
 sift-append p (k ∷ l) m =
     let on = sift-append p l m in
@@ -38,33 +38,33 @@ sift-append p (k ∷ l) m =
 
 -- keys that begin with one letter, where the request leaves it to what follows
 pub sift-map : (p r : List ℕ → Bool) (x : ℕ) (l : List (List ℕ)) → ((k : List ℕ) → p (x ∷ k) ≡ r k)
-    → sift p (map (x ∷_) l) ≡ map (x ∷_) (sift r l)
-unfolding sift
+    → filter p (map (x ∷_) l) ≡ map (x ∷_) (filter r l)
+unfolding filter
 sift-map p r x [] same = refl
 sift-map p r x (k ∷ l) same =
     let on = sift-map p r x l same in
     by-test _ r k (λ e. rw (same k, e, on)) (λ e. rw (same k, e, on))
 
-pub sift-none : (p : List ℕ → Bool) (l : List (List ℕ)) → ((k : List ℕ) → List·Memᴰ k l → p k ≡ false) → sift p l ≡ []
-unfolding sift
+pub sift-none : (p : List ℕ → Bool) (l : List (List ℕ)) → ((k : List ℕ) → List·Memᴰ k l → p k ≡ false) → filter p l ≡ []
+unfolding filter
 sift-none p [] h = refl
 sift-none p (k ∷ l) h = sift-out p k l (h k (List·Memᴰ·head refl)) ∙ sift-none p l (λ m a. h m (List·Memᴰ·tail a))
 
-pub sift-every : (p : List ℕ → Bool) (l : List (List ℕ)) → ((k : List ℕ) → List·Memᴰ k l → p k ≡ true) → sift p l ≡ l
-unfolding sift
+pub sift-every : (p : List ℕ → Bool) (l : List (List ℕ)) → ((k : List ℕ) → List·Memᴰ k l → p k ≡ true) → filter p l ≡ l
+unfolding filter
 sift-every p [] h = refl
 sift-every p (k ∷ l) h =
     sift-in p k l (h k (List·Memᴰ·head refl)) ∙ ap (k ∷_) (sift-every p l (λ m a. h m (List·Memᴰ·tail a)))
 
-pub first-sift : (p : List ℕ → Bool) (l : List (List ℕ)) → firstMeeting p l ≡ firstOf (sift p l)
-unfolding firstMeeting sift firstOf
+pub first-sift : (p : List ℕ → Bool) (l : List (List ℕ)) → firstMeeting p l ≡ firstOf (filter p l)
+unfolding firstMeeting filter firstOf
 first-sift p [] = refl
 first-sift p (k ∷ l) =
     let on = first-sift p l in
     by-test _ p k (λ e. rw e) (λ e. rw (e, on))
 
-pub sift-holds : (p : List ℕ → Bool) (l : List (List ℕ)) (m : List ℕ) → List·Memᴰ m (sift p l) ↔ (List·Memᴰ m l × (p m ≡ true))
-unfolding sift
+pub sift-holds : (p : List ℕ → Bool) (l : List (List ℕ)) (m : List ℕ) → List·Memᴰ m (filter p l) ↔ (List·Memᴰ m l × (p m ≡ true))
+unfolding filter
 sift-holds p [] m = (λ a. absurd (List·Memᴰ·not-nil a), λ h. h .0)
 sift-holds p (k ∷ l) m =
     by-test _ p k
@@ -88,16 +88,16 @@ sift-holds p (k ∷ l) m =
           (List·Memᴰ·cases-cons (h .0))),
     ))
 
-pub sift-ascending : (p : List ℕ → Bool) (l : List (List ℕ)) → Ascending l → Ascending (sift p l)
-unfolding sift
+pub sift-ascending : (p : List ℕ → Bool) (l : List (List ℕ)) → Ascending l → Ascending (filter p l)
+unfolding filter
 sift-ascending p [] up = tt
 sift-ascending p (k ∷ l) up =
     by-test _ p k
     (λ e. rw e (λ m a. up .0 m (sift-holds p l m .0 a .0), sift-ascending p l (up .1)))
     (λ e. rw e (sift-ascending p l (up .1)))
 
-pub sift-length : (p : List ℕ → Bool) (l : List (List ℕ)) → length (sift p l) ≤ length l
-unfolding sift
+pub sift-length : (p : List ℕ → Bool) (l : List (List ℕ)) → length (filter p l) ≤ length l
+unfolding filter
 sift-length p [] = omega arith
 sift-length p (k ∷ l) =
     let on = sift-length p l in
@@ -113,5 +113,5 @@ first-listed p (x ∷ l) {k} h =
     (λ e. let f = first-listed p l (rw e at h) in (List·Memᴰ·tail (f .0), f .1))
 
 -- every key is at or after the empty key
-pub sift-all : (l : List (List ℕ)) → sift (meets false []) l ≡ l
+pub sift-all : (l : List (List ℕ)) → filter (meets false []) l ≡ l
 sift-all l = sift-every (meets false []) l (λ k a. meets-any k)

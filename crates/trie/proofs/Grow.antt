@@ -11,7 +11,7 @@ use lib.Dec.{eqb}
 use lib.ListN.{length}
 use lib.Seq.{append-snoc}
 use borrow.Author.Tests.{eq-eqb, eqb-true}
-use Rattle.trie.specs.Table.{Table, Descent, complete, stopped, descend, valueAt, answer, Letters}
+use Rattle.trie.specs.Table.{Table, Descent, complete, stopped, descend, valueAt, answer, LettersBelow}
 use Rattle.trie.specs.Rules.{Linked}
 use Rattle.trie.specs.Storing.{grow, growPath}
 use Rattle.trie.proofs.LettersBelow.{letters-after}
@@ -158,10 +158,10 @@ pub record Room (t : Table) (g n q x : ℕ) (xs : List ℕ) : Type 0 where
   pub linked : Linked t g n
   pub node : q ≤ g
   pub empty : t .child q x ≡ 0
-  pub letters : Letters n (x ∷ xs)
+  pub letters : LettersBelow n (x ∷ xs)
 
 -- where a key's walk stopped there is room for its other letters
-pub room : {t : Table} {g n : ℕ} (k : List ℕ) {q x : ℕ} {xs : List ℕ} → Linked t g n → Letters n k → descend t 0 k ≡ stopped q x xs
+pub room : {t : Table} {g n : ℕ} (k : List ℕ) {q x : ℕ} {xs : List ℕ} → Linked t g n → LettersBelow n k → descend t 0 k ≡ stopped q x xs
     → Room t g n q x xs
 room {t} {g} {n} k {q} {x} {xs} l s e =
     let w = where-stopped t 0 k e in
@@ -169,7 +169,7 @@ room {t} {g} {n} k {q} {x} {xs} l s e =
       linked = l;
       node = stopped-within t g k (l .within) e;
       empty = w .empty;
-      letters = letters-after n (w .path) (x ∷ xs) (subst (λ (m : List ℕ). Letters n m) (w .key) s);
+      letters = letters-after n (w .path) (x ∷ xs) (subst (λ (m : List ℕ). LettersBelow n m) (w .key) s);
     }
 
 pub room-fresh : {t : Table} {g n q x : ℕ} {xs : List ℕ} → Room t g n q x xs → Fresh t q x (suc g)

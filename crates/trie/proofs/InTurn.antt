@@ -7,33 +7,33 @@ use mathlib.Core.List.{List, [], _∷_, List·Memᴰ, List·Memᴰ·head, nil≢
 use mathlib.Core.Option.{Option, none, some}
 use mathlib.Core.Path.{_≡_, refl, sym, _∙_, ap, subst}
 use lib.ListN.{length, drop-of-length-le}
-use Rattle.trie.specs.Keys.{before, meets, firstMeeting, sift, withKey, inTurn, Ascending}
+use Rattle.trie.specs.Keys.{before, meets, firstMeeting, filter, withKey, inTurn, Ascending}
 use Rattle.trie.specs.Beyond.{firstOf}
 use Rattle.trie.proofs.Before.{before-irrefl, before-trans, before-asym}
 use Rattle.trie.proofs.Filter.{by-test, sift-in, sift-out, sift-every, sift-holds, sift-length, first-sift}
 
 -- the keys after the first one that comes after k
 pub sift-next : (keys : List (List ℕ)) (k : List ℕ) {m : List ℕ} {ms : List (List ℕ)} → Ascending keys
-    → sift (meets true k) keys ≡ m ∷ ms
-    → sift (meets true m) keys ≡ ms
-unfolding sift meets
+    → filter (meets true k) keys ≡ m ∷ ms
+    → filter (meets true m) keys ≡ ms
+unfolding filter meets
 sift-next [] k up e = absurd (nil≢cons e)
 sift-next (x ∷ l) k {m} {ms} up e = by-test _ (meets true k) x met (unmet (sift-next l k (up .1)))
   where
-    met : before k x ≡ true → sift (meets true m) (x ∷ l) ≡ ms
+    met : before k x ≡ true → filter (meets true m) (x ∷ l) ≡ ms
     met h =
-        let f : x ∷ sift (meets true k) l ≡ m ∷ ms = sym (sift-in (meets true k) x l h) ∙ e in
+        let f : x ∷ filter (meets true k) l ≡ m ∷ ms = sym (sift-in (meets true k) x l h) ∙ e in
         subst
-        (λ (j : List ℕ). sift (meets true j) (x ∷ l) ≡ ms)
+        (λ (j : List ℕ). filter (meets true j) (x ∷ l) ≡ ms)
         (head-eq-of-cons-eq f)
         (sift-out (meets true x) x l (before-irrefl x)
         ∙ sift-every (meets true x) l (up .0)
         ∙ sym (sift-every (meets true k) l (λ j a. before-trans k x j h (up .0 j a)))
         ∙ tail-eq-of-cons-eq f)
 
-    unmet : (sift (meets true k) l ≡ m ∷ ms → sift (meets true m) l ≡ ms) → before k x ≡ false → sift (meets true m) (x ∷ l) ≡ ms
+    unmet : (filter (meets true k) l ≡ m ∷ ms → filter (meets true m) l ≡ ms) → before k x ≡ false → filter (meets true m) (x ∷ l) ≡ ms
     unmet rest h =
-        let f : sift (meets true k) l ≡ m ∷ ms = sym (sift-out (meets true k) x l h) ∙ e in
+        let f : filter (meets true k) l ≡ m ∷ ms = sym (sift-out (meets true k) x l h) ∙ e in
         let held : List·Memᴰ m l = sift-holds (meets true k) l m .0 (rw f (List·Memᴰ·head refl)) .0 in
         sift-out (meets true m) x l (before-asym x m (up .0 m held)) ∙ rest f
 
@@ -43,25 +43,25 @@ after keys k = firstMeeting (meets true k) keys
 
 module _ (keys : List (List ℕ)) (up : Ascending keys) where
   -- one question and the answers that follow it
-  ask : (times : ℕ) (k : List ℕ) (l : List (List ℕ)) → sift (meets true k) keys ≡ l
-      → ((m : List ℕ) → length (sift (meets true m) keys) ≤ times
-      → inTurn (after keys) times m ≡ sift (meets true m) keys)
+  ask : (times : ℕ) (k : List ℕ) (l : List (List ℕ)) → filter (meets true k) keys ≡ l
+      → ((m : List ℕ) → length (filter (meets true m) keys) ≤ times
+      → inTurn (after keys) times m ≡ filter (meets true m) keys)
       → length l ≤ suc times
       → inTurn (after keys) (suc times) k ≡ l
   unfolding inTurn withKey firstOf
   ask times k [] e rest few = rw (first-sift (meets true k) keys, e)
   ask times k (m ∷ ms) e rest few =
-      let f : sift (meets true m) keys ≡ ms = sift-next keys k up e in
+      let f : filter (meets true m) keys ≡ ms = sift-next keys k up e in
       rw (first-sift (meets true k) keys, e) (ap (m ∷_) (rest m (rw f (omega arith)) ∙ f))
 
-  answers : (times : ℕ) (k : List ℕ) → length (sift (meets true k) keys) ≤ times
-      → inTurn (after keys) times k ≡ sift (meets true k) keys
+  answers : (times : ℕ) (k : List ℕ) → length (filter (meets true k) keys) ≤ times
+      → inTurn (after keys) times k ≡ filter (meets true k) keys
   unfolding inTurn
-  answers zero k few = sym (drop-of-length-le (sift (meets true k) keys) few)
-  answers (suc times) k few = ask times k (sift (meets true k) keys) refl (answers times) few
+  answers zero k few = sym (drop-of-length-le (filter (meets true k) keys) few)
+  answers (suc times) k few = ask times k (filter (meets true k) keys) refl (answers times) few
 
   pub in-turn : (times : ℕ) → length keys ≤ times → (k : List ℕ)
-      → inTurn (λ j. firstMeeting (meets true j) keys) times k ≡ sift (meets true k) keys
+      → inTurn (λ j. firstMeeting (meets true j) keys) times k ≡ filter (meets true k) keys
   in-turn times enough k = answers times k (omega (arith, sift-length (meets true k) keys))
 
 -- ---- two ways of asking

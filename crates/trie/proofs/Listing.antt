@@ -11,7 +11,7 @@ use mathlib.Core.Logic.{_↔_, _≢_, _⊎_, inl, inr, ⊎-elim}
 use mathlib.Core.Option.{none, some, Option·some-injective, Option·some-ne-none}
 use mathlib.Core.Path.{_≡_, refl, sym, _∙_, ap, ap₂, subst}
 use lib.ListN.{length}
-use Rattle.trie.specs.Table.{Table, complete, stopped, follow, descend, valueAt, answer, Letters}
+use Rattle.trie.specs.Table.{Table, complete, stopped, follow, descend, valueAt, answer, LettersBelow}
 use Rattle.trie.specs.Keys.{present, ownKey, byLetter, keysUnder, listing, before, firstMeeting, Ascending}
 use Rattle.trie.specs.Rules.{Framed}
 use Rattle.trie.proofs.Walk.{descend-nil, descend-on}
@@ -113,7 +113,7 @@ module _ (t : Table) (n : ℕ) where
     pub full : t .value node ≢ 0
     pub long : short ≤ length k
     pub deep : length k ≤ left
-    pub letters : Letters n k
+    pub letters : LettersBelow n k
 
   own-listed : {k : List ℕ} (short left q : ℕ) → List·Memᴰ k (ownKey t short q) → Listed short left q k
   own-listed short left q a =

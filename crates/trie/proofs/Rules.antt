@@ -4,7 +4,7 @@ use Prim.Native.Nat.{ℕ, suc, _+_, _<_}
 use mathlib.Core.List.{List, [], _∷_}
 use mathlib.Core.Logic.{_≢_}
 use native.Mathlib.Omega.{arith}
-use Rattle.trie.specs.Table.{Table, Letters, descend, missing}
+use Rattle.trie.specs.Table.{Table, LettersBelow, descend, missing}
 use Rattle.trie.specs.Rules.{Framed, Within, Rising, LinkRules, Linked}
 use Rattle.trie.specs.Storing.{put, grow, growPath, stored, added}
 use Rattle.trie.proofs.Walk.{stopped-within}
@@ -34,7 +34,7 @@ rising {t} {g = g} {k = k} w r (longer {q} {x} {xs} e) =
 pub rules-linked : {t : Table} {g n : ℕ} → Framed t g n → LinkRules t g → Linked t g n
 rules-linked f r = record { framed = f; within = r .within; named = r .named; once = r .once }
 
-pub stored-rules : {t : Table} {g n : ℕ} → Framed t g n → LinkRules t g → (k : List ℕ) → Letters n k → (v : ℕ)
+pub stored-rules : {t : Table} {g n : ℕ} → Framed t g n → LinkRules t g → (k : List ℕ) → LettersBelow n k → (v : ℕ)
     → LinkRules (stored t g k v) (g + added (missing (descend t 0 k)) v)
 stored-rules {t} {g} f r k letters v =
     let l = stored-linked (rules-linked f r) k letters v in

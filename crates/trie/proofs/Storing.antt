@@ -7,7 +7,7 @@ use mathlib.Core.Logic.{_≢_}
 use native.Mathlib.Nat.{add-zero}
 use native.Mathlib.Omega.{arith}
 use lib.ListN.{length}
-use Rattle.trie.specs.Table.{Table, Descent, complete, stopped, descend, answer, missing, Letters}
+use Rattle.trie.specs.Table.{Table, Descent, complete, stopped, descend, answer, missing, LettersBelow}
 use Rattle.trie.specs.Rules.{Linked}
 use Rattle.trie.specs.Storing.{put, growPath, stored, storedBy, added}
 use Rattle.trie.proofs.Walk.{answer-stopped, complete-within, where-stopped}
@@ -37,7 +37,7 @@ store t g k v = go (descend t 0 k) v refl
     go (stopped q x xs) zero e = rw (add-zero g) (unchanged e)
     go (stopped q x xs) (suc v) e = longer e
 
-module _ {t : Table} {g n : ℕ} (l : Linked t g n) (k : List ℕ) (letters : Letters n k) where
+module _ {t : Table} {g n : ℕ} (l : Linked t g n) (k : List ℕ) (letters : LettersBelow n k) where
   -- with its new path the key walks to the path's last node
   reaches : {q x : ℕ} {xs : List ℕ} → descend t 0 k ≡ stopped q x xs
       → descend (growPath t q x xs (suc g)) 0 k ≡ complete (g + suc (length xs))

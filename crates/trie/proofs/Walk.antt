@@ -6,7 +6,7 @@ use mathlib.Core.Path.{_≡_, refl, sym, _∙_, ap, ap₂, subst}
 use mathlib.Core.Logic.{_≢_}
 use native.Mathlib.Decide.{ℕ-discrete, decLt}
 use native.Mathlib.Omega.{arith}
-use Rattle.trie.specs.Table.{Table, Descent, complete, stopped, follow, descend, valueAt, answer, Letters}
+use Rattle.trie.specs.Table.{Table, Descent, complete, stopped, follow, descend, valueAt, answer, LettersBelow}
 use Rattle.trie.specs.Rules.{Framed, Within, Once}
 
 -- an empty link gives what it gives where it is empty
@@ -132,7 +132,7 @@ pub stopped-within : (t : Table) (g : ℕ) (k : List ℕ) {q x : ℕ} {xs : List
 stopped-within t g k within e = let s = where-stopped t 0 k e in complete-within t g (s .path) within (s .reaches)
 
 -- a complete walk meets no letter outside the table
-short : {t : Table} {g n a q : ℕ} {k : List ℕ} → Framed t g n → Walk t a k (complete q) → Letters n k
+short : {t : Table} {g n a q : ℕ} {k : List ℕ} → Framed t g n → Walk t a k (complete q) → LettersBelow n k
 short framed end = tt
 short {n = n} framed (on {q} {x} h w) = (go (decLt x n), short framed w)
   where

@@ -55,9 +55,9 @@ firstMeeting p [] = none
 firstMeeting p (k ∷ ks) = cond (p k) (some k) (firstMeeting p ks)
 
 -- those keys of a list that meet the request
-unfoldable pub sift : (List ℕ → Bool) → List (List ℕ) → List (List ℕ)
-sift p [] = []
-sift p (k ∷ ks) = cond (p k) (k ∷ sift p ks) (sift p ks)
+unfoldable pub filter : (List ℕ → Bool) → List (List ℕ) → List (List ℕ)
+filter p [] = []
+filter p (k ∷ ks) = cond (p k) (k ∷ filter p ks) (filter p ks)
 
 -- nothing where there is no key, else what the key gives
 unfoldable pub withKey : Option (List ℕ) → (List ℕ → List (List ℕ)) → List (List ℕ)

@@ -39,9 +39,9 @@ unfolding valueAt descend
 answer t k = valueAt t (descend t 0 k)
 
 -- every letter of a key is one of the n letters
-abbrev pub Letters : ℕ → List ℕ → Type 0
-Letters n [] = Unit {0}
-Letters n (x ∷ xs) = (x < n) × Letters n xs
+abbrev pub LettersBelow : ℕ → List ℕ → Type 0
+LettersBelow n [] = Unit {0}
+LettersBelow n (x ∷ xs) = (x < n) × LettersBelow n xs
 
 -- "the number of nodes missing on the key's path"
 unfoldable pub missing : Descent → ℕ

@@ -1,7 +1,7 @@
 // The C face: what a bench links. Each function calls one public call of the library and lists the numbers of its answer; its promise is
 // that call's own. A slice comes as a pointer and a length. include/trieff.h declares all of it for C.
 ghost use Rattle.paper.specs.Given.{asLetters, asText};
-ghost use Rattle.paper.specs.Promises.{Makes, Checks, Counts, LooksUp, Stores, StoresWrites, Mends, Nexts};
+ghost use Rattle.paper.specs.Promises.{Makes, Checks, CountsKeys, LooksUp, Stores, StoresWrites, Mends, Nexts};
 ghost use Rattle.position.specs.Promises.{WorksOut, ChecksCounts, StoresCounts, GivesKey, GivesPosition};
 ghost use Rattle.face.specs.Face.{numbersOf};
 use face::TrieffAnswer;
@@ -33,7 +33,7 @@ pub extern "C" fn trieff_check(image: &[u8], work: &mut [u32]) -> TrieffAnswer
 
 #[no_mangle]
 pub extern "C" fn trieff_count(image: &[u8], work: &mut [u32]) -> TrieffAnswer
-    ensures { λ r. ⌜ Counts (now (image .entry)) (now (work .entry)) (numbersOf r) (now (work .exit)) ⌝ }
+    ensures { λ r. ⌜ CountsKeys (now (image .entry)) (now (work .entry)) (numbersOf r) (now (work .exit)) ⌝ }
 {
     let answer = checks::count(image, work);
     face::counted(answer)

@@ -17,11 +17,11 @@ use Rattle.trie.specs.Keys.{keysUnder}
 use Rattle.trie.proofs.Beyond.{under-split}
 use Rattle.head.specs.declared.Head.{Head}
 use Rattle.node.specs.Image.{tableOf}
-use Rattle.depths.specs.Depths.{Bearing}
+use Rattle.depths.specs.Depths.{KeysBelow}
 use Rattle.counting.proofs.Counting.{left, owned, left-fruitless, left-none, left-empty, left-link}
 use Rattle.passing.specs.Weights.{weightFrom}
 use Rattle.passing.proofs.Weights.{weight-split, weight-none, weight-empty, weight-link, weight-fruitless}
-use Rattle.weighing.specs.Weighing.{weight, Fits, Weighed}
+use Rattle.weighing.specs.Weighing.{weight, SumsFit, Weighed}
 
 -- ---- one number more in a list
 
@@ -59,7 +59,7 @@ module _ (h : Head) (l : List ℕ) where
       (weight-link (tableOf h l) (h .n) (h .min - depth) (h .max - depth) q p i low (omega arith) (λ z. full (e ∙ z)))
 
   -- a node that no key lies below adds its own key to its own count
-  weight-fruitless-own : (p depth q : ℕ) {r : Bool} → Bearing h (tableOf h l) p depth r → r ≡ true
+  weight-fruitless-own : (p depth q : ℕ) {r : Bool} → KeysBelow h (tableOf h l) p depth r → r ≡ true
       → weight h l p depth q ≡ cond (eqb p q) (owned h (tableOf h l) p depth) 0
   weight-fruitless-own p depth q b e =
       let t : Table = tableOf h l in
@@ -69,7 +69,7 @@ module _ (h : Head) (l : List ℕ) where
 
   -- so it is weighed
   pub weighed-leaf : (p depth : ℕ) (list : List ℕ) {own : ℕ} {r : Bool} → own ≡ owned h (tableOf h l) p depth
-      → Bearing h (tableOf h l) p depth r → r ≡ true → p < length list
+      → KeysBelow h (tableOf h l) p depth r → r ≡ true → p < length list
       → Weighed h l p depth list (set list p (getD list p 0 + own))
   weighed-leaf p depth list {own} e b z room =
       record {
@@ -118,17 +118,17 @@ module _ {h : Head} {l : List ℕ} {p depth : ℕ} {list list′ : List ℕ} {su
       }
 
   -- the numbers fit
-  fits-under : Fits h l p depth list → under h l p depth < 2 ^ 32
+  fits-under : SumsFit h l p depth list → under h l p depth < 2 ^ 32
   fits-under fits = omega (arith, fits p, weight-own h l p depth)
 
-  pub fits-end : Fits h l p depth list → h .n ≤ i → getD list′ p 0 + sum < 2 ^ 32
+  pub fits-end : SumsFit h l p depth list → h .n ≤ i → getD list′ p 0 + sum < 2 ^ 32
   fits-end fits high = omega (arith, fits p, weight-own h l p depth, weighing-added high p, weighing-sum high)
 
 -- ---- a link that is not empty
 
 pub record Onto (h : Head) (l : List ℕ) (p depth : ℕ) (list list′ : List ℕ) (sum i c : ℕ) : Type 0 where
   pub so-far : Weighing h l p depth list list′ sum i
-  pub fits : Fits h l p depth list
+  pub fits : SumsFit h l p depth list
   pub deep : depth < h .max
   pub low : i < h .n
   pub link : c ≡ tableOf h l .child p i
@@ -150,7 +150,7 @@ module _ {h : Head} {l : List ℕ} {p depth : ℕ} {list list′ : List ℕ} {su
       }
 
   -- a child that no key lies below
-  pub weighing-leaf : {one : ℕ} {r : Bool} → one ≡ owned h (tableOf h l) c (depth + 1) → Bearing h (tableOf h l) c (depth + 1) r → r ≡ true
+  pub weighing-leaf : {one : ℕ} {r : Bool} → one ≡ owned h (tableOf h l) c (depth + 1) → KeysBelow h (tableOf h l) c (depth + 1) r → r ≡ true
       → Weighing h l p depth list (set list′ c (getD list′ c 0 + one)) (sum + one) (i + 1)
   weighing-leaf e b z =
       weighing-child
@@ -158,7 +158,7 @@ module _ {h : Head} {l : List ℕ} {p depth : ℕ} {list list′ : List ℕ} {su
       (weighed-leaf h l c (depth + 1) list′ e b z (o .room))
 
   -- the numbers fit
-  pub fits-child : Fits h l c (depth + 1) list′
+  pub fits-child : SumsFit h l c (depth + 1) list′
   fits-child q =
       omega (
         arith,

@@ -12,7 +12,7 @@ use lib.Seq.{sets-eq, ext-getD, getD-append-add, getD-drop}
 use Rattle.head.specs.declared.Head.{Head}
 use Rattle.head.specs.Fields.{headOf}
 use Rattle.node.specs.Image.{tableOf}
-use Rattle.depths.specs.Depths.{Bearing}
+use Rattle.depths.specs.Depths.{KeysBelow}
 use Rattle.audit.proofs.Clearing.{cleared-rest, cleared-again}
 use Rattle.counting.proofs.Counting.{owned}
 use Rattle.passing.proofs.Weights.{weight-count}
@@ -23,7 +23,7 @@ use Rattle.paper.proofs.CheckCall.{accepted-linked}
 use Rattle.paper.proofs.NextKeyCall.{counted-fits}
 use Rattle.position.specs.Counts.{countIn, countsIn}
 use Rattle.position.specs.Calls.{worked}
-use Rattle.weighing.specs.Weighing.{weight, Fits, Weighed}
+use Rattle.weighing.specs.Weighing.{weight, SumsFit, Weighed}
 use Rattle.weighing.proofs.Weighing.{weighed-leaf}
 
 -- ---- a list whose first n numbers are replaced by as many others
@@ -86,7 +86,7 @@ module _ {l : List ℕ} (a : Accepted l) where
     outside q out = count-none q (omega (arith, out, ap (λ (k : Head). k .g) same))
 
     -- what the walk adds fits
-    pub fits-start : ((q : ℕ) → getD start q 0 < 2 ^ 32) → Fits h l 0 0 start
+    pub fits-start : ((q : ℕ) → getD start q 0 < 2 ^ 32) → SumsFit h l 0 0 start
     fits-start known q = go (decLt (h .g) q)
       where
         go : Dec (h .g < q) → getD start q 0 + weight h l 0 0 q < 2 ^ 32
@@ -141,7 +141,7 @@ module _ {l : List ℕ} (a : Accepted l) where
 
     -- where no key lies below the root, its own key alone is counted
     pub leaf-worked : {own : ℕ} {r : Bool} → h .g + 1 ≤ length list → own ≡ owned h (tableOf h l) 0 0
-        → Bearing h (tableOf h l) 0 0 r → r ≡ true → set start 0 own ≡ worked l list
+        → KeysBelow h (tableOf h l) 0 0 r → r ≡ true → set start 0 own ≡ worked l list
     leaf-worked {own} room e b z =
         let blank : own ≡ getD start 0 0 + own = omega (arith, start-front 0 (omega arith)) in
         ap (set start 0) blank ∙ weighed-worked room (weighed-leaf h l 0 0 start e b z (omega (arith, start-length room)))

@@ -12,8 +12,8 @@ abbrev pub weight : Head → List ℕ → ℕ → ℕ → ℕ → ℕ
 weight h l p depth q = weightAt (tableOf h l) (h .n) (h .min - depth) (h .max - depth) q p
 
 -- the sums fit a number of 32 bits
-abbrev pub Fits : Head → List ℕ → ℕ → ℕ → List ℕ → Type 0
-Fits h l p depth list = (q : ℕ) → getD list q 0 + weight h l p depth q < 2 ^ 32
+abbrev pub SumsFit : Head → List ℕ → ℕ → ℕ → List ℕ → Type 0
+SumsFit h l p depth list = (q : ℕ) → getD list q 0 + weight h l p depth q < 2 ^ 32
 
 pub record Weighed (h : Head) (l : List ℕ) (p depth : ℕ) (list list′ : List ℕ) : Type 0 where
   pub long : length list′ ≡ length list

@@ -10,8 +10,8 @@ ghost use Rattle.head.specs.Fields.{headOf};
 ghost use Rattle.node.specs.Image.{Open, tableOf};
 ghost use Rattle.paper.specs.Accepted.{Accepted};
 ghost use Rattle.position.specs.Calls.{worked};
-ghost use Rattle.depths.specs.Depths.{Reading};
-ghost use Rattle.weighing.specs.Weighing.{Weighed, Fits};
+ghost use Rattle.depths.specs.Depths.{ReadMasks};
+ghost use Rattle.weighing.specs.Weighing.{Weighed, SumsFit};
 use head::Head;
 
 // Writes the counts of the nodes 0 to G to the front of a list; the rest of it keeps what it held.
@@ -54,9 +54,9 @@ fn weighed(
     own: u32,
     list: &mut [u32],
 ) -> u32
-    requires { ⌜ Open h (now image) ⌝ ∗ ⌜ Within (tableOf h (now image)) (h .g) ⌝ ∗ ⌜ Reading h mask ones ⌝ }
+    requires { ⌜ Open h (now image) ⌝ ∗ ⌜ Within (tableOf h (now image)) (h .g) ⌝ ∗ ⌜ ReadMasks h mask ones ⌝ }
     requires { ⌜ node ≤ h .g ⌝ ∗ ⌜ depth < h .max ⌝ ∗ ⌜ h .g + 1 ≤ length (now list) ⌝ }
-    requires { ⌜ own ≡ length (ownKey (tableOf h (now image)) (h .min - depth) node) ⌝ ∗ ⌜ Fits h (now image) node depth (now list) ⌝ }
+    requires { ⌜ own ≡ length (ownKey (tableOf h (now image)) (h .min - depth) node) ⌝ ∗ ⌜ SumsFit h (now image) node depth (now list) ⌝ }
     ensures { λ r. ⌜ r ≡ length (keysUnder (tableOf h (now (image .entry))) (h .n) (h .min - depth) (h .max - depth) node) ⌝ }
     ensures { λ _. ⌜ Weighed h (now (image .entry)) node depth (now (list .entry)) (now (list .exit)) ⌝ }
 {

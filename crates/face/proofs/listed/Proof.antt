@@ -5,7 +5,7 @@ use borrow.Author.Needs.{needs, sfits-of}
 use lib.IntN.{ℤ}
 use mathlib.Core.Path.{sym, _∙_, ap}
 use Rattle.paper.specs.Hearing.{doneNumbers}
-use Rattle.paper.specs.Answers.{listedOf}
+use Rattle.paper.specs.Answers.{notedOf}
 use Rattle.face.proofs.listed.Statement.{statement}
 use Rattle.face.proofs.listed.Tie as tie
 
@@ -22,14 +22,14 @@ refused-requires : tie.Need-refused-requires
 refused-requires c κs = search needs
 
 returns : tie.Need-returns
-unfolding listedOf doneNumbers
+unfolding notedOf doneNumbers
 returns c =
     c .told .ensures ∙ ap (λ (z : ℤ). doneNumbers (c .before .before .answer .given .0 .1 .0) z 0) (toZ-ofZ {w = w32} (sfits-of (c .before .known-told .given .0 .1)))
-    ∙ sym (ap listedOf (c .before .before .answer .given .1))
+    ∙ sym (ap notedOf (c .before .before .answer .given .1))
 
 returns-2 : tie.Need-returns-2
-unfolding listedOf
-returns-2 c = c .refused .ensures ∙ sym (ap listedOf (c .before .before .answer2 .given .1))
+unfolding notedOf
+returns-2 c = c .refused .ensures ∙ sym (ap notedOf (c .before .before .answer2 .given .1))
 
 pub listed-spec : {M : Type 1} → statement M
 listed-spec =

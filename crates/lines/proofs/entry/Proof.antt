@@ -4,7 +4,7 @@ use mathlib.Core.Path.{_≡_, refl, _∙_}
 use Prim.Native.Nat.{_+_, _≤_}
 use native.Mathlib.Omega.{arith}
 use lib.ListN.{length, take, length-set}
-use Rattle.lines.specs.Lines.{Laid, keyText, entryLine}
+use Rattle.lines.specs.Lines.{TextAt, keyText, entryLine}
 use Rattle.lines.proofs.TextsAt.{laid-long, laid-one, laid-join}
 use Rattle.lines.proofs.LineTexts.{decimal-end, letters-long, entry-long}
 use borrow.Author.Needs.{needs}
@@ -15,7 +15,7 @@ letters-requires : tie.Need-letters-requires
 letters-requires c κs = search needs
 
 key : (c : tie.After-letters)
-    → Laid (c .before .before .before .before .args .out .now) (c .before .before .before .before .args .at)
+    → TextAt (c .before .before .before .before .args .out .now) (c .before .before .before .before .args .at)
     (keyText (take (c .before .before .before .before .args .len) (c .before .before .before .before .args .path .now)))
     (c .letters .result) (c .letters .last .0)
 key c = c .letters .ensures

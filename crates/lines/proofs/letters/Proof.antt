@@ -5,7 +5,7 @@ use Prim.Native.Nat.{_+_, _-_, _≤_}
 use native.Mathlib.Omega.{arith}
 use borrow.Author.Needs.{needs}
 use lib.ListN.{length, getD, length-set}
-use Rattle.lines.specs.Lines.{Laid, decimal}
+use Rattle.lines.specs.Lines.{TextAt, decimal}
 use Rattle.lines.proofs.LineTexts.{key-none}
 use Rattle.lines.proofs.TextsAt.{laid-long, laid-as, laid-one}
 use Rattle.lines.proofs.LineLoops.{Spelling, spelling-none, spelling-more, spelling-room, spelling-all}
@@ -19,7 +19,7 @@ abbrev μ-loop : tie.MeasureT-loop
 μ-loop out₀ at path len end₀ i₀ out end i = len - i
 
 first : (c : tie.At-loop Inv-loop μ-loop)
-    → Laid (c .before .before .before .before .before .before .before .before .before .args .out .now)
+    → TextAt (c .before .before .before .before .before .before .before .before .before .args .out .now)
     (c .before .before .before .before .before .before .before .before .before .args .at)
     (decimal (getD (c .before .before .before .before .before .before .before .before .before .args .path .now) 0 0))
     (c .before .before .before .letter .result)

@@ -8,7 +8,7 @@ use borrow.Author.Tests.{not-true, not-false}
 use lib.ListN.{length}
 use Rattle.field.proofs.Range.{between-true}
 use Rattle.head.specs.Fields.{fieldsLen}
-use Rattle.paper.specs.Orders.{openingOf}
+use Rattle.paper.specs.Orders.{openingRowsOf}
 use Rattle.paper.proofs.Opening.{heard-1}
 use Rattle.opening.proofs.Stages.{opens-refused, opens-judged}
 use Rattle.opening.proofs.open.Statement.{statement}
@@ -25,7 +25,7 @@ refused-requires : tie.Need-refused-requires
 refused-requires c κs = search needs
 
 returns : tie.Need-returns
-unfolding openingOf
+unfolding openingRowsOf
 returns c =
     let one = c .before in
     opens-refused _ (c .refused .ensures) (heard-1 _ _ _ (sym (one .before .length-allowed .ensures) ∙ not-true _ (one .if1 .taken)))

@@ -5,14 +5,14 @@ use mathlib.Core.Path.{_≡_}
 use lib.ListN.{length, getD}
 use native.Mathlib.Omega.{arith}
 use borrow.Author.Needs.{needs}
-use Rattle.ranking.specs.Ranking.{lower}
+use Rattle.ranking.specs.Ranking.{underLower}
 use Rattle.ranking.proofs.ByLetter.{sizes, below-link, rest, rest-all, rest-none, rest-empty, rest-counted}
 use Rattle.ranking.proofs.passed.Statement.{statement}
 use Rattle.ranking.proofs.passed.Tie as tie
 
 abbrev Inv-loop : tie.InvT-loop
 Inv-loop image h mask counts node depth letter before sum₀ i₀ sum i =
-    sum + rest h image node depth letter i ≡ before + lower h image node depth letter
+    sum + rest h image node depth letter i ≡ before + underLower h image node depth letter
 
 abbrev μ-loop : tie.MeasureT-loop
 μ-loop image h mask counts node depth letter before sum₀ i₀ sum i = letter - i

@@ -8,7 +8,7 @@ use lib.ListN.{length}
 use Rattle.trie.specs.Table.{missing}
 use Rattle.trie.specs.Storing.{added}
 use Rattle.paper.specs.Hearing.{first}
-use Rattle.paper.specs.Orders.{adding}
+use Rattle.paper.specs.Orders.{addingRows}
 use Rattle.paper.proofs.Hearing.{told-refused, told-passed}
 use Rattle.key.specs.Hand.{lettersOf}
 use Rattle.storing.specs.StoreStage.{endOf}
@@ -19,9 +19,9 @@ use Rattle.storing.proofs.store_at.Tie as tie
 -- what is judged is the number of nodes that the store adds
 same : (c : tie.After-new-count) →
     let a = c .before .before .args in
-    first (adding (a .h) (a .value) (c .new-count .result) (length (a .image .now)))
-    ≡ first (adding (a .h) (a .value) (added (missing (endOf (lettersOf (a .key)) (a .walked))) (a .value)) (length (a .image .now)))
-same c = let a = c .before .before .args in ap (λ (k : ℕ). first (adding (a .h) (a .value) k (length (a .image .now)))) (c .new-count .ensures .0)
+    first (addingRows (a .h) (a .value) (c .new-count .result) (length (a .image .now)))
+    ≡ first (addingRows (a .h) (a .value) (added (missing (endOf (lettersOf (a .key)) (a .walked))) (a .value)) (length (a .image .now)))
+same c = let a = c .before .before .args in ap (λ (k : ℕ). first (addingRows (a .h) (a .value) k (length (a .image .now)))) (c .new-count .ensures .0)
 
 new-count-requires : tie.Need-new-count-requires
 new-count-requires c κs = search needs

@@ -8,7 +8,7 @@ use borrow.Author.Needs.{needs, sfits-of}
 use lib.ListN.{length}
 use Rattle.head.specs.Fields.{mostLetters}
 use Rattle.paper.specs.Hearing.{first}
-use Rattle.paper.specs.Orders.{adding}
+use Rattle.paper.specs.Orders.{addingRows}
 use Rattle.paper.proofs.Hearing.{told-refused, told-passed}
 use Rattle.paper.proofs.CheckCall.{head-open}
 use Rattle.storing.specs.StoreStage.{Ends}
@@ -47,7 +47,7 @@ hand c =
 passed : (c : tie.After-enum-told) →
     let counted = c .before .before .before in
     let a = counted .before .before .before .before .before .args in
-    first (adding (a .h) (a .value) (counted .new-count .result) (length (a .image .now))) ≡ none
+    first (addingRows (a .h) (a .value) (counted .new-count .result) (length (a .image .now))) ≡ none
 passed c = told-passed (c .before .before .judge .ensures) (c .enum-told .given .1)
 
 walk-requires : tie.Need-walk-requires

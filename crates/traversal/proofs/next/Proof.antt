@@ -14,7 +14,7 @@ use Rattle.head.specs.Fields.{mostLetters}
 use Rattle.head.proofs.Permitted.{bounds}
 use Rattle.key.specs.Hand.{lettersOf}
 use Rattle.key.proofs.Hand.{letters-count, letter-below}
-use Rattle.traversal.specs.Search.{coming, Room, sought}
+use Rattle.traversal.specs.Search.{coming, PathRoom, nextStored}
 use Rattle.traversal.proofs.Paths.{room-kept, along-within}
 use Rattle.traversal.proofs.Searching.{told-same}
 use Rattle.traversal.proofs.Requests.{stopped-key, after-key, at-key-none, at-key-own}
@@ -30,7 +30,7 @@ count : (c : tie.Start) → length (lettersOf (c .args .key)) ≡ c .args .key .
 count c = letters-count (c .args .key) (whole c) (c .pre .1 .1 .0 .short)
 
 -- the room is still there, and the path reaches no deeper than max
-room : (c : tie.After-along) → Room (c .before .before .before .before .before .before .before .args .h) (c .along .last .1 .1 .1 .1 .0) (c .along .last .1 .1 .1 .1 .1 .0)
+room : (c : tie.After-along) → PathRoom (c .before .before .before .before .before .before .before .args .h) (c .along .last .1 .1 .1 .1 .0) (c .along .last .1 .1 .1 .1 .1 .0)
 room c = room-kept (c .before .before .before .before .before .before .before .pre .1 .1 .1 .1) (c .along .kept .1 .1 .1 .1 .0) (c .along .kept .1 .1 .1 .1 .1 .0)
 
 deep : (c : tie.After-along) → c .along .result ≤ c .before .before .before .before .before .before .before .args .h .max
@@ -119,7 +119,7 @@ returns-2 c =
     let end = c .before .before .before .before .if1 .left in
     let not-after = not-true _ (c .before .before .before .if2 .taken) in (
       told-same (start .args .h) (start .args .image .now)
-          (ap (λ (after : Bool). sought (start .args .h) (start .args .image .now) after (lettersOf (start .args .key))) not-after)
+          (ap (λ (after : Bool). nextStored (start .args .h) (start .args .image .now) after (lettersOf (start .args .key))) not-after)
           (at-key-own (on .along .ensures) (room on) (omega (arith, count start, start .pre .1 .1 .1 .0)) (omega (arith, count start, end)) (c .before .own-value .ensures) (c .if3 .taken)),
       room on,
     )
@@ -128,7 +128,7 @@ returns-2 c =
 from-here : (c : tie.Joined2)
     → (let on = c .before .before .before .before .before .before .before in
     let a = on .before .before .before .before .before .before .before .args in
-    sought (a .h) (a .image .now) (a .after) (lettersOf (a .key)) ≡ firstOf (coming (a .h) (a .image .now) (on .along .last .1 .1 .1 .1 .0) (on .along .result) 0))
+    nextStored (a .h) (a .image .now) (a .after) (lettersOf (a .key)) ≡ firstOf (coming (a .h) (a .image .now) (on .along .last .1 .1 .1 .1 .0) (on .along .result) 0))
 from-here c =
     let on = c .before .before .before .before .before .before .before in
     let start = on .before .before .before .before .before .before .before in
@@ -137,10 +137,10 @@ from-here c =
     let end : length (lettersOf (a .key)) ≤ on .along .result = omega (arith, count start, c .before .if1 .left) in
     ⊎-elim
     (λ w.
-    ap (λ (after : Bool). sought (a .h) (a .image .now) after (lettersOf (a .key))) (not-true _ (w .0 .taken))
+    ap (λ (after : Bool). nextStored (a .h) (a .image .now) after (lettersOf (a .key))) (not-true _ (w .0 .taken))
     ∙ at-key-none (on .along .ensures) (room on) short end (w .2 .ensures) (w .3 .left))
     (λ w.
-    ap (λ (after : Bool). sought (a .h) (a .image .now) after (lettersOf (a .key))) (not-false _ (w .left)) ∙ after-key (on .along .ensures) (room on) short end)
+    ap (λ (after : Bool). nextStored (a .h) (a .image .now) after (lettersOf (a .key))) (not-false _ (w .left)) ∙ after-key (on .along .ensures) (room on) short end)
     (c .if2 .came)
 
 climb-requires-2 : tie.Need-climb-requires-2

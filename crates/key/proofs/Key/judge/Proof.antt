@@ -6,7 +6,7 @@ use borrow.Author.Needs.{needs}
 use borrow.Author.Tests.{not-false}
 use Rattle.paper.specs.Answers.{rowOf}
 use Rattle.paper.specs.Rows.{row9}
-use Rattle.paper.specs.Orders.{byLetters}
+use Rattle.paper.specs.Orders.{lettersRows}
 use Rattle.key.proofs.Judging.{short, outside, nine-given, ten-decides}
 use Rattle.key.proofs.Key.judge.Statement.{statement}
 use Rattle.key.proofs.Key.judge.Tie as tie
@@ -15,7 +15,7 @@ length-allowed-requires : tie.Need-length-allowed-requires
 length-allowed-requires c κs = search needs
 
 returns : tie.Need-returns
-unfolding rowOf byLetters row9
+unfolding rowOf lettersRows row9
 returns c =
     let h = c .before .before .args .h in
     λ k o. sym (nine-given h (outside h) o (sym (ap not (c .before .length-allowed .ensures)) ∙ c .if1 .taken))
@@ -24,7 +24,7 @@ spelled-requires : tie.Need-spelled-requires
 spelled-requires c κs = short _ (c .before .before .pre) (sym (c .before .length-allowed .ensures) ∙ not-false _ (c .if1 .left))
 
 returns-2 : tie.Need-returns-2
-unfolding rowOf byLetters row9
+unfolding rowOf lettersRows row9
 returns-2 c =
     let one = c .before in
     let h = one .before .before .args .h in

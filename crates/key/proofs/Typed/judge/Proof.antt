@@ -3,7 +3,7 @@
 use mathlib.Core.Path.{sym, _∙_}
 use borrow.Author.Needs.{needs}
 use borrow.Author.Tests.{not-true, not-false}
-use Rattle.paper.specs.Hearing.{given}
+use Rattle.paper.specs.Hearing.{rowWhen}
 use Rattle.paper.specs.Answers.{rowOf}
 use Rattle.key.proofs.Judging.{typed-10, typed-by}
 use Rattle.key.proofs.Typed.judge.Statement.{statement}
@@ -17,13 +17,13 @@ length-allowed-requires : tie.Need-length-allowed-requires
 length-allowed-requires c κs = search needs
 
 returns-2 : tie.Need-returns-2
-unfolding rowOf given
+unfolding rowOf rowWhen
 returns-2 c =
     let one = c .before .before .before in
     λ named e. sym (typed-by _ _ named e (not-false _ (one .if1 .left)) (sym (c .before .length-allowed .ensures) ∙ not-true _ (c .if2 .taken)))
 
 returns-3 : tie.Need-returns-3
-unfolding rowOf given
+unfolding rowOf rowWhen
 returns-3 c =
     let one = c .before .before .before in
     λ named e. sym (typed-by _ _ named e (not-false _ (one .if1 .left)) (sym (c .before .length-allowed .ensures) ∙ not-false _ (c .if2 .left)))
