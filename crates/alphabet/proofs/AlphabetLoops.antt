@@ -17,7 +17,7 @@ use Rattle.utf8.specs.Text.{charAt}
 use Rattle.utf8.proofs.Texts.{prepend, charsAt, Passed, passed-none, passed-more, passed-all, passed-ill}
 use Rattle.alphabet.specs.Letters.{among, allDifferent, isAlphabet, goodAlphabet, orEmpty, letters, letterOf}
 use Rattle.alphabet.specs.Judged.{Judged}
-use Rattle.alphabet.proofs.Alphabets.{eqb-sym, among-snoc, different-snoc, repeated-append, letter-most, letter-below, letter-behind, letter-here}
+use Rattle.alphabet.proofs.Alphabets.{eqb-sym, among-snoc, different-snoc, repeated-append, letter-most, letter-below, letter-after, letter-here}
 
 -- ---- searching
 
@@ -53,7 +53,7 @@ module _ {codes : List ℕ} {n code i : ℕ} (p : Searching codes n code false i
       let split : take n codes ≡ take i codes ++ (code ∷ rest) =
       split-at (take n codes) i 0 (omega arith) ∙ rw (take-take i n codes (p .within), getD-take n codes i 0 h, e)
       in
-      sym (rw (split, letter-behind (take i codes) (code ∷ rest) code (sym (p .told)), letter-here code rest, length-take-le i codes (omega arith)) (omega arith))
+      sym (rw (split, letter-after (take i codes) (code ∷ rest) code (sym (p .told)), letter-here code rest, length-take-le i codes (omega arith)) (omega arith))
 
   pub searching-missed : n ≤ i → n ≡ letterOf (take n codes) code
   searching-missed h =

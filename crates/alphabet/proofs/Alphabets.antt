@@ -78,10 +78,10 @@ unfolding letterOf
 letter-here c cs = rw (eq-eqb c c refl)
 
 -- what does not stand in front stands as far behind
-pub letter-behind : (cs ds : List ℕ) (c : ℕ) → among c cs ≡ false → letterOf (cs ++ ds) c ≡ length cs + letterOf ds c
+pub letter-after : (cs ds : List ℕ) (c : ℕ) → among c cs ≡ false → letterOf (cs ++ ds) c ≡ length cs + letterOf ds c
 unfolding letterOf among
-letter-behind [] ds c e = omega arith
-letter-behind (d ∷ cs) ds c e = go (eqb c d) refl (letter-behind cs ds c)
+letter-after [] ds c e = omega arith
+letter-after (d ∷ cs) ds c e = go (eqb c d) refl (letter-after cs ds c)
   where
     go : (t : Bool) → eqb c d ≡ t → (among c cs ≡ false → letterOf (cs ++ ds) c ≡ length cs + letterOf ds c) → letterOf (d ∷ (cs ++ ds)) c ≡ suc (length cs) + letterOf ds c
     go true q next = let f : true ≡ false = rw q at e in let z : _≡_ {A = ℕ} 0 1 = cc in omega arith

@@ -29,7 +29,7 @@ pub fn judge(bytes: &[u8], n: usize, codes: &mut [u32; Head::N_MOST as usize]) -
         }
         let code = utf8::char_at(bytes, at, len);
         if code <= top {
-            if seen(all, count, code) {
+            if is_among(all, count, code) {
                 return false;
             }
         } else {
@@ -43,7 +43,7 @@ pub fn judge(bytes: &[u8], n: usize, codes: &mut [u32; Head::N_MOST as usize]) -
 }
 
 // Is the code among the first `count`? The loop has no early exit, so that it runs over several codes at once.
-fn seen(codes: &[u32], count: usize, code: u32) -> bool
+fn is_among(codes: &[u32], count: usize, code: u32) -> bool
     requires { ⌜ count ≤ length (now codes) ⌝ }
     ensures { λ r. ⌜ r ≡ among code (take count (now (codes .entry))) ⌝ }
 {

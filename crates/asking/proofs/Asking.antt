@@ -75,9 +75,9 @@ module _ {rows : List Row} {left l : List ℕ} {front : Opened} {work′ codes :
 -- ---- the key's part at each way out, whatever stood in front
 
 module _ {front : Opened} where
-  pub behind-refused : {codes : List ℕ} {given : Given} {r : Asked} {why : Refusal} → front .verdict ≡ Verdict.Refused why
+  pub after-front-refused : {codes : List ℕ} {given : Given} {r : Asked} {why : Refusal} → front .verdict ≡ Verdict.Refused why
       → r .verdict ≡ front .verdict → AsksAfterFront front codes given r
-  behind-refused {given = given} {r = r} e same rows left l work′ o =
+  after-front-refused {given = given} {r = r} e same rows left l work′ o =
       let refused = told-refused (o .verdict) e in
       record {
         verdict = ap rowOf same ∙ o .verdict ∙ refused ∙ sym (first-part rows (keyRows l given) refused);
@@ -86,16 +86,16 @@ module _ {front : Opened} where
       }
 
   module _ (e : front .verdict ≡ Verdict.Passed) where
-    pub behind-letters : {codes : List ℕ} (key : List ℕ) {hand : Key} (v : Verdict) → hand ≡ inHand key
+    pub after-front-letters : {codes : List ℕ} (key : List ℕ) {hand : Key} (v : Verdict) → hand ≡ inHand key
         → ((k : List ℕ) → Holds hand k → rowOf v ≡ first (lettersRows (front .head) k))
         → AsksAfterFront front codes (asLetters key) (record { verdict = v; head = front .head; key = hand })
-    behind-letters key v made told rows left l work′ o =
+    after-front-letters key v made told rows left l work′ o =
         asks-judged o e (by-letters (known-front o (told-passed refl e)) key v made told)
 
-    pub behind-text : {codes : List ℕ} (text : List ℕ) {t : Typed} (v : Verdict) → t ≡ typedAs (keyOfText (take (front .count) codes) text)
+    pub after-front-text : {codes : List ℕ} (text : List ℕ) {t : Typed} (v : Verdict) → t ≡ typedAs (keyOfText (take (front .count) codes) text)
         → ((named : Option (List ℕ)) → t ≡ typedAs named → rowOf v ≡ first (textRows (front .head) named))
         → AsksAfterFront front codes (asText text) (record { verdict = v; head = front .head; key = t .key })
-    behind-text text v made told rows left l work′ o =
+    after-front-text text v made told rows left l work′ o =
         let passed = told-passed refl e in
         asks-judged o e (by-text (known-front o passed) (o .decoded passed .codes) text v made told)
 

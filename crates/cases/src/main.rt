@@ -35,7 +35,7 @@ use line::Line;
 use paper::Counted;
 use paper::Done;
 use paper::Found;
-use paper::Listed;
+use paper::Noted;
 use paper::Looked;
 use paper::Refusal;
 use paper::Stored;
@@ -251,7 +251,7 @@ fn put(line: Line, image: &mut [u8], at: usize, lend: usize) -> usize {
     if most - at < given.len() {
         return NONE;
     }
-    field::lay(image, at, given);
+    field::copy(image, at, given);
     lend
 }
 
@@ -361,7 +361,7 @@ fn change(call: usize, value: u32, key: &[u8], image: &mut [u8], numbers: &mut [
 }
 
 fn listing(call: usize, value: u32, key: &[u8], image: &mut [u8], numbers: &mut [u32]) {
-    let mut list = [7u32; Head::LISTED_MOST as usize];
+    let mut list = [7u32; Head::NOTED_MOST as usize];
     if call == 13 {
         let answer = stores::store_writes(image, numbers, key, value, &mut list);
         listed(answer, &list);
@@ -415,14 +415,14 @@ fn stored(answer: Stored) {
 }
 
 // The numbers of the list that were written, and two more.
-fn listed(answer: Listed, list: &[u32; Head::LISTED_MOST as usize]) {
+fn listed(answer: Noted, list: &[u32; Head::NOTED_MOST as usize]) {
     match answer {
-        Listed::Change { change, writes } => {
+        Noted::Change { change, writes } => {
             stored(Stored::Change(change));
             fact(WRITES, writes as u64);
             decimals(LIST, list, writes as usize * 2 + 2);
         }
-        Listed::Refused(why) => {
+        Noted::Refused(why) => {
             refused(why);
             decimals(LIST, list, 2);
         }

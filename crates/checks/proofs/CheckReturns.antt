@@ -61,6 +61,6 @@ module _ {l work : List ℕ} {r : Opened} {work′ codes : List ℕ} (o : Checke
     nexts-refused {why} e =
         rw (o .numbers) (refuses l work key after buffer why (first-part (checkOrder l work) _ (told-refused (o .verdict) e)))
 
-    pub nexts-sought : (f : Found) {buffer′ : List ℕ} → r .verdict ≡ Verdict.Passed → Seeks l key after buffer f buffer′
+    pub nexts-seek : (f : Found) {buffer′ : List ℕ} → r .verdict ≡ Verdict.Passed → Seeks l key after buffer f buffer′
         → Nexts l work key after buffer (foundOf f) work′ buffer′
-    nexts-sought f e s = rw (o .numbers) (s work (told-passed (o .verdict) e))
+    nexts-seek f e s = rw (o .numbers) (s work (told-passed (o .verdict) e))

@@ -51,6 +51,6 @@ pub fn next_key(
     let verdict = checked.verdict;
     match verdict {
         Verdict::Refused(why) => Found::Refused(why),
-        Verdict::Passed => seeking::sought(image, checked.head, letters, after, buffer),
+        Verdict::Passed => seeking::seek(image, checked.head, letters, after, buffer),
     }
 }

@@ -32,9 +32,9 @@ module _ (h : Head) (t : Table) where
   pub listed : length (listing t (h .n) (h .min) (h .max)) ≡ owned 0 0 + left 0 0 0
   listed = rw (sub-zero (h .min), sub-zero (h .max)) (ap length (under-split t (h .n) (h .min) (h .max) 0) ∙ simp length-append)
 
-  -- there is nothing below a fruitless node and past the last letter
-  pub left-fruitless : (q depth i : ℕ) {r : Bool} → KeysBelow h t q depth r → r ≡ true → left q depth i ≡ 0
-  left-fruitless q depth i b e = ap length (b .nothing e i)
+  -- there is nothing below a node without keys below it, and past the last letter
+  pub left-no-keys : (q depth i : ℕ) {r : Bool} → KeysBelow h t q depth r → r ≡ true → left q depth i ≡ 0
+  left-no-keys q depth i b e = ap length (b .nothing e i)
 
   pub left-none : (q depth i : ℕ) → h .n ≤ i → left q depth i ≡ 0
   left-none q depth i b = ap length (from-none t (h .n) (h .min - depth) (h .max - depth) q i b)

@@ -16,12 +16,12 @@ pub fn count(image: &[u8], h: Head) -> u32
     ensures { λ r. ⌜ r ≡ length (listing (tableOf h (now (image .entry))) (h .n) (h .min) (h .max)) ⌝ }
 {
     let ones = node::greatest(h);
-    let own = if depths::own_field(image, h, ones, 0, 0) == 0 {
+    let own = if depths::own_value_by(image, h, ones, 0, 0) == 0 {
         0
     } else {
         1
     };
-    if depths::fruitless(image, h, 0, 0) {
+    if depths::no_keys_below(image, h, 0, 0) {
         return own;
     }
     counted(image, h, node::mask(h), ones, 0, 0, own)
@@ -41,10 +41,10 @@ fn counted(image: &[u8], h: Head, mask: u32, ones: u32, node: u32, depth: usize,
         if c == 0 {
             continue;
         }
-        if depths::own_field(image, h, ones, c, depth + 1) != 0 {
+        if depths::own_value_by(image, h, ones, c, depth + 1) != 0 {
             sum += 1;
         }
-        if depths::fruitless(image, h, c, depth + 1) {
+        if depths::no_keys_below(image, h, c, depth + 1) {
             continue;
         }
         sum = counted(image, h, mask, ones, c, depth + 1, sum);

@@ -51,10 +51,10 @@ few-writes {l} {key} {value} s =
 
 -- ---- the array, read by its caller
 
-length-listed : (ws : List Write) → length (noted ws) ≡ 2 * length ws
+length-noted : (ws : List Write) → length (noted ws) ≡ 2 * length ws
 unfolding noted
-length-listed [] = refl
-length-listed (w ∷ ws) = omega (arith, length-listed ws)
+length-noted [] = refl
+length-noted (w ∷ ws) = omega (arith, length-noted ws)
 
 front : (list vs : List ℕ) → length vs ≤ length list → take (length vs) (sets list 0 vs) ≡ vs
 front list vs b = ap (take (length vs)) (sets-eq vs list 0 (omega arith)) ∙ take-append-seam vs (drop (0 + length vs) list)
@@ -64,7 +64,7 @@ pub had-writes : {l key : List ℕ} {value : ℕ} → Granted l key value → (l
     → readBack (storedImage l key value) (take (2 * length (writesIn l key value)) (sets list 0 (noted (writesIn l key value)))) ≡ writesIn l key value
 had-writes {l} {key} {value} s list b =
     let ws : List Write = writesIn l key value in
-    let e : length (noted ws) ≡ 2 * length ws = length-listed ws in
+    let e : length (noted ws) ≡ 2 * length ws = length-noted ws in
     ap (λ (n : ℕ). readBack (storedImage l key value) (take n (sets list 0 (noted ws)))) (sym e)
     ∙ ap (readBack (storedImage l key value)) (front list (noted ws) (omega (arith, few-writes s)))
     ∙ read-back s

@@ -229,14 +229,14 @@ module _ {l key : List ℕ} {v : ℕ} (s : Granted l key (suc v)) {q x : ℕ} {x
       rw (heads, used-total h total)
       (omega (arith, bounds h (s .accepted .head-permitted) .a-least, place-le h (q + 1) (suc total) (omega (arith, enough .node))))
 
-  cut-behind : (lands : ℕ → Bool) (work : List ℕ) (j : ℕ) → j < 2
+  cut-later : (lands : ℕ → Bool) (work : List ℕ) (j : ℕ) → j < 2
       → Before l work (cutAfter j lands begun (totalWrite total ∷ linkWrite h q x (suc g) ∷ []))
   unfolding cutAfter totalWrite linkWrite
-  cut-behind lands work zero b =
+  cut-later lands work zero b =
       not-landed lands work begun (totalWrite total) (s .accepted) looks-begun (omega (arith, before-used (headOf begun)))
-  cut-behind lands work (suc zero) b =
+  cut-later lands work (suc zero) b =
       subst (Before l work) (sym (hit-none lands counted (linkWrite h q x (suc g)) link-used)) (mends-lowered work)
-  cut-behind lands work (suc (suc j)) b = absurd (omega arith)
+  cut-later lands work (suc (suc j)) b = absurd (omega arith)
 
   -- ---- a cut among them or behind them
 
@@ -257,7 +257,7 @@ module _ {l key : List ℕ} {v : ℕ} (s : Granted l key (suc v)) {q x : ℕ} {x
           let j : ℕ = k - length nodes in
           let at : k ≡ length nodes + j = omega arith in
           let few : j < 2 = omega (arith, length-append nodes two) in
-          subst (Before l work) (sym (ap (λ (i : ℕ). cutAfter i lands l (nodes ++ two)) at ∙ cut-append j lands l nodes two)) (cut-behind lands work j few)
+          subst (Before l work) (sym (ap (λ (i : ℕ). cutAfter i lands l (nodes ++ two)) at ∙ cut-append j lands l nodes two)) (cut-later lands work j few)
 
 -- ---- the theorem
 

@@ -53,13 +53,13 @@ module _ (h : Head) (t : Table) where
   from q depth i = keysFrom t (h .n) (h .min - depth) (h .max - depth) q i
 
   -- there are none where no letter may follow, nor where all links are empty
-  pub bearing-full : (q depth : ℕ) → h .max ≤ depth → KeysBelow h t q depth true
-  bearing-full q depth b =
+  pub keys-below-full : (q depth : ℕ) → h .max ≤ depth → KeysBelow h t q depth true
+  keys-below-full q depth b =
       let e : h .max - depth ≡ 0 = omega arith in
       record { nothing = λ z i. rw e (from-shallow t (h .n) (h .min - depth) q i); deep = λ z. absurd (true≢false z) }
 
-  pub bearing-asked : (q depth : ℕ) {r : Bool} → depth < h .max → (r ≡ true → (i : ℕ) → t .child q i ≡ 0) → KeysBelow h t q depth r
-  bearing-asked q depth deep childless =
+  pub keys-below-asked : (q depth : ℕ) {r : Bool} → depth < h .max → (r ≡ true → (i : ℕ) → t .child q i ≡ 0) → KeysBelow h t q depth r
+  keys-below-asked q depth deep childless =
       record { nothing = λ z i. from-childless t (h .n) (h .min - depth) (h .max - depth) q i (childless z); deep = λ z. deep }
 
   pub from-link : (q depth i : ℕ) {c : ℕ} → depth < h .max → i < h .n → t .child q i ≡ c → c ≢ 0

@@ -14,10 +14,10 @@ use Rattle.node.specs.Image.{Masks}
 unfoldable pub ownValue : Head → Table → ℕ → ℕ → ℕ
 ownValue h t q depth = cond (ltb depth (h .min)) 0 (t .value q)
 
--- whether a node at a depth is fruitless: then no key lies below it, from any letter on; else a letter may follow there
-pub record KeysBelow (h : Head) (t : Table) (q depth : ℕ) (fruitless : Bool) : Type 0 where
-  pub nothing : fruitless ≡ true → (x : ℕ) → keysFrom t (h .n) (h .min - depth) (h .max - depth) q x ≡ []
-  pub deep : fruitless ≡ false → depth < h .max
+-- whether no key lies below a node at a depth, from any letter on; otherwise a letter may follow there
+pub record KeysBelow (h : Head) (t : Table) (q depth : ℕ) (noKeys : Bool) : Type 0 where
+  pub nothing : noKeys ≡ true → (x : ℕ) → keysFrom t (h .n) (h .min - depth) (h .max - depth) q x ≡ []
+  pub deep : noKeys ≡ false → depth < h .max
 
 -- the masks by which a walk that meets many nodes reads their links and their data
 pub record ReadMasks (h : Head) (mask ones : ℕ) : Type 0 where

@@ -11,11 +11,11 @@ pub fn own_value(image: &[u8], h: Head, node: u32, depth: usize) -> u64
     requires { ⌜ Open h (now image) ⌝ ∗ ⌜ node ≤ h .g ⌝ }
     ensures { λ r. ⌜ r ≡ ownValue h (tableOf h (now (image .entry))) node depth ⌝ }
 {
-    own_field(image, h, node::greatest(h), node, depth) as u64
+    own_value_by(image, h, node::greatest(h), node, depth) as u64
 }
 
 // The same, by the mask of the data's bytes: a walk that meets many nodes makes it once.
-pub fn own_field(image: &[u8], h: Head, mask: u32, node: u32, depth: usize) -> u32
+pub fn own_value_by(image: &[u8], h: Head, mask: u32, node: u32, depth: usize) -> u32
     requires { ⌜ Open h (now image) ⌝ ∗ ⌜ mask + 1 ≡ 256 ^ h .d ⌝ ∗ ⌜ node ≤ h .g ⌝ }
     ensures { λ r. ⌜ r ≡ ownValue h (tableOf h (now (image .entry))) node depth ⌝ }
 {
@@ -27,7 +27,7 @@ pub fn own_field(image: &[u8], h: Head, mask: u32, node: u32, depth: usize) -> u
 
 // Whether no key lies below a node at a depth: no letter may follow, or all its links are empty. Asked of each child before a search goes
 // there, it spares a call where a key ends, as most do at a node without links.
-pub fn fruitless(image: &[u8], h: Head, node: u32, depth: usize) -> bool
+pub fn no_keys_below(image: &[u8], h: Head, node: u32, depth: usize) -> bool
     requires { ⌜ Open h (now image) ⌝ ∗ ⌜ node ≤ h .g ⌝ }
     ensures { λ r. ⌜ KeysBelow h (tableOf h (now (image .entry))) node depth r ⌝ }
 {

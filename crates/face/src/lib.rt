@@ -6,7 +6,7 @@ ghost use Rattle.face.specs.Face.{numbersOf};
 use paper::Counted;
 use paper::Done;
 use paper::Found;
-use paper::Listed;
+use paper::Noted;
 use paper::Looked;
 use paper::Placed;
 use paper::Refusal;
@@ -34,7 +34,7 @@ pub fn refused(why: Refusal) -> TrieffAnswer
     }
 }
 
-pub fn told(length: u32, change: i32, value: u64) -> TrieffAnswer
+pub fn done_with(length: u32, change: i32, value: u64) -> TrieffAnswer
     ensures { λ r. ⌜ numbersOf r ≡ doneNumbers length change value ⌝ }
 {
     TrieffAnswer {
@@ -50,7 +50,7 @@ pub fn done(answer: Done) -> TrieffAnswer
     ensures { λ r. ⌜ numbersOf r ≡ doneOf answer ⌝ }
 {
     match answer {
-        Done::Done => told(0, 0, 0),
+        Done::Done => done_with(0, 0, 0),
         Done::Refused(why) => refused(why),
     }
 }
@@ -59,7 +59,7 @@ pub fn counted(answer: Counted) -> TrieffAnswer
     ensures { λ r. ⌜ numbersOf r ≡ countedOf answer ⌝ }
 {
     match answer {
-        Counted::Keys(keys) => told(0, 0, keys as u64),
+        Counted::Keys(keys) => done_with(0, 0, keys as u64),
         Counted::Refused(why) => refused(why),
     }
 }
@@ -68,7 +68,7 @@ pub fn placed(answer: Placed) -> TrieffAnswer
     ensures { λ r. ⌜ numbersOf r ≡ placedOf answer ⌝ }
 {
     match answer {
-        Placed::At(position) => told(0, 0, position as u64),
+        Placed::At(position) => done_with(0, 0, position as u64),
         Placed::Refused(why) => refused(why),
     }
 }
@@ -77,7 +77,7 @@ pub fn looked(answer: Looked) -> TrieffAnswer
     ensures { λ r. ⌜ numbersOf r ≡ lookedOf answer ⌝ }
 {
     match answer {
-        Looked::Value(value) => told(0, 0, value),
+        Looked::Value(value) => done_with(0, 0, value),
         Looked::Refused(why) => refused(why),
     }
 }
@@ -86,17 +86,17 @@ pub fn stored(answer: Stored) -> TrieffAnswer
     ensures { λ r. ⌜ numbersOf r ≡ storedOf answer ⌝ }
 {
     match answer {
-        Stored::Change(change) => told(0, change, 0),
+        Stored::Change(change) => done_with(0, change, 0),
         Stored::Refused(why) => refused(why),
     }
 }
 
-pub fn listed(answer: Listed) -> TrieffAnswer
+pub fn noted(answer: Noted) -> TrieffAnswer
     ensures { λ r. ⌜ numbersOf r ≡ notedOf answer ⌝ }
 {
     match answer {
-        Listed::Change { change, writes } => told(writes, change, 0),
-        Listed::Refused(why) => refused(why),
+        Noted::Change { change, writes } => done_with(writes, change, 0),
+        Noted::Refused(why) => refused(why),
     }
 }
 
@@ -104,7 +104,7 @@ pub fn found(answer: Found) -> TrieffAnswer
     ensures { λ r. ⌜ numbersOf r ≡ foundOf answer ⌝ }
 {
     match answer {
-        Found::Key { length, value } => told(length, 0, value),
+        Found::Key { length, value } => done_with(length, 0, value),
         Found::Refused(why) => refused(why),
     }
 }

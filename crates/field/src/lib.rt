@@ -41,7 +41,7 @@ pub fn read_few(s: &[u8], at: usize, w: usize) -> u32
 
 // The number in the w bytes that end at `end`, by the mask 256^w - 1. Four bytes are loaded whatever the width is, so that no loop and no
 // choice stands in the way of a reader of many fields; the caller has four bytes in front of `end`.
-pub fn tail(s: &[u8], end: usize, mask: u32) -> u32
+pub fn load_masked(s: &[u8], end: usize, mask: u32) -> u32
     requires { ⌜ (4 ≤ end) × (end ≤ length (now s)) ⌝ }
     ensures { λ r. ⌜ ((w : ℕ) → w ≤ 4 → mask + 1 ≡ 256 ^ w → r ≡ fieldAt (now (s .entry)) (end - w) w) ⌝ }
 {
@@ -142,7 +142,7 @@ pub fn clear(s: &mut [u8], at: usize, n: usize)
 }
 
 // Copies `from` to `at`.
-pub fn lay(s: &mut [u8], at: usize, from: &[u8])
+pub fn copy(s: &mut [u8], at: usize, from: &[u8])
     requires { ⌜ at + length (now from) ≤ length (now s) ⌝ }
     ensures { λ _. ⌜ now (s .exit) ≡ sets (now (s .entry)) at (now (from .entry)) ⌝ }
 {

@@ -43,7 +43,7 @@ impl Head {
 
     pub const WRITES_MOST: u32 = Head::MAX_MOST + 2;
 
-    pub const LISTED_MOST: u32 = 2 * Head::WRITES_MOST;
+    pub const NOTED_MOST: u32 = 2 * Head::WRITES_MOST;
 
     // The bytes of the seven fields, behind which the alphabet begins.
     pub const FIELDS_LEN: usize = 28;

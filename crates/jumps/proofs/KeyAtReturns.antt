@@ -10,7 +10,7 @@ use lib.ListN.{length, getD, take, length-take}
 use lib.Seq.{sets}
 use Rattle.trie.specs.Table.{answer}
 use Rattle.trie.specs.Keys.{listing}
-use Rattle.trie.proofs.Filter.{sift-every}
+use Rattle.trie.proofs.Filter.{filter-every}
 use Rattle.passing.specs.Passing.{passes, countAt, keyAt}
 use Rattle.passing.proofs.Passing.{passes-here}
 use Rattle.passing.proofs.Ranks.{at-none, at-held}
@@ -104,7 +104,7 @@ module _ {h : Head} {l counts : List ℕ} (w : Counted h l counts) where
   root-count =
       w .each 0 (omega arith)
       ∙ ap length
-      (sift-every (passes (tableOf h l) 0 0) (listing (tableOf h l) (h .n) (h .min) (h .max)) (λ k _. passes-here (tableOf h l) 0 k))
+      (filter-every (passes (tableOf h l) 0 0) (listing (tableOf h l) (h .n) (h .min) (h .max)) (λ k _. passes-here (tableOf h l) 0 k))
       ∙ ap length (sym (w .stored))
 
   pub few-keys : length (storedKeys l) < 2 ^ 32

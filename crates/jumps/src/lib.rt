@@ -37,7 +37,7 @@ pub fn key_at(
     let verdict = compared.verdict;
     match verdict {
         Verdict::Refused(why) => Found::Refused(why),
-        Verdict::Passed => spot(image, compared.head, counts, position, buffer),
+        Verdict::Passed => tell_key(image, compared.head, counts, position, buffer),
     }
 }
 
@@ -50,7 +50,7 @@ pub fn position(image: &[u8], work: &mut [u32], counts: &[u32], letters: &[u8]) 
     let head = asked.head;
     match verdict {
         Verdict::Refused(why) => Placed::Refused(why),
-        Verdict::Passed => place(image, head, counts, asked.key),
+        Verdict::Passed => tell_position(image, head, counts, asked.key),
     }
 }
 
@@ -63,12 +63,12 @@ pub fn position_text(image: &[u8], work: &mut [u32], counts: &[u32], text: &[u8]
     let head = named.head;
     match verdict {
         Verdict::Refused(at_text) => Placed::Refused(at_text),
-        Verdict::Passed => place(image, head, counts, named.key),
+        Verdict::Passed => tell_position(image, head, counts, named.key),
     }
 }
 
 // The part of key at position after 25: 14, 15 and the key. The key is found on a path of its own, since the rest of the buffer keeps what it held.
-fn spot(image: &[u8], h: Head, counts: &[u32], position: u64, buffer: &mut [u8]) -> Found
+fn tell_key(image: &[u8], h: Head, counts: &[u32], position: u64, buffer: &mut [u8]) -> Found
     requires { ⌜ Accepted (now image) ⌝ ∗ ⌜ h ≡ headOf (now image) ⌝ ∗ ⌜ RightCounts (now image) (now counts) ⌝ }
     ensures { λ r. ⌜ TellsKey (now (image .entry)) position (now (buffer .entry)) r (now (buffer .exit)) ⌝ }
 {
@@ -81,7 +81,7 @@ fn spot(image: &[u8], h: Head, counts: &[u32], position: u64, buffer: &mut [u8])
     let mut path = [0u8; Head::MAX_MOST as usize];
     let spot = ranking::key_at(image, h, counts, position as u32, &mut path);
     let length = spot.length;
-    field::lay(buffer, 0, &path[..length]);
+    field::copy(buffer, 0, &path[..length]);
     Found::Key {
         length: length as u32,
         value: spot.value,
@@ -89,7 +89,7 @@ fn spot(image: &[u8], h: Head, counts: &[u32], position: u64, buffer: &mut [u8])
 }
 
 // The part of a key's position after 10: 15, or how many stored keys come before it.
-fn place(image: &[u8], h: Head, counts: &[u32], key: Key) -> Placed
+fn tell_position(image: &[u8], h: Head, counts: &[u32], key: Key) -> Placed
     requires { ⌜ Accepted (now image) ⌝ ∗ ⌜ h ≡ headOf (now image) ⌝ ∗ ⌜ RightCounts (now image) (now counts) ⌝ }
     requires { ⌜ Ready h key ⌝ ∗ ⌜ between (length (lettersOf key)) (h .min) (h .max) ≡ true ⌝ }
     ensures { λ r. ⌜ r ≡ ranksAs (now (image .entry)) (lettersOf key) ⌝ }

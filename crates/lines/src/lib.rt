@@ -122,6 +122,6 @@ fn word(out: &mut [u8], at: usize, text: &[u8]) -> usize
     requires { ⌜ at + length (now text) ≤ length (now out) ⌝ }
     ensures { λ r. ⌜ TextAt (now (out .entry)) at (now (text .entry)) r (now (out .exit)) ⌝ }
 {
-    field::lay(out, at, text);
+    field::copy(out, at, text);
     at + text.len()
 }

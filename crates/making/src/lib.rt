@@ -16,7 +16,7 @@ pub fn fresh(image: &mut [u8], h: Head, alphabet: &[u8])
     ensures { λ _. ⌜ now (image .exit) ≡ freshImage h (now (alphabet .entry)) (now (image .entry)) ⌝ }
 {
     h.write(image);
-    field::lay(image, Head::FIELDS_LEN, alphabet);
+    field::copy(image, Head::FIELDS_LEN, alphabet);
     let width = h.node_width() as usize;
     field::clear(image, Head::FIELDS_LEN + alphabet.len(), width);
 }

@@ -10,8 +10,8 @@ use lib.ListN.{length, take}
 use Rattle.trie.specs.Keys.{listing, meets, filter}
 use Rattle.trie.specs.Beyond.{firstOf}
 use Rattle.trie.proofs.Listing.{keysUnder-ascending}
-use Rattle.trie.proofs.Filter.{first-sift, sift-length}
-use Rattle.trie.proofs.InTurn.{sift-next}
+use Rattle.trie.proofs.Filter.{first-filter, filter-length}
+use Rattle.trie.proofs.InTurn.{filter-next}
 use Rattle.head.specs.declared.Head.{Head}
 use Rattle.head.specs.Fields.{mostLetters, mostPath, headOf}
 use Rattle.node.specs.Image.{tableOf}
@@ -38,7 +38,7 @@ module _ (h : Head) (l : List ℕ) where
 
   none-to-come : (m : List ℕ) → nextStored h l true m ≡ none → toCome m ≡ 0
   unfolding firstOf
-  none-to-come m e = go (filter (meets true m) keys) (sym (first-sift (meets true m) keys) ∙ e)
+  none-to-come m e = go (filter (meets true m) keys) (sym (first-filter (meets true m) keys) ∙ e)
     where
       go : (ks : List (List ℕ)) → firstOf ks ≡ none → length ks ≡ 0
       go [] f = refl
@@ -46,12 +46,12 @@ module _ (h : Head) (l : List ℕ) where
 
   one-less : (m : List ℕ) {k : List ℕ} → nextStored h l true m ≡ some k → toCome m ≡ suc (toCome k)
   unfolding firstOf
-  one-less m {k} e = go (filter (meets true m) keys) refl (sym (first-sift (meets true m) keys) ∙ e)
+  one-less m {k} e = go (filter (meets true m) keys) refl (sym (first-filter (meets true m) keys) ∙ e)
     where
       go : (ks : List (List ℕ)) → filter (meets true m) keys ≡ ks → firstOf ks ≡ some k → length ks ≡ suc (toCome k)
       go [] f g = absurd (Option·some-ne-none k (sym g))
       go (j ∷ ks) f g =
-          let rest : filter (meets true j) keys ≡ ks = sift-next keys m (keysUnder-ascending (tableOf h l) (h .n) (h .min) (h .max) 0) f in
+          let rest : filter (meets true j) keys ≡ ks = filter-next keys m (keysUnder-ascending (tableOf h l) (h .n) (h .min) (h .max) 0) f in
           ap (λ (xs : List (List ℕ)). suc (length xs)) (sym rest)
           ∙ ap (λ (x : List ℕ). suc (toCome x)) (Option·some-injective j k g)
 
@@ -65,7 +65,7 @@ meeting-start w = record { walking = w; all = omega arith }
 
 module _ {h : Head} {l path nodes : List ℕ} {n count : ℕ} (w : Meeting h l path nodes n count) where
   pub meeting-few : Walkable h l → count < 2 ^ 32
-  meeting-few a = omega (arith, w .all, a .few, sift-length (meets true []) (keys h l))
+  meeting-few a = omega (arith, w .all, a .few, filter-length (meets true []) (keys h l))
 
   module _ {r : Search} {path₁ nodes₁ : List ℕ} (told : SearchTells h l (nextStored h l true (take n path)) r path₁ nodes₁) where
     pub meeting-end : h ≡ headOf l → r ≡ Search.Missing → count ≡ keysMet l

@@ -21,12 +21,12 @@ pub extern "C" fn measure_walk(image: &[u8], work: &mut [u32]) -> u64
     let verdict = checked.verdict;
     match verdict {
         Verdict::Refused(_) => 0,
-        Verdict::Passed => walk(image, checked.head),
+        Verdict::Passed => count_met(image, checked.head),
     }
 }
 
 // From the root on, each key leaves the path from which the next one is sought.
-fn walk(image: &[u8], h: Head) -> u64
+fn count_met(image: &[u8], h: Head) -> u64
     requires { ⌜ Accepted (now image) ⌝ }
     requires { ⌜ h ≡ headOf (now image) ⌝ }
     ensures { λ r. ⌜ r ≡ keysMet (now (image .entry)) ⌝ }

@@ -33,7 +33,7 @@ pub fn link(image: &[u8], h: Head, mask: u32, q: u32, i: u32) -> u32
     requires { ⌜ Open h (now image) ⌝ ∗ ⌜ Masks h mask ⌝ ∗ ⌜ q ≤ h .g ⌝ ∗ ⌜ i < h .n ⌝ }
     ensures { λ r. ⌜ r ≡ tableOf h (now (image .entry)) .child q i ⌝ }
 {
-    field::tail(image, link_place(h, q, i) + (h.a as usize), mask)
+    field::load_masked(image, link_place(h, q, i) + (h.a as usize), mask)
 }
 
 // Has node q no links but empty ones? Links that take less than eight bytes are answered false: a caller then reads them.
@@ -57,7 +57,7 @@ pub fn data_by(image: &[u8], h: Head, mask: u32, q: u32) -> u32
     requires { ⌜ Open h (now image) ⌝ ∗ ⌜ mask + 1 ≡ 256 ^ h .d ⌝ ∗ ⌜ q ≤ h .g ⌝ }
     ensures { λ r. ⌜ r ≡ tableOf h (now (image .entry)) .value q ⌝ }
 {
-    field::tail(image, data_place(h, q) + (h.d as usize), mask)
+    field::load_masked(image, data_place(h, q) + (h.d as usize), mask)
 }
 
 // Writes the link for letter i of node q: on the table, node c is linked there.

@@ -31,21 +31,21 @@ nodesAt place width zero = []
 nodesAt place width (suc k) = place ∷ width ∷ nodesAt (place + width) width k
 
 module _ (h : Head) (v : ℕ) (ws : List Write) where
-  nodes-listed : (q : ℕ) (ys : List ℕ) → LettersBelow (h .n) ys
+  nodes-noted : (q : ℕ) (ys : List ℕ) → LettersBelow (h .n) ys
       → noted (newNodes h q ys v ++ ws) ≡ nodesAt (nodePlace h q) (nodeWidth h) (suc (length ys)) ++ noted ws
   unfolding noted newNodes nodesAt
-  nodes-listed q [] s = ap (λ (w : ℕ). nodePlace h q ∷ w ∷ noted ws) (length-last h v)
-  nodes-listed q (y ∷ ys) s =
+  nodes-noted q [] s = ap (λ (w : ℕ). nodePlace h q ∷ w ∷ noted ws) (length-last h v)
+  nodes-noted q (y ∷ ys) s =
       let next : nodePlace h (suc q) ≡ nodePlace h q + nodeWidth h = ap (nodePlace h) (sym (add-one q)) ∙ omega (arith, place-add h q 1) in
-      rw (length-path h y (suc q) (s .0), nodes-listed (suc q) ys (s .1), next)
+      rw (length-path h y (suc q) (s .0), nodes-noted (suc q) ys (s .1), next)
 
 -- by the letters left, which are as many as the nodes missing; behind the nodes stand the node total and the link
-pub lists-path : (h : Head) (q x : ℕ) (xs list : List ℕ) {left list′ : List ℕ} {r nodes from width place : ℕ} → left ≡ x ∷ xs
+pub notes-path : (h : Head) (q x : ℕ) (xs list : List ℕ) {left list′ : List ℕ} {r nodes from width place : ℕ} → left ≡ x ∷ xs
     → LettersBelow (h .n) left → nodes ≡ length left → from ≡ usedLen h → width ≡ nodeWidth h → place ≡ linkPlace h q x → r ≡ nodes + 2
     → list′ ≡ sets list 0 (nodesAt from width nodes ++ (0 ∷ 4 ∷ place ∷ h .a ∷ [])) → (v : ℕ)
     → Notes h (stoppedAt q left) (suc v) list r list′
 unfolding stoppedAt storeWrites totalWrite linkWrite noted usedLen
-lists-path h q x xs list {nodes = nodes} e s n used wide place r w v =
+notes-path h q x xs list {nodes = nodes} e s n used wide place r w v =
     let total : ℕ = h .g + suc (length xs) in
     let ws : List Write = totalWrite total ∷ linkWrite h q x (suc (h .g)) ∷ [] in
     let below : LettersBelow (h .n) xs = (rw e at s) .1 in
@@ -61,7 +61,7 @@ lists-path h q x xs list {nodes = nodes} e s n used wide place r w v =
             wide,
             place,
             add-one (h .g),
-            nodes-listed h (suc v) ws (suc (h .g)) xs below,
+            nodes-noted h (suc v) ws (suc (h .g)) xs below,
             length-digits totalLen total,
             length-digits (h .a) (suc (h .g)),
           );
@@ -83,22 +83,22 @@ missing-left k (suc v) {p = p} e z = rw e (missing-all (p .node) (drop (p .depth
 
 module _ (h : Head) (k list : List ℕ) {o : Walked} where
   -- the data alone
-  pub lists-data : (value : ℕ) {q place : ℕ} {list′ : List ℕ} → o ≡ Walked.Complete q → place ≡ dataPlace h q
+  pub notes-data : (value : ℕ) {q place : ℕ} {list′ : List ℕ} → o ≡ Walked.Complete q → place ≡ dataPlace h q
       → list′ ≡ sets list 0 (place ∷ h .d ∷ []) → Notes h (endOf k o) value list 1 list′
   unfolding endOf storeWrites dataWrite noted
-  lists-data value {q} e p w = rw e (record { count = refl; entries = rw (length-digits (h .d) value, ← p) w })
+  notes-data value {q} e p w = rw e (record { count = refl; entries = rw (length-digits (h .d) value, ← p) w })
 
   module _ {p : Position} (e : o ≡ Walked.Stopped p) where
     -- nothing for 0
-    pub lists-none : (value x : ℕ) (xs : List ℕ) → value ≡ 0 → drop (p .depth) k ≡ x ∷ xs → Notes h (endOf k o) value list 0 list
+    pub notes-none : (value x : ℕ) (xs : List ℕ) → value ≡ 0 → drop (p .depth) k ≡ x ∷ xs → Notes h (endOf k o) value list 0 list
     unfolding endOf stoppedAt storeWrites noted
-    lists-none value x xs z left = rw (e, z, left) (record { count = refl; entries = refl })
+    notes-none value x xs z left = rw (e, z, left) (record { count = refl; entries = refl })
 
-    pub lists-value : (value : ℕ) {r : ℕ} {list′ : List ℕ} → value ≢ 0
+    pub notes-value : (value : ℕ) {r : ℕ} {list′ : List ℕ} → value ≢ 0
         → ((v : ℕ) → Notes h (stoppedAt (p .node) (drop (p .depth) k)) (suc v) list r list′) → Notes h (endOf k o) value list r list′
     unfolding endOf
-    lists-value zero z all = absurd (z refl)
-    lists-value (suc v) z all = rw e (all v)
+    notes-value zero z all = absurd (z refl)
+    notes-value (suc v) z all = rw e (all v)
 
 -- ---- one after the other
 

@@ -17,7 +17,7 @@ use Rattle.node.specs.Image.{tableOf}
 use Rattle.node.specs.Writes.{Write, noted}
 use Rattle.paper.specs.declared.Refusal.{Refusal}
 use Rattle.paper.specs.declared.Stored.{Stored}
-use Rattle.paper.specs.declared.Listed.{Listed}
+use Rattle.paper.specs.declared.Noted.{Noted}
 use Rattle.paper.specs.Hearing.{Outcome, outcome, doneNumbers, refusedNumbers, first, rowWhen, heard}
 use Rattle.paper.specs.Answers.{refusalNumbers, storedOf, notedOf}
 use Rattle.paper.specs.Rows.{row11, row12, row13}
@@ -37,15 +37,15 @@ use Rattle.noting.specs.Noting.{NotesIn, Notes}
 -- ---- the list behind the store's outcome
 
 module _ (ws : List Write) (list : List ℕ) {o : Outcome} {l′ : List ℕ} where
-  refused-list : (why : Refusal) → outcome (storedOf (Stored.Refused why)) (l′ ∷ []) ≡ o
-      → outcome (notedOf (Listed.Refused why)) (l′ ∷ list ∷ []) ≡ withWrites ws list o
+  refused-notes : (why : Refusal) → outcome (storedOf (Stored.Refused why)) (l′ ∷ []) ≡ o
+      → outcome (notedOf (Noted.Refused why)) (l′ ∷ list ∷ []) ≡ withWrites ws list o
   unfolding withWrites storedOf notedOf refusalNumbers refusedNumbers
-  refused-list why e = rw (← e, refusal-said why)
+  refused-notes why e = rw (← e, refusal-said why)
 
-  done-list : (c : ℤ) {n : ℕ} {list′ : List ℕ} → n ≡ length ws → list′ ≡ sets list 0 (noted ws)
-      → outcome (storedOf (Stored.Change c)) (l′ ∷ []) ≡ o → outcome (notedOf (Listed.Change c n)) (l′ ∷ list′ ∷ []) ≡ withWrites ws list o
+  done-notes : (c : ℤ) {n : ℕ} {list′ : List ℕ} → n ≡ length ws → list′ ≡ sets list 0 (noted ws)
+      → outcome (storedOf (Stored.Change c)) (l′ ∷ []) ≡ o → outcome (notedOf (Noted.Change c n)) (l′ ∷ list′ ∷ []) ≡ withWrites ws list o
   unfolding withWrites storedOf notedOf doneNumbers
-  done-list c n w e = rw (← e, n, w)
+  done-notes c n w e = rw (← e, n, w)
 
 -- 11, 12 and 13 are no answers with number 0
 none-given : (x y z : Bool) (kept : List (List ℕ)) (done : Outcome)
@@ -72,20 +72,20 @@ room h l d value c e =
 -- s is what the store answered
 module _ {l : List ℕ} {h : Head} (a : Accepted l) (same : h ≡ headOf l) (k : List ℕ) {o : Walked} (walked : o ≡ walkedFrom (h .g) (tableOf h l) atRoot k)
     (value : ℕ) {s : Stored} {l′ : List ℕ} (e : Leaves h l (endOf k o) value s l′) where
-  pub lists-refused : (list : List ℕ) {why : Refusal} → s ≡ Stored.Refused why → NotesIn l k value list (Listed.Refused why) l′ list
-  lists-refused list {why} f = refused-list (writesIn l k value) list why (stores a same k walked value (Stored.Refused why) (rw f at e))
+  pub notes-refused : (list : List ℕ) {why : Refusal} → s ≡ Stored.Refused why → NotesIn l k value list (Noted.Refused why) l′ list
+  notes-refused list {why} f = refused-notes (writesIn l k value) list why (stores a same k walked value (Stored.Refused why) (rw f at e))
 
   module _ {c : ℤ} (f : s ≡ Stored.Change c) where
     -- the new nodes lie in the image, which is not too long
-    pub lists-room : usedLen h + added (missing (endOf k o)) value * nodeWidth h ≤ longestImage
-    lists-room = go (added (missing (endOf k o)) value) (room h l (endOf k o) value c (rw f at e))
+    pub notes-room : usedLen h + added (missing (endOf k o)) value * nodeWidth h ≤ longestImage
+    notes-room = go (added (missing (endOf k o)) value) (room h l (endOf k o) value c (rw f at e))
       where
         go : (n : ℕ) → (0 < n → usedLen h + n * nodeWidth h ≤ length l) → usedLen h + n * nodeWidth h ≤ longestImage
         go zero far = let used : usedLen h ≤ length l = rw same (a .room) in omega (arith, a .short-enough)
         go (suc n) far = omega (arith, a .short-enough, far (omega arith))
 
-    pub lists-done : (list : List ℕ) {b : ℤ} {n : ℕ} {list′ : List ℕ} → b ≡ c → Notes h (endOf k o) value list n list′
-        → NotesIn l k value list (Listed.Change b n) l′ list′
-    lists-done list {n = n} {list′} same-change w =
+    pub notes-done : (list : List ℕ) {b : ℤ} {n : ℕ} {list′ : List ℕ} → b ≡ c → Notes h (endOf k o) value list n list′
+        → NotesIn l k value list (Noted.Change b n) l′ list′
+    notes-done list {n = n} {list′} same-change w =
         let own : Notes (headOf l) (descend (tableIn l) 0 k) value list n list′ = rw (in-hand a same k walked, same) at w in
-        rw same-change (done-list (writesIn l k value) list c (own .count) (own .entries) (stores a same k walked value (Stored.Change c) (rw f at e)))
+        rw same-change (done-notes (writesIn l k value) list c (own .count) (own .entries) (stores a same k walked value (Stored.Change c) (rw f at e)))

@@ -9,14 +9,14 @@ use Rattle.trie.specs.Table.{Descent, descend}
 use Rattle.head.specs.declared.Head.{Head}
 use Rattle.head.specs.Fields.{headOf}
 use Rattle.node.specs.Writes.{noted, storeWrites}
-use Rattle.paper.specs.declared.Listed.{Listed}
+use Rattle.paper.specs.declared.Noted.{Noted}
 use Rattle.paper.specs.Hearing.{outcome}
 use Rattle.paper.specs.Answers.{notedOf}
 use Rattle.paper.specs.Calls.{tableIn, writesIn, withWrites}
 use Rattle.storing.specs.StoreStage.{storeAt}
 
 -- the walk is the key's own, as in `storing`'s StoresIn; the list follows the image
-abbrev pub NotesIn : List ℕ → List ℕ → ℕ → List ℕ → Listed → List ℕ → List ℕ → Type 0
+abbrev pub NotesIn : List ℕ → List ℕ → ℕ → List ℕ → Noted → List ℕ → List ℕ → Type 0
 NotesIn l key value list r l′ list′ =
     outcome (notedOf r) (l′ ∷ list′ ∷ []) ≡ withWrites (writesIn l key value) list (storeAt (headOf l) l (descend (tableIn l) 0 key) value)
 

@@ -15,36 +15,36 @@ ghost use Rattle.storing.specs.StoreStage.{Stop, endOf, stoppedAt, Ends};
 ghost use Rattle.noting.specs.Noting.{NotesIn, Notes};
 use head::Head;
 use key::Key;
-use paper::Listed;
+use paper::Noted;
 use paper::Stored;
 use walk::Position;
 use walk::Walked;
 
 // Stores a value under a key, 0 to delete it, and lists what it wrote. Refusals: 11, 12, 13; they leave the list as it was.
-pub fn store_listed(
+pub fn store_noted(
     image: &mut [u8],
     h: Head,
     key: Key,
     value: u64,
-    writes: &mut [u32; Head::LISTED_MOST as usize],
-) -> Listed
+    writes: &mut [u32; Head::NOTED_MOST as usize],
+) -> Noted
     requires { ⌜ Accepted (now image) ⌝ ∗ ⌜ h ≡ headOf (now image) ⌝ ∗ ⌜ Ready h key ⌝ }
     ensures { λ r. ⌜ NotesIn (now (image .entry)) (lettersOf key) value (now (writes .entry)) r (now (image .exit)) (now (writes .exit)) ⌝ }
 {
     let walked = walk::walk(image, h, key);
     let stored = storing::store_at(image, h, key, walked, value);
     match stored {
-        Stored::Refused(why) => Listed::Refused(why),
-        Stored::Change(change) => Listed::Change {
+        Stored::Refused(why) => Noted::Refused(why),
+        Stored::Change(change) => Noted::Change {
             change,
-            writes: list(writes, h, key, walked, value),
+            writes: note_all(writes, h, key, walked, value),
         },
     }
 }
 
 // Lists what a store wrote, given how the key's walk ended, and tells how many writes it is. The places fit, since the new nodes did.
-fn list(
-    writes: &mut [u32; Head::LISTED_MOST as usize],
+fn note_all(
+    writes: &mut [u32; Head::NOTED_MOST as usize],
     h: Head,
     key: Key,
     walked: Walked,
@@ -62,14 +62,14 @@ fn list(
             if value == 0 {
                 return 0;
             }
-            list_path(writes, h, key, at)
+            note_path(writes, h, key, at)
         }
         Walked::Bad(_) => 0,
     }
 }
 
 // A new path: the new nodes by rising address, the node total, the link.
-fn list_path(writes: &mut [u32; Head::LISTED_MOST as usize], h: Head, key: Key, at: Position) -> u32
+fn note_path(writes: &mut [u32; Head::NOTED_MOST as usize], h: Head, key: Key, at: Position) -> u32
     requires { ⌜ permitted h ≡ true ⌝ ∗ ⌜ Ready h key ⌝ ∗ ⌜ Stop h key at ⌝ ∗ ⌜ usedLen h + (key .len - at .depth) * nodeWidth h ≤ longestImage ⌝ }
     ensures { λ r. ⌜ ((v : ℕ) → Notes h (stoppedAt (at .node) (drop (at .depth) (lettersOf key))) (suc v) (now (writes .entry)) r (now (writes .exit))) ⌝ }
 {
@@ -91,7 +91,7 @@ fn list_path(writes: &mut [u32; Head::LISTED_MOST as usize], h: Head, key: Key, 
 }
 
 // Write number i of a list.
-fn note(writes: &mut [u32; Head::LISTED_MOST as usize], i: usize, place: u32, len: u32)
+fn note(writes: &mut [u32; Head::NOTED_MOST as usize], i: usize, place: u32, len: u32)
     requires { ⌜ i < mostWrites ⌝ }
     ensures { λ _. ⌜ now (writes .exit) ≡ sets (now (writes .entry)) (2 * i) (place ∷ len ∷ []) ⌝ }
 {

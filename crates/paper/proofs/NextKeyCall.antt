@@ -18,7 +18,7 @@ use Rattle.trie.specs.Keys.{meets, filter, withKey, Ascending}
 use Rattle.trie.specs.Beyond.{firstOf}
 use Rattle.trie.proofs.Before.{before-irrefl}
 use Rattle.trie.proofs.Listing.{First, first-some, first-none, under-listed, listing-holds, keysUnder-ascending}
-use Rattle.trie.proofs.Filter.{first-sift, first-listed, sift-all, sift-out, sift-every}
+use Rattle.trie.proofs.Filter.{first-filter, first-listed, filter-all, filter-out, filter-every}
 use Rattle.trie.proofs.InTurn.{same-turns, in-turn}
 use Rattle.trie.proofs.Few.{listing-few}
 use Rattle.head.specs.Fields.{headOf}
@@ -173,7 +173,7 @@ unfolding withKey firstOf meets
 first-and-after [] rest up e = refl
 first-and-after (m ∷ ms) rest up e =
     ap (m ∷_)
-    (e m (List·Memᴰ·head refl) ∙ sift-out (meets true m) m ms (before-irrefl m) ∙ sift-every (meets true m) ms (up .0))
+    (e m (List·Memᴰ·head refl) ∙ filter-out (meets true m) m ms (before-irrefl m) ∙ filter-every (meets true m) ms (up .0))
 
 module _ (l work buffer : List ℕ) (a : Accepted l) (lent : headOf l .g + 1 ≤ length work) (room : headOf l .max ≤ length buffer) where
   asked : (key : List ℕ) (after : Bool) → Askable (headOf l) key → keyHeard (nextKeyOf l work key after buffer) ≡ nextIn l key after
@@ -196,7 +196,7 @@ module _ (l work buffer : List ℕ) (a : Accepted l) (lent : headOf l .g + 1 ≤
   listed-all times enough =
       let rest : List ℕ → List (List ℕ) = askedAfter l work buffer times in
       let found : nextIn l [] false ≡ firstOf (storedKeys l) =
-      first-sift (meets false []) (storedKeys l) ∙ ap firstOf (sift-all (storedKeys l)) in
+      first-filter (meets false []) (storedKeys l) ∙ ap firstOf (filter-all (storedKeys l)) in
       ap (λ (o : Option (List ℕ)). withKey o (λ k. k ∷ rest k)) (asked [] false (record { short = omega arith; below = tt }) ∙ found)
       ∙ first-and-after (storedKeys l) rest (stored-ascending l)
       (λ m h. let s = stored-askable l m h in listed-after m (s .below) (s .short) times enough)

@@ -17,7 +17,7 @@ use Rattle.paper.specs.declared.Counted.{Counted}
 use Rattle.paper.specs.declared.Placed.{Placed}
 use Rattle.paper.specs.declared.Looked.{Looked}
 use Rattle.paper.specs.declared.Stored.{Stored}
-use Rattle.paper.specs.declared.Listed.{Listed}
+use Rattle.paper.specs.declared.Noted.{Noted}
 use Rattle.paper.specs.declared.Found.{Found}
 use Rattle.paper.specs.Hearing.{Numbers, Outcome, outcome, refusedNumbers, doneNumbers}
 use Rattle.paper.specs.Answers.{saidOf, refusalNumbers, doneOf, countedOf, placedOf, lookedOf, storedOf, notedOf, foundOf}
@@ -138,13 +138,13 @@ told-stored = record { back = tellBy (λ m. Stored.Change (m .change)) Stored.Re
     inverse (Stored.Change c) = refl
     inverse (Stored.Refused r) = tell-refused (λ m. Stored.Change (m .change)) Stored.Refused r
 
-pub told-listed : Told Listed notedOf
+pub told-noted : Told Noted notedOf
 unfolding tellBy byNumber notedOf doneNumbers
-told-listed = record { back = tellBy (λ m. Listed.Change (m .change) (m .length)) Listed.Refused; inverse = inverse }
+told-noted = record { back = tellBy (λ m. Noted.Change (m .change) (m .length)) Noted.Refused; inverse = inverse }
   where
-    inverse : (r : Listed) → tellBy (λ m. Listed.Change (m .change) (m .length)) Listed.Refused (notedOf r) ≡ r
-    inverse (Listed.Change change writes) = refl
-    inverse (Listed.Refused r) = tell-refused (λ m. Listed.Change (m .change) (m .length)) Listed.Refused r
+    inverse : (r : Noted) → tellBy (λ m. Noted.Change (m .change) (m .length)) Noted.Refused (notedOf r) ≡ r
+    inverse (Noted.Change change writes) = refl
+    inverse (Noted.Refused r) = tell-refused (λ m. Noted.Change (m .change) (m .length)) Noted.Refused r
 
 pub told-found : Told Found foundOf
 unfolding tellBy byNumber foundOf doneNumbers

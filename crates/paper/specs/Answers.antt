@@ -11,7 +11,7 @@ use Rattle.paper.specs.declared.Counted.{Counted}
 use Rattle.paper.specs.declared.Placed.{Placed}
 use Rattle.paper.specs.declared.Looked.{Looked}
 use Rattle.paper.specs.declared.Stored.{Stored}
-use Rattle.paper.specs.declared.Listed.{Listed}
+use Rattle.paper.specs.declared.Noted.{Noted}
 use Rattle.paper.specs.declared.Found.{Found}
 use Rattle.paper.specs.Hearing.{Said, Row, Numbers, refusedNumbers, doneNumbers}
 
@@ -70,10 +70,10 @@ unfolding refusalNumbers doneNumbers
 storedOf (Stored.Change c) = doneNumbers 0 c 0
 storedOf (Stored.Refused r) = refusalNumbers r
 
-unfoldable pub notedOf : Listed → Numbers
+unfoldable pub notedOf : Noted → Numbers
 unfolding refusalNumbers doneNumbers
-notedOf (Listed.Change c n) = doneNumbers n c 0
-notedOf (Listed.Refused r) = refusalNumbers r
+notedOf (Noted.Change c n) = doneNumbers n c 0
+notedOf (Noted.Refused r) = refusalNumbers r
 
 unfoldable pub foundOf : Found → Numbers
 unfolding refusalNumbers doneNumbers

@@ -117,7 +117,7 @@ pub enum Stored {
 }
 
 // The answer of a store that lists its writes: the change, and how many they are.
-pub enum Listed {
+pub enum Noted {
     Change { change: i32, writes: u32 },
     Refused(Refusal),
 }

@@ -14,7 +14,7 @@ use Rattle.trie.specs.Keys.{ownKey, before, meets, firstMeeting, filter, Ascend
 use Rattle.trie.specs.Beyond.{firstOf}
 use Rattle.trie.proofs.Before.{before-cons, before-lower, before-irrefl, before-asym}
 use Rattle.trie.proofs.Listing.{own-cases}
-use Rattle.trie.proofs.Filter.{sift-in, sift-out, sift-append, sift-map, sift-none, sift-every, sift-length, sift-all, first-sift}
+use Rattle.trie.proofs.Filter.{filter-in, filter-out, filter-append, filter-map, filter-none, filter-every, filter-length, filter-all, first-filter}
 use Rattle.passing.specs.Passing.{keyAt, rankIn}
 
 -- The key at a position.
@@ -65,21 +65,21 @@ at-below (m ∷ keys) (suc i) e = let h = at-below keys i e in omega arith
 
 pub rank-few : (keys : List (List ℕ)) (k : List ℕ) → rankIn keys k ≤ length keys
 unfolding rankIn
-rank-few keys k = sift-length (λ m. before m k) keys
+rank-few keys k = filter-length (λ m. before m k) keys
 
 pub rank-append : (xs ys : List (List ℕ)) (k : List ℕ) → rankIn (xs ++ ys) k ≡ rankIn xs k + rankIn ys k
 unfolding rankIn
 rank-append xs ys k =
-    ap length (sift-append (λ m. before m k) xs ys) ∙ length-append (filter (λ m. before m k) xs) (filter (λ m. before m k) ys)
+    ap length (filter-append (λ m. before m k) xs ys) ∙ length-append (filter (λ m. before m k) xs) (filter (λ m. before m k) ys)
 
 -- where none does, where all do
 rank-none : (keys : List (List ℕ)) (k : List ℕ) → ((m : List ℕ) → List·Memᴰ m keys → before m k ≡ false) → rankIn keys k ≡ 0
 unfolding rankIn
-rank-none keys k h = ap length (sift-none (λ m. before m k) keys h)
+rank-none keys k h = ap length (filter-none (λ m. before m k) keys h)
 
 rank-every : (keys : List (List ℕ)) (k : List ℕ) → ((m : List ℕ) → List·Memᴰ m keys → before m k ≡ true) → rankIn keys k ≡ length keys
 unfolding rankIn
-rank-every keys k h = ap length (sift-every (λ m. before m k) keys h)
+rank-every keys k h = ap length (filter-every (λ m. before m k) keys h)
 
 -- no key comes before the empty one
 pub rank-nil : (keys : List (List ℕ)) → rankIn keys [] ≡ 0
@@ -101,7 +101,7 @@ rank-lower i x keys k h =
 pub rank-same : (x : ℕ) (keys : List (List ℕ)) (k : List ℕ) → rankIn (map (x ∷_) keys) (x ∷ k) ≡ rankIn keys k
 unfolding rankIn
 rank-same x keys k =
-    ap length (sift-map (λ m. before m (x ∷ k)) (λ m. before m k) x keys (λ m. before-cons x m k))
+    ap length (filter-map (λ m. before m (x ∷ k)) (λ m. before m k) x keys (λ m. before-cons x m k))
     ∙ length-map (filter (λ m. before m k) keys) (x ∷_)
 
 pub rank-higher : (i x : ℕ) (keys : List (List ℕ)) (k : List ℕ) → x < i → rankIn (map (i ∷_) keys) (x ∷ k) ≡ 0
@@ -127,9 +127,9 @@ rank-here m keys up =
     (λ b. before-asym m j (up .0 j b))
     (List·Memᴰ·cases-cons a))
 
-rank-behind : (m : List ℕ) (keys : List (List ℕ)) (k : List ℕ) → before m k ≡ true → rankIn (m ∷ keys) k ≡ suc (rankIn keys k)
+rank-after : (m : List ℕ) (keys : List (List ℕ)) (k : List ℕ) → before m k ≡ true → rankIn (m ∷ keys) k ≡ suc (rankIn keys k)
 unfolding rankIn
-rank-behind m keys k h = ap length (sift-in (λ j. before j k) m keys h)
+rank-after m keys k h = ap length (filter-in (λ j. before j k) m keys h)
 
 pub at-rank : (keys : List (List ℕ)) (i : ℕ) {k : List ℕ} → Ascending keys → keyAt keys i ≡ some k → rankIn keys k ≡ i
 unfolding keyAt
@@ -137,7 +137,7 @@ at-rank [] i {k} up e = absurd (Option·some-ne-none k (sym e))
 at-rank (m ∷ keys) zero {k} up e =
     subst (λ (j : List ℕ). rankIn (m ∷ keys) j ≡ 0) (Option·some-injective m k e) (rank-here m keys up)
 at-rank (m ∷ keys) (suc i) {k} up e =
-    rank-behind m keys k (up .0 k (at-held keys i e)) ∙ ap (λ (r : ℕ). suc r) (at-rank keys i (up .1) e)
+    rank-after m keys k (up .0 k (at-held keys i e)) ∙ ap (λ (r : ℕ). suc r) (at-rank keys i (up .1) e)
 
 pub rank-at : (keys : List (List ℕ)) (k : List ℕ) → Ascending keys → List·Memᴰ k keys → keyAt keys (rankIn keys k) ≡ some k
 unfolding keyAt
@@ -145,7 +145,7 @@ rank-at [] k up a = absurd (List·Memᴰ·not-nil a)
 rank-at (m ∷ keys) k up a =
     ⊎-elim
     (λ e. subst (λ (j : List ℕ). keyAt (m ∷ keys) (rankIn (m ∷ keys) j) ≡ some j) (sym e) (rw (rank-here m keys up)))
-    (λ b. rw (rank-behind m keys k (up .0 k b)) (rank-at keys k (up .1) b))
+    (λ b. rw (rank-after m keys k (up .0 k b)) (rank-at keys k (up .1) b))
     (List·Memᴰ·cases-cons a)
 
 pub rank-below : (keys : List (List ℕ)) (k : List ℕ) → Ascending keys → List·Memᴰ k keys → rankIn keys k < length keys
@@ -159,7 +159,7 @@ first-at [] = refl
 first-at (k ∷ keys) = refl
 
 pub at-first : (keys : List (List ℕ)) → firstMeeting (meets false []) keys ≡ keyAt keys 0
-at-first keys = first-sift (meets false []) keys ∙ ap firstOf (sift-all keys) ∙ first-at keys
+at-first keys = first-filter (meets false []) keys ∙ ap firstOf (filter-all keys) ∙ first-at keys
 
 -- what comes after the key at a position, sifted
 after-at : (keys : List (List ℕ)) (i : ℕ) {k : List ℕ} → Ascending keys → keyAt keys i ≡ some k
@@ -170,10 +170,10 @@ after-at (m ∷ keys) zero {k} up e =
     subst
     (λ (j : List ℕ). firstOf (filter (meets true j) (m ∷ keys)) ≡ keyAt keys 0)
     (Option·some-injective m k e)
-    (ap firstOf (sift-out (meets true m) m keys (before-irrefl m) ∙ sift-every (meets true m) keys (up .0)) ∙ first-at keys)
+    (ap firstOf (filter-out (meets true m) m keys (before-irrefl m) ∙ filter-every (meets true m) keys (up .0)) ∙ first-at keys)
 after-at (m ∷ keys) (suc i) {k} up e =
-    ap firstOf (sift-out (meets true k) m keys (before-asym m k (up .0 k (at-held keys i e)))) ∙ after-at keys i (up .1) e
+    ap firstOf (filter-out (meets true k) m keys (before-asym m k (up .0 k (at-held keys i e)))) ∙ after-at keys i (up .1) e
 
 pub at-next : (keys : List (List ℕ)) (i : ℕ) {k : List ℕ} → Ascending keys → keyAt keys i ≡ some k
     → firstMeeting (meets true k) keys ≡ keyAt keys (suc i)
-at-next keys i {k} up e = first-sift (meets true k) keys ∙ after-at keys i up e
+at-next keys i {k} up e = first-filter (meets true k) keys ∙ after-at keys i up e

@@ -10,7 +10,7 @@ use Rattle.trie.specs.Table.{Table, complete, descend, valueAt}
 use Rattle.trie.specs.Keys.{keysUnder, listing, before, filter, Ascending}
 use Rattle.trie.specs.Rules.{Within, Linked}
 use Rattle.trie.proofs.Before.{before-cons}
-use Rattle.trie.proofs.Filter.{sift-none, sift-length, sift-holds, sift-ascending}
+use Rattle.trie.proofs.Filter.{filter-none, filter-length, filter-holds, filter-ascending}
 use Rattle.trie.proofs.Walk.{descend-append}
 use Rattle.trie.proofs.Listing.{under-listed, keysUnder-holds, keysUnder-ascending, same-keys}
 use Rattle.passing.specs.Passing.{passes, countAt, oneForEach}
@@ -78,7 +78,7 @@ module _ {t : Table} {g n : ℕ} (linked : Linked t g n) (least most : ℕ) wher
       same-keys
       (filter (passes t p 0) (listing t n least most))
       (map (k ++_) (rests k p))
-      (sift-ascending (passes t p 0) (listing t n least most) (keysUnder-ascending t n least most 0))
+      (filter-ascending (passes t p 0) (listing t n least most) (keysUnder-ascending t n least most 0))
       (path-ascending k (rests k p) (keysUnder-ascending t n (least - length k) (most - length k) p))
       to
       from
@@ -86,7 +86,7 @@ module _ {t : Table} {g n : ℕ} (linked : Linked t g n) (least most : ℕ) wher
       to : (j : List ℕ) → List·Memᴰ j (filter (passes t p 0) (listing t n least most))
           → List·Memᴰ j (map (k ++_) (rests k p))
       to j a =
-          let h = sift-holds (passes t p 0) (listing t n least most) j .0 a in
+          let h = filter-holds (passes t p 0) (listing t n least most) j .0 a in
           let (r, f) = passes-extends t k (linked .once) e j (h .1) in
           Memᴰ·cast f (Memᴰ·map (k ++_) (onward k e r (Memᴰ·cast (sym f) (h .0))))
 
@@ -95,7 +95,7 @@ module _ {t : Table} {g n : ℕ} (linked : Linked t g n) (least most : ℕ) wher
       from j a =
           let (r, hr, f) = Memᴰ·of-map (k ++_) (rests k p) a in
           let met : passes t p 0 (k ++ r) ≡ true = prefix-passes t p 0 k r e in
-          Memᴰ·cast (sym f) (sift-holds (passes t p 0) (listing t n least most) (k ++ r) .1 (behind k e deep r hr, met))
+          Memᴰ·cast (sym f) (filter-holds (passes t p 0) (listing t n least most) (k ++ r) .1 (behind k e deep r hr, met))
 
   pub count-reached : (k : List ℕ) {p : ℕ} → descend t 0 k ≡ complete p → length k ≤ most
       → countAt t n least most p ≡ length (keysUnder t n (least - length k) (most - length k) p)
@@ -106,7 +106,7 @@ module _ {t : Table} {g n : ℕ} (linked : Linked t g n) (least most : ℕ) wher
   -- a node deeper than a key may be
   pub count-deep : (k : List ℕ) {p : ℕ} → descend t 0 k ≡ complete p → most < length k → countAt t n least most p ≡ 0
   unfolding countAt
-  count-deep k {p} e deep = ap length (sift-none (passes t p 0) (listing t n least most) (λ j a. refuted _ (out j a)))
+  count-deep k {p} e deep = ap length (filter-none (passes t p 0) (listing t n least most) (λ j a. refuted _ (out j a)))
     where
       out : (j : List ℕ) → List·Memᴰ j (listing t n least most) → ¬ (passes t p 0 j ≡ true)
       out j a h =
@@ -115,12 +115,12 @@ module _ {t : Table} {g n : ℕ} (linked : Linked t g n) (least most : ℕ) wher
 
 pub count-few : (t : Table) (n least most q : ℕ) → countAt t n least most q ≤ length (listing t n least most)
 unfolding countAt
-count-few t n least most q = sift-length (passes t q 0) (listing t n least most)
+count-few t n least most q = filter-length (passes t q 0) (listing t n least most)
 
 pub count-outside : (t : Table) (g n least most q : ℕ) → Within t g → g < q → countAt t n least most q ≡ 0
 unfolding countAt
 count-outside t g n least most q within out =
-    ap length (sift-none (passes t q 0) (listing t n least most) (λ j a. passes-within t g q 0 j within (omega arith) out))
+    ap length (filter-none (passes t q 0) (listing t n least most) (λ j a. passes-within t g q 0 j within (omega arith) out))
 
 -- ---- one number for each node
 

@@ -15,7 +15,7 @@ use Rattle.trie.specs.Rules.{Framed, Linked}
 use Rattle.trie.specs.Storing.{stored}
 use Rattle.trie.proofs.Walk.{Walk, end, on, walk, follow-on, answer-stopped, where-stopped}
 use Rattle.trie.proofs.Listing.{listing-holds, keysUnder-ascending}
-use Rattle.trie.proofs.Filter.{sift-holds, sift-ascending}
+use Rattle.trie.proofs.Filter.{filter-holds, filter-ascending}
 use Rattle.trie.proofs.Count.{Alike, one-more, same-but, listed-others, stored-alike}
 use Rattle.trie.proofs.Storing.{stored-child, stored-answer}
 use Rattle.passing.specs.Passing.{passes, countAt, one}
@@ -98,17 +98,17 @@ shift {t} {s} {n = n} {least} {most} {k} a p r same =
     (r k)
     (answer t k)
     (answer s k)
-    (sift-ascending p _ (keysUnder-ascending t n least most 0))
-    (sift-ascending r _ (keysUnder-ascending s n least most 0)) (
+    (filter-ascending p _ (keysUnder-ascending t n least most 0))
+    (filter-ascending r _ (keysUnder-ascending s n least most 0)) (
       λ b. let (c, e) = passed k .0 b in (full k c, e),
       λ f. passed k .1 (listing-holds (a .from) least most k .1 (a .low, a .high, f .0), f .1),
     ) (
-      λ b. let (c, e) = sift-holds r (listing s n least most) k .0 b in (listing-holds (a .to) least most k .0 c .2, e),
-      λ f. sift-holds r (listing s n least most) k .1 (listing-holds (a .to) least most k .1 (a .low, a .high, f .0), f .1),
+      λ b. let (c, e) = filter-holds r (listing s n least most) k .0 b in (listing-holds (a .to) least most k .0 c .2, e),
+      λ f. filter-holds r (listing s n least most) k .1 (listing-holds (a .to) least most k .1 (a .low, a .high, f .0), f .1),
     )
     (λ j other. (
-      λ b. let (c, e) = passed j .0 b in sift-holds r (listing s n least most) j .1 (listed-others a j other .0 c, e),
-      λ b. let (c, e) = sift-holds r (listing s n least most) j .0 b in passed j .1 (listed-others a j other .1 c, e),
+      λ b. let (c, e) = passed j .0 b in filter-holds r (listing s n least most) j .1 (listed-others a j other .0 c, e),
+      λ b. let (c, e) = filter-holds r (listing s n least most) j .0 b in passed j .1 (listed-others a j other .1 c, e),
     ))
   where
     full : (j : List ℕ) → List·Memᴰ j (listing t n least most) → answer t j ≢ 0
@@ -117,8 +117,8 @@ shift {t} {s} {n = n} {least} {most} {k} a p r same =
     -- in the first listing too the second test decides
     passed : (j : List ℕ) → List·Memᴰ j (filter p (listing t n least most)) ↔ (List·Memᴰ j (listing t n least most) × (r j ≡ true))
     passed j = (
-      λ b. let (c, e) = sift-holds p (listing t n least most) j .0 b in (c, same j (full j c) ∙ e),
-      λ f. sift-holds p (listing t n least most) j .1 (f .0, sym (same j (full j (f .0))) ∙ f .1),
+      λ b. let (c, e) = filter-holds p (listing t n least most) j .0 b in (c, same j (full j c) ∙ e),
+      λ f. filter-holds p (listing t n least most) j .1 (f .0, sym (same j (full j (f .0))) ∙ f .1),
     )
 
 -- the count at a node is greater or less by the key stored, where that passes the node

@@ -18,7 +18,7 @@ use Rattle.trie.specs.Beyond.{keysFrom}
 use Rattle.trie.proofs.Walk.{descend-nil, follow-empty, follow-on}
 use Rattle.trie.proofs.Listing.{under, own-cases}
 use Rattle.trie.proofs.Beyond.{under-split}
-use Rattle.trie.proofs.Filter.{sift-append, sift-map, sift-none, sift-every}
+use Rattle.trie.proofs.Filter.{filter-append, filter-map, filter-none, filter-every}
 use Rattle.passing.specs.Passing.{passes, countAt}
 use Rattle.passing.specs.Weights.{sumFrom, weightAt, weightFrom}
 use Rattle.passing.proofs.Passing.{passes-here, passes-nil, passes-link, never-again, child-reached}
@@ -133,23 +133,23 @@ module _ (t : Table) (n : ℕ) where
       e
       (below-blank short (suc left) q p (λ c. weight-blank (pred short) left q c) (none-below short (suc left) p e))
 
-  pub weight-fruitless : (short left p : ℕ) → ((x : ℕ) → keysFrom t n short left p x ≡ []) → (q : ℕ) → weightFrom t n short left q p 0 ≡ 0
-  weight-fruitless short left p none q = below-blank short left q p (λ c. weight-blank (pred short) (pred left) q c) (none 0)
+  pub weight-no-keys : (short left p : ℕ) → ((x : ℕ) → keysFrom t n short left p x ≡ []) → (q : ℕ) → weightFrom t n short left q p 0 ≡ 0
+  weight-no-keys short left p none q = below-blank short left q p (λ c. weight-blank (pred short) (pred left) q c) (none 0)
 
 -- ---- the sums are the counts
 
-sum-sift : (test : List ℕ → Bool) (keys : ℕ → List (List ℕ)) (f : ℕ → ℕ)
+sum-filter : (test : List ℕ → Bool) (keys : ℕ → List (List ℕ)) (f : ℕ → ℕ)
     → ((i : ℕ) → f i ≡ length (filter test (map (i ∷_) (keys i))))
     → (x m : ℕ)
     → sumFrom f x m ≡ length (filter test (byLetter keys x m))
 unfolding sumFrom byLetter filter
-sum-sift test keys f h x zero = refl
-sum-sift test keys f h x (suc m) =
+sum-filter test keys f h x zero = refl
+sum-filter test keys f h x (suc m) =
     omega (
       arith,
       h x,
-      sum-sift test keys f h (suc x) m,
-      ap length (sift-append test (map (x ∷_) (keys x)) (byLetter keys (suc x) m)),
+      sum-filter test keys f h (suc x) m,
+      ap length (filter-append test (map (x ∷_) (keys x)) (byLetter keys (suc x) m)),
       length-append (filter test (map (x ∷_) (keys x))) (filter test (byLetter keys (suc x) m)),
     )
 
@@ -170,7 +170,7 @@ module _ (t : Table) (n : ℕ) (once : Once t) (q : ℕ) where
       let keys : List (List ℕ) = keysUnder t n short left (suc c) in
       below full
       ∙ sym (length-map (filter (passes t q (suc c)) keys) (i ∷_))
-      ∙ ap length (sym (sift-map test (passes t q (suc c)) i keys (asks full)))
+      ∙ ap length (sym (filter-map test (passes t q (suc c)) i keys (asks full)))
 
   weighed-below : (test : List ℕ → Bool) (short left p : ℕ)
       → ((x : ℕ) → t .child p x ≢ 0 → 0 < left → Weighed (pred short) (pred left) (t .child p x))
@@ -179,7 +179,7 @@ module _ (t : Table) (n : ℕ) (once : Once t) (q : ℕ) where
   unfolding weightFrom keysFrom filter
   weighed-below test short zero p below asks = refl
   weighed-below test short (suc left) p below asks =
-      sum-sift
+      sum-filter
       test
       (under t n short left p)
       (adds t n short left q p)
@@ -202,24 +202,24 @@ module _ (t : Table) (n : ℕ) (once : Once t) (q : ℕ) where
       go : Dec (p ≡ q) → Weighed short left p
       go (yes same) =
           let every : filter (passes t q p) (keysUnder t n short left p) ≡ keysUnder t n short left p =
-          sift-every _ _ (λ j a. subst (λ (z : ℕ). passes t q z j ≡ true) (sym same) (passes-here t q j)) in
+          filter-every _ _ (λ j a. subst (λ (z : ℕ). passes t q z j ≡ true) (sym same) (passes-here t q j)) in
           let again : (x : ℕ) → t .child p x ≢ 0 → (j : List ℕ) → false ≡ passes t q (t .child p x) j =
           λ x full j. sym (subst (λ (z : ℕ). passes t z (t .child p x) j ≡ false) same (never-again t k x once e full j)) in
           let nothing : weightFrom t n short left q p 0 ≡ 0 =
-          weighed-below (λ j. false) short left p below again ∙ ap length (sift-none (λ j. false) from (λ j a. refl)) in
+          weighed-below (λ j. false) short left p below again ∙ ap length (filter-none (λ j. false) from (λ j a. refl)) in
           let met : cond (eqb p q) (length (keysUnder t n short left p)) 0 ≡ length (keysUnder t n short left p) = rw (eq-eqb p q same) in
           omega (arith, weight-split t n short left q p, nothing, met, ap length every)
       go (no other) =
           let unmet : cond (eqb p q) (length (keysUnder t n short left p)) 0 ≡ 0 = rw (ne-eqb p q other) in
           let out : filter (passes t q p) own ≡ [] =
-          sift-none (passes t q p) own (λ j a. ap (passes t q p) (own-cases t short p a .0) ∙ passes-nil t q p other) in
+          filter-none (passes t q p) own (λ j a. ap (passes t q p) (own-cases t short p a .0) ∙ passes-nil t q p other) in
           omega (
             arith,
             weight-split t n short left q p,
             unmet,
             weighed-below (passes t q p) short left p below (λ x full j. passes-link t q p x j other full),
             ap (λ (l : List (List ℕ)). length (filter (passes t q p) l)) (under-split t n short left p),
-            ap length (sift-append (passes t q p) own from),
+            ap length (filter-append (passes t q p) own from),
             length-append (filter (passes t q p) own) (filter (passes t q p) from),
             ap length out,
           )

@@ -142,9 +142,9 @@ module _ {l : List ℕ} {h : Head} (a : Accepted l) (same : h ≡ headOf l) wher
     judged : rowOf v ≡ first (nextRows (headOf l) key)
     judged = rw same at (told key holds)
 
-    pub sought-unkeyed : (after : Bool) (buffer : List ℕ) {why : Refusal} → v ≡ Verdict.Refused why
+    pub seek-unkeyed : (after : Bool) (buffer : List ℕ) {why : Refusal} → v ≡ Verdict.Refused why
         → Seeks l key after buffer (Found.Refused why) buffer
-    sought-unkeyed after buffer e work checked = unkeyed l work key after buffer checked judged e
+    seek-unkeyed after buffer e work checked = unkeyed l work key after buffer checked judged e
 
     pub behind : v ≡ Verdict.Passed → Behind l h key hand
     behind e =
@@ -159,8 +159,8 @@ module _ {l : List ℕ} {h : Head} (a : Accepted l) (same : h ≡ headOf l) wher
         }
 
 module _ {l : List ℕ} {h : Head} {key : List ℕ} {hand : Key} (p : Behind l h key hand) (after : Bool) (buffer : List ℕ) where
-  pub sought-short : length buffer < h .max → Seeks l key after buffer (Found.Refused Refusal.ShortBuffer) buffer
-  sought-short b work checked = short l work key after buffer checked (p .unheard) (rw (p .same) at b)
+  pub seek-short : length buffer < h .max → Seeks l key after buffer (Found.Refused Refusal.ShortBuffer) buffer
+  seek-short b work checked = short l work key after buffer checked (p .unheard) (rw (p .same) at b)
 
   module _ (room : h .max ≤ length buffer) {r : Search} {path nodes : List ℕ}
       (t : SearchTells h l (nextStored h l after (lettersOf hand)) r path nodes) where
@@ -168,14 +168,14 @@ module _ {l : List ℕ} {h : Head} {key : List ℕ} {hand : Key} (p : Behind l h
     unfolding nextIn storedKeys tableIn
     told-next = rw (p .same, p .letters) at t
 
-    pub sought-missing : r ≡ Search.Missing → Seeks l key after buffer (Found.Refused Refusal.NoKey) buffer
-    sought-missing f work checked =
+    pub seek-missing : r ≡ Search.Missing → Seeks l key after buffer (Found.Refused Refusal.NoKey) buffer
+    seek-missing f work checked =
         missing l work key after buffer checked (p .unheard) (rw (p .same) at room)
         (was-missing (headOf l) l told-next f)
 
-    pub sought-found : {n x : ℕ} {buffer′ : List ℕ} → r ≡ Search.Found n x → buffer′ ≡ sets buffer 0 (take n path)
+    pub seek-found : {n x : ℕ} {buffer′ : List ℕ} → r ≡ Search.Found n x → buffer′ ≡ sets buffer 0 (take n path)
         → Seeks l key after buffer (Found.Key n x) buffer′
     unfolding tableIn
-    sought-found f laid work checked =
+    seek-found f laid work checked =
         let (k, is, count, value, front) = key-found told-next f in
         found l work key after buffer checked (p .unheard) (rw (p .same) at room) k is count value (rw front at laid)

@@ -12,7 +12,7 @@ use paper::Verdict;
 
 // Refusals: 9 for a key longer than max, 10, 14, 15. The search writes to a path of its own, since a buffer that is refused keeps what it
 // held.
-pub fn sought(image: &[u8], h: Head, letters: &[u8], after: bool, buffer: &mut [u8]) -> Found
+pub fn seek(image: &[u8], h: Head, letters: &[u8], after: bool, buffer: &mut [u8]) -> Found
     requires { ⌜ Accepted (now image) ⌝ }
     requires { ⌜ h ≡ headOf (now image) ⌝ }
     ensures { λ r. ⌜ Seeks (now (image .entry)) (now (letters .entry)) after (now (buffer .entry)) r (now (buffer .exit)) ⌝ }
@@ -31,7 +31,7 @@ pub fn sought(image: &[u8], h: Head, letters: &[u8], after: bool, buffer: &mut [
             match found {
                 Search::Missing => Found::Refused(Refusal::NoKey),
                 Search::Found { length, value } => {
-                    field::lay(buffer, 0, &path[..length]);
+                    field::copy(buffer, 0, &path[..length]);
                     let count = length as u32;
                     Found::Key {
                         length: count,

@@ -14,7 +14,7 @@ use Rattle.node.specs.Writes.{Write, noted}
 use Rattle.paper.specs.declared.Refusal.{Refusal}
 use Rattle.paper.specs.declared.Verdict.{Verdict}
 use Rattle.paper.specs.declared.Stored.{Stored}
-use Rattle.paper.specs.declared.Listed.{Listed}
+use Rattle.paper.specs.declared.Noted.{Noted}
 use Rattle.paper.specs.Hearing.{Row, Numbers, Outcome, first, heard, outcome, refusedNumbers, doneNumbers}
 use Rattle.paper.specs.Answers.{saidOf, refusalNumbers, storedOf, notedOf}
 use Rattle.paper.specs.Given.{Given, keyIn}
@@ -40,11 +40,11 @@ more none n l l′ w = refl
 more (some s) n l l′ w = refl
 
 -- the same where the writes are listed behind it
-more-listed : (ws : List Write) (list : List ℕ) (row : Row) (n : Numbers) (l x w : List ℕ) {m : Numbers} {l′ list′ : List ℕ}
+more-noted : (ws : List Write) (list : List ℕ) (row : Row) (n : Numbers) (l x w : List ℕ) {m : Numbers} {l′ list′ : List ℕ}
     → outcome m (l′ ∷ list′ ∷ []) ≡ withWrites ws list (heard row (l ∷ []) (outcome n (x ∷ [])))
     → outcome m (l′ ∷ w ∷ list′ ∷ []) ≡ withWrites ws list (heard row (l ∷ w ∷ []) (outcome n (x ∷ w ∷ [])))
 unfolding withWrites heard
-more-listed ws list row n l x w {m} {l′} {list′} e = by-row row e
+more-noted ws list row n l x w {m} {l′} {list′} e = by-row row e
   where
     by-test : (b : Bool) (y done : Numbers) (z laid : List ℕ)
         → outcome m (l′ ∷ list′ ∷ []) ≡ cond b (outcome done (z ∷ laid ∷ [])) (outcome y (z ∷ list ∷ []))
@@ -100,11 +100,11 @@ module _ (l work : List ℕ) (given : Given) (value : ℕ) where
         ap (λ (o : Outcome). outcome (o .numbers) (o .lent ++ (workAfter l work ∷ []))) e
         ∙ sym (left ∙ more (first (valued l key value)) done l (storedImage l key value) (workAfter l work))
 
-    listedBy : (list : List ℕ) (r : Listed) {l′ list′ : List ℕ} → NotesIn l key value list r l′ list′
+    listedBy : (list : List ℕ) (r : Noted) {l′ list′ : List ℕ} → NotesIn l key value list r l′ list′
         → StoresWrites l work given value list (notedOf r) l′ (workAfter l work) list′
     unfolding storeWritesOf storeAt storedImage newOf tableIn answer
     listedBy list r e =
-        more-listed (writesIn l key value) list (first (valued l key value)) done l (storedImage l key value) (workAfter l work) e
+        more-noted (writesIn l key value) list (first (valued l key value)) done l (storedImage l key value) (workAfter l work) e
         ∙ ap (withWrites (writesIn l key value) list) (sym left)
 
 -- ---- the ways out
@@ -118,7 +118,7 @@ module _ {l : List ℕ} (work : List ℕ) {given : Given} {r : Asked} {work′ :
     unfolding storedOf
     stores-refused = sym unasked
 
-    pub stores-writes-refused : (list : List ℕ) → StoresWrites l work given value list (notedOf (Listed.Refused why)) l work′ list
+    pub stores-writes-refused : (list : List ℕ) → StoresWrites l work given value list (notedOf (Noted.Refused why)) l work′ list
     unfolding storeWritesOf notedOf withWrites refusalNumbers refusedNumbers
     stores-writes-refused list = rw (unasked, refusal-said why)
 
@@ -132,6 +132,6 @@ module _ {l : List ℕ} (work : List ℕ) {given : Given} {r : Asked} {work′ :
     pub stores-passed : (s : Stored) {l′ : List ℕ} → StoresIn l (lettersOf (r .key)) value s l′ → Stores l work given value (storedOf s) l′ work′
     stores-passed s g = rw (a .numbers) (stored l work given value none-asked s (rw same-letters at g))
 
-    pub stores-writes-passed : (list : List ℕ) (s : Listed) {l′ list′ : List ℕ} → NotesIn l (lettersOf (r .key)) value list s l′ list′
+    pub stores-writes-passed : (list : List ℕ) (s : Noted) {l′ list′ : List ℕ} → NotesIn l (lettersOf (r .key)) value list s l′ list′
         → StoresWrites l work given value list (notedOf s) l′ work′ list′
     stores-writes-passed list s g = rw (a .numbers) (listedBy l work given value none-asked list s (rw same-letters at g))

@@ -4,7 +4,7 @@ ghost use Rattle.paper.specs.Answers.{storedOf, notedOf};
 ghost use Rattle.paper.specs.Given.{asLetters, asText};
 ghost use Rattle.paper.specs.Promises.{Stores, StoresWrites};
 use head::Head;
-use paper::Listed;
+use paper::Noted;
 use paper::Stored;
 use paper::Verdict;
 
@@ -42,16 +42,16 @@ pub fn store_writes(
     work: &mut [u32],
     letters: &[u8],
     value: u32,
-    writes: &mut [u32; Head::LISTED_MOST as usize],
-) -> Listed
+    writes: &mut [u32; Head::NOTED_MOST as usize],
+) -> Noted
     ensures { λ r. ⌜ StoresWrites (now (image .entry)) (now (work .entry)) (asLetters (now (letters .entry))) value (now (writes .entry)) (notedOf r) (now (image .exit)) (now (work .exit)) (now (writes .exit)) ⌝ }
 {
     let asked = asking::ask(image, work, letters);
     let verdict = asked.verdict;
     let head = asked.head;
     match verdict {
-        Verdict::Refused(why) => Listed::Refused(why),
-        Verdict::Passed => noting::store_listed(image, head, asked.key, value as u64, writes),
+        Verdict::Refused(why) => Noted::Refused(why),
+        Verdict::Passed => noting::store_noted(image, head, asked.key, value as u64, writes),
     }
 }
 
@@ -61,15 +61,15 @@ pub fn store_text_writes(
     work: &mut [u32],
     text: &[u8],
     value: u32,
-    writes: &mut [u32; Head::LISTED_MOST as usize],
-) -> Listed
+    writes: &mut [u32; Head::NOTED_MOST as usize],
+) -> Noted
     ensures { λ r. ⌜ StoresWrites (now (image .entry)) (now (work .entry)) (asText (now (text .entry))) value (now (writes .entry)) (notedOf r) (now (image .exit)) (now (work .exit)) (now (writes .exit)) ⌝ }
 {
     let named = asking::ask_text(image, work, text);
     let verdict = named.verdict;
     let head = named.head;
     match verdict {
-        Verdict::Refused(at_text) => Listed::Refused(at_text),
-        Verdict::Passed => noting::store_listed(image, head, named.key, value as u64, writes),
+        Verdict::Refused(at_text) => Noted::Refused(at_text),
+        Verdict::Passed => noting::store_noted(image, head, named.key, value as u64, writes),
     }
 }

@@ -20,7 +20,7 @@ use Rattle.depths.specs.Depths.{KeysBelow}
 use Rattle.traversal.specs.Search.{ahead, coming, PathRoom, Along, PathKept, SearchTells}
 use Rattle.depths.proofs.Links.{from}
 use Rattle.traversal.proofs.Paths.{room-kept, kept-all, kept-front, kept-letter, along-root, along-kept, along-less, along-last}
-use Rattle.traversal.proofs.Searching.{first-none, was-missing, was-found, told-same, ahead-fruitless}
+use Rattle.traversal.proofs.Searching.{first-none, was-missing, was-found, told-same, ahead-no-keys}
 
 -- ---- keys with letters in front
 
@@ -98,7 +98,7 @@ pub record Nothing (h : Head) (l path nodes : List ℕ) (depth x : ℕ) (path₁
   pub ends : length nodes₁ ≡ length nodes
 
 module _ {h : Head} {l path nodes : List ℕ} {depth x : ℕ} {path₂ nodes₂ : List ℕ} where
-  -- a search that found nothing tells so, and one that is spared because the node is fruitless
+  -- a search that found nothing tells so, and one that is spared because no key lies below the node
   pub nothing-missing : {r : Search} {path₁ nodes₁ : List ℕ}
       → SearchTells h l (firstOf (ahead h l path depth (getD nodes depth 0) x)) r path₁ nodes₁ → r ≡ Search.Missing
       → PathKept depth path nodes path₁ nodes₁ → length path₁ ≡ length path → length nodes₁ ≡ length nodes
@@ -107,12 +107,12 @@ module _ {h : Head} {l path nodes : List ℕ} {depth x : ℕ} {path₂ nodes₂ 
   nothing-missing told f kept letters ends e g =
       rw (e, g) (record { missing = was-missing h l told f; kept = kept; letters = letters; ends = ends })
 
-  pub nothing-fruitless : {r : Bool} → KeysBelow h (tableOf h l) (getD nodes depth 0) depth r → r ≡ true → path₂ ≡ path → nodes₂ ≡ nodes
+  pub climb-no-keys : {r : Bool} → KeysBelow h (tableOf h l) (getD nodes depth 0) depth r → r ≡ true → path₂ ≡ path → nodes₂ ≡ nodes
       → Nothing h l path nodes depth x path₂ nodes₂
-  nothing-fruitless b f e g =
+  climb-no-keys b f e g =
       rw (e, g)
       (record {
-        missing = ahead-fruitless h l path depth (getD nodes depth 0) x b f;
+        missing = ahead-no-keys h l path depth (getD nodes depth 0) x b f;
         kept = kept-all depth path nodes;
         letters = refl;
         ends = refl;

@@ -99,10 +99,10 @@ module _ (h : Head) (l : List ℕ) where
 
   -- ---- the keys ahead
 
-  pub ahead-fruitless : (path : List ℕ) (depth q i : ℕ) {r : Bool} → KeysBelow h (tableOf h l) q depth r → r ≡ true
+  pub ahead-no-keys : (path : List ℕ) (depth q i : ℕ) {r : Bool} → KeysBelow h (tableOf h l) q depth r → r ≡ true
       → firstOf (ahead h l path depth q i) ≡ none
   unfolding ahead
-  ahead-fruitless path depth q i b e = first-none _ (ap (map (take depth path ++_)) (b .nothing e i))
+  ahead-no-keys path depth q i b e = first-none _ (ap (map (take depth path ++_)) (b .nothing e i))
 
   pub ahead-past : (path : List ℕ) (depth q i : ℕ) → h .n ≤ i → firstOf (ahead h l path depth q i) ≡ none
   unfolding ahead
@@ -284,8 +284,8 @@ module _ {h : Head} {l path₀ nodes₀ : List ℕ} {depth q first : ℕ} {path 
         → Passing h l path₀ nodes₀ depth q first path₁ nodes₁ (i + 1)
     onto-missing told f kept letters ends = onto-none (was-missing h l told f) kept letters ends
 
-    pub onto-fruitless : {r : Bool} → KeysBelow h (tableOf h l) c (depth + 1) r → r ≡ true
+    pub onto-no-keys : {r : Bool} → KeysBelow h (tableOf h l) c (depth + 1) r → r ≡ true
         → Passing h l path₀ nodes₀ depth q first (set path depth i) (set nodes (depth + 1) c) (i + 1)
-    onto-fruitless b f =
-        onto-none (ahead-fruitless h l (set path depth i) (depth + 1) c 0 b f)
+    onto-no-keys b f =
+        onto-none (ahead-no-keys h l (set path depth i) (depth + 1) c 0 b f)
         (kept-all (depth + 1) (set path depth i) (set nodes (depth + 1) c)) refl refl

@@ -127,12 +127,12 @@ fn climb(
     let mut depth = end;
     let mut from = first;
     loop {
-        let barren = if from == 0 {
-            depths::fruitless(image, h, nodes[depth], depth)
+        let no_keys = if from == 0 {
+            depths::no_keys_below(image, h, nodes[depth], depth)
         } else {
             false
         };
-        if !barren {
+        if !no_keys {
             let found = below(image, h, mask, nodes[depth], depth, from, path, nodes);
             if let Search::Found { .. } = found {
                 return found;
@@ -178,7 +178,7 @@ fn below(
                 value,
             };
         }
-        if depths::fruitless(image, h, c, depth + 1) {
+        if depths::no_keys_below(image, h, c, depth + 1) {
             continue;
         }
         let deeper = below(image, h, mask, c, depth + 1, 0, path, nodes);

@@ -16,7 +16,7 @@ use Rattle.trie.specs.Keys.{present, ownKey, byLetter, keysUnder, firstM
 use Rattle.trie.specs.Beyond.{firstOf, keysFrom, beyond}
 use Rattle.trie.proofs.LettersBelow.{letters-before, letters-after}
 use Rattle.trie.proofs.Before.{meets-empty, meets-lower, meets-cons, meets-higher, meets-none, meets-letter}
-use Rattle.trie.proofs.Filter.{sift-append, sift-map, sift-none, sift-every, sift-all, first-sift}
+use Rattle.trie.proofs.Filter.{filter-append, filter-map, filter-none, filter-every, filter-all, first-filter}
 use Rattle.trie.proofs.Listing.{under, byLetter-cases, own-cases, follow-cases}
 use Rattle.trie.proofs.Walk.{Walk, end, on, walk, follow-empty, follow-on}
 
@@ -57,19 +57,19 @@ byLetter-none keys i (suc m) h = rw (h i) (byLetter-none keys (suc i) m h)
 -- What meets a request among keys that stand by rising letter: those that begin as the request does and meet in what follows, and all
 -- those that begin with a later letter.
 
-sift-later : (after : Bool) (y : ℕ) (k : List ℕ) (keys : ℕ → List (List ℕ)) (i m : ℕ) → y < i
+filter-later : (after : Bool) (y : ℕ) (k : List ℕ) (keys : ℕ → List (List ℕ)) (i m : ℕ) → y < i
     → filter (meets after (y ∷ k)) (byLetter keys i m) ≡ byLetter keys i m
-sift-later after y k keys i m h =
-    sift-every _ _ (λ j a.
+filter-later after y k keys i m h =
+    filter-every _ _ (λ j a.
     let (x, r, e, low, high, hr) = byLetter-cases keys i m a in
     ap (meets after (y ∷ k)) e ∙ meets-higher after x y k r (omega arith))
 
-sift-letter : (after : Bool) (y : ℕ) (k : List ℕ) (keys : ℕ → List (List ℕ)) (n i m : ℕ) → i + m ≡ n → i ≤ y → y < n
+filter-letter : (after : Bool) (y : ℕ) (k : List ℕ) (keys : ℕ → List (List ℕ)) (n i m : ℕ) → i + m ≡ n → i ≤ y → y < n
     → filter (meets after (y ∷ k)) (byLetter keys i m) ≡ map (y ∷_) (filter (meets after k) (keys y)) ++ byLetter keys (suc y) (n - suc y)
 unfolding byLetter
-sift-letter after y k keys n i zero size low high = absurd (omega arith)
-sift-letter after y k keys n i (suc m) size low high =
-    go (ℕ-discrete y i) (λ h. sift-letter after y k keys n (suc i) m (omega arith) h high)
+filter-letter after y k keys n i zero size low high = absurd (omega arith)
+filter-letter after y k keys n i (suc m) size low high =
+    go (ℕ-discrete y i) (λ h. filter-letter after y k keys n (suc i) m (omega arith) h high)
   where
     Met : ℕ → ℕ → Type 0
     Met i m =
@@ -80,14 +80,14 @@ sift-letter after y k keys n i (suc m) size low high =
     go (yes e) rest =
         let later : n - suc y ≡ m = omega arith in
         rw (later, ← e)
-        (sift-append _ (map (y ∷_) (keys y)) (byLetter keys (suc y) m)
-        ∙ ap₂ _++_ (sift-map _ _ y (keys y) (meets-cons after y k)) (sift-later after y k keys (suc y) m (omega arith)))
+        (filter-append _ (map (y ∷_) (keys y)) (byLetter keys (suc y) m)
+        ∙ ap₂ _++_ (filter-map _ _ y (keys y) (meets-cons after y k)) (filter-later after y k keys (suc y) m (omega arith)))
     go (no other) rest =
         let lower : filter (meets after (y ∷ k)) (map (i ∷_) (keys i)) ≡ [] =
-        sift-none _ _ (λ j a.
+        filter-none _ _ (λ j a.
         let (r, hr, e) = Memᴰ·of-map (i ∷_) (keys i) a in
         ap (meets after (y ∷ k)) (sym e) ∙ meets-lower after i y k r (omega arith)) in
-        sift-append _ (map (i ∷_) (keys i)) (byLetter keys (suc i) m) ∙ ap₂ _++_ lower (rest (omega arith))
+        filter-append _ (map (i ∷_) (keys i)) (byLetter keys (suc i) m) ∙ ap₂ _++_ lower (rest (omega arith))
 
 module _ (t : Table) (n : ℕ) where
   -- The keys below a node from a letter on.
@@ -202,30 +202,30 @@ module _ (t : Table) (n : ℕ) where
   -- What meets a request.
 
   -- at a node with a letter left, by the request's first letter; the node's own key comes before
-  sift-node : (after : Bool) (y : ℕ) (k : List ℕ) (short left q : ℕ) → y < n
+  filter-node : (after : Bool) (y : ℕ) (k : List ℕ) (short left q : ℕ) → y < n
       → filter (meets after (y ∷ k)) (keysUnder t n short (suc left) q)
       ≡ map (y ∷_) (filter (meets after k) (under t n short left q y)) ++ keysFrom t n short (suc left) q (suc y)
   unfolding keysUnder keysFrom
-  sift-node after y k short left q h =
-      sift-append _ (ownKey t short q) (byLetter (under t n short left q) 0 n)
-      ∙ ap₂ _++_ own (sift-letter after y k (under t n short left q) n 0 n (omega arith) (omega arith) h)
+  filter-node after y k short left q h =
+      filter-append _ (ownKey t short q) (byLetter (under t n short left q) 0 n)
+      ∙ ap₂ _++_ own (filter-letter after y k (under t n short left q) n 0 n (omega arith) (omega arith) h)
     where
       own : filter (meets after (y ∷ k)) (ownKey t short q) ≡ []
-      own = sift-none _ _ (λ j a. ap (meets after (y ∷ k)) (own-cases t short q a .0) ∙ meets-empty after y k)
+      own = filter-none _ _ (λ j a. ap (meets after (y ∷ k)) (own-cases t short q a .0) ∙ meets-empty after y k)
 
   -- along a path: what meets below its end, then all that stands behind it
-  sift-path : {q p : ℕ} {k : List ℕ} → Walk t q k (complete p) → (after : Bool) (s : List ℕ) (short left : ℕ)
+  filter-path : {q p : ℕ} {k : List ℕ} → Walk t q k (complete p) → (after : Bool) (s : List ℕ) (short left : ℕ)
       → LettersBelow n k → length k ≤ left
       → filter (meets after (k ++ s)) (keysUnder t n short left q)
       ≡ map (k ++_) (filter (meets after s) (keysUnder t n (short - length k) (left - length k) p)) ++ beyond t n short left q k n
   unfolding beyond
-  sift-path (end {q}) after s short left letters deep =
+  filter-path (end {q}) after s short left letters deep =
       rw (sub-zero short, sub-zero left, map-id, from-none short left q n (omega arith), append-nil)
-  sift-path (on h w) after s short zero letters deep = absurd (omega arith)
-  sift-path {p = p} (on {q} {x = y} {xs = k} h w) after s short (suc left) letters deep =
+  filter-path (on h w) after s short zero letters deep = absurd (omega arith)
+  filter-path {p = p} (on {q} {x = y} {xs = k} h w) after s short (suc left) letters deep =
       let e : pred short - length k ≡ short - suc (length k) = omega arith in
       let f : left - length k ≡ suc left - suc (length k) = omega arith in
-      sift-node after y (k ++ s) short left q (letters .0)
+      filter-node after y (k ++ s) short left q (letters .0)
       ∙ lead
       y
       k
@@ -233,73 +233,73 @@ module _ (t : Table) (n : ℕ) where
       (beyond t n (pred short) left (t .child q y) k n)
       (keysFrom t n short (suc left) q (suc y))
       (ap (filter (meets after (k ++ s))) (follow-on (t .child q y) [] _ h)
-      ∙ (rw (e, f) at (sift-path w after s (pred short) left (letters .1) (omega arith))))
+      ∙ (rw (e, f) at (filter-path w after s (pred short) left (letters .1) (omega arith))))
 
   -- at the path's end: all but the node's own key is after the empty key
-  sift-below : (short left q : ℕ) → filter (meets true []) (keysUnder t n short left q) ≡ keysFrom t n short left q 0
-  sift-below short left q =
+  filter-below : (short left q : ℕ) → filter (meets true []) (keysUnder t n short left q) ≡ keysFrom t n short left q 0
+  filter-below short left q =
       ap (filter (meets true [])) (under-split short left q)
-      ∙ sift-append _ (ownKey t short q) (keysFrom t n short left q 0)
+      ∙ filter-append _ (ownKey t short q) (keysFrom t n short left q 0)
       ∙ ap₂ _++_ own below
     where
       own : filter (meets true []) (ownKey t short q) ≡ []
-      own = sift-none _ _ (λ j a. ap (meets true []) (own-cases t short q a .0) ∙ meets-none)
+      own = filter-none _ _ (λ j a. ap (meets true []) (own-cases t short q a .0) ∙ meets-none)
 
       below : filter (meets true []) (keysFrom t n short left q 0) ≡ keysFrom t n short left q 0
       below =
-          sift-every _ _ (λ j a. let f = from-cases short left q 0 a in ap (meets true []) (f .2) ∙ meets-letter (f .0) (f .1))
+          filter-every _ _ (λ j a. let f = from-cases short left q 0 a in ap (meets true []) (f .2) ∙ meets-letter (f .0) (f .1))
 
   -- "after" the path's own key
-  pub sift-after : (short left q : ℕ) (k : List ℕ) {p : ℕ} → descend t q k ≡ complete p → LettersBelow n k → length k ≤ left
+  pub filter-after : (short left q : ℕ) (k : List ℕ) {p : ℕ} → descend t q k ≡ complete p → LettersBelow n k → length k ≤ left
       → filter (meets true k) (keysUnder t n short left q) ≡ beyond t n short left q k 0
-  sift-after short left q k {p} e letters deep =
+  filter-after short left q k {p} e letters deep =
       let w : Walk t q k (complete p) = walk t q k e in
-      (rw (append-nil k) at (sift-path w true [] short left letters deep))
-      ∙ ap (λ (l : List (List ℕ)). map (k ++_) l ++ beyond t n short left q k n) (sift-below (short - length k) (left - length k) p)
+      (rw (append-nil k) at (filter-path w true [] short left letters deep))
+      ∙ ap (λ (l : List (List ℕ)). map (k ++_) l ++ beyond t n short left q k n) (filter-below (short - length k) (left - length k) p)
       ∙ sym (split w short left 0)
 
   -- "at or after" it
-  pub sift-at : (short left q : ℕ) (k : List ℕ) {p : ℕ} → descend t q k ≡ complete p → LettersBelow n k → length k ≤ left
+  pub filter-at : (short left q : ℕ) (k : List ℕ) {p : ℕ} → descend t q k ≡ complete p → LettersBelow n k → length k ≤ left
       → filter (meets false k) (keysUnder t n short left q)
       ≡ map (k ++_) (ownKey t (short - length k) p) ++ beyond t n short left q k 0
-  sift-at short left q k {p} e letters deep =
+  filter-at short left q k {p} e letters deep =
       let w : Walk t q k (complete p) = walk t q k e in
       let s = short - length k in
       let l = left - length k in
-      (rw (append-nil k, sift-all, under-split s l p, map-append, append-assoc) at (sift-path w false [] short left letters deep))
+      (rw (append-nil k, filter-all, under-split s l p, map-append, append-assoc) at (filter-path w false [] short left letters deep))
       ∙ ap (map (k ++_) (ownKey t s p) ++_) (sym (split w short left 0))
 
   -- either, where the key goes on at an empty link
-  sift-stop : (after : Bool) (y : ℕ) (ys : List ℕ) (short left q : ℕ) → 0 < left → y < n → t .child q y ≡ 0
+  filter-stop : (after : Bool) (y : ℕ) (ys : List ℕ) (short left q : ℕ) → 0 < left → y < n → t .child q y ≡ 0
       → filter (meets after (y ∷ ys)) (keysUnder t n short left q) ≡ keysFrom t n short left q (suc y)
   unfolding filter
-  sift-stop after y ys short zero q deep h e = absurd (omega arith)
-  sift-stop after y ys short (suc left) q deep h e =
+  filter-stop after y ys short zero q deep h e = absurd (omega arith)
+  filter-stop after y ys short (suc left) q deep h e =
       let empty : under t n short left q y ≡ [] = follow-empty (t .child q y) [] _ e in
-      rw (sift-node after y ys short left q h, empty, filter)
+      rw (filter-node after y ys short left q h, empty, filter)
 
-  pub sift-stopped : (after : Bool) (short left q : ℕ) (k : List ℕ) (y : ℕ) (ys : List ℕ) {p : ℕ} → descend t q k ≡ complete p
+  pub filter-stopped : (after : Bool) (short left q : ℕ) (k : List ℕ) (y : ℕ) (ys : List ℕ) {p : ℕ} → descend t q k ≡ complete p
       → t .child p y ≡ 0 → LettersBelow n (k ++ (y ∷ ys)) → length (k ++ (y ∷ ys)) ≤ left
       → filter (meets after (k ++ (y ∷ ys))) (keysUnder t n short left q) ≡ beyond t n short left q k (suc y)
-  sift-stopped after short left q k y ys {p} e f letters deep =
+  filter-stopped after short left q k y ys {p} e f letters deep =
       let w : Walk t q k (complete p) = walk t q k e in
       let room : length k < left = omega (arith, length-append k (y ∷ ys)) in
       let low : y < n = letters-after n k (y ∷ ys) letters .0 in
-      sift-path w after (y ∷ ys) short left (letters-before n k (y ∷ ys) letters) (omega arith)
+      filter-path w after (y ∷ ys) short left (letters-before n k (y ∷ ys) letters) (omega arith)
       ∙ ap
       (λ (l : List (List ℕ)). map (k ++_) l ++ beyond t n short left q k n)
-      (sift-stop after y ys (short - length k) (left - length k) p (omega arith) low f)
+      (filter-stop after y ys (short - length k) (left - length k) p (omega arith) low f)
       ∙ sym (split w short left (suc y))
 
   -- the first key that meets
   pub meets-after-path : (short left q : ℕ) (k : List ℕ) {p : ℕ} → descend t q k ≡ complete p → LettersBelow n k → length k ≤ left
       → firstMeeting (meets true k) (keysUnder t n short left q) ≡ firstOf (beyond t n short left q k 0)
-  meets-after-path short left q k e letters deep = first-sift _ _ ∙ ap firstOf (sift-after short left q k e letters deep)
+  meets-after-path short left q k e letters deep = first-filter _ _ ∙ ap firstOf (filter-after short left q k e letters deep)
 
   pub meets-at-path : (short left q : ℕ) (k : List ℕ) {p : ℕ} → descend t q k ≡ complete p → LettersBelow n k → length k ≤ left
       → firstMeeting (meets false k) (keysUnder t n short left q)
       ≡ firstOf (map (k ++_) (ownKey t (short - length k) p) ++ beyond t n short left q k 0)
-  meets-at-path short left q k e letters deep = first-sift _ _ ∙ ap firstOf (sift-at short left q k e letters deep)
+  meets-at-path short left q k e letters deep = first-filter _ _ ∙ ap firstOf (filter-at short left q k e letters deep)
 
   pub meets-at-none : (short left q : ℕ) (k : List ℕ) {p : ℕ} → descend t q k ≡ complete p → LettersBelow n k → length k ≤ left
       → ownKey t (short - length k) p ≡ []
@@ -317,4 +317,4 @@ module _ (t : Table) (n : ℕ) where
       → t .child p y ≡ 0 → LettersBelow n (k ++ (y ∷ ys)) → length (k ++ (y ∷ ys)) ≤ left
       → firstMeeting (meets after (k ++ (y ∷ ys))) (keysUnder t n short left q) ≡ firstOf (beyond t n short left q k (suc y))
   meets-stopped after short left q k y ys e f letters deep =
-      first-sift _ _ ∙ ap firstOf (sift-stopped after short left q k y ys e f letters deep)
+      first-filter _ _ ∙ ap firstOf (filter-stopped after short left q k y ys e f letters deep)

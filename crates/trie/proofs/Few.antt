@@ -12,7 +12,7 @@ use Rattle.trie.specs.Table.{Table, Descent, complete, stopped, descend}
 use Rattle.trie.specs.Keys.{listing, filter, Ascending}
 use Rattle.trie.specs.Rules.{Linked}
 use Rattle.trie.proofs.Before.{before-apart}
-use Rattle.trie.proofs.Filter.{by-test, sift-every, sift-holds, sift-ascending}
+use Rattle.trie.proofs.Filter.{by-test, filter-every, filter-holds, filter-ascending}
 use Rattle.trie.proofs.Listing.{under-listed, keysUnder-ascending}
 use Rattle.trie.proofs.Walk.{one-key, complete-within}
 
@@ -24,7 +24,7 @@ unfolding filter
 one-out p [] up alone = omega arith
 one-out p (x ∷ l) up alone =
     let on = one-out p l (up .1) (λ j k a b. alone j k (List·Memᴰ·tail a) (List·Memᴰ·tail b)) in
-    by-test _ p x (λ e. rw e (omega arith)) (λ e. rw (e, sift-every p l (others e)) (omega arith))
+    by-test _ p x (λ e. rw e (omega arith)) (λ e. rw (e, filter-every p l (others e)) (omega arith))
   where
     others : p x ≡ false → (k : List ℕ) → List·Memᴰ k l → p k ≡ true
     others e k a =
@@ -40,14 +40,14 @@ few : (node : List ℕ → ℕ) (g : ℕ) (l : List (List ℕ)) → Ascending l
 few node zero [] up low alone = omega arith
 few node zero (x ∷ l) up low alone = absurd (omega (arith, low x (List·Memᴰ·head refl)))
 few node (suc g) l up low alone =
-    let on = few node g (filter p l) (sift-ascending p l up) lower (λ j k a b. alone j k (held j a .0) (held k b .0)) in
+    let on = few node g (filter p l) (filter-ascending p l up) lower (λ j k a b. alone j k (held j a .0) (held k b .0)) in
     omega (arith, one-out p l up (λ j k a b e f. alone j k a b (top j e ∙ sym (top k f))))
   where
     p : List ℕ → Bool
     p k = not (eqb (node k) g)
 
     held : (k : List ℕ) → List·Memᴰ k (filter p l) → List·Memᴰ k l × (p k ≡ true)
-    held k = sift-holds p l k .0
+    held k = filter-holds p l k .0
 
     lower : (k : List ℕ) → List·Memᴰ k (filter p l) → node k < g
     lower k a =

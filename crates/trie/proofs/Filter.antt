@@ -13,15 +13,15 @@ use Rattle.trie.specs.Keys.{firstMeeting, meets, filter, Ascending}
 use Rattle.trie.specs.Beyond.{firstOf}
 use Rattle.trie.proofs.Before.{meets-any}
 
-pub sift-in : (p : List ℕ → Bool) (k : List ℕ) (l : List (List ℕ)) → p k ≡ true → filter p (k ∷ l) ≡ k ∷ filter p l
+pub filter-in : (p : List ℕ → Bool) (k : List ℕ) (l : List (List ℕ)) → p k ≡ true → filter p (k ∷ l) ≡ k ∷ filter p l
 unfolding filter
-sift-in p k l e = rw e
+filter-in p k l e = rw e
 
-pub sift-out : (p : List ℕ → Bool) (k : List ℕ) (l : List (List ℕ)) → p k ≡ false → filter p (k ∷ l) ≡ filter p l
+pub filter-out : (p : List ℕ → Bool) (k : List ℕ) (l : List (List ℕ)) → p k ≡ false → filter p (k ∷ l) ≡ filter p l
 unfolding filter
-sift-out p k l e = rw e
+filter-out p k l e = rw e
 
--- what holds of a list's sifting whether its first key meets or not
+-- what holds of a list's filtering whether its first key meets or not
 pub by-test {ℓ} : (X : Type ℓ) (p : List ℕ → Bool) (k : List ℕ) → (p k ≡ true → X) → (p k ≡ false → X) → X
 by-test X p k met unmet = go (p k) refl
   where
@@ -29,78 +29,78 @@ by-test X p k met unmet = go (p k) refl
     go true e = met e
     go false e = unmet e
 
-pub sift-append : (p : List ℕ → Bool) (l m : List (List ℕ)) → filter p (l ++ m) ≡ filter p l ++ filter p m
+pub filter-append : (p : List ℕ → Bool) (l m : List (List ℕ)) → filter p (l ++ m) ≡ filter p l ++ filter p m
 unfolding filter
-sift-append p [] m = refl
-sift-append p (k ∷ l) m =
-    let on = sift-append p l m in
+filter-append p [] m = refl
+filter-append p (k ∷ l) m =
+    let on = filter-append p l m in
     by-test _ p k (λ e. rw (e, on)) (λ e. rw (e, on))
 
 -- keys that begin with one letter, where the request leaves it to what follows
-pub sift-map : (p r : List ℕ → Bool) (x : ℕ) (l : List (List ℕ)) → ((k : List ℕ) → p (x ∷ k) ≡ r k)
+pub filter-map : (p r : List ℕ → Bool) (x : ℕ) (l : List (List ℕ)) → ((k : List ℕ) → p (x ∷ k) ≡ r k)
     → filter p (map (x ∷_) l) ≡ map (x ∷_) (filter r l)
 unfolding filter
-sift-map p r x [] same = refl
-sift-map p r x (k ∷ l) same =
-    let on = sift-map p r x l same in
+filter-map p r x [] same = refl
+filter-map p r x (k ∷ l) same =
+    let on = filter-map p r x l same in
     by-test _ r k (λ e. rw (same k, e, on)) (λ e. rw (same k, e, on))
 
-pub sift-none : (p : List ℕ → Bool) (l : List (List ℕ)) → ((k : List ℕ) → List·Memᴰ k l → p k ≡ false) → filter p l ≡ []
+pub filter-none : (p : List ℕ → Bool) (l : List (List ℕ)) → ((k : List ℕ) → List·Memᴰ k l → p k ≡ false) → filter p l ≡ []
 unfolding filter
-sift-none p [] h = refl
-sift-none p (k ∷ l) h = sift-out p k l (h k (List·Memᴰ·head refl)) ∙ sift-none p l (λ m a. h m (List·Memᴰ·tail a))
+filter-none p [] h = refl
+filter-none p (k ∷ l) h = filter-out p k l (h k (List·Memᴰ·head refl)) ∙ filter-none p l (λ m a. h m (List·Memᴰ·tail a))
 
-pub sift-every : (p : List ℕ → Bool) (l : List (List ℕ)) → ((k : List ℕ) → List·Memᴰ k l → p k ≡ true) → filter p l ≡ l
+pub filter-every : (p : List ℕ → Bool) (l : List (List ℕ)) → ((k : List ℕ) → List·Memᴰ k l → p k ≡ true) → filter p l ≡ l
 unfolding filter
-sift-every p [] h = refl
-sift-every p (k ∷ l) h =
-    sift-in p k l (h k (List·Memᴰ·head refl)) ∙ ap (k ∷_) (sift-every p l (λ m a. h m (List·Memᴰ·tail a)))
+filter-every p [] h = refl
+filter-every p (k ∷ l) h =
+    filter-in p k l (h k (List·Memᴰ·head refl)) ∙ ap (k ∷_) (filter-every p l (λ m a. h m (List·Memᴰ·tail a)))
 
-pub first-sift : (p : List ℕ → Bool) (l : List (List ℕ)) → firstMeeting p l ≡ firstOf (filter p l)
+pub first-filter : (p : List ℕ → Bool) (l : List (List ℕ)) → firstMeeting p l ≡ firstOf (filter p l)
 unfolding firstMeeting filter firstOf
-first-sift p [] = refl
-first-sift p (k ∷ l) =
-    let on = first-sift p l in
+first-filter p [] = refl
+first-filter p (k ∷ l) =
+    let on = first-filter p l in
     by-test _ p k (λ e. rw e) (λ e. rw (e, on))
 
-pub sift-holds : (p : List ℕ → Bool) (l : List (List ℕ)) (m : List ℕ) → List·Memᴰ m (filter p l) ↔ (List·Memᴰ m l × (p m ≡ true))
+pub filter-holds : (p : List ℕ → Bool) (l : List (List ℕ)) (m : List ℕ) → List·Memᴰ m (filter p l) ↔ (List·Memᴰ m l × (p m ≡ true))
 unfolding filter
-sift-holds p [] m = (λ a. absurd (List·Memᴰ·not-nil a), λ h. h .0)
-sift-holds p (k ∷ l) m =
+filter-holds p [] m = (λ a. absurd (List·Memᴰ·not-nil a), λ h. h .0)
+filter-holds p (k ∷ l) m =
     by-test _ p k
     (λ e. (
       λ a.
           ⊎-elim
           (λ f. (List·Memᴰ·head f, ap p f ∙ e))
-          (λ b. let h = sift-holds p l m .0 b in (List·Memᴰ·tail (h .0), h .1))
-          (List·Memᴰ·cases-cons (rw (sift-in p k l e) at a)),
+          (λ b. let h = filter-holds p l m .0 b in (List·Memᴰ·tail (h .0), h .1))
+          (List·Memᴰ·cases-cons (rw (filter-in p k l e) at a)),
       λ h.
           rw e
-          (⊎-elim List·Memᴰ·head (λ b. List·Memᴰ·tail (sift-holds p l m .1 (b, h .1))) (List·Memᴰ·cases-cons (h .0))),
+          (⊎-elim List·Memᴰ·head (λ b. List·Memᴰ·tail (filter-holds p l m .1 (b, h .1))) (List·Memᴰ·cases-cons (h .0))),
     ))
     (λ e. (
-      λ a. let h = sift-holds p l m .0 (rw (sift-out p k l e) at a) in (List·Memᴰ·tail (h .0), h .1),
+      λ a. let h = filter-holds p l m .0 (rw (filter-out p k l e) at a) in (List·Memᴰ·tail (h .0), h .1),
       λ h.
           rw e
           (⊎-elim
           (λ f. absurd (true≢false (sym (h .1) ∙ ap p f ∙ e)))
-          (λ b. sift-holds p l m .1 (b, h .1))
+          (λ b. filter-holds p l m .1 (b, h .1))
           (List·Memᴰ·cases-cons (h .0))),
     ))
 
-pub sift-ascending : (p : List ℕ → Bool) (l : List (List ℕ)) → Ascending l → Ascending (filter p l)
+pub filter-ascending : (p : List ℕ → Bool) (l : List (List ℕ)) → Ascending l → Ascending (filter p l)
 unfolding filter
-sift-ascending p [] up = tt
-sift-ascending p (k ∷ l) up =
+filter-ascending p [] up = tt
+filter-ascending p (k ∷ l) up =
     by-test _ p k
-    (λ e. rw e (λ m a. up .0 m (sift-holds p l m .0 a .0), sift-ascending p l (up .1)))
-    (λ e. rw e (sift-ascending p l (up .1)))
+    (λ e. rw e (λ m a. up .0 m (filter-holds p l m .0 a .0), filter-ascending p l (up .1)))
+    (λ e. rw e (filter-ascending p l (up .1)))
 
-pub sift-length : (p : List ℕ → Bool) (l : List (List ℕ)) → length (filter p l) ≤ length l
+pub filter-length : (p : List ℕ → Bool) (l : List (List ℕ)) → length (filter p l) ≤ length l
 unfolding filter
-sift-length p [] = omega arith
-sift-length p (k ∷ l) =
-    let on = sift-length p l in
+filter-length p [] = omega arith
+filter-length p (k ∷ l) =
+    let on = filter-length p l in
     by-test _ p k (λ e. rw e (omega arith)) (λ e. rw e (omega arith))
 
 -- a key that is found stands in the list, and meets
@@ -113,5 +113,5 @@ first-listed p (x ∷ l) {k} h =
     (λ e. let f = first-listed p l (rw e at h) in (List·Memᴰ·tail (f .0), f .1))
 
 -- every key is at or after the empty key
-pub sift-all : (l : List (List ℕ)) → filter (meets false []) l ≡ l
-sift-all l = sift-every (meets false []) l (λ k a. meets-any k)
+pub filter-all : (l : List (List ℕ)) → filter (meets false []) l ≡ l
+filter-all l = filter-every (meets false []) l (λ k a. meets-any k)

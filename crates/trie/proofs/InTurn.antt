@@ -10,32 +10,32 @@ use lib.ListN.{length, drop-of-length-le}
 use Rattle.trie.specs.Keys.{before, meets, firstMeeting, filter, withKey, inTurn, Ascending}
 use Rattle.trie.specs.Beyond.{firstOf}
 use Rattle.trie.proofs.Before.{before-irrefl, before-trans, before-asym}
-use Rattle.trie.proofs.Filter.{by-test, sift-in, sift-out, sift-every, sift-holds, sift-length, first-sift}
+use Rattle.trie.proofs.Filter.{by-test, filter-in, filter-out, filter-every, filter-holds, filter-length, first-filter}
 
 -- the keys after the first one that comes after k
-pub sift-next : (keys : List (List ℕ)) (k : List ℕ) {m : List ℕ} {ms : List (List ℕ)} → Ascending keys
+pub filter-next : (keys : List (List ℕ)) (k : List ℕ) {m : List ℕ} {ms : List (List ℕ)} → Ascending keys
     → filter (meets true k) keys ≡ m ∷ ms
     → filter (meets true m) keys ≡ ms
 unfolding filter meets
-sift-next [] k up e = absurd (nil≢cons e)
-sift-next (x ∷ l) k {m} {ms} up e = by-test _ (meets true k) x met (unmet (sift-next l k (up .1)))
+filter-next [] k up e = absurd (nil≢cons e)
+filter-next (x ∷ l) k {m} {ms} up e = by-test _ (meets true k) x met (unmet (filter-next l k (up .1)))
   where
     met : before k x ≡ true → filter (meets true m) (x ∷ l) ≡ ms
     met h =
-        let f : x ∷ filter (meets true k) l ≡ m ∷ ms = sym (sift-in (meets true k) x l h) ∙ e in
+        let f : x ∷ filter (meets true k) l ≡ m ∷ ms = sym (filter-in (meets true k) x l h) ∙ e in
         subst
         (λ (j : List ℕ). filter (meets true j) (x ∷ l) ≡ ms)
         (head-eq-of-cons-eq f)
-        (sift-out (meets true x) x l (before-irrefl x)
-        ∙ sift-every (meets true x) l (up .0)
-        ∙ sym (sift-every (meets true k) l (λ j a. before-trans k x j h (up .0 j a)))
+        (filter-out (meets true x) x l (before-irrefl x)
+        ∙ filter-every (meets true x) l (up .0)
+        ∙ sym (filter-every (meets true k) l (λ j a. before-trans k x j h (up .0 j a)))
         ∙ tail-eq-of-cons-eq f)
 
     unmet : (filter (meets true k) l ≡ m ∷ ms → filter (meets true m) l ≡ ms) → before k x ≡ false → filter (meets true m) (x ∷ l) ≡ ms
     unmet rest h =
-        let f : filter (meets true k) l ≡ m ∷ ms = sym (sift-out (meets true k) x l h) ∙ e in
-        let held : List·Memᴰ m l = sift-holds (meets true k) l m .0 (rw f (List·Memᴰ·head refl)) .0 in
-        sift-out (meets true m) x l (before-asym x m (up .0 m held)) ∙ rest f
+        let f : filter (meets true k) l ≡ m ∷ ms = sym (filter-out (meets true k) x l h) ∙ e in
+        let held : List·Memᴰ m l = filter-holds (meets true k) l m .0 (rw f (List·Memᴰ·head refl)) .0 in
+        filter-out (meets true m) x l (before-asym x m (up .0 m held)) ∙ rest f
 
 -- the answer to one question
 abbrev after : List (List ℕ) → List ℕ → Option (List ℕ)
@@ -49,10 +49,10 @@ module _ (keys : List (List ℕ)) (up : Ascending keys) where
       → length l ≤ suc times
       → inTurn (after keys) (suc times) k ≡ l
   unfolding inTurn withKey firstOf
-  ask times k [] e rest few = rw (first-sift (meets true k) keys, e)
+  ask times k [] e rest few = rw (first-filter (meets true k) keys, e)
   ask times k (m ∷ ms) e rest few =
-      let f : filter (meets true m) keys ≡ ms = sift-next keys k up e in
-      rw (first-sift (meets true k) keys, e) (ap (m ∷_) (rest m (rw f (omega arith)) ∙ f))
+      let f : filter (meets true m) keys ≡ ms = filter-next keys k up e in
+      rw (first-filter (meets true k) keys, e) (ap (m ∷_) (rest m (rw f (omega arith)) ∙ f))
 
   answers : (times : ℕ) (k : List ℕ) → length (filter (meets true k) keys) ≤ times
       → inTurn (after keys) times k ≡ filter (meets true k) keys
@@ -62,7 +62,7 @@ module _ (keys : List (List ℕ)) (up : Ascending keys) where
 
   pub in-turn : (times : ℕ) → length keys ≤ times → (k : List ℕ)
       → inTurn (λ j. firstMeeting (meets true j) keys) times k ≡ filter (meets true k) keys
-  in-turn times enough k = answers times k (omega (arith, sift-length (meets true k) keys))
+  in-turn times enough k = answers times k (omega (arith, filter-length (meets true k) keys))
 
 -- ---- two ways of asking
 

@@ -87,12 +87,12 @@ pub extern "C" fn trieff_store_writes(
     work: &mut [u32],
     letters: &[u8],
     value: u32,
-    writes: &mut [u32; Head::LISTED_MOST as usize],
+    writes: &mut [u32; Head::NOTED_MOST as usize],
 ) -> TrieffAnswer
     ensures { λ r. ⌜ StoresWrites (now (image .entry)) (now (work .entry)) (asLetters (now (letters .entry))) value (now (writes .entry)) (numbersOf r) (now (image .exit)) (now (work .exit)) (now (writes .exit)) ⌝ }
 {
     let answer = stores::store_writes(image, work, letters, value, writes);
-    face::listed(answer)
+    face::noted(answer)
 }
 
 #[no_mangle]
@@ -101,12 +101,12 @@ pub extern "C" fn trieff_store_text_writes(
     work: &mut [u32],
     text: &[u8],
     value: u32,
-    writes: &mut [u32; Head::LISTED_MOST as usize],
+    writes: &mut [u32; Head::NOTED_MOST as usize],
 ) -> TrieffAnswer
     ensures { λ r. ⌜ StoresWrites (now (image .entry)) (now (work .entry)) (asText (now (text .entry))) value (now (writes .entry)) (numbersOf r) (now (image .exit)) (now (work .exit)) (now (writes .exit)) ⌝ }
 {
     let answer = stores::store_text_writes(image, work, text, value, writes);
-    face::listed(answer)
+    face::noted(answer)
 }
 
 #[no_mangle]

@@ -18,9 +18,9 @@ use Rattle.trie.proofs.Beyond.{under-split}
 use Rattle.head.specs.declared.Head.{Head}
 use Rattle.node.specs.Image.{tableOf}
 use Rattle.depths.specs.Depths.{KeysBelow}
-use Rattle.counting.proofs.Counting.{left, owned, left-fruitless, left-none, left-empty, left-link}
+use Rattle.counting.proofs.Counting.{left, owned, left-no-keys, left-none, left-empty, left-link}
 use Rattle.passing.specs.Weights.{weightFrom}
-use Rattle.passing.proofs.Weights.{weight-split, weight-none, weight-empty, weight-link, weight-fruitless}
+use Rattle.passing.proofs.Weights.{weight-split, weight-none, weight-empty, weight-link, weight-no-keys}
 use Rattle.weighing.specs.Weighing.{weight, SumsFit, Weighed}
 
 -- ---- one number more in a list
@@ -59,12 +59,12 @@ module _ (h : Head) (l : List ℕ) where
       (weight-link (tableOf h l) (h .n) (h .min - depth) (h .max - depth) q p i low (omega arith) (λ z. full (e ∙ z)))
 
   -- a node that no key lies below adds its own key to its own count
-  weight-fruitless-own : (p depth q : ℕ) {r : Bool} → KeysBelow h (tableOf h l) p depth r → r ≡ true
+  weight-no-keys-own : (p depth q : ℕ) {r : Bool} → KeysBelow h (tableOf h l) p depth r → r ≡ true
       → weight h l p depth q ≡ cond (eqb p q) (owned h (tableOf h l) p depth) 0
-  weight-fruitless-own p depth q b e =
+  weight-no-keys-own p depth q b e =
       let t : Table = tableOf h l in
-      let below : later p depth q 0 ≡ 0 = weight-fruitless t (h .n) (h .min - depth) (h .max - depth) p (b .nothing e) q in
-      let own : under p depth ≡ owned h t p depth = omega (arith, under-parts p depth, left-fruitless h t p depth 0 b e) in
+      let below : later p depth q 0 ≡ 0 = weight-no-keys t (h .n) (h .min - depth) (h .max - depth) p (b .nothing e) q in
+      let own : under p depth ≡ owned h t p depth = omega (arith, under-parts p depth, left-no-keys h t p depth 0 b e) in
       weight-parts p depth q ∙ rw (below, own) (omega arith)
 
   -- so it is weighed
@@ -74,7 +74,7 @@ module _ (h : Head) (l : List ℕ) where
   weighed-leaf p depth list {own} e b z room =
       record {
         long = length-set list p (getD list p 0 + own);
-        each = λ q. one-more list p own q room ∙ ap (λ (x : ℕ). getD list q 0 + x) (rw e (sym (weight-fruitless-own p depth q b z)));
+        each = λ q. one-more list p own q room ∙ ap (λ (x : ℕ). getD list q 0 + x) (rw e (sym (weight-no-keys-own p depth q b z)));
       }
 
 -- ---- the loop over a node's letters
@@ -154,7 +154,7 @@ module _ {h : Head} {l : List ℕ} {p depth : ℕ} {list list′ : List ℕ} {su
       → Weighing h l p depth list (set list′ c (getD list′ c 0 + one)) (sum + one) (i + 1)
   weighing-leaf e b z =
       weighing-child
-      (omega (arith, e, under-parts h l c (depth + 1), left-fruitless h (tableOf h l) c (depth + 1) 0 b z))
+      (omega (arith, e, under-parts h l c (depth + 1), left-no-keys h (tableOf h l) c (depth + 1) 0 b z))
       (weighed-leaf h l c (depth + 1) list′ e b z (o .room))
 
   -- the numbers fit

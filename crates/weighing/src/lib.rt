@@ -30,12 +30,12 @@ pub fn add_up(image: &[u8], h: Head, list: &mut [u32])
     ensures { λ _. ⌜ now (list .exit) ≡ worked (now (image .entry)) (now (list .entry)) ⌝ }
 {
     let ones = node::greatest(h);
-    let own = if depths::own_field(image, h, ones, 0, 0) == 0 {
+    let own = if depths::own_value_by(image, h, ones, 0, 0) == 0 {
         0
     } else {
         1
     };
-    if depths::fruitless(image, h, 0, 0) {
+    if depths::no_keys_below(image, h, 0, 0) {
         list[0] = own;
         return;
     }
@@ -66,12 +66,12 @@ fn weighed(
         if c == 0 {
             continue;
         }
-        let one = if depths::own_field(image, h, ones, c, depth + 1) == 0 {
+        let one = if depths::own_value_by(image, h, ones, c, depth + 1) == 0 {
             0
         } else {
             1
         };
-        if depths::fruitless(image, h, c, depth + 1) {
+        if depths::no_keys_below(image, h, c, depth + 1) {
             list[c as usize] = list[c as usize] + one;
             sum += one;
             continue;

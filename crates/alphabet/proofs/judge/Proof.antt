@@ -41,12 +41,12 @@ returns-2 c = judging-many (c .before .before .before .before .loop .inv) (stand
 char-at-requires : tie.Need-char-at-requires Inv-loop μ-loop
 char-at-requires c κs = c .before .before .char-len .ensures
 
-seen-requires : tie.Need-seen-requires Inv-loop μ-loop
-seen-requires c κs = omega arith
+is-among-requires : tie.Need-is-among-requires Inv-loop μ-loop
+is-among-requires c κs = omega arith
 
 returns-3 : tie.Need-returns-3 Inv-loop μ-loop
 returns-3 c =
-    judging-again (c .before .before .before .before .before .before .before .before .before .loop .inv) (stands (c .before .before .before .before .before .before)) (rw (← c .before .before .before .before .char-at .ensures) (sym (c .before .seen .ensures) ∙ c .if4 .taken))
+    judging-again (c .before .before .before .before .before .before .before .before .before .loop .inv) (stands (c .before .before .before .before .before .before)) (rw (← c .before .before .before .before .char-at .ensures) (sym (c .before .is-among .ensures) ∙ c .if4 .taken))
 
 mul-all : tie.Need-mul-all Inv-loop μ-loop
 mul-all c = omega arith
@@ -91,7 +91,7 @@ judge-spec =
     returns
     returns-2
     char-at-requires
-    seen-requires
+    is-among-requires
     returns-3
     mul-all
     slice-write-all

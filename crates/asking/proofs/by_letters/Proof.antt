@@ -3,7 +3,7 @@
 use mathlib.Core.Path.{refl}
 use borrow.Author.Needs.{needs}
 use Rattle.paper.proofs.Hearing.{told-passed}
-use Rattle.asking.proofs.Asking.{behind-refused, behind-letters}
+use Rattle.asking.proofs.Asking.{after-front-refused, after-front-letters}
 use Rattle.asking.proofs.by_letters.Statement.{statement}
 use Rattle.asking.proofs.by_letters.Tie as tie
 
@@ -25,12 +25,12 @@ judge-requires c κs =
     told .before .before .before .before .pre .head (told-passed refl (told .enum-told2 .given .1))
 
 returns : tie.Need-returns
-returns c codes = behind-refused (c .before .enum-told .given .1) (c .unjudged .ensures)
+returns c codes = after-front-refused (c .before .enum-told .given .1) (c .unjudged .ensures)
 
 returns-2 : tie.Need-returns-2
 returns-2 c codes =
     let made = c .before in
-    behind-letters (made .before .enum-told2 .given .1) _ _ (made .of .ensures) (c .judge .ensures)
+    after-front-letters (made .before .enum-told2 .given .1) _ _ (made .of .ensures) (c .judge .ensures)
 
 pub by-letters-spec : {M : Type 1} → statement M
 by-letters-spec = tie.close (tie.spec enum-told unjudged-requires enum-told-2 of-requires judge-requires returns returns-2)

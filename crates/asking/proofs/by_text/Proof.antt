@@ -3,7 +3,7 @@
 use mathlib.Core.Path.{refl}
 use borrow.Author.Needs.{needs}
 use Rattle.paper.proofs.Hearing.{told-passed}
-use Rattle.asking.proofs.Asking.{behind-refused, behind-text}
+use Rattle.asking.proofs.Asking.{after-front-refused, after-front-text}
 use Rattle.asking.proofs.by_text.Statement.{statement}
 use Rattle.asking.proofs.by_text.Tie as tie
 
@@ -25,12 +25,12 @@ judge-requires c κs =
     told .before .before .before .before .pre .head (told-passed refl (told .enum-told2 .given .1))
 
 returns : tie.Need-returns
-returns c = behind-refused (c .before .enum-told .given .1) (c .unjudged .ensures)
+returns c = after-front-refused (c .before .enum-told .given .1) (c .unjudged .ensures)
 
 returns-2 : tie.Need-returns-2
 returns-2 c =
     let made = c .before .before in
-    behind-text (made .before .enum-told2 .given .1) _ _ (made .of .ensures) (c .judge .ensures)
+    after-front-text (made .before .enum-told2 .given .1) _ _ (made .of .ensures) (c .judge .ensures)
 
 pub by-text-spec : {M : Type 1} → statement M
 by-text-spec = tie.close (tie.spec enum-told unjudged-requires enum-told-2 of-requires judge-requires returns returns-2)

@@ -1,7 +1,7 @@
 -- `checks::next_key` meets its contract: 1 to 8 by the audit, and the rest by what stands behind it. Assumes nothing.
 use borrow.Author.Needs.{needs}
 use Rattle.audit.proofs.Verdicts.{checked-accepted, checked-head}
-use Rattle.checks.proofs.CheckReturns.{nexts-refused, nexts-sought}
+use Rattle.checks.proofs.CheckReturns.{nexts-refused, nexts-seek}
 use Rattle.checks.proofs.next_key.Statement.{statement}
 use Rattle.checks.proofs.next_key.Tie as tie
 
@@ -14,8 +14,8 @@ enum-known-verdict c = search needs
 enum-told : tie.Need-enum-told
 enum-told c = search needs
 
-sought-requires : tie.Need-sought-requires
-sought-requires c κs =
+seek-requires : tie.Need-seek-requires
+seek-requires c κs =
     let told = c .before in
     let o = told .before .before .before .before .check .ensures in
     (checked-accepted o (told .enum-told .given .1), checked-head o (told .enum-told .given .1))
@@ -36,7 +36,7 @@ returns-2 : tie.Need-returns-2
 returns-2 c =
     let sought = c .before .before in
     let told = sought .before .before in
-    nexts-sought (told .before .before .before .before .check .ensures) _ _ _ _ (told .enum-told .given .1) (sought .sought .ensures)
+    nexts-seek (told .before .before .before .before .check .ensures) _ _ _ _ (told .enum-told .given .1) (sought .seek .ensures)
 
 pub next-key-spec : {M : Type 1} → statement M
 next-key-spec =
@@ -45,7 +45,7 @@ next-key-spec =
     check-requires
     enum-known-verdict
     enum-told
-    sought-requires
+    seek-requires
     same-length
     returns
     same-length-2

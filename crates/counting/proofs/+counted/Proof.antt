@@ -9,13 +9,13 @@ use borrow.Fn.Kinds.{In}
 use borrow.Fn.PlainCycle.{Measures, is, falls, and}
 use Rattle.head.proofs.Permitted.{bounds}
 use Rattle.node.specs.Image.{tableOf}
-use Rattle.counting.proofs.Counting.{left, owned, owned-none, owned-one, left-fruitless, left-none, left-empty, left-link}
+use Rattle.counting.proofs.Counting.{left, owned, owned-none, owned-one, left-no-keys, left-none, left-empty, left-link}
 use Rattle.counting.proofs.counted.Reads as counted
 use Rattle.counting.proofs.counted.Kinds as counted-kinds
 use Rattle.counting.proofs.+counted.Lts-counted as lts
 use Rattle.node.proofs.link.Reads as link-reads
-use Rattle.depths.proofs.fruitless.Reads as fruitless-reads
-use Rattle.depths.proofs.own_field.Reads as own-field-reads
+use Rattle.depths.proofs.no_keys_below.Reads as no-keys-below-reads
+use Rattle.depths.proofs.own_value_by.Reads as own-value-by-reads
 use Rattle.counting.proofs.+counted.{statement}
 use Rattle.counting.proofs.+counted.Tie.{close}
 
@@ -40,10 +40,10 @@ abbrev claims : ℕ → lts.Claims
 claims t = (
   link-reads.Asked,
   link-reads.Learnt,
-  own-field-reads.Asked,
-  own-field-reads.Learnt,
-  fruitless-reads.Asked,
-  fruitless-reads.Learnt,
+  own-value-by-reads.Asked,
+  own-value-by-reads.Learnt,
+  no-keys-below-reads.Asked,
+  no-keys-below-reads.Learnt,
   under t,
   counted.Post,
 )
@@ -92,11 +92,11 @@ inside t c =
     let start = loop .before .before in
     omega (arith, c .link .ensures, start .pre .1 .1 .0 (start .args .node) (loop .loop .i))
 
-add-own-field : (t : ℕ) → lts.Need-add-own-field (claims t) (at t) counted.Post Inv-loop μ-loop
-add-own-field t c = let start = c .before .before .before .before .before in omega (arith, bounds (start .args .h) (start .pre .1 .0 .head-permitted))
+add-own-value-by : (t : ℕ) → lts.Need-add-own-value-by (claims t) (at t) counted.Post Inv-loop μ-loop
+add-own-value-by t c = let start = c .before .before .before .before .before in omega (arith, bounds (start .args .h) (start .pre .1 .0 .head-permitted))
 
-own-field-requires : (t : ℕ) → lts.Need-own-field-requires (claims t) (at t) counted.Post Inv-loop μ-loop
-own-field-requires t c κs = let p = c .before .before .before .before .before .pre .1 in (p .0, (p .1 .1 .0 .values, inside t (c .before)))
+own-value-by-requires : (t : ℕ) → lts.Need-own-value-by-requires (claims t) (at t) counted.Post Inv-loop μ-loop
+own-value-by-requires t c κs = let p = c .before .before .before .before .before .pre .1 in (p .0, (p .1 .1 .0 .values, inside t (c .before)))
 
 add-sum : (t : ℕ) → lts.Need-add-sum (claims t) (at t) counted.Post Inv-loop μ-loop
 add-sum t c =
@@ -105,7 +105,7 @@ add-sum t c =
     let loop = found .before .before in
     let start = loop .before .before in
     let a = start .args in
-    omega (arith, start .pre .1, loop .loop .inv, by-link t (own .before), owned-one (a .h) (tableOf (a .h) (a .image .now)) (found .link .result) (a .depth + 1) (own .own-field .ensures) (c .if2 .taken))
+    omega (arith, start .pre .1, loop .loop .inv, by-link t (own .before), owned-one (a .h) (tableOf (a .h) (a .image .now)) (found .link .result) (a .depth + 1) (own .own-value-by .ensures) (c .if2 .taken))
 
 -- the child's own key is counted
 own-counted : (t : ℕ) (c : lts.Joined2 (claims t) (at t) counted.Post Inv-loop μ-loop)
@@ -118,17 +118,17 @@ own-counted t c =
     let found = own .before .before in
     let a = found .before .before .before .before .args in
     let table = tableOf (a .h) (a .image .now) in
-    ⊎-elim (λ w. omega (arith, w .1, owned-one (a .h) table (found .link .result) (a .depth + 1) (own .own-field .ensures) (w .0 .taken)))
-    (λ w. omega (arith, w .1, owned-none (a .h) table (found .link .result) (a .depth + 1) (own .own-field .ensures) (w .0 .left)))
+    ⊎-elim (λ w. omega (arith, w .1, owned-one (a .h) table (found .link .result) (a .depth + 1) (own .own-value-by .ensures) (w .0 .taken)))
+    (λ w. omega (arith, w .1, owned-none (a .h) table (found .link .result) (a .depth + 1) (own .own-value-by .ensures) (w .0 .left)))
     (c .if2 .came)
 
-add-fruitless : (t : ℕ) → lts.Need-add-fruitless (claims t) (at t) counted.Post Inv-loop μ-loop
-add-fruitless t c =
+add-no-keys-below : (t : ℕ) → lts.Need-add-no-keys-below (claims t) (at t) counted.Post Inv-loop μ-loop
+add-no-keys-below t c =
     let start = c .before .before .before .before .before .before .before in
     omega (arith, bounds (start .args .h) (start .pre .1 .0 .head-permitted))
 
-fruitless-requires : (t : ℕ) → lts.Need-fruitless-requires (claims t) (at t) counted.Post Inv-loop μ-loop
-fruitless-requires t c κs = let found = c .before .before .before in (found .before .before .before .before .pre .1 .0, inside t found)
+no-keys-below-requires : (t : ℕ) → lts.Need-no-keys-below-requires (claims t) (at t) counted.Post Inv-loop μ-loop
+no-keys-below-requires t c κs = let found = c .before .before .before in (found .before .before .before .before .pre .1 .0, inside t found)
 
 add-i-2 : (t : ℕ) → lts.Need-add-i-2 (claims t) (at t) counted.Post Inv-loop μ-loop
 add-i-2 t c = omega arith
@@ -143,7 +143,7 @@ loop-again-2 t c =
     let found = joined .before .before .before in
     let loop = found .before .before in
     let a = loop .before .before .args in
-    omega (arith, left-fruitless (a .h) (tableOf (a .h) (a .image .now)) (found .link .result) (a .depth + 1) 0 (c .before .fruitless .ensures) (c .if3 .taken), own-counted t joined, by-link t (joined .before .before), loop .loop .inv)
+    omega (arith, left-no-keys (a .h) (tableOf (a .h) (a .image .now)) (found .link .result) (a .depth + 1) 0 (c .before .no-keys-below .ensures) (c .if3 .taken), own-counted t joined, by-link t (joined .before .before), loop .loop .inv)
 
 add-counted : (t : ℕ) → lts.Need-add-counted (claims t) (at t) counted.Post Inv-loop μ-loop
 add-counted t c =
@@ -157,7 +157,7 @@ counted-requires t c κs =
     let loop = found .before .before in
     let start = loop .before .before in
     let p = start .pre .1 in
-    let deep = c .before .fruitless .ensures .deep (c .if3 .left) in (
+    let deep = c .before .no-keys-below .ensures .deep (c .if3 .left) in (
       omega (arith, start .pre .0),
       (
         p .0,
@@ -194,11 +194,11 @@ pub +counted-spec : {M : Type 1} → statement M
     (add-i t)
     (loop-less t)
     (loop-again t)
-    (add-own-field t)
-    (own-field-requires t)
+    (add-own-value-by t)
+    (own-value-by-requires t)
     (add-sum t)
-    (add-fruitless t)
-    (fruitless-requires t)
+    (add-no-keys-below t)
+    (no-keys-below-requires t)
     (add-i-2 t)
     (loop-less-2 t)
     (loop-again-2 t)

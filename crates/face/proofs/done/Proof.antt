@@ -8,8 +8,8 @@ use Rattle.face.proofs.done.Tie as tie
 enum-told : tie.Need-enum-told
 enum-told c = search needs
 
-told-requires : tie.Need-told-requires
-told-requires c κs = search needs
+done-with-requires : tie.Need-done-with-requires
+done-with-requires c κs = search needs
 
 enum-known-answer : tie.Need-enum-known-answer
 enum-known-answer c = search needs
@@ -19,7 +19,7 @@ refused-requires c κs = search needs
 
 returns : tie.Need-returns
 unfolding doneOf
-returns c = c .told .ensures ∙ sym (ap doneOf (c .before .enum-told .given .1))
+returns c = c .done-with .ensures ∙ sym (ap doneOf (c .before .enum-told .given .1))
 
 returns-2 : tie.Need-returns-2
 unfolding doneOf
@@ -28,4 +28,4 @@ returns-2 c = c .refused .ensures ∙ sym (ap doneOf (c .before .before .answer 
 pub done-spec : {M : Type 1} → statement M
 done-spec =
     tie.close
-    (tie.spec enum-told told-requires enum-known-answer refused-requires returns returns-2)
+    (tie.spec enum-told done-with-requires enum-known-answer refused-requires returns returns-2)

@@ -8,8 +8,8 @@ use Rattle.face.proofs.looked.Tie as tie
 enum-known-answer : tie.Need-enum-known-answer
 enum-known-answer c = search needs
 
-told-requires : tie.Need-told-requires
-told-requires c κs = search needs
+done-with-requires : tie.Need-done-with-requires
+done-with-requires c κs = search needs
 
 enum-known-answer-2 : tie.Need-enum-known-answer-2
 enum-known-answer-2 c = search needs
@@ -19,7 +19,7 @@ refused-requires c κs = search needs
 
 returns : tie.Need-returns
 unfolding lookedOf
-returns c = c .told .ensures ∙ sym (ap lookedOf (c .before .before .answer .given .1))
+returns c = c .done-with .ensures ∙ sym (ap lookedOf (c .before .before .answer .given .1))
 
 returns-2 : tie.Need-returns-2
 unfolding lookedOf
@@ -30,7 +30,7 @@ looked-spec =
     tie.close
     (tie.spec
     enum-known-answer
-    told-requires
+    done-with-requires
     enum-known-answer-2
     refused-requires
     returns

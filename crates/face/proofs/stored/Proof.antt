@@ -12,8 +12,8 @@ use Rattle.face.proofs.stored.Tie as tie
 enum-known-answer : tie.Need-enum-known-answer
 enum-known-answer c = search needs
 
-told-requires : tie.Need-told-requires
-told-requires c κs = search needs
+done-with-requires : tie.Need-done-with-requires
+done-with-requires c κs = search needs
 
 enum-known-answer-2 : tie.Need-enum-known-answer-2
 enum-known-answer-2 c = search needs
@@ -24,7 +24,7 @@ refused-requires c κs = search needs
 returns : tie.Need-returns
 unfolding storedOf doneNumbers
 returns c =
-    c .told .ensures ∙ ap (λ (z : ℤ). doneNumbers 0 z 0) (toZ-ofZ {w = w32} (sfits-of (c .before .known-told .given .0 .1)))
+    c .done-with .ensures ∙ ap (λ (z : ℤ). doneNumbers 0 z 0) (toZ-ofZ {w = w32} (sfits-of (c .before .known-told .given .0 .1)))
     ∙ sym (ap storedOf (c .before .before .answer .given .1))
 
 returns-2 : tie.Need-returns-2
@@ -36,7 +36,7 @@ stored-spec =
     tie.close
     (tie.spec
     enum-known-answer
-    told-requires
+    done-with-requires
     enum-known-answer-2
     refused-requires
     returns

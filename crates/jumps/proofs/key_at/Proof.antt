@@ -13,8 +13,8 @@ enum-known-verdict c = search needs
 enum-told : tie.Need-enum-told
 enum-told c = search needs
 
-spot-requires : tie.Need-spot-requires
-spot-requires c κs =
+tell-key-requires : tie.Need-tell-key-requires
+tell-key-requires c κs =
     let told = c .before in
     spot-asks (told .before .before .before .before .compare .ensures) (told .enum-told .given .1)
 
@@ -34,7 +34,7 @@ returns-2 : tie.Need-returns-2
 returns-2 c =
     let spot = c .before .before in
     let told = spot .before .before in
-    gives-key-spotted (told .before .before .before .before .compare .ensures) _ _ _ (told .enum-told .given .1) (spot .spot .ensures)
+    gives-key-spotted (told .before .before .before .before .compare .ensures) _ _ _ (told .enum-told .given .1) (spot .tell-key .ensures)
 
 pub key-at-spec : {M : Type 1} → statement M
 key-at-spec =
@@ -43,7 +43,7 @@ key-at-spec =
     compare-requires
     enum-known-verdict
     enum-told
-    spot-requires
+    tell-key-requires
     same-length
     returns
     same-length-2

@@ -17,8 +17,8 @@ inside c = whole (c .args .h) (c .args .alphabet .now) (c .args .image .now) (c 
 write-requires : tie.Need-write-requires
 write-requires c κs = omega (arith, inside (c .before .before .before))
 
-lay-requires : tie.Need-lay-requires
-lay-requires c κs =
+copy-requires : tie.Need-copy-requires
+copy-requires c κs =
     omega (arith, inside (c .before .before .before .before .before .before .before), c .before .before .before .write .kept .1 .0)
 
 node-width-requires : tie.Need-node-width-requires
@@ -29,9 +29,9 @@ add-clear c = search needs
 
 clear-requires : tie.Need-clear-requires
 clear-requires c κs =
-    let lay = c .before .before .before .before in
+    let copy = c .before .before .before .before in
     let write = c .before .before .before .before .before .before .before .before in
-    omega (arith, inside (write .before .before .before .before), c .before .node-width .ensures, lay .lay .kept .0, write .write .kept .1 .0)
+    omega (arith, inside (write .before .before .before .before), c .before .node-width .ensures, copy .copy .kept .0, write .write .kept .1 .0)
 
 same-length : tie.Need-same-length
 same-length c = search needs
@@ -40,16 +40,16 @@ returns : tie.Need-returns
 returns c =
     let clear = c .before .before in
     let width = clear .before .before in
-    let lay = width .before .before .before in
-    let write = lay .before .before .before .before in
-    written _ _ _ (write .write .ensures) (lay .lay .ensures) (width .node-width .ensures) (clear .clear .ensures)
+    let copy = width .before .before .before in
+    let write = copy .before .before .before .before in
+    written _ _ _ (write .write .ensures) (copy .copy .ensures) (width .node-width .ensures) (clear .clear .ensures)
 
 pub fresh-spec : {M : Type 1} → statement M
 fresh-spec =
     tie.close
     (tie.spec
     write-requires
-    lay-requires
+    copy-requires
     node-width-requires
     add-clear
     clear-requires

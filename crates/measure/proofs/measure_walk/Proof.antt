@@ -16,8 +16,8 @@ enum-told c = search needs
 enum-told-2 : tie.Need-enum-told-2
 enum-told-2 c = search needs
 
-walk-requires : tie.Need-walk-requires
-walk-requires c κs =
+count-met-requires : tie.Need-count-met-requires
+count-met-requires c κs =
     let o = c .before .before .before .before .check .ensures in
     (checked-accepted o (c .enum-told2 .given .1), checked-head o (c .enum-told2 .given .1))
 
@@ -35,7 +35,7 @@ same-length-2 c = search needs
 returns-2 : tie.Need-returns-2
 returns-2 c =
     let o = c .before .before .before .before .before .check .ensures in
-    (walk-passed o (c .before .enum-told2 .given .1) (c .walk .ensures), o .numbers)
+    (walk-passed o (c .before .enum-told2 .given .1) (c .count-met .ensures), o .numbers)
 
 pub measure-walk-spec : {M : Type 1} → statement M
 measure-walk-spec =
@@ -44,7 +44,7 @@ measure-walk-spec =
     check-requires
     enum-told
     enum-told-2
-    walk-requires
+    count-met-requires
     same-length
     returns
     same-length-2

@@ -15,17 +15,17 @@ use Rattle.node.proofs.data_by.Tie as tie
 data-place-requires : tie.Need-data-place-requires
 data-place-requires c κs = search needs
 
-cast-tail : tie.Need-cast-tail
-cast-tail c = search needs
+cast-load-masked : tie.Need-cast-load-masked
+cast-load-masked c = search needs
 
-add-tail : tie.Need-add-tail
-add-tail c =
+add-load-masked : tie.Need-add-load-masked
+add-load-masked c =
     let a = c .before .before .before .args in
     let p = c .before .before .before .pre in
     omega (arith, bounds (a .h) (p .0 .head-permitted), c .before .data-place .ensures, inside-room (data-inside (a .h) (a .q)) (p .0) (p .1 .1))
 
-tail-requires : tie.Need-tail-requires
-tail-requires c κs =
+load-masked-requires : tie.Need-load-masked-requires
+load-masked-requires c κs =
     let a = c .before .before .before .args in
     let p = c .before .before .before .pre in
     let i = data-inside (a .h) (a .q) in
@@ -36,9 +36,9 @@ returns c =
     let a = c .before .before .before .before .args in
     let p = c .before .before .before .before .pre in
     let place : c .before .before .data-place .result + a .h .d - a .h .d ≡ dataPlace (a .h) (a .q) = omega (arith, c .before .before .data-place .ensures) in
-    c .tail .ensures (a .h .d) (omega (arith, bounds (a .h) (p .0 .head-permitted))) (p .1 .0)
+    c .load-masked .ensures (a .h .d) (omega (arith, bounds (a .h) (p .0 .head-permitted))) (p .1 .0)
     ∙ ap (λ (k : ℕ). fieldAt (a .image .now) k (a .h .d)) place
     ∙ sym (value-in (a .h) (a .image .now) (a .q) (p .1 .1))
 
 pub data-by-spec : {M : Type 1} → statement M
-data-by-spec = tie.close (tie.spec data-place-requires cast-tail add-tail tail-requires returns)
+data-by-spec = tie.close (tie.spec data-place-requires cast-load-masked add-load-masked load-masked-requires returns)

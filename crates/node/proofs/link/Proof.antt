@@ -15,17 +15,17 @@ use Rattle.node.proofs.link.Tie as tie
 link-place-requires : tie.Need-link-place-requires
 link-place-requires c κs = search needs
 
-cast-tail : tie.Need-cast-tail
-cast-tail c = search needs
+cast-load-masked : tie.Need-cast-load-masked
+cast-load-masked c = search needs
 
-add-tail : tie.Need-add-tail
-add-tail c =
+add-load-masked : tie.Need-add-load-masked
+add-load-masked c =
     let a = c .before .before .before .args in
     let p = c .before .before .before .pre in
     omega (arith, bounds (a .h) (p .0 .head-permitted), c .before .link-place .ensures, inside-room (link-inside (a .h) (a .q) (p .1 .1 .1)) (p .0) (p .1 .1 .0))
 
-tail-requires : tie.Need-tail-requires
-tail-requires c κs =
+load-masked-requires : tie.Need-load-masked-requires
+load-masked-requires c κs =
     let a = c .before .before .before .args in
     let p = c .before .before .before .pre in
     let i = link-inside (a .h) (a .q) (p .1 .1 .1) in
@@ -36,9 +36,9 @@ returns c =
     let a = c .before .before .before .before .args in
     let p = c .before .before .before .before .pre in
     let place : c .before .before .link-place .result + a .h .a - a .h .a ≡ linkPlace (a .h) (a .q) (a .i) = omega (arith, c .before .before .link-place .ensures) in
-    c .tail .ensures (a .h .a) (omega (arith, bounds (a .h) (p .0 .head-permitted))) (p .1 .0)
+    c .load-masked .ensures (a .h .a) (omega (arith, bounds (a .h) (p .0 .head-permitted))) (p .1 .0)
     ∙ ap (λ (k : ℕ). fieldAt (a .image .now) k (a .h .a)) place
     ∙ sym (child-in (a .h) (a .image .now) (a .q) (a .i) (p .1 .1 .0) (p .1 .1 .1))
 
 pub link-spec : {M : Type 1} → statement M
-link-spec = tie.close (tie.spec link-place-requires cast-tail add-tail tail-requires returns)
+link-spec = tie.close (tie.spec link-place-requires cast-load-masked add-load-masked load-masked-requires returns)

@@ -10,12 +10,12 @@ use borrow.Fn.PlainCycle.{Measures, is, falls, and}
 use Rattle.head.proofs.Permitted.{bounds}
 use Rattle.traversal.proofs.Paths.{kept-below, along-within}
 use Rattle.traversal.proofs.Searching.{told-none, Passing, Onto, passing-start, passing-empty, passing-end}
-use Rattle.traversal.proofs.Searching.{onto-room, onto-node, onto-along, onto-kept, onto-own, onto-found, onto-missing, onto-fruitless}
+use Rattle.traversal.proofs.Searching.{onto-room, onto-node, onto-along, onto-kept, onto-own, onto-found, onto-missing, onto-no-keys}
 use Rattle.traversal.proofs.below.Reads as below
 use Rattle.traversal.proofs.below.Kinds as below-kinds
 use Rattle.traversal.proofs.+below.Lts-below as lts
 use Rattle.node.proofs.link.Reads as link-reads
-use Rattle.depths.proofs.fruitless.Reads as fruitless-reads
+use Rattle.depths.proofs.no_keys_below.Reads as no-keys-below-reads
 use Rattle.depths.proofs.own_value.Reads as own-value-reads
 use Rattle.traversal.proofs.+below.{statement}
 use Rattle.traversal.proofs.+below.Tie.{close}
@@ -42,8 +42,8 @@ claims t = (
   link-reads.Learnt,
   own-value-reads.Asked,
   own-value-reads.Learnt,
-  fruitless-reads.Asked,
-  fruitless-reads.Learnt,
+  no-keys-below-reads.Asked,
+  no-keys-below-reads.Learnt,
   under t,
   below.Post,
 )
@@ -126,11 +126,11 @@ same-length-2 t c = let loop = c .before .before .before .before .before .loop i
 returns : (t : ℕ) → lts.Need-returns (claims t) (at t) below.Post Inv-loop μ-loop
 returns t c = let o = onto t (c .before .before) in (onto-own o (c .before .own-value .ensures) (c .if2 .taken), onto-kept o)
 
-add-fruitless : (t : ℕ) → lts.Need-add-fruitless (claims t) (at t) below.Post Inv-loop μ-loop
-add-fruitless t c = let start = c .before .before .before .before .before .before .before .before .before in omega (arith, bounds (start .args .h) (start .pre .1 .0 .head-permitted), start .pre .1 .1 .1 .1 .0)
+add-no-keys-below : (t : ℕ) → lts.Need-add-no-keys-below (claims t) (at t) below.Post Inv-loop μ-loop
+add-no-keys-below t c = let start = c .before .before .before .before .before .before .before .before .before in omega (arith, bounds (start .args .h) (start .pre .1 .0 .head-permitted), start .pre .1 .1 .1 .1 .0)
 
-fruitless-requires : (t : ℕ) → lts.Need-fruitless-requires (claims t) (at t) below.Post Inv-loop μ-loop
-fruitless-requires t c κs = let found = c .before .before .before in (found .before .before .before .before .before .before .pre .1 .0, child-inside t found)
+no-keys-below-requires : (t : ℕ) → lts.Need-no-keys-below-requires (claims t) (at t) below.Post Inv-loop μ-loop
+no-keys-below-requires t c κs = let found = c .before .before .before in (found .before .before .before .before .before .before .pre .1 .0, child-inside t found)
 
 add-i-2 : (t : ℕ) → lts.Need-add-i-2 (claims t) (at t) below.Post Inv-loop μ-loop
 add-i-2 t c = omega arith
@@ -143,19 +143,19 @@ loop-again-2 : (t : ℕ) → lts.Need-loop-again-2 (claims t) (at t) below.Post 
 loop-again-2 t c =
     let none = c .before .before in
     let own = none .before in
-    onto-fruitless (onto t (own .before)) (own .own-value .ensures) (none .if2 .left) (c .before .fruitless .ensures) (c .if3 .taken)
+    onto-no-keys (onto t (own .before)) (own .own-value .ensures) (none .if2 .left) (c .before .no-keys-below .ensures) (c .if3 .taken)
 
 add-below : (t : ℕ) → lts.Need-add-below (claims t) (at t) below.Post Inv-loop μ-loop
 add-below t c = let start = c .before .before .before .before .before .before .before .before .before .before .before in omega (arith, bounds (start .args .h) (start .pre .1 .0 .head-permitted), start .pre .1 .1 .1 .1 .0)
 
 below-requires : (t : ℕ) → lts.Need-below-requires (claims t) (at t) below.Post Inv-loop μ-loop
 below-requires t c κs =
-    let barren = c .before .before in
-    let past = barren .before .before .before .before in
+    let none-below = c .before .before in
+    let past = none-below .before .before .before .before in
     let start = past .before .before .before .before .before .before .before in
     let p = start .pre .1 in
     let o = onto t past in
-    let deep = barren .before .fruitless .ensures .deep (barren .if3 .left) in
+    let deep = none-below .before .no-keys-below .ensures .deep (none-below .if3 .left) in
     (omega (arith, start .pre .0, o .passing .deep), (p .0, (p .1 .0, (p .1 .1 .0, (deep, (onto-room o, (onto-along o, onto-node o)))))))
 
 enum-told : (t : ℕ) → lts.Need-enum-told (claims t) (at t) below.Post Inv-loop μ-loop
@@ -234,8 +234,8 @@ pub +below-spec : {M : Type 1} → statement M
     (same-length t)
     (same-length-2 t)
     (returns t)
-    (add-fruitless t)
-    (fruitless-requires t)
+    (add-no-keys-below t)
+    (no-keys-below-requires t)
     (add-i-2 t)
     (loop-less-2 t)
     (loop-again-2 t)

@@ -1,5 +1,5 @@
 -- `traversal::climb` meets its contract: from node to node up the path the first key still to come stays the same, until it is found below a
--- node or the root is done. Below the path's own node nothing is sought where it is fruitless; at those before it a letter was taken.
+-- node or the root is done. Below the path's own node nothing is sought where no key lies below it; at those before it a letter was taken.
 -- Assumes nothing.
 use Prim.Native.Nat.{_-_, _<_}
 use mathlib.Core.Bool.{true≢false}
@@ -12,7 +12,7 @@ use Rattle.head.proofs.Permitted.{bounds}
 use Rattle.traversal.proofs.Paths.{along-within}
 use Rattle.traversal.proofs.Searching.{told-none}
 use Rattle.traversal.proofs.Climbing.{Climbing, climbing-start, climbing-found, climbing-end, climbing-up}
-use Rattle.traversal.proofs.Climbing.{Nothing, nothing-missing, nothing-fruitless}
+use Rattle.traversal.proofs.Climbing.{Nothing, nothing-missing, climb-no-keys}
 use Rattle.traversal.proofs.climb.Statement.{statement}
 use Rattle.traversal.proofs.climb.Tie as tie
 
@@ -28,17 +28,17 @@ loop-holds c =
     let p = start .pre .1 .1 .1 in
     climbing-start (start .args .first) (p .0) (p .1 .0) (p .1 .1 .0) (p .1 .1 .1)
 
-mul-fruitless : tie.Need-mul-fruitless Inv-loop μ-loop
-mul-fruitless c =
+mul-no-keys-below : tie.Need-mul-no-keys-below Inv-loop μ-loop
+mul-no-keys-below c =
     let loop = c .before in
     let start = loop .before .before .before .before in
     omega (arith, bounds (start .args .h) (start .pre .0 .head-permitted), loop .loop .inv .deep)
 
-slice-read-fruitless : tie.Need-slice-read-fruitless Inv-loop μ-loop
-slice-read-fruitless c = let at = c .before .before .loop .inv in omega (arith, at .deep, at .room .ends)
+slice-read-no-keys-below : tie.Need-slice-read-no-keys-below Inv-loop μ-loop
+slice-read-no-keys-below c = let at = c .before .before .loop .inv in omega (arith, at .deep, at .room .ends)
 
-fruitless-requires : tie.Need-fruitless-requires Inv-loop μ-loop
-fruitless-requires c κs =
+no-keys-below-requires : tie.Need-no-keys-below-requires Inv-loop μ-loop
+no-keys-below-requires c κs =
     let loop = c .before .before in
     let start = loop .before .before .before .before in
     (start .pre .0, along-within (start .args .h) (start .args .image .now) (start .pre .1 .0) (loop .loop .inv .along))
@@ -52,7 +52,7 @@ mul-below c =
 slice-read-below : tie.Need-slice-read-below Inv-loop μ-loop
 slice-read-below c = let at = c .before .before .before .loop .inv in omega (arith, at .deep, at .room .ends)
 
--- a letter may follow where the node is not fruitless
+-- a letter may follow where keys may lie below the node
 deep : (c : tie.Then2 Inv-loop μ-loop) → (let loop = c .before .before in loop .loop .depth < loop .before .before .before .before .args .h .max)
 deep c =
     let at = c .before .before .loop in
@@ -97,8 +97,8 @@ nothing c =
     (λ w.
     nothing-missing (w .4 .ensures .0) (w .10 .given .1) (w .4 .ensures .1) (w .4 .kept .1 .1 .1 .1 .1 .1 .0) (w .4 .kept .1 .1 .1 .1 .1 .1 .1 .0) (w .11) (w .12))
     (λ w.
-    let barren = not-false _ (w .0 .left) in
-    ⊎-elim (λ v. nothing-fruitless (v .2 .ensures) (sym (v .3) ∙ barren) (w .1) (w .2)) (λ v. absurd (true≢false (sym barren ∙ v .1))) (c .before .if1 .came))
+    let none-below = not-false _ (w .0 .left) in
+    ⊎-elim (λ v. climb-no-keys (v .2 .ensures) (sym (v .3) ∙ none-below) (w .1) (w .2)) (λ v. absurd (true≢false (sym none-below ∙ v .1))) (c .before .if1 .came))
     (c .if2 .came)
 
 same-length-3 : tie.Need-same-length-3 Inv-loop μ-loop
@@ -141,9 +141,9 @@ climb-spec =
     Inv-loop
     μ-loop
     loop-holds
-    mul-fruitless
-    slice-read-fruitless
-    fruitless-requires
+    mul-no-keys-below
+    slice-read-no-keys-below
+    no-keys-below-requires
     mul-below
     slice-read-below
     below-requires

@@ -7,8 +7,8 @@ use Rattle.trieff.proofs.trieff_store_writes.Tie as tie
 store-writes-requires : tie.Need-store-writes-requires
 store-writes-requires c κs = search needs
 
-listed-requires : tie.Need-listed-requires
-listed-requires c κs = search needs
+noted-requires : tie.Need-noted-requires
+noted-requires c κs = search needs
 
 same-length : tie.Need-same-length
 same-length c = search needs
@@ -17,8 +17,8 @@ same-length-2 : tie.Need-same-length-2
 same-length-2 c = search needs
 
 returns : tie.Need-returns
-returns c = by-numbers (c .listed .ensures) (c .before .before .before .before .before .store-writes .ensures)
+returns c = by-numbers (c .noted .ensures) (c .before .before .before .before .before .store-writes .ensures)
 
 pub trieff-store-writes-spec : {M : Type 1} → statement M
 trieff-store-writes-spec =
-    tie.close (tie.spec store-writes-requires listed-requires same-length same-length-2 returns)
+    tie.close (tie.spec store-writes-requires noted-requires same-length same-length-2 returns)

@@ -16,8 +16,8 @@ use Rattle.weighing.proofs.Weighing.{Onto, weighing-leaf, weighing-chil
 use Rattle.weighing.proofs.weighed.Reads as weighed
 use Rattle.weighing.proofs.weighed.Kinds as weighed-kinds
 use Rattle.weighing.proofs.+weighed.Lts-weighed as lts
-use Rattle.depths.proofs.fruitless.Reads as fruitless-reads
-use Rattle.depths.proofs.own_field.Reads as own-field-reads
+use Rattle.depths.proofs.no_keys_below.Reads as no-keys-below-reads
+use Rattle.depths.proofs.own_value_by.Reads as own-value-by-reads
 use Rattle.node.proofs.link.Reads as link-reads
 use Rattle.weighing.proofs.+weighed.{statement}
 use Rattle.weighing.proofs.+weighed.Tie.{close}
@@ -42,10 +42,10 @@ abbrev claims : ℕ → lts.Claims
 claims t = (
   link-reads.Asked,
   link-reads.Learnt,
-  own-field-reads.Asked,
-  own-field-reads.Learnt,
-  fruitless-reads.Asked,
-  fruitless-reads.Learnt,
+  own-value-by-reads.Asked,
+  own-value-by-reads.Learnt,
+  no-keys-below-reads.Asked,
+  no-keys-below-reads.Learnt,
   under t,
   weighed.Post,
 )
@@ -101,11 +101,11 @@ onto t c =
 deeper : (t : ℕ) (c : lts.Start (claims t) (at t) weighed.Post Inv-loop μ-loop) → c .args .depth + 1 < 2 ^ 64
 deeper t c = omega (arith, c .pre .1 .1 .1 .1 .1 .0, bounds (c .args .h) (c .pre .1 .0 .head-permitted))
 
-add-own-field : (t : ℕ) → lts.Need-add-own-field (claims t) (at t) weighed.Post Inv-loop μ-loop
-add-own-field t c = omega (arith, deeper t (c .before .before .before .before .before .before))
+add-own-value-by : (t : ℕ) → lts.Need-add-own-value-by (claims t) (at t) weighed.Post Inv-loop μ-loop
+add-own-value-by t c = omega (arith, deeper t (c .before .before .before .before .before .before))
 
-own-field-requires : (t : ℕ) → lts.Need-own-field-requires (claims t) (at t) weighed.Post Inv-loop μ-loop
-own-field-requires t c κs =
+own-value-by-requires : (t : ℕ) → lts.Need-own-value-by-requires (claims t) (at t) weighed.Post Inv-loop μ-loop
+own-value-by-requires t c κs =
     let p = c .before .before .before .before .before .before .pre .1 in
     (p .0, (p .1 .1 .0 .values, inside t (c .before)))
 
@@ -119,15 +119,15 @@ own-counted t c =
     let found = own .before .before in
     let a = found .before .before .before .before .before .args in
     let table = tableOf (a .h) (a .image .now) in
-    ⊎-elim (λ w. omega (arith, w .1, owned-none (a .h) table (found .link .result) (a .depth + 1) (own .own-field .ensures) (w .0 .taken)))
-    (λ w. omega (arith, w .1, owned-one (a .h) table (found .link .result) (a .depth + 1) (own .own-field .ensures) (w .0 .left)))
+    ⊎-elim (λ w. omega (arith, w .1, owned-none (a .h) table (found .link .result) (a .depth + 1) (own .own-value-by .ensures) (w .0 .taken)))
+    (λ w. omega (arith, w .1, owned-one (a .h) table (found .link .result) (a .depth + 1) (own .own-value-by .ensures) (w .0 .left)))
     (c .if2 .came)
 
-add-fruitless : (t : ℕ) → lts.Need-add-fruitless (claims t) (at t) weighed.Post Inv-loop μ-loop
-add-fruitless t c = omega (arith, deeper t (c .before .before .before .before .before .before .before .before))
+add-no-keys-below : (t : ℕ) → lts.Need-add-no-keys-below (claims t) (at t) weighed.Post Inv-loop μ-loop
+add-no-keys-below t c = omega (arith, deeper t (c .before .before .before .before .before .before .before .before))
 
-fruitless-requires : (t : ℕ) → lts.Need-fruitless-requires (claims t) (at t) weighed.Post Inv-loop μ-loop
-fruitless-requires t c κs = (c .before .before .before .before .before .before .before .before .pre .1 .0, inside t (c .before .before .before))
+no-keys-below-requires : (t : ℕ) → lts.Need-no-keys-below-requires (claims t) (at t) weighed.Post Inv-loop μ-loop
+no-keys-below-requires t c κs = (c .before .before .before .before .before .before .before .before .pre .1 .0, inside t (c .before .before .before))
 
 cast-list : (t : ℕ) → lts.Need-cast-list (claims t) (at t) weighed.Post Inv-loop μ-loop
 cast-list t c = omega arith
@@ -161,9 +161,9 @@ loop-less-2 t c = omega arith
 
 loop-again-2 : (t : ℕ) → lts.Need-loop-again-2 (claims t) (at t) weighed.Post Inv-loop μ-loop
 loop-again-2 t c =
-    let barren = c .before .before in
-    let joined = barren .before .before in
-    weighing-leaf (onto t (joined .before .before)) (own-counted t joined) (barren .before .fruitless .ensures) (barren .if3 .taken)
+    let none-below = c .before .before in
+    let joined = none-below .before .before in
+    weighing-leaf (onto t (joined .before .before)) (own-counted t joined) (none-below .before .no-keys-below .ensures) (none-below .if3 .taken)
 
 add-weighed : (t : ℕ) → lts.Need-add-weighed (claims t) (at t) weighed.Post Inv-loop μ-loop
 add-weighed t c = omega (arith, deeper t (c .before .before .before .before .before .before .before .before .before .before))
@@ -177,7 +177,7 @@ weighed-requires t c κs =
     let p = start .pre .1 in
     let o = onto t (joined .before .before) in
     let long : start .args .h .g + 1 ≤ length (found .before .before .loop .list) = omega (arith, p .1 .1 .1 .1 .1 .0, o .so-far .long) in
-    let deep = fruitful .before .fruitless .ensures .deep (fruitful .if3 .left) in (
+    let deep = fruitful .before .no-keys-below .ensures .deep (fruitful .if3 .left) in (
       omega (arith, start .pre .0, o .deep),
       (p .0, (p .1 .0, (p .1 .1 .0, (inside t found, (deep, (long, (own-counted t joined, fits-child o))))))),
     )
@@ -246,10 +246,10 @@ pub +weighed-spec : {M : Type 1} → statement M
     (add-i t)
     (loop-less t)
     (loop-again t)
-    (add-own-field t)
-    (own-field-requires t)
-    (add-fruitless t)
-    (fruitless-requires t)
+    (add-own-value-by t)
+    (own-value-by-requires t)
+    (add-no-keys-below t)
+    (no-keys-below-requires t)
     (cast-list t)
     (mul-list t)
     (slice-read-list t)

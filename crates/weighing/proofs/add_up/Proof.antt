@@ -16,8 +16,8 @@ ready c = walkable (c .pre .0) (c .pre .1 .0)
 greatest-requires : tie.Need-greatest-requires
 greatest-requires c κs = ready (c .before .before) .opened .head-permitted
 
-own-field-requires : tie.Need-own-field-requires
-own-field-requires c κs = (ready (c .before .before .before) .opened, (c .greatest .ensures, omega arith))
+own-value-by-requires : tie.Need-own-value-by-requires
+own-value-by-requires c κs = (ready (c .before .before .before) .opened, (c .greatest .ensures, omega arith))
 
 -- the root's own key
 own-counted : (c : tie.Joined1)
@@ -25,13 +25,13 @@ own-counted : (c : tie.Joined1)
     c .if1 .own ≡ owned (a .h) (tableOf (a .h) (a .image .now)) 0 0)
 own-counted c =
     let a = c .before .before .before .before .before .args in
-    let e = c .before .own-field .ensures in
+    let e = c .before .own-value-by .ensures in
     ⊎-elim (λ w. omega (arith, w .1, owned-none (a .h) (tableOf (a .h) (a .image .now)) 0 0 e (w .0 .taken)))
     (λ w. omega (arith, w .1, owned-one (a .h) (tableOf (a .h) (a .image .now)) 0 0 e (w .0 .left)))
     (c .if1 .came)
 
-fruitless-requires : tie.Need-fruitless-requires
-fruitless-requires c κs = (ready (c .before .before .before .before .before) .opened, omega arith)
+no-keys-below-requires : tie.Need-no-keys-below-requires
+no-keys-below-requires c κs = (ready (c .before .before .before .before .before) .opened, omega arith)
 
 slice-write-list : tie.Need-slice-write-list
 slice-write-list c = search needs
@@ -45,7 +45,7 @@ returns c =
     let start = own .before .before .before .before .before in
     let p = start .pre in
     let clear = p .1 .1 .1 in
-    leaf-worked (p .0) (p .1 .0) (start .args .list .now) clear (p .1 .1 .0) (own-counted own) (c .before .fruitless .ensures) (c .if2 .taken)
+    leaf-worked (p .0) (p .1 .0) (start .args .list .now) clear (p .1 .1 .0) (own-counted own) (c .before .no-keys-below .ensures) (c .if2 .taken)
 
 mask-requires : tie.Need-mask-requires
 mask-requires c κs = ready (c .before .before .before .before .before .before .before) .opened .head-permitted
@@ -58,7 +58,7 @@ weighed-requires c κs =
     let p = start .pre in
     let clear = p .1 .1 .1 in
     let list = start .args .list .now in
-    let deep = fruitful .before .fruitless .ensures .deep (fruitful .if2 .left) in (
+    let deep = fruitful .before .no-keys-below .ensures .deep (fruitful .if2 .left) in (
       ready start .opened,
       (
         ready start .within,
@@ -94,8 +94,8 @@ add-up-spec =
     tie.close
     (tie.spec
     greatest-requires
-    own-field-requires
-    fruitless-requires
+    own-value-by-requires
+    no-keys-below-requires
     slice-write-list
     same-length
     returns

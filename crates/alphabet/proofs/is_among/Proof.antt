@@ -1,10 +1,10 @@
--- `alphabet::seen` meets its contract. The answer so far is that of the codes passed. The measure is the codes that are left.
+-- `alphabet::is_among` meets its contract. The answer so far is that of the codes passed. The measure is the codes that are left.
 -- Assumes nothing.
 use Prim.Native.Nat.{_-_}
 use native.Mathlib.Omega.{arith}
 use Rattle.alphabet.proofs.AlphabetLoops.{Searching, searching-none, searching-more, searching-all}
-use Rattle.alphabet.proofs.seen.Statement.{statement}
-use Rattle.alphabet.proofs.seen.Tie as tie
+use Rattle.alphabet.proofs.is_among.Statement.{statement}
+use Rattle.alphabet.proofs.is_among.Tie as tie
 
 abbrev Inv-loop : tie.InvT-loop
 Inv-loop codes count code hit₀ i₀ hit i = Searching codes count code hit i
@@ -33,8 +33,8 @@ loop-again c = searching-more (c .before .before .loop .inv) (c .before .before 
 returns : tie.Need-returns Inv-loop μ-loop
 returns c = searching-all (c .before .loop .inv) (c .before .before .pre) (omega arith)
 
-pub seen-spec : {M : Type 1} → statement M
-seen-spec =
+pub is-among-spec : {M : Type 1} → statement M
+is-among-spec =
     tie.close
     (tie.spec
     Inv-loop

@@ -1,4 +1,4 @@
--- `noting::store_listed` meets its contract: as `store`, and a store that was done had the room that its list is told from. Assumes
+-- `noting::store_noted` meets its contract: as `store`, and a store that was done had the room that its list is told from. Assumes
 -- nothing.
 use mathlib.Core.Path.{_≡_}
 use mir.Syntax.{w32}
@@ -9,9 +9,9 @@ use Rattle.head.specs.Fields.{mostLetters}
 use Rattle.paper.proofs.CheckCall.{head-open}
 use Rattle.key.specs.Hand.{lettersOf}
 use Rattle.storing.proofs.StoreStage.{ends}
-use Rattle.noting.proofs.Noting.{lists-refused, lists-room, lists-done}
-use Rattle.noting.proofs.store_listed.Statement.{statement}
-use Rattle.noting.proofs.store_listed.Tie as tie
+use Rattle.noting.proofs.Noting.{notes-refused, notes-room, notes-done}
+use Rattle.noting.proofs.store_noted.Statement.{statement}
+use Rattle.noting.proofs.store_noted.Tie as tie
 
 -- the array's length
 whole : (c : tie.Start) → length (c .args .key .letters) ≡ mostLetters
@@ -35,8 +35,8 @@ enum-known-stored c = search needs
 enum-known-stored-2 : tie.Need-enum-known-stored-2
 enum-known-stored-2 c = search needs
 
-list-requires : tie.Need-list-requires
-list-requires c κs =
+note-all-requires : tie.Need-note-all-requires
+note-all-requires c κs =
     let told = c .before .before in
     let stored = told .before .before .before .before in
     let walked = stored .before .before in
@@ -47,7 +47,7 @@ list-requires c κs =
         p .1 .1,
         (
           ends (p .0) (p .1 .0) (start .args .key) (whole start) (p .1 .1 .short) _ (walked .walk .ensures),
-          lists-room (p .0) (p .1 .0) (lettersOf (start .args .key)) (walked .walk .ensures) _ (stored .store-at .ensures) (told .stored2 .given .1),
+          notes-room (p .0) (p .1 .0) (lettersOf (start .args .key)) (walked .walk .ensures) _ (stored .store-at .ensures) (told .stored2 .given .1),
         ),
       ),
     )
@@ -62,7 +62,7 @@ returns c =
     let walked = stored .before .before in
     let start = walked .before .before .before in
     let p = start .pre in
-    lists-refused (p .0) (p .1 .0) (lettersOf (start .args .key)) (walked .walk .ensures) _ (stored .store-at .ensures) _ (told .stored .given .1)
+    notes-refused (p .0) (p .1 .0) (lettersOf (start .args .key)) (walked .walk .ensures) _ (stored .store-at .ensures) _ (told .stored .given .1)
 
 same-length-2 : tie.Need-same-length-2
 same-length-2 c = search needs
@@ -75,18 +75,18 @@ returns-2 c =
     let walked = stored .before .before in
     let start = walked .before .before .before in
     let p = start .pre in
-    lists-done (p .0) (p .1 .0) (lettersOf (start .args .key)) (walked .walk .ensures) _ (stored .store-at .ensures) (told .stored2 .given .1) _
-    (toZ-ofZ {w = w32} (sfits-of (known .known-told2 .given .0 .1))) (c .list .ensures)
+    notes-done (p .0) (p .1 .0) (lettersOf (start .args .key)) (walked .walk .ensures) _ (stored .store-at .ensures) (told .stored2 .given .1) _
+    (toZ-ofZ {w = w32} (sfits-of (known .known-told2 .given .0 .1))) (c .note-all .ensures)
 
-pub store-listed-spec : {M : Type 1} → statement M
-store-listed-spec =
+pub store-noted-spec : {M : Type 1} → statement M
+store-noted-spec =
     tie.close
     (tie.spec
     walk-requires
     store-at-requires
     enum-known-stored
     enum-known-stored-2
-    list-requires
+    note-all-requires
     same-length
     returns
     same-length-2

@@ -1,8 +1,8 @@
--- `jumps::place` meets its contract: the way by counts tells the position, or that the key is not stored. Assumes nothing.
+-- `jumps::tell_position` meets its contract: the way by counts tells the position, or that the key is not stored. Assumes nothing.
 use borrow.Author.Needs.{needs}
 use Rattle.jumps.proofs.PositionReturns.{ranks-missing, ranks-at}
-use Rattle.jumps.proofs.place.Statement.{statement}
-use Rattle.jumps.proofs.place.Tie as tie
+use Rattle.jumps.proofs.tell_position.Statement.{statement}
+use Rattle.jumps.proofs.tell_position.Tie as tie
 
 rank-requires : tie.Need-rank-requires
 rank-requires c κs = search needs
@@ -19,5 +19,5 @@ returns c = ranks-missing _ _ (c .before .before .rank .ensures) (c .enum-told .
 returns-2 : tie.Need-returns-2
 returns-2 c = ranks-at _ _ (c .before .before .before .rank .ensures) (c .before .ranked .given .1)
 
-pub place-spec : {M : Type 1} → statement M
-place-spec = tie.close (tie.spec rank-requires enum-told enum-known-ranked returns returns-2)
+pub tell-position-spec : {M : Type 1} → statement M
+tell-position-spec = tie.close (tie.spec rank-requires enum-told enum-known-ranked returns returns-2)

@@ -1,4 +1,4 @@
--- `seeking::sought` meets its contract: 9 and 10 by the key in hand, 14 here, 15 or the key by the search; the buffer is written only where
+-- `seeking::seek` meets its contract: 9 and 10 by the key in hand, 14 here, 15 or the key by the search; the buffer is written only where
 -- a key was found. Assumes nothing.
 use mathlib.Core.Path.{refl}
 use native.Mathlib.Omega.{arith}
@@ -6,9 +6,9 @@ use borrow.Author.Needs.{needs}
 use Rattle.depths.proofs.Walkable.{short}
 use Rattle.traversal.proofs.Walking.{has-room, met}
 use Rattle.seeking.proofs.Seeking.{head-permitted, Behind, behind, found-within, found-front, found-room}
-use Rattle.seeking.proofs.Seeking.{sought-unkeyed, sought-short, sought-missing, sought-found}
-use Rattle.seeking.proofs.sought.Statement.{statement}
-use Rattle.seeking.proofs.sought.Tie as tie
+use Rattle.seeking.proofs.Seeking.{seek-unkeyed, seek-short, seek-missing, seek-found}
+use Rattle.seeking.proofs.seek.Statement.{statement}
+use Rattle.seeking.proofs.seek.Tie as tie
 
 of-requires : tie.Need-of-requires
 of-requires c κs = search needs
@@ -36,7 +36,7 @@ cast-if1 : tie.Need-cast-if1
 cast-if1 c = search needs
 
 returns : tie.Need-returns
-returns c = sought-short (known (c .before .before)) _ _ (c .if1 .taken)
+returns c = seek-short (known (c .before .before)) _ _ (c .if1 .taken)
 
 slice-aggregate-next : tie.Need-slice-aggregate-next
 slice-aggregate-next c = search needs
@@ -61,14 +61,14 @@ array-share-prefix-path c =
     let told = found .before .before .before .before .next .ensures in
     found-within (told .0) (found .found .given .1) (told .1)
 
-slice-aggregate-lay : tie.Need-slice-aggregate-lay
-slice-aggregate-lay c =
+slice-aggregate-copy : tie.Need-slice-aggregate-copy
+slice-aggregate-copy c =
     let found = c .before .before .before in
     let told = found .before .before .before .before .next .ensures in
     found-front (told .0) (found .found .given .1) (told .1)
 
-lay-requires : tie.Need-lay-requires
-lay-requires c κs =
+copy-requires : tie.Need-copy-requires
+copy-requires c κs =
     let found = c .before .before .before in
     let next = found .before .before .before .before in
     found-room (next .next .ensures .0) (found .found .given .1) (next .next .ensures .1) (next .before .before .before .if1 .left)
@@ -84,13 +84,13 @@ returns-2 : tie.Need-returns-2
 returns-2 c =
     let judge = c .before .before .before in
     let p = judge .before .before .before .before .before .pre in
-    sought-unkeyed (p .0) (p .1) _ _ (judge .before .of .ensures) (judge .judge-next .ensures) _ _ (c .before .judged .given .1)
+    seek-unkeyed (p .0) (p .1) _ _ (judge .before .of .ensures) (judge .judge-next .ensures) _ _ (c .before .judged .given .1)
 
 returns-3 : tie.Need-returns-3
 returns-3 c =
     let next = c .before .before .before .before in
     let room = next .before .before .before in
-    sought-missing (known (room .before .before)) _ _ (room .if1 .left) (next .next .ensures .0) (c .enum-told2 .given .1)
+    seek-missing (known (room .before .before)) _ _ (room .if1 .left) (next .next .ensures .0) (c .enum-told2 .given .1)
 
 same-length : tie.Need-same-length
 same-length c = search needs
@@ -101,10 +101,10 @@ returns-4 c =
     let found = lay .before .before .before .before in
     let next = found .before .before .before .before in
     let room = next .before .before .before in
-    sought-found (known (room .before .before)) _ _ (room .if1 .left) (next .next .ensures .0) (found .found .given .1) (lay .lay .ensures)
+    seek-found (known (room .before .before)) _ _ (room .if1 .left) (next .next .ensures .0) (found .found .given .1) (lay .copy .ensures)
 
-pub sought-spec : {M : Type 1} → statement M
-sought-spec =
+pub seek-spec : {M : Type 1} → statement M
+seek-spec =
     tie.close
     (tie.spec
     of-requires
@@ -119,8 +119,8 @@ sought-spec =
     enum-told-2
     enum-known-found
     array-share-prefix-path
-    slice-aggregate-lay
-    lay-requires
+    slice-aggregate-copy
+    copy-requires
     cast-count
     returns-2
     returns-3

@@ -1,4 +1,4 @@
--- `face::listed` meets its contract: each case of the answer has the numbers that are listed for it. Assumes nothing.
+-- `face::noted` meets its contract: each case of the answer has the numbers that are listed for it. Assumes nothing.
 use mir.Syntax.{w32}
 use mir.Facts.{toZ-ofZ}
 use borrow.Author.Needs.{needs, sfits-of}
@@ -6,14 +6,14 @@ use lib.IntN.{ℤ}
 use mathlib.Core.Path.{sym, _∙_, ap}
 use Rattle.paper.specs.Hearing.{doneNumbers}
 use Rattle.paper.specs.Answers.{notedOf}
-use Rattle.face.proofs.listed.Statement.{statement}
-use Rattle.face.proofs.listed.Tie as tie
+use Rattle.face.proofs.noted.Statement.{statement}
+use Rattle.face.proofs.noted.Tie as tie
 
 enum-known-answer : tie.Need-enum-known-answer
 enum-known-answer c = search needs
 
-told-requires : tie.Need-told-requires
-told-requires c κs = search needs
+done-with-requires : tie.Need-done-with-requires
+done-with-requires c κs = search needs
 
 enum-known-answer-2 : tie.Need-enum-known-answer-2
 enum-known-answer-2 c = search needs
@@ -24,19 +24,19 @@ refused-requires c κs = search needs
 returns : tie.Need-returns
 unfolding notedOf doneNumbers
 returns c =
-    c .told .ensures ∙ ap (λ (z : ℤ). doneNumbers (c .before .before .answer .given .0 .1 .0) z 0) (toZ-ofZ {w = w32} (sfits-of (c .before .known-told .given .0 .1)))
+    c .done-with .ensures ∙ ap (λ (z : ℤ). doneNumbers (c .before .before .answer .given .0 .1 .0) z 0) (toZ-ofZ {w = w32} (sfits-of (c .before .known-told .given .0 .1)))
     ∙ sym (ap notedOf (c .before .before .answer .given .1))
 
 returns-2 : tie.Need-returns-2
 unfolding notedOf
 returns-2 c = c .refused .ensures ∙ sym (ap notedOf (c .before .before .answer2 .given .1))
 
-pub listed-spec : {M : Type 1} → statement M
-listed-spec =
+pub noted-spec : {M : Type 1} → statement M
+noted-spec =
     tie.close
     (tie.spec
     enum-known-answer
-    told-requires
+    done-with-requires
     enum-known-answer-2
     refused-requires
     returns

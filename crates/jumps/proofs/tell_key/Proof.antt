@@ -1,12 +1,12 @@
--- `jumps::spot` meets its contract: 14 here, 15 by the count of the root, the key by the way through the image; the buffer is written only
+-- `jumps::tell_key` meets its contract: 14 here, 15 by the count of the root, the key by the way through the image; the buffer is written only
 -- where there is a key. Assumes nothing.
 use native.Mathlib.Omega.{arith}
 use borrow.Author.Needs.{needs}
 use Rattle.ranking.proofs.Below.{Counted, counted}
 use Rattle.jumps.proofs.KeyAtReturns.{root-count, few-keys, path-room, spotted-within, spotted-front, spotted-room, spotted-fits}
 use Rattle.jumps.proofs.KeyAtReturns.{spots-short, spots-past, spots-found}
-use Rattle.jumps.proofs.spot.Statement.{statement}
-use Rattle.jumps.proofs.spot.Tie as tie
+use Rattle.jumps.proofs.tell_key.Statement.{statement}
+use Rattle.jumps.proofs.tell_key.Tie as tie
 
 -- what the image and its counts give
 known : (c : tie.After-struct-known)
@@ -52,11 +52,11 @@ key-at-requires c κs =
 array-share-prefix-path : tie.Need-array-share-prefix-path
 array-share-prefix-path c = spotted-within (c .before .before .key-at .ensures)
 
-slice-aggregate-lay : tie.Need-slice-aggregate-lay
-slice-aggregate-lay c = spotted-front (c .before .before .before .key-at .ensures)
+slice-aggregate-copy : tie.Need-slice-aggregate-copy
+slice-aggregate-copy c = spotted-front (c .before .before .before .key-at .ensures)
 
-lay-requires : tie.Need-lay-requires
-lay-requires c κs =
+copy-requires : tie.Need-copy-requires
+copy-requires c κs =
     let told = c .before .before .before in
     let room = told .before .before .before .before in
     let start = room .before .before .before .before .before in
@@ -78,10 +78,10 @@ returns-3 c =
     let told = lay .before .before .before .before in
     let room = told .before .before .before .before in
     let start = room .before .before .before .before .before in
-    spots-found (told .key-at .ensures) _ (start .pre .1 .0) (room .if1 .left) (lay .lay .ensures)
+    spots-found (told .key-at .ensures) _ (start .pre .1 .0) (room .if1 .left) (lay .copy .ensures)
 
-pub spot-spec : {M : Type 1} → statement M
-spot-spec =
+pub tell-key-spec : {M : Type 1} → statement M
+tell-key-spec =
     tie.close
     (tie.spec
     cast-if1
@@ -93,8 +93,8 @@ spot-spec =
     slice-aggregate-key-at
     key-at-requires
     array-share-prefix-path
-    slice-aggregate-lay
-    lay-requires
+    slice-aggregate-copy
+    copy-requires
     cast-t14
     same-length
     returns-3)

@@ -1,12 +1,12 @@
--- `measure::walk` meets its contract: each key that is met is one fewer to come, which is the measure too. Assumes nothing.
+-- `measure::count_met` meets its contract: each key that is met is one fewer to come, which is the measure too. Assumes nothing.
 use native.Mathlib.Omega.{arith}
 use borrow.Author.Needs.{needs}
 use lib.ListN.{take}
 use Rattle.depths.proofs.Walkable.{walkable}
 use Rattle.traversal.proofs.Walking.{walks-on}
 use Rattle.measure.proofs.Meeting.{toCome, Meeting, meeting-start, meeting-few, meeting-end, meeting-less, meeting-on}
-use Rattle.measure.proofs.walk.Statement.{statement}
-use Rattle.measure.proofs.walk.Tie as tie
+use Rattle.measure.proofs.count_met.Statement.{statement}
+use Rattle.measure.proofs.count_met.Tie as tie
 
 abbrev Inv-loop : tie.InvT-loop
 Inv-loop image h path₀ nodes₀ met₀ len₀ path nodes met len = Meeting h image path nodes len met
@@ -65,8 +65,8 @@ loop-again c =
     let onward = c .before .before .before .before .before in
     meeting-on (onward .before .before .before .loop .inv) (onward .onward .ensures .0) (c .before .found .given .1) (search needs) (search needs)
 
-pub walk-spec : {M : Type 1} → statement M
-walk-spec =
+pub count-met-spec : {M : Type 1} → statement M
+count-met-spec =
     tie.close
     (tie.spec
     Inv-loop

@@ -1,10 +1,10 @@
--- `depths::own_field` meets its contract: below min no key ends, from there on a node's data is its own. Assumes nothing.
+-- `depths::own_value_by` meets its contract: below min no key ends, from there on a node's data is its own. Assumes nothing.
 use mathlib.Core.Path.{sym, _∙_}
 use borrow.Author.Needs.{needs}
 use Rattle.node.specs.Image.{tableOf}
 use Rattle.depths.proofs.Links.{own-below, own-data}
-use Rattle.depths.proofs.own_field.Statement.{statement}
-use Rattle.depths.proofs.own_field.Tie as tie
+use Rattle.depths.proofs.own_value_by.Statement.{statement}
+use Rattle.depths.proofs.own_value_by.Tie as tie
 
 cast-if1 : tie.Need-cast-if1
 cast-if1 c = search needs
@@ -22,5 +22,5 @@ returns-2 c =
     let a = c .before .before .before .before .args in
     c .data-by .ensures ∙ sym (own-data (a .h) (tableOf (a .h) (a .image .now)) (a .node) (a .depth) (c .before .if1 .left))
 
-pub own-field-spec : {M : Type 1} → statement M
-own-field-spec = tie.close (tie.spec cast-if1 returns data-by-requires returns-2)
+pub own-value-by-spec : {M : Type 1} → statement M
+own-value-by-spec = tie.close (tie.spec cast-if1 returns data-by-requires returns-2)

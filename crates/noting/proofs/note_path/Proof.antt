@@ -1,4 +1,4 @@
--- `noting::list_path` meets its contract: before each turn, what is still to be listed leaves what all of it would have left.
+-- `noting::note_path` meets its contract: before each turn, what is still to be listed leaves what all of it would have left.
 -- Assumes nothing.
 use Prim.Native.Nat.{_+_, _-_, _*_, _≤_, _<_}
 use mathlib.Core.Path.{_≡_, refl}
@@ -12,9 +12,9 @@ use Rattle.head.proofs.Places.{width-most}
 use Rattle.node.proofs.FieldPlaces.{link-inside, inside-used}
 use Rattle.key.specs.Hand.{lettersOf}
 use Rattle.key.proofs.Hand.{letters-count, letters-from, letter-below}
-use Rattle.noting.proofs.NotedPath.{Noting, noting-start, noting-room, noting-on, noting-end, lists-path}
-use Rattle.noting.proofs.list_path.Statement.{statement}
-use Rattle.noting.proofs.list_path.Tie as tie
+use Rattle.noting.proofs.NotedPath.{Noting, noting-start, noting-room, noting-on, noting-end, notes-path}
+use Rattle.noting.proofs.note_path.Statement.{statement}
+use Rattle.noting.proofs.note_path.Tie as tie
 
 abbrev Inv-loop : tie.InvT-loop
 Inv-loop writes₀ h depth nodes width link i₀ place₀ writes i place = Noting nodes width place₀ writes₀ writes i place
@@ -138,14 +138,14 @@ returns c =
     let short = start .pre .1 .0 .short in
     let depth = a .at .depth in
     let k = lettersOf (a .key) in
-    lists-path (a .h) (a .at .node) _ _ _ (letters-from (a .key) (whole start) short depth (start .pre .1 .1 .0 .depth))
+    notes-path (a .h) (a .at .node) _ _ _ (letters-from (a .key) (whole start) short depth (start .pre .1 .1 .0 .depth))
     (letters-after (a .h .n) (take depth k) (drop depth k) (rw (take-append-drop depth k) (start .pre .1 .0 .letters)))
     (omega (arith, length-drop depth k, letters-count (a .key) (whole start) short)) (used .used .ensures) (used .before .before .node-width .ensures)
     (used .before .link-place .ensures) refl
     (noting-end (at .loop .inv) totalAt totalLen (used .before .link-place .result) (a .h .a) (over .loop-test .left) (noted .note2 .ensures) (c .note3 .ensures))
 
-pub list-path-spec : {M : Type 1} → statement M
-list-path-spec =
+pub note-path-spec : {M : Type 1} → statement M
+note-path-spec =
     tie.close
     (tie.spec
     Inv-loop

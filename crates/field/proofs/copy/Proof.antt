@@ -1,12 +1,12 @@
--- `field::lay` meets its contract. A turn stores the next element of what is copied.
+-- `field::copy` meets its contract. A turn stores the next element of what is copied.
 -- The measure is how many are left. Assumes nothing.
 use mathlib.Core.Path.{refl}
 use Prim.Native.Nat.{_-_}
 use native.Mathlib.Omega.{arith}
 use lib.ListN.{length}
 use Rattle.field.proofs.FieldLoops.{Laying, laying-none, laying-more, laying-all}
-use Rattle.field.proofs.lay.Statement.{statement}
-use Rattle.field.proofs.lay.Tie as tie
+use Rattle.field.proofs.copy.Statement.{statement}
+use Rattle.field.proofs.copy.Tie as tie
 
 abbrev Inv-loop : tie.InvT-loop
 Inv-loop s₀ at from i₀ s i = Laying s₀ at from s i
@@ -41,8 +41,8 @@ same-length c = c .before .loop .inv .long
 returns : tie.Need-returns Inv-loop μ-loop
 returns c = laying-all (c .before .loop .inv) (omega arith)
 
-pub lay-spec : {M : Type 1} → statement M
-lay-spec =
+pub copy-spec : {M : Type 1} → statement M
+copy-spec =
     tie.close
     (tie.spec
     Inv-loop

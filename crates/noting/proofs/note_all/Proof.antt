@@ -1,4 +1,4 @@
--- `noting::list` meets its contract: each end of the walk has its own list. Assumes nothing.
+-- `noting::note_all` meets its contract: each end of the walk has its own list. Assumes nothing.
 use Prim.Native.Nat.{_-_}
 use mathlib.Core.Path.{_≡_, subst, _∙_, ap}
 use native.Mathlib.Omega.{arith}
@@ -9,9 +9,9 @@ use Rattle.node.proofs.FieldPlaces.{data-inside, inside-used}
 use Rattle.key.specs.Hand.{lettersOf}
 use Rattle.key.proofs.Hand.{letters-count, letters-from}
 use Rattle.storing.specs.StoreStage.{Ends}
-use Rattle.noting.proofs.NotedPath.{missing-left, lists-data, lists-none, lists-value}
-use Rattle.noting.proofs.list.Statement.{statement}
-use Rattle.noting.proofs.list.Tie as tie
+use Rattle.noting.proofs.NotedPath.{missing-left, notes-data, notes-none, notes-value}
+use Rattle.noting.proofs.note_all.Statement.{statement}
+use Rattle.noting.proofs.note_all.Tie as tie
 
 -- the array's length
 whole : (c : tie.Start) → length (c .args .key .letters) ≡ mostLetters
@@ -43,11 +43,11 @@ returns c =
     let start = told .before .before in
     let a = start .args in
     let stop = subst (Ends (a .h) (a .key)) (told .walked2 .given .1) (start .pre .1 .1 .0) in
-    lists-none (a .h) (lettersOf (a .key)) _ (told .walked2 .given .1) _ _ _ (c .if1 .taken)
+    notes-none (a .h) (lettersOf (a .key)) _ (told .walked2 .given .1) _ _ _ (c .if1 .taken)
     (letters-from (a .key) (whole start) (start .pre .1 .0 .short) _ (stop .depth))
 
-list-path-requires : tie.Need-list-path-requires
-list-path-requires c κs =
+note-path-requires : tie.Need-note-path-requires
+note-path-requires c κs =
     let told = c .before .before .before in
     let start = told .before .before in
     let a = start .args in
@@ -66,22 +66,22 @@ returns-2 c =
     let placed = c .before in
     let told = placed .before .before .before in
     let a = told .before .before .args in
-    lists-data (a .h) (lettersOf (a .key)) _ _ (told .walked .given .1) (placed .data-place .ensures) (c .note .ensures)
+    notes-data (a .h) (lettersOf (a .key)) _ _ (told .walked .given .1) (placed .data-place .ensures) (c .note .ensures)
 
 returns-3 : tie.Need-returns-3
 returns-3 c =
     let passed = c .before .before in
     let told = passed .before .before in
     let a = told .before .before .args in
-    lists-value (a .h) (lettersOf (a .key)) _ (told .walked2 .given .1) _ (passed .if1 .left) (c .list-path .ensures)
+    notes-value (a .h) (lettersOf (a .key)) _ (told .walked2 .given .1) _ (passed .if1 .left) (c .note-path .ensures)
 
 returns-4 : tie.Need-returns-4
 returns-4 c =
     let start = c .before .before in
     absurd (subst (Ends (start .args .h) (start .args .key)) (c .enum-told .given .1) (start .pre .1 .1 .0))
 
-pub list-spec : {M : Type 1} → statement M
-list-spec =
+pub note-all-spec : {M : Type 1} → statement M
+note-all-spec =
     tie.close
     (tie.spec
     enum-known-walked
@@ -90,7 +90,7 @@ list-spec =
     note-requires
     enum-known-walked-2
     returns
-    list-path-requires
+    note-path-requires
     enum-told
     returns-2
     returns-3
