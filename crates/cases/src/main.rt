@@ -35,8 +35,8 @@ use line::Line;
 use paper::Counted;
 use paper::Done;
 use paper::Found;
-use paper::Noted;
 use paper::Looked;
+use paper::Noted;
 use paper::Refusal;
 use paper::Stored;
 

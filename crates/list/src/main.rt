@@ -9,8 +9,8 @@ ghost use Rattle.lines.specs.Lines.{entryRoom};
 use head::Head;
 use libc::STDIN_FILENO;
 use libc::STDOUT_FILENO;
-use traversal::Search;
 use paper::Verdict;
+use traversal::Search;
 
 // The longest image that is read, and the lines that are written at a time.
 const IMAGE: usize = 65536;

@@ -6,8 +6,8 @@ ghost use Rattle.paper.specs.Accepted.{Accepted};
 ghost use Rattle.paper.specs.Calls.{workAfter};
 ghost use Rattle.measure.specs.KeysMet.{keysMet, checkedKeysMet};
 use head::Head;
-use traversal::Search;
 use paper::Verdict;
+use traversal::Search;
 
 // A check, then the walk of a listing, without its lines: how many stored keys it meets besides the root's, 0 for an image that is refused.
 // The working numbers are left as by every call that checks.

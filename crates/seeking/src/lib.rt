@@ -5,10 +5,10 @@ ghost use Rattle.paper.specs.Accepted.{Accepted};
 ghost use Rattle.seeking.specs.Seeking.{Seeks};
 use head::Head;
 use key::Key;
-use traversal::Search;
 use paper::Found;
 use paper::Refusal;
 use paper::Verdict;
+use traversal::Search;
 
 // Refusals: 9 for a key longer than max, 10, 14, 15. The search writes to a path of its own, since a buffer that is refused keeps what it
 // held.
