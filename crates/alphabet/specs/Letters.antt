@@ -1,5 +1,6 @@
--- 01, "The image": "Alphabet: if F is 0, keys are letter numbers only and no text but the empty one names a key. Otherwise the F bytes are
--- exactly N well-formed characters, all different; letter i is the i-th, from 0."
+-- 01, "The image": "Alphabet: if F is 0, keys are letter numbers only and no text but the empty
+-- one names a key. Otherwise the F bytes are exactly N well-formed characters, all different;
+-- letter i is the i-th, from 0."
 use Prim.Native.Nat.{ℕ, suc}
 use mathlib.Core.Bool.{Bool, true, false, not, _&&_, _||_, cond}
 use mathlib.Core.Option.{Option, none, some}
@@ -38,7 +39,8 @@ unfoldable pub letters : List ℕ → List ℕ
 unfolding orEmpty chars
 letters bytes = orEmpty (chars bytes)
 
--- the letter number of a character: its place in the alphabet, and the alphabet's length where it is not in it
+-- the letter number of a character: its place in the alphabet, and the alphabet's length where it
+-- is not in it
 unfoldable pub letterOf : List ℕ → ℕ → ℕ
 letterOf [] c = 0
 letterOf (d ∷ ds) c = cond (eqb c d) 0 (suc (letterOf ds c))
@@ -52,14 +54,16 @@ withLetter n x (some xs) = cond (ltb x n) (some (x ∷ xs)) none
 unfoldable pub lettersOfChars : List ℕ → List ℕ → Option (List ℕ)
 unfolding letterOf withLetter
 lettersOfChars alphabet [] = some []
-lettersOfChars alphabet (c ∷ cs) = withLetter (length alphabet) (letterOf alphabet c) (lettersOfChars alphabet cs)
+lettersOfChars alphabet (c ∷ cs) =
+    withLetter (length alphabet) (letterOf alphabet c) (lettersOfChars alphabet cs)
 
 unfoldable pub keyOfChars : List ℕ → Option (List ℕ) → Option (List ℕ)
 unfolding lettersOfChars
 keyOfChars alphabet none = none
 keyOfChars alphabet (some cs) = lettersOfChars alphabet cs
 
--- the key that a text names: none where "the text is not well-formed or has a character outside the alphabet"
+-- the key that a text names: none where "the text is not well-formed or has a character outside
+-- the alphabet"
 unfoldable pub keyOfText : List ℕ → List ℕ → Option (List ℕ)
 unfolding keyOfChars chars
 keyOfText alphabet text = keyOfChars alphabet (chars text)

@@ -1,5 +1,6 @@
--- The key's part at each way out: a row in front of the key is heard, or the key is judged. It is said once for whatever rows stand in front, 1 to
--- 8 or those with 25; what the check tells is such a front.
+-- The key's part at each way out: a row in front of the key is heard, or the key is judged. It is
+-- said once for whatever rows stand in front, 1 to 8 or those with 25; what the check tells is
+-- such a front.
 use Prim.Native.Nat.{ℕ}
 use mathlib.Core.Path.{_≡_, refl, sym, _∙_, ap}
 use mathlib.Core.Option.{Option, none}
@@ -41,7 +42,8 @@ row-refused v e f = let z : _≡_ {A = ℕ} 0 1 = go in omega arith
     go = let g = sym e ∙ row-passed v f in cc
 
 -- what the check tells is what stands in front of a store
-pub checked-front : {l work : List ℕ} {r : Opened} {work′ codes : List ℕ} → Checked l work r work′ codes
+pub checked-front : {l work : List ℕ} {r : Opened} {work′ codes : List ℕ}
+    → Checked l work r work′ codes
     → Fronted (checkOrder l work) (workAfter l work) l r work′ codes
 checked-front {l} {work} o =
     record {
@@ -52,15 +54,18 @@ checked-front {l} {work} o =
       decoded = o .decoded;
     }
 
-module _ {rows : List Row} {left l : List ℕ} {front : Opened} {work′ codes : List ℕ} (o : Fronted rows left l front work′ codes) where
+module _ {rows : List Row} {left l : List ℕ} {front : Opened} {work′ codes : List ℕ}
+    (o : Fronted rows left l front work′ codes) where
   known-front : rowOf (front .verdict) ≡ none → Known l (front .head)
   known-front e = known (accepted-opens (o .accepted e)) (o .head e)
 
   -- the key may be judged
   pub front-judgeable : Judgeable front
-  front-judgeable = record { head = λ e. known-front e .image .head-permitted; count = λ e. o .decoded e .count }
+  front-judgeable =
+      record { head = λ e. known-front e .image .head-permitted; count = λ e. o .decoded e .count }
 
-  asks-judged : front .verdict ≡ Verdict.Passed → {given : Given} {hand : Key} {v : Verdict} → Keyed l (front .head) given hand v
+  asks-judged : front .verdict ≡ Verdict.Passed → {given : Given} {hand : Key} {v : Verdict}
+      → Keyed l (front .head) given hand v
       → AsksAfter rows left l given (record { verdict = v; head = front .head; key = hand }) work′
   asks-judged e {given} {v = v} j =
       let passed = told-passed refl e in
@@ -69,37 +74,52 @@ module _ {rows : List Row} {left l : List ℕ} {front : Opened} {work′ codes :
         numbers = o .numbers;
         allowed = λ f.
             let p = row-passed v f in
-            record { accepted = o .accepted passed; head = o .head passed; ready = j .ready p; letters = j .same p };
+            record {
+              accepted = o .accepted passed;
+              head = o .head passed;
+              ready =
+                  j .ready p;
+              letters = j .same p;
+            };
       }
 
 -- ---- the key's part at each way out, whatever stood in front
 
 module _ {front : Opened} where
-  pub after-front-refused : {codes : List ℕ} {given : Given} {r : Asked} {why : Refusal} → front .verdict ≡ Verdict.Refused why
+  pub after-front-refused : {codes : List ℕ} {given : Given} {r : Asked} {why : Refusal}
+      → front .verdict ≡ Verdict.Refused why
       → r .verdict ≡ front .verdict → AsksAfterFront front codes given r
   after-front-refused {given = given} {r = r} e same rows left l work′ o =
       let refused = told-refused (o .verdict) e in
       record {
-        verdict = ap rowOf same ∙ o .verdict ∙ refused ∙ sym (first-part rows (keyRows l given) refused);
+        verdict =
+            ap rowOf same ∙ o .verdict ∙ refused ∙ sym (first-part rows (keyRows l given) refused);
         numbers = o .numbers;
         allowed = λ f. absurd (row-refused (r .verdict) (same ∙ e) f);
       }
 
   module _ (e : front .verdict ≡ Verdict.Passed) where
-    pub after-front-letters : {codes : List ℕ} (key : List ℕ) {hand : Key} (v : Verdict) → hand ≡ inHand key
+    pub after-front-letters : {codes : List ℕ} (key : List ℕ) {hand : Key} (v : Verdict)
+        → hand ≡ inHand key
         → ((k : List ℕ) → Holds hand k → rowOf v ≡ first (lettersRows (front .head) k))
-        → AsksAfterFront front codes (asLetters key) (record { verdict = v; head = front .head; key = hand })
+        → AsksAfterFront front codes (asLetters key)
+        (record { verdict = v; head = front .head; key = hand })
     after-front-letters key v made told rows left l work′ o =
         asks-judged o e (by-letters (known-front o (told-passed refl e)) key v made told)
 
-    pub after-front-text : {codes : List ℕ} (text : List ℕ) {t : Typed} (v : Verdict) → t ≡ typedAs (keyOfText (take (front .count) codes) text)
-        → ((named : Option (List ℕ)) → t ≡ typedAs named → rowOf v ≡ first (textRows (front .head) named))
-        → AsksAfterFront front codes (asText text) (record { verdict = v; head = front .head; key = t .key })
+    pub after-front-text : {codes : List ℕ} (text : List ℕ) {t : Typed} (v : Verdict)
+        → t ≡ typedAs (keyOfText (take (front .count) codes) text)
+        → ((named : Option (List ℕ)) → t ≡ typedAs named
+        → rowOf v ≡ first (textRows (front .head) named))
+        → AsksAfterFront front codes (asText text)
+        (record { verdict = v; head = front .head; key = t .key })
     after-front-text text v made told rows left l work′ o =
         let passed = told-passed refl e in
-        asks-judged o e (by-text (known-front o passed) (o .decoded passed .codes) text v made told)
+        asks-judged o e (by-text (known-front o passed) (o .decoded passed .codes) text v made
+        told)
 
 -- what a store asks for
-pub store-asks : {rows : List Row} {left l : List ℕ} {given : Given} {r : Asked} {work′ : List ℕ} → AsksAfter rows left l given r work′
+pub store-asks : {rows : List Row} {left l : List ℕ} {given : Given} {r : Asked} {work′ : List ℕ}
+    → AsksAfter rows left l given r work′
     → r .verdict ≡ Verdict.Passed → Accepted l × ((r .head ≡ headOf l) × Ready (r .head) (r .key))
 store-asks a e = let b = a .allowed (told-passed refl e) in (b .accepted, (b .head, b .ready))

@@ -1,5 +1,6 @@
--- 01, "store: 1 to 8, 9, 10, 11, 12, 13": the part in front of 11. It tells what is heard of it and, where nothing is, the key in hand, and it
--- leaves the working numbers as the whole call does.
+-- 01, "store: 1 to 8, 9, 10, 11, 12, 13": the part in front of 11. It tells what is heard of it
+-- and, where nothing is, the key in hand, and it leaves the working numbers as the whole call
+-- does.
 use Prim.Native.Nat.{ℕ, _≤_}
 use mathlib.Core.Path.{_≡_}
 use mathlib.Core.Bool.{true}
@@ -25,7 +26,8 @@ pub record Admitted (l key : List ℕ) (r : Asked) : Type 0 where
   pub letters : lettersOf (r .key) ≡ key
 
 -- the rows in front, then 9 and 10 of the key; and the working numbers that are left
-pub record AsksAfter (rows : List Row) (left l : List ℕ) (given : Given) (r : Asked) (work′ : List ℕ) : Type 0 where
+pub record AsksAfter (rows : List Row) (left l : List ℕ) (given : Given) (r : Asked)
+    (work′ : List ℕ) : Type 0 where
   pub verdict : rowOf (r .verdict) ≡ first (rows ++ keyRows l given)
   pub numbers : work′ ≡ left
   pub allowed : rowOf (r .verdict) ≡ none → Admitted l (keyIn l given) r
@@ -34,13 +36,15 @@ pub record AsksAfter (rows : List Row) (left l : List ℕ) (given : Given) (r : 
 abbrev pub Asks : List ℕ → List ℕ → Given → Asked → List ℕ → Type 0
 Asks l work given r work′ = AsksAfter (checkOrder l work) (workAfter l work) l given r work′
 
--- what stands in front of the key tells: which of its rows is heard, and where none is, the image opened
-pub record Fronted (rows : List Row) (left l : List ℕ) (r : Opened) (work′ codes : List ℕ) : Type 0 where
-  pub verdict : rowOf (r .verdict) ≡ first rows
-  pub numbers : work′ ≡ left
-  pub accepted : rowOf (r .verdict) ≡ none → Accepted l
-  pub head : rowOf (r .verdict) ≡ none → r .head ≡ headOf l
-  pub decoded : rowOf (r .verdict) ≡ none → Decoded (alphabetIn (headOf l) l) r codes
+-- what stands in front of the key tells: which of its rows is heard, and where none is, the image
+-- opened
+pub record Fronted (rows : List Row) (left l : List ℕ) (r : Opened) (work′ codes : List ℕ) : Type 0
+  where
+    pub verdict : rowOf (r .verdict) ≡ first rows
+    pub numbers : work′ ≡ left
+    pub accepted : rowOf (r .verdict) ≡ none → Accepted l
+    pub head : rowOf (r .verdict) ≡ none → r .head ≡ headOf l
+    pub decoded : rowOf (r .verdict) ≡ none → Decoded (alphabetIn (headOf l) l) r codes
 
 -- what the judging of a key needs where nothing in front of it is heard
 pub record Judgeable (front : Opened) : Type 0 where
@@ -50,4 +54,5 @@ pub record Judgeable (front : Opened) : Type 0 where
 -- the key's part, after whatever rows stood in front of it
 abbrev pub AsksAfterFront : Opened → List ℕ → Given → Asked → Type 0
 AsksAfterFront front codes given r =
-    (rows : List Row) (left l work′ : List ℕ) → Fronted rows left l front work′ codes → AsksAfter rows left l given r work′
+    (rows : List Row) (left l work′ : List ℕ) → Fronted rows left l front work′ codes
+    → AsksAfter rows left l given r work′

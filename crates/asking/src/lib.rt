@@ -1,5 +1,6 @@
-// What stands in front of every store: 1 to 8, then 9 and 10 of the key given. The key's part serves whatever stands in front of it, and needs
-// a permitted head of a front that passed; with 1 to 8 in front nothing is required.
+// What stands in front of every store: 1 to 8, then 9 and 10 of the key given. The key's part
+// serves whatever stands in front of it, and needs a permitted head of a front that passed; with 1
+// to 8 in front nothing is required.
 ghost use mathlib.Core.Path.{_≡_};
 ghost use mathlib.Core.List.{List};
 ghost use Prim.Native.Nat.{ℕ};
@@ -20,7 +21,8 @@ pub struct Asked {
 
 // 1 to 8, then 9 and 10 of a key given by its letters.
 pub fn ask(image: &[u8], work: &mut [u32], letters: &[u8]) -> Asked
-    ensures { λ r. ⌜ Asks (now (image .entry)) (now (work .entry)) (asLetters (now (letters .entry))) r (now (work .exit)) ⌝ }
+    ensures { λ r. ⌜ Asks (now (image .entry)) (now (work .entry))
+        (asLetters (now (letters .entry))) r (now (work .exit)) ⌝ }
 {
     let mut codes = [0u32; Head::N_MOST as usize];
     let front = audit::check(image, work, &mut codes);
@@ -29,7 +31,8 @@ pub fn ask(image: &[u8], work: &mut [u32], letters: &[u8]) -> Asked
 
 // 1 to 8, then 10 and 9 of a key given by its text.
 pub fn ask_text(image: &[u8], work: &mut [u32], text: &[u8]) -> Asked
-    ensures { λ r. ⌜ Asks (now (image .entry)) (now (work .entry)) (asText (now (text .entry))) r (now (work .exit)) ⌝ }
+    ensures { λ r. ⌜ Asks (now (image .entry)) (now (work .entry)) (asText (now (text .entry))) r
+        (now (work .exit)) ⌝ }
 {
     let mut codes = [0u32; Head::N_MOST as usize];
     let front = audit::check(image, work, &mut codes);
@@ -39,7 +42,8 @@ pub fn ask_text(image: &[u8], work: &mut [u32], text: &[u8]) -> Asked
 // 9 and 10 of a key given by its letters, where nothing in front of it is heard.
 pub fn by_letters(front: Opened, letters: &[u8]) -> Asked
     requires { ⌜ Judgeable front ⌝ }
-    ensures { λ r. ⌜ ((codes : List ℕ) → AsksAfterFront front codes (asLetters (now (letters .entry))) r) ⌝ }
+    ensures { λ r. ⌜ ((codes : List ℕ) → AsksAfterFront front codes
+        (asLetters (now (letters .entry))) r) ⌝ }
 {
     let verdict = front.verdict;
     let head = front.head;
@@ -56,8 +60,8 @@ pub fn by_letters(front: Opened, letters: &[u8]) -> Asked
     }
 }
 
-// 10 and 9 of a key given by its text, where nothing in front of it is heard. The letters of the alphabet are the first codes, as many as the
-// front counted.
+// 10 and 9 of a key given by its text, where nothing in front of it is heard. The letters of the
+// alphabet are the first codes, as many as the front counted.
 pub fn by_text(front: Opened, codes: &[u32; Head::N_MOST as usize], text: &[u8]) -> Asked
     requires { ⌜ Judgeable front ⌝ }
     ensures { λ r. ⌜ AsksAfterFront front (now (codes .entry)) (asText (now (text .entry))) r ⌝ }

@@ -1,5 +1,5 @@
--- What the comparing tells is what stands in front of the key; from there on `asking` serves. Where all of it has passed, the counts are right
--- and the key's length is allowed.
+-- What the comparing tells is what stands in front of the key; from there on `asking` serves.
+-- Where all of it has passed, the counts are right and the key's length is allowed.
 use Prim.Native.Nat.{ℕ}
 use mathlib.Core.Path.{_≡_, refl, sym, _∙_}
 use mathlib.Core.Bool.{true}
@@ -26,7 +26,8 @@ use Rattle.asking.specs.declared.Asked.{Asked}
 use Rattle.asking.specs.Asked.{Fronted}
 use Rattle.asking_counts.specs.AskedCounts.{AsksCounts}
 
-pub compared-front : {l work counts : List ℕ} {r : Opened} {work′ codes : List ℕ} → Compared l work counts r work′ codes
+pub compared-front : {l work counts : List ℕ} {r : Opened} {work′ codes : List ℕ}
+    → Compared l work counts r work′ codes
     → Fronted (checkCountsOrder l work counts) (workLeft l work counts) l r work′ codes
 compared-front {l} {work} {counts} o =
     record {
@@ -38,13 +39,17 @@ compared-front {l} {work} {counts} o =
     }
 
 -- the counts that have been compared are right
-pub compared-right : (l work counts : List ℕ) → first (checkCountsOrder l work counts) ≡ none → RightCounts l counts
-compared-right l work counts e = let c = counts-checked l work counts e in record { long = c .listed; each = none-25 l counts .0 (c .same) }
+pub compared-right : (l work counts : List ℕ) → first (checkCountsOrder l work counts) ≡ none
+    → RightCounts l counts
+compared-right l work counts e = let c = counts-checked l work counts e in
+    record { long = c .listed; each = none-25 l counts .0 (c .same) }
 
-module _ {l : List ℕ} (work counts : List ℕ) {given : Given} {r : Asked} {work′ : List ℕ} (a : AsksCounts l work counts given r work′)
+module _ {l : List ℕ} (work counts : List ℕ) {given : Given} {r : Asked} {work′ : List ℕ}
+    (a : AsksCounts l work counts given r work′)
     (e : r .verdict ≡ Verdict.Passed) where
   parts : (first (checkCountsOrder l work counts) ≡ none) × (first (keyRows l given) ≡ none)
-  parts = passed-parts (checkCountsOrder l work counts) (keyRows l given) (told-passed (a .verdict) e)
+  parts =
+      passed-parts (checkCountsOrder l work counts) (keyRows l given) (told-passed (a .verdict) e)
 
   pub asked-compared : first (checkCountsOrder l work counts) ≡ none
   asked-compared = parts .0
@@ -59,4 +64,5 @@ module _ {l : List ℕ} (work counts : List ℕ) {given : Given} {r : Asked} {wo
   pub asked-length : between (length (lettersOf (r .key))) (r .head .min) (r .head .max) ≡ true
   asked-length =
       let b = a .allowed (told-passed refl e) in
-      rw (b .letters, b .head) (given-fit l given (accepted-opens (b .accepted)) asked-keyed .allowed)
+      rw (b .letters, b .head)
+      (given-fit l given (accepted-opens (b .accepted)) asked-keyed .allowed)

@@ -1,4 +1,5 @@
--- 02, Ask 7: "25 ... after all the check's answers and before 9 and 10". The part of an order that ends with 9 and 10, where counts are compared.
+-- 02, Ask 7: "25 ... after all the check's answers and before 9 and 10". The part of an order that
+-- ends with 9 and 10, where counts are compared.
 use Prim.Native.Nat.{ℕ}
 use mathlib.Core.List.{List}
 use Rattle.paper.specs.Given.{Given}
@@ -8,4 +9,5 @@ use Rattle.asking.specs.declared.Asked.{Asked}
 use Rattle.asking.specs.Asked.{AsksAfter}
 
 abbrev pub AsksCounts : List ℕ → List ℕ → List ℕ → Given → Asked → List ℕ → Type 0
-AsksCounts l work counts given r work′ = AsksAfter (checkCountsOrder l work counts) (workLeft l work counts) l given r work′
+AsksCounts l work counts given r work′ =
+    AsksAfter (checkCountsOrder l work counts) (workLeft l work counts) l given r work′

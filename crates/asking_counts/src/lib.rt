@@ -1,5 +1,6 @@
-// What stands in front of a store with counts and of a key's position: 1 to 8, 25, then 9 and 10 of the key given. Neither function has a
-// `requires`. The comparing stands in front, and the key's part is `asking`'s.
+// What stands in front of a store with counts and of a key's position: 1 to 8, 25, then 9 and 10
+// of the key given. Neither function has a `requires`. The comparing stands in front, and the
+// key's part is `asking`'s.
 ghost use Rattle.paper.specs.Given.{asLetters, asText};
 ghost use Rattle.asking_counts.specs.AskedCounts.{AsksCounts};
 use asking::Asked;
@@ -7,7 +8,8 @@ use head::Head;
 
 // 1 to 8, 25, then 9 and 10 of a key given by its letters.
 pub fn ask(image: &[u8], work: &mut [u32], counts: &[u32], letters: &[u8]) -> Asked
-    ensures { λ r. ⌜ AsksCounts (now (image .entry)) (now (work .entry)) (now (counts .entry)) (asLetters (now (letters .entry))) r (now (work .exit)) ⌝ }
+    ensures { λ r. ⌜ AsksCounts (now (image .entry)) (now (work .entry)) (now (counts .entry))
+        (asLetters (now (letters .entry))) r (now (work .exit)) ⌝ }
 {
     let mut codes = [0u32; Head::N_MOST as usize];
     let front = comparing::compare(image, work, counts, &mut codes);
@@ -16,7 +18,8 @@ pub fn ask(image: &[u8], work: &mut [u32], counts: &[u32], letters: &[u8]) -> As
 
 // 1 to 8, 25, then 10 and 9 of a key given by its text.
 pub fn ask_text(image: &[u8], work: &mut [u32], counts: &[u32], text: &[u8]) -> Asked
-    ensures { λ r. ⌜ AsksCounts (now (image .entry)) (now (work .entry)) (now (counts .entry)) (asText (now (text .entry))) r (now (work .exit)) ⌝ }
+    ensures { λ r. ⌜ AsksCounts (now (image .entry)) (now (work .entry)) (now (counts .entry))
+        (asText (now (text .entry))) r (now (work .exit)) ⌝ }
 {
     let mut codes = [0u32; Head::N_MOST as usize];
     let front = comparing::compare(image, work, counts, &mut codes);

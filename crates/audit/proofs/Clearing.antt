@@ -1,5 +1,6 @@
--- The working numbers made 0 from the front, one a turn. What stands behind them is kept, so that it is the same after a second clearing,
--- whatever was counted into the first numbers between the two.
+-- The working numbers made 0 from the front, one a turn. What stands behind them is kept, so that
+-- it is the same after a second clearing, whatever was counted into the first numbers between the
+-- two.
 use mathlib.Core.Path.{_≡_, refl, sym, ap, _∙_}
 use mathlib.Core.List.{List, _++_}
 use Prim.Native.Nat.{ℕ, _+_, _≤_, _<_}
@@ -16,7 +17,8 @@ pub record Filling (work : List ℕ) (n : ℕ) (work′ : List ℕ) (i : ℕ) : 
   pub filled : work′ ≡ replicate i 0 ++ drop i work
 
 pub filling-none : (work : List ℕ) (n : ℕ) → n ≤ length work → Filling work n work 0
-filling-none work n h = record { within = omega arith; room = h; long = refl; filled = fill-none work 0 }
+filling-none work n h =
+    record { within = omega arith; room = h; long = refl; filled = fill-none work 0 }
 
 module _ {work work′ : List ℕ} {n i : ℕ} (p : Filling work n work′ i) where
   pub filling-more : i < n → Filling work n (set work′ i 0) (i + 1)
@@ -25,11 +27,13 @@ module _ {work work′ : List ℕ} {n i : ℕ} (p : Filling work n work′ i) wh
         within = omega arith;
         room = p .room;
         long = length-set work′ i 0 ∙ p .long;
-        filled = ap (λ (l : List ℕ). set l i 0) (p .filled) ∙ fill-more i 0 work (omega (arith, p .room));
+        filled = ap (λ (l : List ℕ). set l i 0) (p .filled) ∙ fill-more i 0 work
+            (omega (arith, p .room));
       }
 
   pub filling-all : n ≤ i → work′ ≡ replicate n 0 ++ drop n work
-  filling-all h = let e : i ≡ n = omega (arith, p .within) in p .filled ∙ ap (λ (k : ℕ). replicate k 0 ++ drop k work) e
+  filling-all h = let e : i ≡ n = omega (arith, p .within) in
+      p .filled ∙ ap (λ (k : ℕ). replicate k 0 ++ drop k work) e
 
 module _ (n : ℕ) (work : List ℕ) {work′ : List ℕ} (e : work′ ≡ replicate n 0 ++ drop n work) where
   -- what stands behind the numbers that were made 0

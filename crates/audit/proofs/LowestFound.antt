@@ -1,5 +1,6 @@
--- A search upwards for the lowest number that passes a test. What is sought from the number it has come to is what was sought at the start,
--- since no number passed over passes. At the end: a pass over the working numbers that makes two searches needless.
+-- A search upwards for the lowest number that passes a test. What is sought from the number it has
+-- come to is what was sought at the start, since no number passed over passes. At the end: a pass
+-- over the working numbers that makes two searches needless.
 use mathlib.Core.Path.{_≡_, refl, ap, _∙_}
 use mathlib.Core.Bool.{Bool, true, false, _&&_}
 use Prim.Native.Nat.{ℕ, zero, suc, _+_, _-_, _≤_, _<_}
@@ -20,7 +21,8 @@ pub record Seeking (p : ℕ → Bool) (a k x : ℕ) : Type 0 where
   pub same : (j : ℕ) → x + j ≡ a + k → lowest p x j ≡ lowest p a k
 
 pub seeking-none : (p : ℕ → Bool) (a k : ℕ) → Seeking p a k a
-seeking-none p a k = record { within = omega arith; same = λ j e. let s : j ≡ k = omega arith in ap (lowest p a) s }
+seeking-none p a k =
+    record { within = omega arith; same = λ j e. let s : j ≡ k = omega arith in ap (lowest p a) s }
 
 module _ {p : ℕ → Bool} {a k x : ℕ} (s : Seeking p a k x) where
   pub seeking-more : x < a + k → p x ≡ false → Seeking p a k (x + 1)
@@ -28,23 +30,31 @@ module _ {p : ℕ → Bool} {a k x : ℕ} (s : Seeking p a k x) where
   seeking-more h e =
       record {
         within = omega arith;
-        same = λ j q. let z : lowest p x (suc j) ≡ lowest p a k = s .same (suc j) (omega arith) in rw (add-one x) (rw e at z);
+        same = λ j q. let z : lowest p x (suc j) ≡ lowest p a k = s .same (suc j) (omega arith) in
+            rw (add-one x) (rw e at z);
       }
 
   pub seeking-found : x < a + k → p x ≡ true → x ≡ lowest p a k
   unfolding lowest
-  seeking-found h e = let z : lowest p x (suc (a + k - suc x)) ≡ lowest p a k = s .same (suc (a + k - suc x)) (omega arith) in rw e at z
+  seeking-found h e = let z : lowest p x (suc (a + k - suc x)) ≡ lowest p a k =
+      s .same (suc (a + k - suc x)) (omega arith) in rw e at z
 
   pub seeking-all : {end : ℕ} → end ≡ a + k → end ≤ x → end ≡ lowest p a k
   unfolding lowest
-  seeking-all {end} e h = let z : end ≡ x = omega (arith, s .within) in z ∙ s .same 0 (omega (arith, s .within))
+  seeking-all {end} e h =
+      let z : end ≡ x = omega (arith, s .within) in z ∙ s .same 0 (omega (arith, s .within))
 
 -- tests that agree on the numbers sought among have one lowest number
-pub lowest-same : (p r : ℕ → Bool) (a k : ℕ) → ((x : ℕ) → a ≤ x → x < a + k → p x ≡ r x) → lowest p a k ≡ lowest r a k
+pub lowest-same : (p r : ℕ → Bool) (a k : ℕ) → ((x : ℕ) → a ≤ x → x < a + k → p x ≡ r x)
+    → lowest p a k ≡ lowest r a k
 unfolding lowest
 lowest-same p r a zero h = refl
 lowest-same p r a (suc k) h =
-    rw (h a (omega arith) (omega arith), lowest-same p r (suc a) k (λ x low high. h x (omega arith) (omega arith)))
+    rw (
+      h a (omega arith) (omega arith),
+      lowest-same p r (suc a) k
+          (λ x low high. h x (omega arith) (omega arith)),
+    )
 
 -- `all_once`: if the answer is yes, the working numbers from 1 on, below x, are 1
 pub record Sole (work : List ℕ) (once : Bool) (x : ℕ) : Type 0 where
@@ -57,9 +67,12 @@ module _ {work : List ℕ} {once : Bool} {x : ℕ} (p : Sole work once x) where
   pub sole-more : Sole work (once && eqb (getD work x 0) 1) (x + 1)
   sole-more = record { told = λ e y low high. go e y low high (ℕ-discrete y x) }
     where
-      go : (once && eqb (getD work x 0) 1) ≡ true → (y : ℕ) → 1 ≤ y → y < x + 1 → Dec (y ≡ x) → getD work y 0 ≡ 1
-      go e y low high (yes same) = rw same (eqb-true (getD work x 0) 1 (both once (eqb (getD work x 0) 1) e .1))
-      go e y low high (no other) = p .told (both once (eqb (getD work x 0) 1) e .0) y low (omega arith)
+      go : (once && eqb (getD work x 0) 1) ≡ true → (y : ℕ) → 1 ≤ y → y < x + 1 → Dec (y ≡ x)
+          → getD work y 0 ≡ 1
+      go e y low high (yes same) =
+          rw same (eqb-true (getD work x 0) 1 (both once (eqb (getD work x 0) 1) e .1))
+      go e y low high (no other) =
+          p .told (both once (eqb (getD work x 0) 1) e .0) y low (omega arith)
 
   pub sole-all : {nodes : ℕ} → nodes ≤ x → once ≡ true → AllOnce work nodes
   sole-all high e y low below = p .told e y low (omega arith)

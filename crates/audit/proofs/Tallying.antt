@@ -1,5 +1,6 @@
--- What the two loops of the tally keep. Over a node's links: none so far is bad, and each address is counted as often as it stands in them,
--- up to 2. Over the nodes: none so far holds a bad link, and the working numbers are the tally of the nodes so far.
+-- What the two loops of the tally keep. Over a node's links: none so far is bad, and each address
+-- is counted as often as it stands in them, up to 2. Over the nodes: none so far holds a bad link,
+-- and the working numbers are the tally of the nodes so far.
 use mathlib.Core.Path.{_≡_, refl, sym, ap, _∙_}
 use mathlib.Core.Bool.{Bool, true, false, cond}
 use mathlib.Core.List.{List, _++_}
@@ -8,7 +9,8 @@ use native.Mathlib.Decide.{ℕ-discrete}
 use native.Mathlib.Numerals.{add-one}
 use native.Mathlib.Omega.{arith}
 use lib.Dec.{eqb}
-use lib.ListN.{length, getD, set, drop, replicate, length-set, length-replicate, getD-replicate, List·getD-append}
+use lib.ListN.{length, getD, set, drop, replicate, length-set, length-replicate, getD-replicate}
+use lib.ListN.{List·getD-append}
 use lib.Seq.{getD-set-same, getD-set-other, drop-set-lt}
 use borrow.Author.Tests.{eq-eqb, ne-eqb}
 use Rattle.trie.specs.Table.{Table}
@@ -17,18 +19,21 @@ use Rattle.node.specs.Image.{tableOf}
 use Rattle.paper.specs.Rows.{badLink, holdsBad, timesIn, times}
 use Rattle.paper.proofs.Linking.{link-within, holds-bad}
 use Rattle.audit.specs.Audit.{RestKept, LinksCounted, Tallied, Tally, BadFrom}
-use Rattle.audit.proofs.LowestFound.{Seeking, seeking-none, seeking-more, seeking-found, seeking-all}
+use Rattle.audit.proofs.LowestFound.{Seeking, seeking-none, seeking-more, seeking-found}
+use Rattle.audit.proofs.LowestFound.{seeking-all}
 
 -- ---- the working numbers from G+1 on
 
 pub kept-none : (g : ℕ) (work : List ℕ) → RestKept g work work
 kept-none g work = record { long = refl; rest = refl }
 
-pub kept-more : {g : ℕ} {work work′ work″ : List ℕ} → RestKept g work work′ → RestKept g work′ work″ → RestKept g work work″
+pub kept-more : {g : ℕ} {work work′ work″ : List ℕ} → RestKept g work work′
+    → RestKept g work′ work″ → RestKept g work work″
 kept-more a b = record { long = b .long ∙ a .long; rest = b .rest ∙ a .rest }
 
 kept-set : {g x : ℕ} (work : List ℕ) (v : ℕ) → x ≤ g → RestKept g work (set work x v)
-kept-set {g} {x} work v h = record { long = length-set work x v; rest = drop-set-lt (g + 1) work x v (omega arith) }
+kept-set {g} {x} work v h =
+    record { long = length-set work x v; rest = drop-set-lt (g + 1) work x v (omega arith) }
 
 -- ---- the links of a node
 
@@ -48,14 +53,19 @@ counting-none g n t q work =
     }
 
 -- a link that is not bad has a working number
-pub counting-room : {g n : ℕ} {t : Table} {q : ℕ} {work work′ : List ℕ} {i c : ℕ} → Counting g n t q work work′ i → g + 1 ≤ length work
+pub counting-room : {g n : ℕ} {t : Table} {q : ℕ} {work work′ : List ℕ} {i c : ℕ}
+    → Counting g n t q work work′ i → g + 1 ≤ length work
     → badLink g q c ≡ false → c < length work′
-counting-room {g} {n} {t} {q} {work} {work′} {i} {c} p room good = omega (arith, link-within g q c good, p .kept .long)
+counting-room {g} {n} {t} {q} {work} {work′} {i} {c} p room good =
+    omega (arith, link-within g q c good, p .kept .long)
 
-module _ {g n : ℕ} {t : Table} {q : ℕ} {work work′ : List ℕ} {i : ℕ} (p : Counting g n t q work work′ i) (below : i < n) where
+module _ {g n : ℕ} {t : Table} {q : ℕ} {work work′ : List ℕ} {i : ℕ}
+    (p : Counting g n t q work work′ i) (below : i < n) where
   -- one more link, that is not bad, and working numbers in which it is counted
-  one-more : {c : ℕ} {work″ : List ℕ} → c ≡ t .child q i → badLink g q c ≡ false → RestKept g work′ work″
-      → ((x m : ℕ) → 1 ≤ x → getD work′ x 0 ≡ min 2 m → getD work″ x 0 ≡ min 2 (m + cond (eqb c x) 1 0))
+  one-more : {c : ℕ} {work″ : List ℕ} → c ≡ t .child q i → badLink g q c ≡ false
+      → RestKept g work′ work″
+      → ((x m : ℕ) → 1 ≤ x → getD work′ x 0 ≡ min 2 m → getD work″ x 0
+      ≡ min 2 (m + cond (eqb c x) 1 0))
       → Counting g n t q work work″ (i + 1)
   unfolding holdsBad timesIn
   one-more {c} {work″} e good kept step =
@@ -66,7 +76,8 @@ module _ {g n : ℕ} {t : Table} {q : ℕ} {work work′ : List ℕ} {i : ℕ} (
               good = rw (add-one i, ← e, p .counted .good, good);
               met = λ x m low high b.
                   let so-far : ℕ = m + timesIn t x q i in
-                  let s : getD work″ x 0 ≡ min 2 (so-far + cond (eqb c x) 1 0) = step x so-far low (p .counted .met x m low high b) in
+                  let s : getD work″ x 0 ≡ min 2 (so-far + cond (eqb c x) 1 0) =
+                  step x so-far low (p .counted .met x m low high b) in
                   rw (add-one i, ← e) (omega arith);
             };
         kept = kept-more (p .kept) kept;
@@ -75,32 +86,42 @@ module _ {g n : ℕ} {t : Table} {q : ℕ} {work work′ : List ℕ} {i : ℕ} (
   pub counting-empty : {c : ℕ} → c ≡ t .child q i → c ≡ 0 → Counting g n t q work work′ (i + 1)
   unfolding badLink
   counting-empty {c} e z =
-      one-more e (rw z) (kept-none g work′) (λ x m low b. rw (ne-eqb c x (λ w. omega arith)) (omega arith))
+      one-more e (rw z) (kept-none g work′)
+      (λ x m low b. rw (ne-eqb c x (λ w. omega arith)) (omega arith))
 
-  pub counting-full : {c : ℕ} → c ≡ t .child q i → badLink g q c ≡ false → 2 ≤ getD work′ c 0 → Counting g n t q work work′ (i + 1)
-  counting-full {c} e good full = one-more e good (kept-none g work′) (λ x m low b. go x m b (ℕ-discrete c x))
+  pub counting-full : {c : ℕ} → c ≡ t .child q i → badLink g q c ≡ false → 2 ≤ getD work′ c 0
+      → Counting g n t q work work′ (i + 1)
+  counting-full {c} e good full =
+      one-more e good (kept-none g work′) (λ x m low b. go x m b (ℕ-discrete c x))
     where
-      go : (x m : ℕ) → getD work′ x 0 ≡ min 2 m → Dec (c ≡ x) → getD work′ x 0 ≡ min 2 (m + cond (eqb c x) 1 0)
-      go x m b (yes s) = let f : 2 ≤ getD work′ x 0 = rw (← s) full in rw (eq-eqb c x s) (omega arith)
+      go : (x m : ℕ) → getD work′ x 0 ≡ min 2 m → Dec (c ≡ x) → getD work′ x 0
+          ≡ min 2 (m + cond (eqb c x) 1 0)
+      go x m b (yes s) =
+          let f : 2 ≤ getD work′ x 0 = rw (← s) full in rw (eq-eqb c x s) (omega arith)
       go x m b (no s) = rw (ne-eqb c x s) (omega arith)
 
-  pub counting-more : {c : ℕ} → c ≡ t .child q i → badLink g q c ≡ false → c < length work′ → getD work′ c 0 < 2
+  pub counting-more : {c : ℕ} → c ≡ t .child q i → badLink g q c ≡ false → c < length work′
+      → getD work′ c 0 < 2
       → Counting g n t q work (set work′ c (getD work′ c 0 + 1)) (i + 1)
   counting-more {c} e good room few =
-      one-more e good (kept-set work′ v (link-within g q c good)) (λ x m low b. go x m b (ℕ-discrete c x))
+      one-more e good (kept-set work′ v (link-within g q c good))
+      (λ x m low b. go x m b (ℕ-discrete c x))
     where
       v : ℕ
       v = getD work′ c 0 + 1
 
-      go : (x m : ℕ) → getD work′ x 0 ≡ min 2 m → Dec (c ≡ x) → getD (set work′ c v) x 0 ≡ min 2 (m + cond (eqb c x) 1 0)
+      go : (x m : ℕ) → getD work′ x 0 ≡ min 2 m → Dec (c ≡ x) → getD (set work′ c v) x 0
+          ≡ min 2 (m + cond (eqb c x) 1 0)
       go x m b (yes s) =
           let f : getD work′ c 0 ≡ min 2 m = rw s b in
           rw (eq-eqb c x s, ← s) (getD-set-same work′ c v 0 room ∙ omega arith)
-      go x m b (no s) = rw (ne-eqb c x s) (getD-set-other work′ c x v 0 (λ w. s (sym w)) ∙ omega arith)
+      go x m b (no s) =
+          rw (ne-eqb c x s) (getD-set-other work′ c x v 0 (λ w. s (sym w)) ∙ omega arith)
 
 -- ---- what a node tells
 
-module _ {h : Head} {l : List ℕ} {q : ℕ} {work work′ : List ℕ} {i : ℕ} (p : Counting (h .g) (h .n) (tableOf h l) q work work′ i) where
+module _ {h : Head} {l : List ℕ} {q : ℕ} {work work′ : List ℕ} {i : ℕ}
+    (p : Counting (h .g) (h .n) (tableOf h l) q work work′ i) where
   pub tallied-all : h .n ≤ i → Tallied h l q work true work′
   tallied-all high =
       let e : i ≡ h .n = omega (arith, p .within) in
@@ -110,7 +131,8 @@ module _ {h : Head} {l : List ℕ} {q : ℕ} {work work′ : List ℕ} {i : ℕ}
         kept = p .kept;
       }
 
-  pub tallied-bad : {c : ℕ} → i < h .n → c ≡ tableOf h l .child q i → badLink (h .g) q c ≡ true → Tallied h l q work false work′
+  pub tallied-bad : {c : ℕ} → i < h .n → c ≡ tableOf h l .child q i → badLink (h .g) q c ≡ true
+      → Tallied h l q work false work′
   tallied-bad below e b =
       record {
         counted = λ z. let y : _≡_ {A = ℕ} 0 1 = cc in absurd (omega arith);
@@ -119,13 +141,15 @@ module _ {h : Head} {l : List ℕ} {q : ℕ} {work work′ : List ℕ} {i : ℕ}
       }
 
 -- empty links are all passed over
-pub tallied-childless : (h : Head) (l : List ℕ) (q : ℕ) (work : List ℕ) → ((i : ℕ) → tableOf h l .child q i ≡ 0)
+pub tallied-childless : (h : Head) (l : List ℕ) (q : ℕ) (work : List ℕ)
+    → ((i : ℕ) → tableOf h l .child q i ≡ 0)
     → Tallied h l q work true work
 tallied-childless h l q work e = tallied-all (upto (h .n) (omega arith)) (omega arith)
   where
     upto : (i : ℕ) → i ≤ h .n → Counting (h .g) (h .n) (tableOf h l) q work work i
     upto zero b = counting-none (h .g) (h .n) (tableOf h l) q work
-    upto (suc i) b = rw (← add-one i) (counting-empty (upto i (omega arith)) (omega arith) refl (e i))
+    upto (suc i) b =
+        rw (← add-one i) (counting-empty (upto i (omega arith)) (omega arith) refl (e i))
 
 -- ---- the nodes
 
@@ -135,29 +159,34 @@ pub record Tallying (g n : ℕ) (t : Table) (work work′ : List ℕ) (q : ℕ) 
   pub tally : Tally t n g q work′
   pub kept : RestKept g work work′
 
-pub tallying-none : (g n : ℕ) (t : Table) (work : List ℕ) → work ≡ replicate (g + 1) 0 ++ drop (g + 1) work → Tallying g n t work work 0
+pub tallying-none : (g n : ℕ) (t : Table) (work : List ℕ) → work ≡ replicate (g + 1) 0
+    ++ drop (g + 1) work → Tallying g n t work work 0
 unfolding times
 tallying-none g n t work e =
     record {
       seeking = seeking-none (λ r. holdsBad g t r n) 0 (g + 1);
       tally = λ x low high. ap (λ (w : List ℕ). getD w x 0) e
-          ∙ List·getD-append (replicate (g + 1) 0) (drop (g + 1) work) 0 x (omega (arith, length-replicate {A = ℕ} (g + 1) 0))
+          ∙ List·getD-append (replicate (g + 1) 0) (drop (g + 1) work) 0 x
+          (omega (arith, length-replicate {A = ℕ} (g + 1) 0))
           ∙ getD-replicate (g + 1) x 0 0 (omega arith);
       kept = kept-none g work;
     }
 
-module _ {h : Head} {l work work′ work″ : List ℕ} {q : ℕ} (p : Tallying (h .g) (h .n) (tableOf h l) work work′ q) where
+module _ {h : Head} {l work work′ work″ : List ℕ} {q : ℕ}
+    (p : Tallying (h .g) (h .n) (tableOf h l) work work′ q) where
   pub tallying-more : q < h .g + 1 → {r : Bool} → r ≡ true → Tallied h l q work′ r work″
       → Tallying (h .g) (h .n) (tableOf h l) work work″ (q + 1)
   unfolding times
   tallying-more below e s =
       record {
         seeking = seeking-more (p .seeking) (omega arith) (s .counted e .good);
-        tally = λ x low high. rw (add-one q) (s .counted e .met x (times (tableOf h l) (h .n) x q) low high (p .tally x low high));
+        tally = λ x low high. rw (add-one q)
+            (s .counted e .met x (times (tableOf h l) (h .n) x q) low high (p .tally x low high));
         kept = kept-more (p .kept) (s .kept);
       }
 
-  pub tallying-bad : q < h .g + 1 → {r : Bool} → r ≡ false → Tallied h l q work′ r work″ → BadFrom h l work q work″
+  pub tallying-bad : q < h .g + 1 → {r : Bool} → r ≡ false → Tallied h l q work′ r work″
+      → BadFrom h l work q work″
   tallying-bad below e s =
       record {
         lowest-bad = seeking-found (p .seeking) (omega arith) (s .bad e);
@@ -165,7 +194,8 @@ module _ {h : Head} {l work work′ work″ : List ℕ} {q : ℕ} (p : Tallying 
         kept = kept-more (p .kept) (s .kept);
       }
 
-pub tallying-all : {h : Head} {l work work′ : List ℕ} {q : ℕ} → Tallying (h .g) (h .n) (tableOf h l) work work′ q → h .g + 1 ≤ q
+pub tallying-all : {h : Head} {l work work′ : List ℕ} {q : ℕ}
+    → Tallying (h .g) (h .n) (tableOf h l) work work′ q → h .g + 1 ≤ q
     → BadFrom h l work (h .g + 1) work′
 tallying-all {h} {l} {work} {work′} {q} p high =
     let e : q ≡ h .g + 1 = omega (arith, p .seeking .within) in

@@ -1,5 +1,6 @@
--- Which row is heard at each way out, from what the stages returned. A tally that stops at 2 is 2 exactly where the address stands in two
--- links or more, and 0 exactly where it stands in none: so a search in the working numbers finds the place of 7 and of 8.
+-- Which row is heard at each way out, from what the stages returned. A tally that stops at 2 is 2
+-- exactly where the address stands in two links or more, and 0 exactly where it stands in none: so
+-- a search in the working numbers finds the place of 7 and of 8.
 use mathlib.Core.Path.{_≡_, refl, sym, ap, _∙_}
 use mathlib.Core.Bool.{Bool}
 use mathlib.Core.Option.{none, some}
@@ -24,11 +25,13 @@ use Rattle.paper.specs.Rows.{rowWhenLowest, row5, row6, row7, row8, times}
 use Rattle.paper.specs.Orders.{openingRowsOf, linkRows, checkOrder}
 use Rattle.paper.specs.Calls.{clearedBy, workAfter}
 use Rattle.paper.specs.Accepted.{Accepted}
-use Rattle.paper.proofs.Hearing.{is-given, not-given, first-nil, first-some, first-none, first-part, second-part, told-refused, told-passed}
+use Rattle.paper.proofs.Hearing.{is-given, not-given, first-nil, first-some, first-none}
+use Rattle.paper.proofs.Hearing.{first-part, second-part, told-refused, told-passed}
 use Rattle.paper.proofs.CheckCall.{check-accepts}
 use Rattle.opening.specs.declared.Opened.{Opened}
 use Rattle.opening.specs.Opened.{Opens}
-use Rattle.audit.specs.Audit.{Checked, Audited, LinksJudged, BadFrom, Tally, AllOnce, FoundFrom}
+use Rattle.audit.specs.Audit.{Checked, Audited, LinksJudged, BadFrom, Tally, AllOnce}
+use Rattle.audit.specs.Audit.{FoundFrom}
 use Rattle.audit.proofs.Clearing.{cleared-rest}
 use Rattle.audit.proofs.LowestFound.{lowest-same}
 
@@ -60,18 +63,26 @@ never m = go (ℕ-discrete m 0)
     go (no b) = rw (ne-eqb m 0 b) (ne-eqb (min 2 m) 0 (λ e. omega arith))
 
 -- what is found in the working numbers is the lowest address whose tally passes
-found : (t : Table) (n g v : ℕ) (work : List ℕ) (test : ℕ → Bool) {x : ℕ} → Tally t n g (g + 1) work → ((m : ℕ) → eqb (min 2 m) v ≡ test m)
+found : (t : Table) (n g v : ℕ) (work : List ℕ) (test : ℕ → Bool) {x : ℕ}
+    → Tally t n g (g + 1) work → ((m : ℕ) → eqb (min 2 m) v ≡ test m)
     → FoundFrom work (g + 1) v x → x ≡ lowest (λ y. test (times t n y (g + 1))) 1 g
 found t n g v work test tally same e =
     let k : g + 1 - 1 ≡ g = omega arith in
     e
     ∙ ap (lowest (λ y. eqb (getD work y 0) v) 1) k
-    ∙ lowest-same (λ y. eqb (getD work y 0) v) (λ y. test (times t n y (g + 1))) 1 g (λ y low high. rw (tally y low (omega arith)) (same _))
+    ∙ lowest-same (λ y. eqb (getD work y 0) v) (λ y. test (times t n y (g + 1))) 1 g
+    (λ y low high. rw (tally y low (omega arith)) (same _))
 
 module _ {h : Head} {l work work′ : List ℕ} {bad : ℕ} (b : BadFrom h l work bad work′) where
   pub linked-bad : bad < h .g + 1 → LinksJudged h l work (Verdict.Refused (Refusal.Link bad)) work′
   unfolding rowOf linkRows row6
-  linked-bad low = record { verdict = sym (first-some _ _ (given-at 6 _ 0 (h .g + 1) (b .lowest-bad) (omega arith))); kept = b .kept }
+  linked-bad low =
+      record {
+        verdict =
+            sym (first-some _ _ (given-at 6 _ 0 (h .g + 1) (b .lowest-bad) (omega arith)));
+        kept =
+            b .kept;
+      }
 
   module _ (high : h .g + 1 ≤ bad) {x : ℕ} (sought : FoundFrom work′ (h .g + 1) 2 x) where
     past-6 : row6 h (tableOf h l) ≡ none
@@ -79,55 +90,78 @@ module _ {h : Head} {l work work′ : List ℕ} {bad : ℕ} (b : BadFrom h l wor
     past-6 = given-nowhere 6 _ 0 (h .g + 1) (b .lowest-bad) (omega arith)
 
     seventh : x ≡ lowest (λ y. leb 2 (times (tableOf h l) (h .n) y (h .g + 1))) 1 (h .g)
-    seventh = found (tableOf h l) (h .n) (h .g) 2 work′ (leb 2) (b .tally (omega arith)) twice sought
+    seventh =
+        found (tableOf h l) (h .n) (h .g) 2 work′ (leb 2) (b .tally (omega arith)) twice sought
 
-    pub linked-twice : x < h .g + 1 → LinksJudged h l work (Verdict.Refused (Refusal.LinkedTwice x)) work′
+    pub linked-twice : x < h .g + 1
+        → LinksJudged h l work (Verdict.Refused (Refusal.LinkedTwice x)) work′
     unfolding rowOf linkRows row7
     linked-twice low =
         record {
-          verdict = sym (first-none _ _ past-6 ∙ first-some _ _ (given-at 7 _ 1 (h .g) seventh (omega arith)));
+          verdict =
+              sym (first-none _ _ past-6 ∙ first-some _ _
+              (given-at 7 _ 1 (h .g) seventh (omega arith)));
           kept = b .kept;
         }
 
     module _ (none-twice : h .g + 1 ≤ x) {y : ℕ} (missed : FoundFrom work′ (h .g + 1) 0 y) where
       past-7 : first (linkRows h (tableOf h l)) ≡ first (row8 h (tableOf h l) ∷ [])
       unfolding linkRows row7
-      past-7 = first-none _ _ past-6 ∙ first-none _ _ (given-nowhere 7 _ 1 (h .g) seventh (omega arith))
+      past-7 =
+          first-none _ _ past-6 ∙ first-none _ _ (given-nowhere 7 _ 1 (h .g) seventh (omega arith))
 
       eighth : y ≡ lowest (λ z. eqb (times (tableOf h l) (h .n) z (h .g + 1)) 0) 1 (h .g)
-      eighth = found (tableOf h l) (h .n) (h .g) 0 work′ (λ m. eqb m 0) (b .tally (omega arith)) never missed
+      eighth = found (tableOf h l) (h .n) (h .g) 0 work′ (λ m. eqb m 0) (b .tally (omega arith))
+          never missed
 
-      pub linked-missing : y < h .g + 1 → LinksJudged h l work (Verdict.Refused (Refusal.NotLinked y)) work′
+      pub linked-missing : y < h .g + 1
+          → LinksJudged h l work (Verdict.Refused (Refusal.NotLinked y)) work′
       unfolding rowOf row8
       linked-missing low =
-          record { verdict = sym (past-7 ∙ first-some _ _ (given-at 8 _ 1 (h .g) eighth (omega arith))); kept = b .kept }
+          record {
+            verdict =
+                sym (past-7 ∙ first-some _ _ (given-at 8 _ 1 (h .g) eighth (omega arith)));
+            kept =
+                b .kept;
+          }
 
       pub linked-all : h .g + 1 ≤ y → LinksJudged h l work Verdict.Passed work′
       unfolding rowOf row8
       linked-all none-missing =
           record {
-            verdict = sym (past-7 ∙ first-none _ _ (given-nowhere 8 _ 1 (h .g) eighth (omega arith)) ∙ first-nil);
+            verdict =
+                sym (past-7 ∙ first-none _ _ (given-nowhere 8 _ 1 (h .g) eighth (omega arith))
+                ∙ first-nil);
             kept = b .kept;
           }
 
   -- where each address has the tally 1, the searches would find none: they need not be run
-  pub linked-once : h .g + 1 ≤ bad → AllOnce work′ (h .g + 1) → LinksJudged h l work Verdict.Passed work′
-  linked-once high once = linked-all high (nowhere 2 (λ e. omega arith)) (omega arith) (nowhere 0 (λ e. omega arith)) (omega arith)
+  pub linked-once : h .g + 1 ≤ bad → AllOnce work′ (h .g + 1)
+      → LinksJudged h l work Verdict.Passed work′
+  linked-once high once = linked-all high (nowhere 2 (λ e. omega arith)) (omega arith)
+      (nowhere 0 (λ e. omega arith)) (omega arith)
     where
       nowhere : (v : ℕ) → (1 ≡ v → ⊥) → FoundFrom work′ (h .g + 1) v (h .g + 1)
       nowhere v other =
           let k : 1 + (h .g + 1 - 1) ≡ h .g + 1 = omega arith in
-          sym (lowest-none (λ x. eqb (getD work′ x 0) v) 1 (h .g + 1 - 1) (λ x low below. rw (once x low (omega arith)) (ne-eqb 1 v other)) ∙ k)
+          sym (lowest-none (λ x. eqb (getD work′ x 0) v) 1 (h .g + 1 - 1)
+          (λ x low below. rw (once x low (omega arith)) (ne-eqb 1 v other)) ∙ k)
 
 -- ---- 5
 
-pub audited-few : {h : Head} {l work : List ℕ} → length work < h .g + 1 → Audited h l work (Verdict.Refused Refusal.TooFewNumbers) work
+pub audited-few : {h : Head} {l work : List ℕ} → length work < h .g + 1
+    → Audited h l work (Verdict.Refused Refusal.TooFewNumbers) work
 unfolding rowOf row5 clearedBy
 audited-few {h} {l} {work} few =
     let e = is-given 5 0 (lt-ltb (length work) (h .g + 1) few) in
-    record { verdict = sym (first-some _ _ e); numbers = sym (ap (λ r. clearedBy r (h .g + 1) work) (first-some _ [] e)) }
+    record {
+      verdict = sym (first-some _ _ e);
+      numbers =
+          sym (ap (λ r. clearedBy r (h .g + 1) work) (first-some _ [] e));
+    }
 
-pub audited-linked : {h : Head} {l work clear work′ last : List ℕ} {r : Verdict} → h .g + 1 ≤ length work
+pub audited-linked : {h : Head} {l work clear work′ last : List ℕ} {r : Verdict}
+    → h .g + 1 ≤ length work
     → clear ≡ replicate (h .g + 1) 0 ++ drop (h .g + 1) work → LinksJudged h l clear r work′
     → last ≡ replicate (h .g + 1) 0 ++ drop (h .g + 1) work′ → Audited h l work r last
 unfolding row5 clearedBy
@@ -136,7 +170,8 @@ audited-linked {h} {l} {work} enough e k f =
     record {
       verdict = k .verdict ∙ sym (first-none _ _ p);
       numbers = f
-          ∙ ap (λ (w : List ℕ). replicate (h .g + 1) 0 ++ w) (k .kept .rest ∙ cleared-rest (h .g + 1) work e)
+          ∙ ap (λ (w : List ℕ). replicate (h .g + 1) 0 ++ w)
+          (k .kept .rest ∙ cleared-rest (h .g + 1) work e)
           ∙ sym (ap (λ r. clearedBy r (h .g + 1) work) (first-none _ [] p ∙ first-nil));
     }
 
@@ -150,13 +185,17 @@ abbrev others : List ℕ → List ℕ → List Row
 others l work = row5 (headOf l) (length work) ∷ linkRows (headOf l) (tableOf (headOf l) l)
 
 module _ {l : List ℕ} {r : Opened} {codes : List ℕ} (o : Opens l r codes) where
-  pub checked-refused : (work : List ℕ) {why : Refusal} → r .verdict ≡ Verdict.Refused why → Checked l work r work codes
+  pub checked-refused : (work : List ℕ) {why : Refusal} → r .verdict ≡ Verdict.Refused why
+      → Checked l work r work codes
   unfolding checkOrder workAfter clearedBy
   checked-refused work e =
       let refused = told-refused (o .verdict) e in
       record {
-        verdict = o .verdict ∙ refused ∙ sym (first-part (openingRowsOf l) (others l work) refused);
-        numbers = sym (ap (λ s. clearedBy s (headOf l .g + 1) work) (first-part (openingRowsOf l) (fifth l work) refused));
+        verdict =
+            o .verdict ∙ refused ∙ sym (first-part (openingRowsOf l) (others l work) refused);
+        numbers =
+            sym (ap (λ s. clearedBy s (headOf l .g + 1) work)
+            (first-part (openingRowsOf l) (fifth l work) refused));
         head = o .head;
         decoded = o .decoded;
       }
@@ -175,14 +214,17 @@ module _ {l : List ℕ} {r : Opened} {codes : List ℕ} (o : Opens l r codes) wh
         let d = o .decoded none-given in
         record {
           verdict = b .verdict ∙ sym (second-part (openingRowsOf l) (others l work) n);
-          numbers = b .numbers ∙ sym (ap (λ s. clearedBy s (headOf l .g + 1) work) (second-part (openingRowsOf l) (fifth l work) n));
+          numbers =
+              b .numbers ∙ sym (ap (λ s. clearedBy s (headOf l .g + 1) work)
+              (second-part (openingRowsOf l) (fifth l work) n));
           head = λ _. same;
           decoded = λ _. record { count = d .count; codes = d .codes };
         }
 
 -- ---- what a check that passed tells its caller
 
-module _ {l work : List ℕ} {r : Opened} {work′ codes : List ℕ} (o : Checked l work r work′ codes) (e : r .verdict ≡ Verdict.Passed) where
+module _ {l work : List ℕ} {r : Opened} {work′ codes : List ℕ} (o : Checked l work r work′ codes)
+    (e : r .verdict ≡ Verdict.Passed) where
   pub checked-accepted : Accepted l
   checked-accepted = check-accepts l work (told-passed (o .verdict) e)
 

@@ -1,4 +1,5 @@
--- 01, "What the bench may hear", 1 to 8: what the check of an image tells and how it leaves the working numbers.
+-- 01, "What the bench may hear", 1 to 8: what the check of an image tells and how it leaves the
+-- working numbers.
 use Prim.Native.Nat.{ℕ, _+_, _-_, _≤_, _<_, min}
 use mathlib.Core.Path.{_≡_}
 use mathlib.Core.Bool.{Bool, true, false}
@@ -43,7 +44,8 @@ pub record LinksJudged (h : Head) (l work : List ℕ) (r : Verdict) (work′ : L
   pub verdict : rowOf r ≡ first (linkRows h (tableOf h l))
   pub kept : RestKept (h .g) work work′
 
--- the tally of the addresses 1 to g over the first k nodes: how often each stands in a link, and 2 for more
+-- the tally of the addresses 1 to g over the first k nodes: how often each stands in a link, and 2
+-- for more
 abbrev pub Tally : Table → ℕ → ℕ → ℕ → List ℕ → Type 0
 Tally t n g k work = (x : ℕ) → 1 ≤ x → x ≤ g → getD work x 0 ≡ min 2 (times t n x k)
 
@@ -53,13 +55,16 @@ pub record BadFrom (h : Head) (l work : List ℕ) (bad : ℕ) (work′ : List �
   pub tally : h .g < bad → Tally (tableOf h l) (h .n) (h .g) (h .g + 1) work′
   pub kept : RestKept (h .g) work work′
 
--- the first i links of node q are counted: none is bad, and each address is met as often as it stands in them
+-- the first i links of node q are counted: none is bad, and each address is met as often as it
+-- stands in them
 pub record LinksCounted (g : ℕ) (t : Table) (q i : ℕ) (work work′ : List ℕ) : Type 0 where
   pub good : holdsBad g t q i ≡ false
-  pub met : (x m : ℕ) → 1 ≤ x → x ≤ g → getD work x 0 ≡ min 2 m → getD work′ x 0 ≡ min 2 (m + timesIn t x q i)
+  pub met : (x m : ℕ) → 1 ≤ x → x ≤ g → getD work x 0 ≡ min 2 m → getD work′ x 0
+      ≡ min 2 (m + timesIn t x q i)
 
 -- the links of a node: all counted, or one is bad
-pub record Tallied (h : Head) (l : List ℕ) (q : ℕ) (work : List ℕ) (r : Bool) (work′ : List ℕ) : Type 0 where
+pub record Tallied (h : Head) (l : List ℕ) (q : ℕ) (work : List ℕ) (r : Bool) (work′ : List ℕ)
+    : Type 0 where
   pub counted : r ≡ true → LinksCounted (h .g) (tableOf h l) q (h .n) work work′
   pub bad : r ≡ false → holdsBad (h .g) (tableOf h l) q (h .n) ≡ true
   pub kept : RestKept (h .g) work work′

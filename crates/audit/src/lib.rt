@@ -1,12 +1,14 @@
-// The check of an image over lent working numbers: 1 to 8, in time linear in the image and with no recursion, since a chain of links may
-// be as long as the image. Working number x holds how often address x has been met in a link so far, and stops at 2.
+// The check of an image over lent working numbers: 1 to 8, in time linear in the image and with no
+// recursion, since a chain of links may be as long as the image. Working number x holds how often
+// address x has been met in a link so far, and stops at 2.
 ghost use mathlib.Core.Path.{_≡_};
 ghost use mathlib.Core.Bool.{true};
 ghost use Prim.Native.Nat.{_≤_, _+_};
 ghost use mathlib.Core.List.{_++_};
 ghost use lib.ListN.{length, drop, replicate};
 ghost use Rattle.node.specs.Image.{Open, Masks};
-ghost use Rattle.audit.specs.Audit.{Checked, Audited, LinksJudged, BadFrom, Tallied, AllOnce, FoundFrom};
+ghost use Rattle.audit.specs.Audit.{Checked, Audited, LinksJudged, BadFrom, Tallied};
+ghost use Rattle.audit.specs.Audit.{AllOnce, FoundFrom};
 use head::Head;
 use opening::Opened;
 use paper::Refusal;
@@ -14,7 +16,8 @@ use paper::Verdict;
 
 // 1 to 8 of an image, with what opening it tells.
 pub fn check(image: &[u8], work: &mut [u32], codes: &mut [u32; Head::N_MOST as usize]) -> Opened
-    ensures { λ r. ⌜ Checked (now (image .entry)) (now (work .entry)) r (now (work .exit)) (now (codes .exit)) ⌝ }
+    ensures { λ r. ⌜ Checked (now (image .entry)) (now (work .entry)) r (now (work .exit))
+        (now (codes .exit)) ⌝ }
 {
     let opened = opening::open(image, codes);
     let verdict = opened.verdict;
@@ -51,7 +54,8 @@ fn links(image: &[u8], h: Head, work: &mut [u32]) -> Verdict
     requires { ⌜ Open h (now image) ⌝ }
     requires { ⌜ h .g + 1 ≤ length (now work) ⌝ }
     requires { ⌜ now work ≡ replicate (h .g + 1) 0 ++ drop (h .g + 1) (now work) ⌝ }
-    ensures { λ r. ⌜ LinksJudged h (now (image .entry)) (now (work .entry)) r (now (work .exit)) ⌝ }
+    ensures { λ r. ⌜ LinksJudged h (now (image .entry)) (now (work .entry)) r
+        (now (work .exit)) ⌝ }
 {
     let nodes = (h.g as usize) + 1;
     let bad = first_bad_node(image, h, work);
@@ -72,7 +76,8 @@ fn links(image: &[u8], h: Head, work: &mut [u32]) -> Verdict
     Verdict::Passed
 }
 
-// The lowest node that holds a bad link, G+1 where none does. Then the working numbers have the tally of every address from 1 on.
+// The lowest node that holds a bad link, G+1 where none does. Then the working numbers have the
+// tally of every address from 1 on.
 fn first_bad_node(image: &[u8], h: Head, work: &mut [u32]) -> usize
     requires { ⌜ Open h (now image) ⌝ }
     requires { ⌜ h .g + 1 ≤ length (now work) ⌝ }
@@ -91,8 +96,9 @@ fn first_bad_node(image: &[u8], h: Head, work: &mut [u32]) -> usize
     nodes
 }
 
-// Counts the links of node q into the working numbers and answers true, or stops at its first bad link and answers false. Most nodes of a
-// season have no links at all, and are passed over at once.
+// Counts the links of node q into the working numbers and answers true, or stops at its first bad
+// link and answers false. Most nodes of a season have no links at all, and are passed over at
+// once.
 fn tally(image: &[u8], h: Head, mask: u32, q: u32, work: &mut [u32]) -> bool
     requires { ⌜ Open h (now image) ⌝ }
     requires { ⌜ Masks h mask ⌝ }
@@ -121,8 +127,9 @@ fn tally(image: &[u8], h: Head, mask: u32, q: u32, work: &mut [u32]) -> bool
     true
 }
 
-// Are the working numbers of the addresses from 1 on, below `nodes`, all 1? Then neither 7 nor 8 can apply. The loop has no early
-// exit, so that it runs over several numbers at once; "no" promises nothing.
+// Are the working numbers of the addresses from 1 on, below `nodes`, all 1? Then neither 7 nor 8
+// can apply. The loop has no early exit, so that it runs over several numbers at once; "no"
+// promises nothing.
 fn all_once(work: &[u32], nodes: usize) -> bool
     requires { ⌜ nodes ≤ length (now work) ⌝ }
     ensures { λ r. ⌜ (r ≡ true → AllOnce (now (work .entry)) nodes) ⌝ }
@@ -136,7 +143,8 @@ fn all_once(work: &[u32], nodes: usize) -> bool
     once
 }
 
-// The lowest address from 1 on, below `nodes`, whose working number is v; `nodes` where there is none.
+// The lowest address from 1 on, below `nodes`, whose working number is v; `nodes` where there is
+// none.
 fn first_holding(work: &[u32], nodes: usize, v: u32) -> usize
     requires { ⌜ 1 ≤ nodes ⌝ }
     requires { ⌜ nodes ≤ length (now work) ⌝ }

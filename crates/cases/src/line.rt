@@ -1,5 +1,5 @@
-// A line that is read byte by byte: a `Line` is what has been read so far, and `step` takes the next byte. How a line is written stands in
-// main.rt.
+// A line that is read byte by byte: a `Line` is what has been read so far, and `step` takes the
+// next byte. How a line is written stands in main.rt.
 
 // A line: its form, its numbers and its bytes, and where the reading is.
 pub struct Line {
@@ -14,15 +14,16 @@ pub struct Line {
     // The bytes, and how many they are.
     pub bytes: [u8; Line::BYTES],
     pub len: usize,
-    // What is being read, how far the form has come, how many numbers there were, and the digits so far.
+    // What is being read, how far the form has come, how many numbers there were, and the digits
+    // so far.
     mode: u8,
     end: usize,
     count: u8,
     value: u64,
 }
 
-// What is being read: the call, blanks, a number, bytes, a byte's second digit, a text, how often a byte stands; or nothing, since the line is
-// no case.
+// What is being read: the call, blanks, a number, bytes, a byte's second digit, a text, how often
+// a byte stands; or nothing, since the line is no case.
 const WORD: u8 = 0;
 
 const GAP: u8 = 1;

@@ -1,29 +1,30 @@
-// The cases of the public calls, read from standard input, a line for each call. What is written of each: the name of the case, the answer's
-// number and place, its length and value or its change where the call has them, and every lent buffer afterwards. What must be written stands
-// in `stdout`. Document 01's cases stand in `stdin`, and those of a cut between two writes.
+// The cases of the public calls, read from standard input, a line for each call. What is written
+// of each: the name of the case, the answer's number and place, its length and value or its change
+// where the call has them, and every lent buffer afterwards. What must be written stands in
+// `stdout`. Document 01's cases stand in `stdin`, and those of a cut between two writes.
 //
-// A line has the call, its numbers, its bytes, a bar and the name of the case, with a blank between each two:
+// A line has the call, its numbers, its bytes, a bar and the name of the case, with a blank
+// between each two:
 //
 //     store 6 9 x0100 | store letters, P2 BA = 9
 //
-//     image BYTES                              these bytes are the image, and all of it is lent
-//     put AT BYTES                             these bytes stand at a place of the image
-//     lend N                                   so many bytes of the image are lent from here on
-//     make N A D MIN MAX BYTES                 in the lent bytes, with this alphabet
-//     look_up LETTERS                          look_up_text TEXT
-//     check WORK                               with so many working numbers
-//     count WORK                               mend WORK
-//     next_key WORK ROOM LETTERS               next_key_after the same: at or after the key, after it; a buffer of so many letters
-//     store WORK VALUE LETTERS                 store_text WORK VALUE TEXT
-//     store_writes WORK VALUE LETTERS          store_text_writes WORK VALUE TEXT
+// image BYTES these bytes are the image, and all of it is lent put AT BYTES these bytes stand at a
+// place of the image lend N so many bytes of the image are lent from here on make N A D MIN MAX
+// BYTES in the lent bytes, with this alphabet look_up LETTERS look_up_text TEXT check WORK with so
+// many working numbers count WORK mend WORK next_key WORK ROOM LETTERS next_key_after the same: at
+// or after the key, after it; a buffer of so many letters store WORK VALUE LETTERS store_text WORK
+// VALUE TEXT store_writes WORK VALUE LETTERS store_text_writes WORK VALUE TEXT
 //
-// Numbers are decimal. Bytes, letters and text are written alike: x and two hexadecimal digits a byte, or a text in quotes, or both in turn;
-// `.` may stand between two bytes, and `*N` behind one says that it stands N times. So x00*65 is a key of 65 letters, "A"*64"D" a text, and x
-// or "" is nothing. The image is kept from line to line, as the calls leave it. Before each call working numbers and lists of writes hold 7, key
-// buffers AA. A line with nothing before its bar is a remark. Any other line is reported, as in `line 17: not a case`, and the next one is run.
+// Numbers are decimal. Bytes, letters and text are written alike: x and two hexadecimal digits a
+// byte, or a text in quotes, or both in turn; `.` may stand between two bytes, and `*N` behind one
+// says that it stands N times. So x00*65 is a key of 65 letters, "A"*64"D" a text, and x or "" is
+// nothing. The image is kept from line to line, as the calls leave it. Before each call working
+// numbers and lists of writes hold 7, key buffers AA. A line with nothing before its bar is a
+// remark. Any other line is reported, as in `line 17: not a case`, and the next one is run.
 //
-// For a new call: a row at the end of FORMS, one more in CALLS, and an arm with its number in `run`, if it is lent no working numbers, else in
-// `work`, or in `change`, if it changes the image. No proof changes.
+// For a new call: a row at the end of FORMS, one more in CALLS, and an arm with its number in
+// `run`, if it is lent no working numbers, else in `work`, or in `change`, if it changes the
+// image. No proof changes.
 mod line;
 
 ghost use Prim.Native.Nat.{_≤_};
@@ -67,7 +68,8 @@ const FORMS: [[u8; 24]; CALLS] = [
     *b"mend n                  ",
 ];
 
-// What is written besides names and numbers, each up to its full stop. The names below are its rows.
+// What is written besides names and numbers, each up to its full stop. The names below are its
+// rows.
 const WORDS: [[u8; 16]; ROWS] = [
     *b" .              ",
     *b" at .           ",
@@ -127,14 +129,16 @@ const TOO_MANY: usize = 17;
 
 const ROWS: usize = 18;
 
-// The longest text that is read, the longest image, and the most working numbers and letters of a buffer that are lent.
+// The longest text that is read, the longest image, and the most working numbers and letters of a
+// buffer that are lent.
 const TEXT_MOST: usize = 262144;
 
 const IMAGE_MOST: usize = 1024;
 
 const LENT_MOST: usize = 300;
 
-// An image that is longer is shown by its G and the number of bytes that a call changed; of more working numbers, those behind are shown.
+// An image that is longer is shown by its G and the number of bytes that a call changed; of more
+// working numbers, those behind are shown.
 const SHOWN_BYTES: usize = 64;
 
 const SHOWN_NUMBERS: usize = 252;

@@ -1,5 +1,5 @@
--- The outcome of the calls that begin with the check, at each way out: the audit's verdict is what is heard of 1 to 8, and an image that
--- passed them is one to walk through.
+-- The outcome of the calls that begin with the check, at each way out: the audit's verdict is what
+-- is heard of 1 to 8, and an image that passed them is one to walk through.
 use Prim.Native.Nat.{ℕ}
 use mathlib.Core.Path.{_≡_, sym, _∙_, ap}
 use mathlib.Core.Bool.{Bool}
@@ -26,41 +26,49 @@ use Rattle.depths.proofs.Walkable.{Walkable, walkable}
 use Rattle.seeking.specs.Seeking.{Seeks}
 use Rattle.seeking.proofs.Seeking.{refuses}
 
-module _ {l work : List ℕ} {r : Opened} {work′ codes : List ℕ} (o : Checked l work r work′ codes) where
-  -- whatever the numbers of the answer, the working numbers are left as 01 says
-  left : (n : Numbers) → outcome n (work′ ∷ []) ≡ outcome n (workAfter l work ∷ [])
-  left n = ap (λ (w : List ℕ). outcome n (w ∷ [])) (o .numbers)
+module _ {l work : List ℕ} {r : Opened} {work′ codes : List ℕ} (o : Checked l work r work′ codes)
+  where
+    -- whatever the numbers of the answer, the working numbers are left as 01 says
+    left : (n : Numbers) → outcome n (work′ ∷ []) ≡ outcome n (workAfter l work ∷ [])
+    left n = ap (λ (w : List ℕ). outcome n (w ∷ [])) (o .numbers)
 
-  pub checks-refused : {why : Refusal} → r .verdict ≡ Verdict.Refused why → Checks l work (doneOf (Done.Refused why)) work′
-  unfolding checkOf doneOf refusalNumbers
-  checks-refused e = left _ ∙ sym (heard-refused _ _ _ (told-refused (o .verdict) e))
+    pub checks-refused : {why : Refusal} → r .verdict ≡ Verdict.Refused why
+        → Checks l work (doneOf (Done.Refused why)) work′
+    unfolding checkOf doneOf refusalNumbers
+    checks-refused e = left _ ∙ sym (heard-refused _ _ _ (told-refused (o .verdict) e))
 
-  pub checks-done : r .verdict ≡ Verdict.Passed → Checks l work (doneOf Done.Done) work′
-  unfolding checkOf doneOf
-  checks-done e = left _ ∙ sym (heard-done _ _ _ (told-passed (o .verdict) e))
+    pub checks-done : r .verdict ≡ Verdict.Passed → Checks l work (doneOf Done.Done) work′
+    unfolding checkOf doneOf
+    checks-done e = left _ ∙ sym (heard-done _ _ _ (told-passed (o .verdict) e))
 
-  pub counts-refused : {why : Refusal} → r .verdict ≡ Verdict.Refused why → CountsKeys l work (countedOf (Counted.Refused why)) work′
-  unfolding countOf countedOf refusalNumbers
-  counts-refused e = left _ ∙ sym (heard-refused _ _ _ (told-refused (o .verdict) e))
+    pub counts-refused : {why : Refusal} → r .verdict ≡ Verdict.Refused why
+        → CountsKeys l work (countedOf (Counted.Refused why)) work′
+    unfolding countOf countedOf refusalNumbers
+    counts-refused e = left _ ∙ sym (heard-refused _ _ _ (told-refused (o .verdict) e))
 
-  module _ (e : r .verdict ≡ Verdict.Passed) where
-    pub checked-walkable : Walkable (r .head) l
-    checked-walkable = walkable (checked-accepted o e) (checked-head o e)
+    module _ (e : r .verdict ≡ Verdict.Passed) where
+      pub checked-walkable : Walkable (r .head) l
+      checked-walkable = walkable (checked-accepted o e) (checked-head o e)
 
-    pub counts-done : {n : ℕ} → n ≡ length (listing (tableOf (r .head) l) (r .head .n) (r .head .min) (r .head .max))
-        → CountsKeys l work (countedOf (Counted.Keys n)) work′
-    unfolding countOf countedOf storedKeys tableIn
-    counts-done c =
-        left _
-        ∙ ap (λ (m : ℕ). outcome (doneNumbers 0 (pos 0) m) (workAfter l work ∷ [])) (rw (checked-head o e) at c)
-        ∙ sym (heard-done _ _ _ (told-passed (o .verdict) e))
+      pub counts-done : {n : ℕ}
+          → n ≡ length (listing (tableOf (r .head) l) (r .head .n) (r .head .min) (r .head .max))
+          → CountsKeys l work (countedOf (Counted.Keys n)) work′
+      unfolding countOf countedOf storedKeys tableIn
+      counts-done c =
+          left _
+          ∙ ap (λ (m : ℕ). outcome (doneNumbers 0 (pos 0) m) (workAfter l work ∷ []))
+          (rw (checked-head o e) at c)
+          ∙ sym (heard-done _ _ _ (told-passed (o .verdict) e))
 
-  -- whatever is asked for, and whatever buffer was lent
-  module _ (key : List ℕ) (after : Bool) (buffer : List ℕ) where
-    pub nexts-refused : {why : Refusal} → r .verdict ≡ Verdict.Refused why → Nexts l work key after buffer (foundOf (Found.Refused why)) work′ buffer
-    nexts-refused {why} e =
-        rw (o .numbers) (refuses l work key after buffer why (first-part (checkOrder l work) _ (told-refused (o .verdict) e)))
+    -- whatever is asked for, and whatever buffer was lent
+    module _ (key : List ℕ) (after : Bool) (buffer : List ℕ) where
+      pub nexts-refused : {why : Refusal} → r .verdict ≡ Verdict.Refused why
+          → Nexts l work key after buffer (foundOf (Found.Refused why)) work′ buffer
+      nexts-refused {why} e =
+          rw (o .numbers) (refuses l work key after buffer why
+          (first-part (checkOrder l work) _ (told-refused (o .verdict) e)))
 
-    pub nexts-seek : (f : Found) {buffer′ : List ℕ} → r .verdict ≡ Verdict.Passed → Seeks l key after buffer f buffer′
-        → Nexts l work key after buffer (foundOf f) work′ buffer′
-    nexts-seek f e s = rw (o .numbers) (s work (told-passed (o .verdict) e))
+      pub nexts-seek : (f : Found) {buffer′ : List ℕ} → r .verdict ≡ Verdict.Passed
+          → Seeks l key after buffer f buffer′
+          → Nexts l work key after buffer (foundOf f) work′ buffer′
+      nexts-seek f e s = rw (o .numbers) (s work (told-passed (o .verdict) e))

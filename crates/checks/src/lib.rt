@@ -1,5 +1,6 @@
-// The calls that begin with the check and only read: the check itself, the number of keys, the next key. None has a `requires`: any bytes or
-// key may be handed over. Each promises one line, that the numbers of its answer and every lent buffer's last content are the outcome that
+// The calls that begin with the check and only read: the check itself, the number of keys, the
+// next key. None has a `requires`: any bytes or key may be handed over. Each promises one line,
+// that the numbers of its answer and every lent buffer's last content are the outcome that
 // document 01 states (crate `paper`).
 ghost use Rattle.paper.specs.Answers.{doneOf, countedOf, foundOf};
 ghost use Rattle.paper.specs.Promises.{Checks, CountsKeys, Nexts};
@@ -11,7 +12,8 @@ use paper::Verdict;
 
 // Checks an image over lent working numbers. Refusals: 1 to 8.
 pub fn check(image: &[u8], work: &mut [u32]) -> Done
-    ensures { λ r. ⌜ Checks (now (image .entry)) (now (work .entry)) (doneOf r) (now (work .exit)) ⌝ }
+    ensures { λ r. ⌜ Checks (now (image .entry)) (now (work .entry)) (doneOf r)
+        (now (work .exit)) ⌝ }
 {
     let mut codes = [0u32; Head::N_MOST as usize];
     let checked = audit::check(image, work, &mut codes);
@@ -24,7 +26,8 @@ pub fn check(image: &[u8], work: &mut [u32]) -> Done
 
 // The number of stored keys of an image. Refusals: 1 to 8.
 pub fn count(image: &[u8], work: &mut [u32]) -> Counted
-    ensures { λ r. ⌜ CountsKeys (now (image .entry)) (now (work .entry)) (countedOf r) (now (work .exit)) ⌝ }
+    ensures { λ r. ⌜ CountsKeys (now (image .entry)) (now (work .entry)) (countedOf r)
+        (now (work .exit)) ⌝ }
 {
     let mut codes = [0u32; Head::N_MOST as usize];
     let checked = audit::check(image, work, &mut codes);
@@ -35,8 +38,9 @@ pub fn count(image: &[u8], work: &mut [u32]) -> Counted
     }
 }
 
-// The first stored key at or after the key given or, with `after`, after it: its letters at the front of the key buffer, its length and its
-// value. Refusals: 1 to 8, 9 for a key longer than max, 10, 14, 15.
+// The first stored key at or after the key given or, with `after`, after it: its letters at the
+// front of the key buffer, its length and its value. Refusals: 1 to 8, 9 for a key longer than
+// max, 10, 14, 15.
 pub fn next_key(
     image: &[u8],
     work: &mut [u32],
@@ -44,7 +48,8 @@ pub fn next_key(
     after: bool,
     buffer: &mut [u8],
 ) -> Found
-    ensures { λ r. ⌜ Nexts (now (image .entry)) (now (work .entry)) (now (letters .entry)) after (now (buffer .entry)) (foundOf r) (now (work .exit)) (now (buffer .exit)) ⌝ }
+    ensures { λ r. ⌜ Nexts (now (image .entry)) (now (work .entry)) (now (letters .entry)) after
+        (now (buffer .entry)) (foundOf r) (now (work .exit)) (now (buffer .exit)) ⌝ }
 {
     let mut codes = [0u32; Head::N_MOST as usize];
     let checked = audit::check(image, work, &mut codes);

@@ -1,5 +1,7 @@
--- What is heard at each way out of the comparing: what the check with a part of the working numbers says or, where it passes, 25. The fresh counts
--- stand at the front of the working numbers, so that holding the two lists against each other is row 25, and clearing them leaves what the check left.
+-- What is heard at each way out of the comparing: what the check with a part of the working
+-- numbers says or, where it passes, 25. The fresh counts stand at the front of the working
+-- numbers, so that holding the two lists against each other is row 25, and clearing them leaves
+-- what the check left.
 use Prim.Native.Nat.{ℕ, _+_, _≤_, _<_, _^_}
 use native.Mathlib.Omega.{arith}
 use mathlib.Core.Path.{_≡_, refl, sym, _∙_, ap}
@@ -32,7 +34,8 @@ use Rattle.audit.proofs.LowestFound.{lowest-same}
 use Rattle.comparing.specs.Comparing.{CheckedBoth, Compared}
 
 -- the counts worked out leave what stands past them
-worked-drop : (l c : List ℕ) → headOf l .g + 1 ≤ length c → drop (headOf l .g + 1) (worked l c) ≡ drop (headOf l .g + 1) c
+worked-drop : (l c : List ℕ) → headOf l .g + 1 ≤ length c → drop (headOf l .g + 1) (worked l c)
+    ≡ drop (headOf l .g + 1) c
 unfolding worked
 worked-drop l c b =
     let n = counts-length l in
@@ -47,7 +50,8 @@ unfolding first
 last-row none = refl
 last-row (some s) = refl
 
-module _ (l work counts : List ℕ) {r : Opened} {work₁ codes : List ℕ} (o : CheckedBoth l work (length counts) r work₁ codes) where
+module _ (l work counts : List ℕ) {r : Opened} {work₁ codes : List ℕ}
+    (o : CheckedBoth l work (length counts) r work₁ codes) where
   told : rowOf (r .verdict) ≡ first (countsOrder l work counts)
   unfolding countsOrder usable
   told = o .verdict
@@ -56,12 +60,15 @@ module _ (l work counts : List ℕ) {r : Opened} {work₁ codes : List ℕ} (o :
   unfolding workLeft usable
   left = o .numbers
 
-  pub compared-refused : {why : Refusal} → r .verdict ≡ Verdict.Refused why → Compared l work counts r work₁ codes
+  pub compared-refused : {why : Refusal} → r .verdict ≡ Verdict.Refused why
+      → Compared l work counts r work₁ codes
   unfolding checkCountsOrder
   compared-refused e =
       let refused = told-refused told e in
       record {
-        verdict = told ∙ refused ∙ sym (first-part (countsOrder l work counts) (row25 l counts ∷ []) refused);
+        verdict =
+            told ∙ refused ∙ sym (first-part (countsOrder l work counts) (row25 l counts ∷ [])
+            refused);
         numbers = left;
         head = o .head;
         decoded = o .decoded;
@@ -87,8 +94,13 @@ module _ (l work counts : List ℕ) {r : Opened} {work₁ codes : List ℕ} (o :
 
     pub long-work : headOf l .g + 1 ≤ length work₁
     long-work =
-        omega
-        (arith, ap length cleared, length-append (replicate {A = ℕ} (headOf l .g + 1) 0) (drop (headOf l .g + 1) work), length-replicate {A = ℕ} (headOf l .g + 1) 0)
+        omega (
+          arith,
+          ap length cleared,
+          length-append (replicate {A = ℕ} (headOf l .g + 1) 0)
+              (drop (headOf l .g + 1) work),
+          length-replicate {A = ℕ} (headOf l .g + 1) 0,
+        )
 
     -- what the check left begins with zeros, so that the counts can be added up there
     pub zeros-work : work₁ ≡ replicate (headOf l .g + 1) 0 ++ drop (headOf l .g + 1) work₁
@@ -100,15 +112,21 @@ module _ (l work counts : List ℕ) {r : Opened} {work₁ codes : List ℕ} (o :
       fresh-long = ap length weighed ∙ worked-length l work₁
 
       fresh-count : (q : ℕ) → q < headOf l .g + 1 → getD fresh q 0 ≡ countIn l q
-      fresh-count q b = ap (λ (w : List ℕ). getD w q 0) weighed ∙ worked-right l work₁ long-work .each q (omega arith)
+      fresh-count q b = ap (λ (w : List ℕ). getD w q 0) weighed
+          ∙ worked-right l work₁ long-work .each q (omega arith)
 
       -- what was found is row 25's place
-      pub lowest-25 : {differs : ℕ} → differs ≡ lowest (λ q. not (eqb (getD counts q 0) (getD fresh q 0))) 0 (headOf l .g + 1)
+      pub lowest-25 : {differs : ℕ}
+          → differs ≡ lowest (λ q. not (eqb (getD counts q 0) (getD fresh q 0))) 0
+          (headOf l .g + 1)
           → rowWhen 25 differs (ltb differs (headOf l .g + 1)) ≡ row25 l counts
       unfolding row25 rowWhenLowest
       lowest-25 {differs} f =
-          let same : differs ≡ lowest (λ q. not (eqb (getD counts q 0) (countIn l q))) 0 (headOf l .g + 1) =
-          f ∙ lowest-same _ _ 0 (headOf l .g + 1) (λ q low high. ap (λ (n : ℕ). not (eqb (getD counts q 0) n)) (fresh-count q (omega arith))) in
+          let same : differs ≡ lowest (λ q. not (eqb (getD counts q 0) (countIn l q))) 0
+          (headOf l .g + 1) =
+          f ∙ lowest-same _ _ 0 (headOf l .g + 1)
+          (λ q low high. ap (λ (n : ℕ). not (eqb (getD counts q 0) n))
+          (fresh-count q (omega arith))) in
           let k : 0 + (headOf l .g + 1) ≡ headOf l .g + 1 = omega arith in
           rw (k, ← same)
 
@@ -116,16 +134,20 @@ module _ (l work counts : List ℕ) {r : Opened} {work₁ codes : List ℕ} (o :
           → differs ≡ lowest (λ q. not (eqb (getD counts q 0) (getD fresh q 0))) 0 nodes
           → rowOf v ≡ rowWhen 25 differs (ltb differs nodes)
           → last ≡ replicate nodes 0 ++ drop nodes fresh
-          → Compared l work counts (record { verdict = v; head = r .head; count = r .count }) last codes
+          → Compared l work counts (record { verdict = v; head = r .head; count = r .count }) last
+          codes
       unfolding checkCountsOrder countsOrder
       compared {v = v} n f says clears =
           let d = o .decoded (told-passed refl e) in
           record {
             verdict = (rw n at says)
                 ∙ lowest-25 (rw n at f)
-                ∙ sym (second-part (checkOrder l (usable work counts)) (row25 l counts ∷ []) passes ∙ last-row (row25 l counts));
+                ∙ sym (second-part (checkOrder l (usable work counts)) (row25 l counts ∷ []) passes
+                ∙ last-row (row25 l counts));
             numbers = (rw n at clears)
-                ∙ ap (replicate (headOf l .g + 1) 0 ++_) (ap (drop (headOf l .g + 1)) weighed ∙ worked-drop l work₁ long-work ∙ cleared-rest (headOf l .g + 1) work cleared)
+                ∙ ap (replicate (headOf l .g + 1) 0 ++_)
+                (ap (drop (headOf l .g + 1)) weighed ∙ worked-drop l work₁ long-work
+                ∙ cleared-rest (headOf l .g + 1) work cleared)
                 ∙ sym (work-left l work counts passes .1);
             head = λ _. compared-head;
             decoded = λ _. record { count = d .count; codes = d .codes };

@@ -23,7 +23,8 @@ use Rattle.comparing.specs.Comparing.{CheckedBoth, Alike}
 pub record Same (fresh counts : List ℕ) (same : Bool) (q : ℕ) : Type 0 where
   pub told : same ≡ true → Alike fresh counts q
 
-pub same-start : {fresh counts : List ℕ} {from q : ℕ} → q ≤ from → Alike fresh counts from → Same fresh counts true q
+pub same-start : {fresh counts : List ℕ} {from q : ℕ} → q ≤ from → Alike fresh counts from
+    → Same fresh counts true q
 same-start low a = record { told = λ e r b. a r (omega arith) }
 
 pub same-none : (fresh counts : List ℕ) → Same fresh counts true 0
@@ -31,16 +32,21 @@ same-none fresh counts = record { told = λ e q b. absurd (omega arith) }
 
 module _ {fresh counts : List ℕ} {same : Bool} {q : ℕ} (p : Same fresh counts same q) where
   -- one number more
-  pub same-more : {next : ℕ} → next ≤ q + 1 → Same fresh counts (same && eqb (getD counts q 0) (getD fresh q 0)) next
+  pub same-more : {next : ℕ} → next ≤ q + 1
+      → Same fresh counts (same && eqb (getD counts q 0) (getD fresh q 0)) next
   same-more {next} near = record { told = λ e r b. go e r b (ℕ-discrete r q) }
     where
-      go : (same && eqb (getD counts q 0) (getD fresh q 0)) ≡ true → (r : ℕ) → r < next → Dec (r ≡ q) → getD counts r 0 ≡ getD fresh r 0
+      go : (same && eqb (getD counts q 0) (getD fresh q 0)) ≡ true → (r : ℕ) → r < next
+          → Dec (r ≡ q) → getD counts r 0 ≡ getD fresh r 0
       go e r b (yes here) = rw here (eqb-true _ _ (both same _ e .1))
       go e r b (no other) = p .told (both same _ e .0) r (omega arith)
 
   -- a part more
-  pub same-part : {part : Bool} {next : ℕ} → (part ≡ true → Alike fresh counts q → Alike fresh counts next) → Same fresh counts (same && part) next
-  same-part {part} on = record { told = λ e. on (both same part e .1) (p .told (both same part e .0)) }
+  pub same-part : {part : Bool} {next : ℕ}
+      → (part ≡ true → Alike fresh counts q → Alike fresh counts next)
+      → Same fresh counts (same && part) next
+  same-part {part} on =
+      record { told = λ e. on (both same part e .1) (p .told (both same part e .0)) }
 
   pub same-all : {nodes : ℕ} → nodes ≤ q → same ≡ true → Alike fresh counts nodes
   same-all high e r b = p .told e r (omega arith)
@@ -50,27 +56,32 @@ pub alike-nowhere : (fresh counts : List ℕ) (nodes : ℕ) → Alike fresh coun
     → nodes ≡ lowest (λ q. not (eqb (getD counts q 0) (getD fresh q 0))) 0 nodes
 alike-nowhere fresh counts nodes a =
     let e : 0 + nodes ≡ nodes = omega arith in
-    sym (lowest-none (λ q. not (eqb (getD counts q 0) (getD fresh q 0))) 0 nodes (λ q low high. rw (eq-eqb _ _ (a q (omega arith)))) ∙ e)
+    sym (lowest-none (λ q. not (eqb (getD counts q 0) (getD fresh q 0))) 0 nodes
+    (λ q low high. rw (eq-eqb _ _ (a q (omega arith)))) ∙ e)
 
 -- ---- the part lent
 
 -- no more of a list than there is
-pub take-lesser : (lent : ℕ) (l : List ℕ) {most : ℕ} → most ≡ min lent (length l) → take most l ≡ take lent l
+pub take-lesser : (lent : ℕ) (l : List ℕ) {most : ℕ} → most ≡ min lent (length l) → take most l
+    ≡ take lent l
 take-lesser lent l {most} e = go (decLe (length l) lent)
   where
     go : Dec (length l ≤ lent) → take most l ≡ take lent l
     go (yes b) = take-all most l (omega arith) ∙ sym (take-all lent l b)
     go (no b) = let f : most ≡ lent = omega arith in ap (λ n. take n l) f
 
-pub drop-lesser : (lent : ℕ) (l : List ℕ) {most : ℕ} → most ≡ min lent (length l) → drop most l ≡ drop lent l
+pub drop-lesser : (lent : ℕ) (l : List ℕ) {most : ℕ} → most ≡ min lent (length l) → drop most l
+    ≡ drop lent l
 drop-lesser lent l {most} e = go (decLe (length l) lent)
   where
     go : Dec (length l ≤ lent) → drop most l ≡ drop lent l
     go (yes b) = drop-of-length-le l {i = most} (omega arith) ∙ sym (drop-of-length-le l b)
     go (no b) = let f : most ≡ lent = omega arith in ap (λ n. drop n l) f
 
-pub checked-both : {l work : List ℕ} {lent most : ℕ} {r : Opened} {part codes : List ℕ} → most ≡ min lent (length work)
-    → Checked l (take most work) r part codes → CheckedBoth l work lent r (part ++ drop most work) codes
+pub checked-both : {l work : List ℕ} {lent most : ℕ} {r : Opened} {part codes : List ℕ}
+    → most ≡ min lent (length work)
+    → Checked l (take most work) r part codes → CheckedBoth l work lent r (part ++ drop most work)
+    codes
 checked-both {l} {work} {lent} {most} e c =
     let t = take-lesser lent work e in
     record {

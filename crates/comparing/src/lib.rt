@@ -1,4 +1,5 @@
-// The check of an image with counts beside it: 1 to 8, with 5 for either list, and 25. Neither function has a `requires`.
+// The check of an image with counts beside it: 1 to 8, with 5 for either list, and 25. Neither
+// function has a `requires`.
 ghost use mathlib.Core.Path.{_≡_};
 ghost use mathlib.Core.Bool.{true, not};
 ghost use Prim.Native.Nat.{_+_, _^_, _≤_, min};
@@ -13,14 +14,16 @@ use opening::Opened;
 use paper::Refusal;
 use paper::Verdict;
 
-// 1 to 8 of an image, where `lent` counts stand beside the working numbers: the check is lent no more of these than there are counts.
+// 1 to 8 of an image, where `lent` counts stand beside the working numbers: the check is lent no
+// more of these than there are counts.
 pub fn check_both(
     image: &[u8],
     work: &mut [u32],
     lent: usize,
     codes: &mut [u32; Head::N_MOST as usize],
 ) -> Opened
-    ensures { λ r. ⌜ CheckedBoth (now (image .entry)) (now (work .entry)) lent r (now (work .exit)) (now (codes .exit)) ⌝ }
+    ensures { λ r. ⌜ CheckedBoth (now (image .entry)) (now (work .entry)) lent r (now (work .exit))
+        (now (codes .exit)) ⌝ }
 {
     let most = lesser(lent, work.len());
     audit::check(image, &mut work[0..most], codes)
@@ -39,7 +42,8 @@ pub fn compare(
     counts: &[u32],
     codes: &mut [u32; Head::N_MOST as usize],
 ) -> Opened
-    ensures { λ r. ⌜ Compared (now (image .entry)) (now (work .entry)) (now (counts .entry)) r (now (work .exit)) (now (codes .exit)) ⌝ }
+    ensures { λ r. ⌜ Compared (now (image .entry)) (now (work .entry)) (now (counts .entry)) r
+        (now (work .exit)) (now (codes .exit)) ⌝ }
 {
     let checked = check_both(image, work, counts.len(), codes);
     let verdict = checked.verdict;
@@ -71,11 +75,13 @@ fn judge(differs: usize, nodes: usize) -> Verdict
     Verdict::Passed
 }
 
-// The lowest of the first `nodes` nodes whose two numbers differ, `nodes` where none does. `alike` has no early exit, so that it runs
-// over several numbers at once.
+// The lowest of the first `nodes` nodes whose two numbers differ, `nodes` where none does. `alike`
+// has no early exit, so that it runs over several numbers at once.
 fn first_different(fresh: &[u32], counts: &[u32], nodes: usize) -> usize
     requires { ⌜ nodes ≤ length (now fresh) ⌝ ∗ ⌜ nodes ≤ length (now counts) ⌝ }
-    ensures { λ r. ⌜ r ≡ lowest (λ q. not (eqb (getD (now (counts .entry)) q 0) (getD (now (fresh .entry)) q 0))) 0 nodes ⌝ }
+    ensures { λ r. ⌜ r ≡ lowest
+        (λ q. not (eqb (getD (now (counts .entry)) q 0) (getD (now (fresh .entry)) q 0))) 0
+        nodes ⌝ }
 {
     if alike(fresh, counts, nodes) {
         return nodes;
@@ -90,7 +96,8 @@ fn first_different(fresh: &[u32], counts: &[u32], nodes: usize) -> usize
     nodes
 }
 
-// How many numbers are held against each other at a time: a length that the compiler knows, so that they are compared by straight code.
+// How many numbers are held against each other at a time: a length that the compiler knows, so
+// that they are compared by straight code.
 const PART: usize = 128;
 
 // Are the first `nodes` numbers of the two lists the same? "No" promises nothing.
@@ -110,7 +117,8 @@ fn alike(fresh: &[u32], counts: &[u32], nodes: usize) -> bool
 // Are the `many` numbers after the first `from` the same too? The loop has no early exit.
 fn alike_part(fresh: &[u32], counts: &[u32], from: usize, many: usize) -> bool
     requires { ⌜ from + many ≤ length (now fresh) ⌝ ∗ ⌜ from + many ≤ length (now counts) ⌝ }
-    ensures { λ r. ⌜ (r ≡ true → Alike (now (fresh .entry)) (now (counts .entry)) from → Alike (now (fresh .entry)) (now (counts .entry)) (from + many)) ⌝ }
+    ensures { λ r. ⌜ (r ≡ true → Alike (now (fresh .entry)) (now (counts .entry)) from
+        → Alike (now (fresh .entry)) (now (counts .entry)) (from + many)) ⌝ }
 {
     let mut same = true;
     let mut i: usize = 0;

@@ -1,5 +1,6 @@
--- The count of a node's keys from letter to letter: what was counted and what is still to come make up the whole. A link adds the
--- child's own key, one or none, and what is counted below the child.
+-- The count of a node's keys from letter to letter: what was counted and what is still to come
+-- make up the whole. A link adds the child's own key, one or none, and what is counted below the
+-- child.
 use Prim.Native.Nat.{ℕ, _+_, _-_, _<_, _≤_}
 use native.Mathlib.Nat.{sub-zero}
 use native.Mathlib.Numerals.{add-one}
@@ -30,21 +31,27 @@ module _ (h : Head) (t : Table) where
   owned-one q depth e full = ap length (own-full h t q depth (λ z. full (e ∙ z)))
 
   pub listed : length (listing t (h .n) (h .min) (h .max)) ≡ owned 0 0 + left 0 0 0
-  listed = rw (sub-zero (h .min), sub-zero (h .max)) (ap length (under-split t (h .n) (h .min) (h .max) 0) ∙ simp length-append)
+  listed = rw (sub-zero (h .min), sub-zero (h .max))
+      (ap length (under-split t (h .n) (h .min) (h .max) 0) ∙ simp length-append)
 
   -- there is nothing below a node without keys below it, and past the last letter
-  pub left-no-keys : (q depth i : ℕ) {r : Bool} → KeysBelow h t q depth r → r ≡ true → left q depth i ≡ 0
+  pub left-no-keys : (q depth i : ℕ) {r : Bool} → KeysBelow h t q depth r → r ≡ true
+      → left q depth i ≡ 0
   left-no-keys q depth i b e = ap length (b .nothing e i)
 
   pub left-none : (q depth i : ℕ) → h .n ≤ i → left q depth i ≡ 0
   left-none q depth i b = ap length (from-none t (h .n) (h .min - depth) (h .max - depth) q i b)
 
-  -- a letter more: nothing by an empty link, by any other the child's own key and those below the child
-  pub left-empty : (q depth i : ℕ) {c : ℕ} → i < h .n → c ≡ t .child q i → c ≡ 0 → left q depth i ≡ left q depth (i + 1)
+  -- a letter more: nothing by an empty link, by any other the child's own key and those below the
+  -- child
+  pub left-empty : (q depth i : ℕ) {c : ℕ} → i < h .n → c ≡ t .child q i → c ≡ 0 → left q depth i
+      ≡ left q depth (i + 1)
   left-empty q depth i b e empty =
-      rw add-one (ap length (from-empty t (h .n) (h .min - depth) (h .max - depth) q i b (sym e ∙ empty)))
+      rw add-one (ap length (from-empty t (h .n) (h .min - depth) (h .max - depth) q i b
+      (sym e ∙ empty)))
 
   pub left-link : (q depth i : ℕ) {c : ℕ} → depth < h .max → i < h .n → c ≡ t .child q i → c ≢ 0
       → left q depth i ≡ owned c (depth + 1) + left c (depth + 1) 0 + left q depth (i + 1)
   left-link q depth i deep b e full =
-      rw (add-one depth, add-one i) (ap length (from-link h t q depth i deep b (sym e) full) ∙ simp (length-append, length-map))
+      rw (add-one depth, add-one i) (ap length (from-link h t q depth i deep b (sym e) full)
+      ∙ simp (length-append, length-map))

@@ -13,10 +13,11 @@ use head::Head;
 pub fn count(image: &[u8], h: Head) -> u32
     requires { ⌜ Open h (now image) ⌝ ∗ ⌜ Within (tableOf h (now image)) (h .g) ⌝ }
     requires { ⌜ length (listing (tableOf h (now image)) (h .n) (h .min) (h .max)) < 2 ^ 32 ⌝ }
-    ensures { λ r. ⌜ r ≡ length (listing (tableOf h (now (image .entry))) (h .n) (h .min) (h .max)) ⌝ }
+    ensures { λ r. ⌜ r ≡ length
+        (listing (tableOf h (now (image .entry))) (h .n) (h .min) (h .max)) ⌝ }
 {
-    let ones = node::greatest(h);
-    let own = if depths::own_value_by(image, h, ones, 0, 0) == 0 {
+    let data_mask = node::greatest(h);
+    let own = if depths::own_value_by(image, h, data_mask, 0, 0) == 0 {
         0
     } else {
         1
@@ -24,16 +25,29 @@ pub fn count(image: &[u8], h: Head) -> u32
     if depths::no_keys_below(image, h, 0, 0) {
         return own;
     }
-    counted(image, h, node::mask(h), ones, 0, 0, own)
+    counted(image, h, node::mask(h), data_mask, 0, 0, own)
 }
 
-// The stored keys below a node at a depth, its own left out, counted onto those counted before. It calls itself on each child; the depth
-// left to max falls.
-fn counted(image: &[u8], h: Head, mask: u32, ones: u32, node: u32, depth: usize, before: u32) -> u32
-    requires { ⌜ Open h (now image) ⌝ ∗ ⌜ Within (tableOf h (now image)) (h .g) ⌝ ∗ ⌜ ReadMasks h mask ones ⌝ }
+// The stored keys below a node at a depth, its own left out, counted onto those counted before. It
+// calls itself on each child; the depth left to max falls.
+fn counted(
+    image: &[u8],
+    h: Head,
+    mask: u32,
+    data_mask: u32,
+    node: u32,
+    depth: usize,
+    before: u32,
+) -> u32
+    requires { ⌜ Open h (now image) ⌝ ∗ ⌜ Within (tableOf h (now image)) (h .g) ⌝
+        ∗ ⌜ ReadMasks h mask data_mask ⌝ }
     requires { ⌜ node ≤ h .g ⌝ ∗ ⌜ depth < h .max ⌝ }
-    requires { ⌜ before + length (keysFrom (tableOf h (now image)) (h .n) (h .min - depth) (h .max - depth) node 0) < 2 ^ 32 ⌝ }
-    ensures { λ r. ⌜ r ≡ before + length (keysFrom (tableOf h (now (image .entry))) (h .n) (h .min - depth) (h .max - depth) node 0) ⌝ }
+    requires { ⌜ before + length
+        (keysFrom (tableOf h (now image)) (h .n) (h .min - depth) (h .max - depth) node 0)
+        < 2 ^ 32 ⌝ }
+    ensures { λ r. ⌜ r ≡ before
+        + length (keysFrom (tableOf h (now (image .entry))) (h .n) (h .min - depth)
+        (h .max - depth) node 0) ⌝ }
 {
     let mut sum = before;
     for i in 0..h.n {
@@ -41,13 +55,13 @@ fn counted(image: &[u8], h: Head, mask: u32, ones: u32, node: u32, depth: usize,
         if c == 0 {
             continue;
         }
-        if depths::own_value_by(image, h, ones, c, depth + 1) != 0 {
+        if depths::own_value_by(image, h, data_mask, c, depth + 1) != 0 {
             sum += 1;
         }
         if depths::no_keys_below(image, h, c, depth + 1) {
             continue;
         }
-        sum = counted(image, h, mask, ones, c, depth + 1, sum);
+        sum = counted(image, h, mask, data_mask, c, depth + 1, sum);
     }
     sum
 }

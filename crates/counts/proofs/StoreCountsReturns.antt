@@ -1,5 +1,5 @@
--- The outcome of a store with counts, at each way out: refused in front of 11, or what stands behind 10. It is said once for a key given by
--- letters or by text.
+-- The outcome of a store with counts, at each way out: refused in front of 11, or what stands
+-- behind 10. It is said once for a key given by letters or by text.
 use Prim.Native.Nat.{ℕ}
 use mathlib.Core.Path.{_≡_, refl, sym, _∙_, ap}
 use mathlib.Core.Bool.{true}
@@ -33,7 +33,8 @@ use Rattle.tracking.specs.Tracking.{addingCountsRows, storeCounted, StoresCount
 
 -- ---- one buffer more, between the two
 
-between-them : (w : List ℕ) {m n : Numbers} {x y i j : List ℕ} → outcome m (x ∷ y ∷ []) ≡ outcome n (i ∷ j ∷ [])
+between-them : (w : List ℕ) {m n : Numbers} {x y i j : List ℕ} → outcome m (x ∷ y ∷ [])
+    ≡ outcome n (i ∷ j ∷ [])
     → outcome m (x ∷ w ∷ y ∷ []) ≡ outcome n (i ∷ w ∷ j ∷ [])
 between-them w e =
     let numbers = ap (λ (o : Outcome). o .numbers) e in
@@ -71,38 +72,45 @@ module _ (l work : List ℕ) (given : Given) (value : ℕ) (counts : List ℕ) w
   abbrev stored : Outcome
   stored = outcome done (image ∷ left ∷ worked image counts ∷ [])
 
-  asked : storeCountsOf l work given value counts ≡ heard (first (front ++ rest)) (l ∷ left ∷ counts ∷ []) stored
+  asked : storeCountsOf l work given value counts ≡ heard (first (front ++ rest))
+      (l ∷ left ∷ counts ∷ []) stored
   unfolding storeCountsOf storeCountsOrder
   asked =
       ap (λ (rows : List Row). heard (first rows) (l ∷ left ∷ counts ∷ []) stored)
       (sym (append-assoc (checkCountsOrder l work counts) (keyRows l given) rest))
 
   refuses : (why : Refusal) → first front ≡ some (saidOf why)
-      → storeCountsOf l work given value counts ≡ outcome (refusalNumbers why) (l ∷ left ∷ counts ∷ [])
+      → storeCountsOf l work given value counts ≡ outcome (refusalNumbers why)
+      (l ∷ left ∷ counts ∷ [])
   unfolding refusalNumbers
   refuses why e = asked ∙ heard-refused _ _ _ (first-part front rest e)
 
-  stores : first front ≡ none → (r : Stored) {l′ counts′ : List ℕ} → StoresCounted l key value counts r l′ counts′
+  stores : first front ≡ none → (r : Stored) {l′ counts′ : List ℕ}
+      → StoresCounted l key value counts r l′ counts′
       → StoresCounts l work given value counts (storedOf r) l′ left counts′
   unfolding storeCounted
   stores passed r e =
       more left (first rest) done l counts image (worked image counts) e
-      ∙ sym (asked ∙ ap (λ (row : Row). heard row (l ∷ left ∷ counts ∷ []) stored) (second-part front rest passed))
+      ∙ sym (asked ∙ ap (λ (row : Row). heard row (l ∷ left ∷ counts ∷ []) stored)
+      (second-part front rest passed))
 
 -- ---- the ways out
 
-module _ {l : List ℕ} (work counts : List ℕ) {given : Given} {r : Asked} {work′ : List ℕ} (a : AsksCounts l work counts given r work′) where
+module _ {l : List ℕ} (work counts : List ℕ) {given : Given} {r : Asked} {work′ : List ℕ}
+    (a : AsksCounts l work counts given r work′) where
   pub store-counts-refused : (value : ℕ) {why : Refusal} → r .verdict ≡ Verdict.Refused why
       → StoresCounts l work given value counts (storedOf (Stored.Refused why)) l work′ counts
   unfolding storedOf
-  store-counts-refused value {why} e = rw (a .numbers) (sym (refuses l work given value counts why (told-refused (a .verdict) e)))
+  store-counts-refused value {why} e =
+      rw (a .numbers) (sym (refuses l work given value counts why (told-refused (a .verdict) e)))
 
   module _ (e : r .verdict ≡ Verdict.Passed) where
     -- what the part behind 10 asks for
     pub store-counted-asks : Accepted l
         × ((r .head ≡ headOf l)
         × (Ready (r .head) (r .key)
-        × ((between (length (lettersOf (r .key))) (r .head .min) (r .head .max) ≡ true) × RightCounts l counts)))
+        × ((between (length (lettersOf (r .key))) (r .head .min) (r .head .max) ≡ true)
+        × RightCounts l counts)))
     store-counted-asks =
         let b = store-asks a e in
         (b .0, (b .1 .0, (b .1 .1, (asked-length work counts a e, asked-right work counts a e))))
@@ -112,4 +120,5 @@ module _ {l : List ℕ} (work counts : List ℕ) {given : Given} {r : Asked} {wo
         → StoresCounts l work given value counts (storedOf s) l′ work′ counts′
     store-counts-passed value s g =
         let same = a .allowed (told-passed refl e) .letters in
-        rw (a .numbers) (stores l work given value counts (told-passed (a .verdict) e) s (rw same at g))
+        rw (a .numbers) (stores l work given value counts (told-passed (a .verdict) e) s
+        (rw same at g))

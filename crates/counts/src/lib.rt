@@ -1,5 +1,6 @@
-// The calls that keep counts beside an image: working them out, the check with counts, and the stores with counts. None has a `requires`: any
-// bytes, counts, key, text or value may be handed over. Each promises one line, that the numbers of its answer and every lent buffer's last
+// The calls that keep counts beside an image: working them out, the check with counts, and the
+// stores with counts. None has a `requires`: any bytes, counts, key, text or value may be handed
+// over. Each promises one line, that the numbers of its answer and every lent buffer's last
 // content are the outcome that document 02 states (crate `position`).
 ghost use Rattle.paper.specs.Answers.{doneOf, storedOf};
 ghost use Rattle.paper.specs.Given.{asLetters, asText};
@@ -9,9 +10,11 @@ use paper::Done;
 use paper::Stored;
 use paper::Verdict;
 
-// Works the counts out afresh into the front of the list. Refusals: 1 to 8, where 5 is also for a list of counts shorter than G+1.
+// Works the counts out afresh into the front of the list. Refusals: 1 to 8, where 5 is also for a
+// list of counts shorter than G+1.
 pub fn counts(image: &[u8], work: &mut [u32], list: &mut [u32]) -> Done
-    ensures { λ r. ⌜ WorksOut (now (image .entry)) (now (work .entry)) (now (list .entry)) (doneOf r) (now (work .exit)) (now (list .exit)) ⌝ }
+    ensures { λ r. ⌜ WorksOut (now (image .entry)) (now (work .entry)) (now (list .entry))
+        (doneOf r) (now (work .exit)) (now (list .exit)) ⌝ }
 {
     let mut codes = [0u32; Head::N_MOST as usize];
     let checked = comparing::check_both(image, work, list.len(), &mut codes);
@@ -25,9 +28,11 @@ pub fn counts(image: &[u8], work: &mut [u32], list: &mut [u32]) -> Done
     }
 }
 
-// Checks an image and holds the counts against fresh ones. Refusals: 1 to 8, with 5 for either list, 25.
+// Checks an image and holds the counts against fresh ones. Refusals: 1 to 8, with 5 for either
+// list, 25.
 pub fn check_counts(image: &[u8], work: &mut [u32], list: &[u32]) -> Done
-    ensures { λ r. ⌜ ChecksCounts (now (image .entry)) (now (work .entry)) (now (list .entry)) (doneOf r) (now (work .exit)) ⌝ }
+    ensures { λ r. ⌜ ChecksCounts (now (image .entry)) (now (work .entry)) (now (list .entry))
+        (doneOf r) (now (work .exit)) ⌝ }
 {
     let mut codes = [0u32; Head::N_MOST as usize];
     let compared = comparing::compare(image, work, list, &mut codes);
@@ -38,8 +43,9 @@ pub fn check_counts(image: &[u8], work: &mut [u32], list: &[u32]) -> Done
     }
 }
 
-// Stores a value under a key given by its letters, 0 to delete it, and keeps the counts right; the answer is the change in the number of stored
-// keys. Refusals: 1 to 8, with 5 for either list, 25, 9, 10, 11, 12, 13, then 5 where the list has no number for a new node.
+// Stores a value under a key given by its letters, 0 to delete it, and keeps the counts right; the
+// answer is the change in the number of stored keys. Refusals: 1 to 8, with 5 for either list, 25,
+// 9, 10, 11, 12, 13, then 5 where the list has no number for a new node.
 pub fn store_counts(
     image: &mut [u8],
     work: &mut [u32],
@@ -47,7 +53,9 @@ pub fn store_counts(
     value: u32,
     list: &mut [u32],
 ) -> Stored
-    ensures { λ r. ⌜ StoresCounts (now (image .entry)) (now (work .entry)) (asLetters (now (letters .entry))) value (now (list .entry)) (storedOf r) (now (image .exit)) (now (work .exit)) (now (list .exit)) ⌝ }
+    ensures { λ r. ⌜ StoresCounts (now (image .entry)) (now (work .entry))
+        (asLetters (now (letters .entry))) value (now (list .entry)) (storedOf r)
+        (now (image .exit)) (now (work .exit)) (now (list .exit)) ⌝ }
 {
     let asked = asking_counts::ask(image, work, list, letters);
     let verdict = asked.verdict;
@@ -66,7 +74,9 @@ pub fn store_text_counts(
     value: u32,
     list: &mut [u32],
 ) -> Stored
-    ensures { λ r. ⌜ StoresCounts (now (image .entry)) (now (work .entry)) (asText (now (text .entry))) value (now (list .entry)) (storedOf r) (now (image .exit)) (now (work .exit)) (now (list .exit)) ⌝ }
+    ensures { λ r. ⌜ StoresCounts (now (image .entry)) (now (work .entry))
+        (asText (now (text .entry))) value (now (list .entry)) (storedOf r) (now (image .exit))
+        (now (work .exit)) (now (list .exit)) ⌝ }
 {
     let named = asking_counts::ask_text(image, work, list, text);
     let verdict = named.verdict;

@@ -1,5 +1,6 @@
--- Mending, for every image: what it leaves, and that no look up's answer changes by it. Where G is lowered the lowered image is accepted,
--- so that a walk in it stays among the nodes that it still has; and these are as they were, so the walk goes alike before and after.
+-- Mending, for every image: what it leaves, and that no look up's answer changes by it. Where G is
+-- lowered the lowered image is accepted, so that a walk in it stays among the nodes that it still
+-- has; and these are as they were, so the walk goes alike before and after.
 use Prim.Native.Nat.{ℕ, _+_, _-_, _*_, _^_, _≤_, _<_}
 use mathlib.Core.Path.{_≡_, refl, sym, ap, ap₂, subst, _∙_}
 use mathlib.Core.Bool.{Bool, true, false, cond}
@@ -14,7 +15,8 @@ use Rattle.trie.specs.Table.{Table, answer}
 use Rattle.trie.specs.Rules.{Within}
 use Rattle.trie.proofs.Lowered.{Agree, answer-alike, fault-alike}
 use Rattle.head.specs.declared.Head.{Head}
-use Rattle.head.specs.Fields.{shortestImage, longestImage, headOf, nodeWidth, putTotal, totalAt, totalLen}
+use Rattle.head.specs.Fields.{shortestImage, longestImage, headOf, nodeWidth, putTotal, totalAt}
+use Rattle.head.specs.Fields.{totalLen}
 use Rattle.head.proofs.Fields.{length-total, total-outside, head-total}
 use Rattle.head.proofs.Permitted.{bounds}
 use Rattle.head.proofs.Places.{width-least, used}
@@ -26,13 +28,15 @@ use Rattle.paper.specs.Hearing.{Row, Numbers, Outcome, first, heard}
 use Rattle.paper.specs.Given.{Given, alphabetIn, keyIn}
 use Rattle.paper.specs.Rows.{badLink}
 use Rattle.paper.specs.Orders.{openingRowsOf, keyRows}
-use Rattle.paper.specs.Calls.{tableIn, workAfter, checkOf, telling, lookUpOf, isAccepted, mends, mendOf}
+use Rattle.paper.specs.Calls.{tableIn, workAfter, checkOf, telling, lookUpOf, isAccepted, mends}
+use Rattle.paper.specs.Calls.{mendOf}
 use Rattle.paper.specs.Accepted.{Accepted}
 use Rattle.paper.proofs.Numbers.{first-says, none-heard}
 use Rattle.paper.proofs.Opening.{Passed, passed}
 use Rattle.paper.proofs.Linking.{milder}
 use Rattle.paper.proofs.CheckCall.{check-accepts, checking-says, check-exactly}
-use Rattle.paper.proofs.StoreCall.{unfaulted, looks-up-open, looks-up-accepted, same-keying, same-key}
+use Rattle.paper.proofs.StoreCall.{unfaulted, looks-up-open, looks-up-accepted, same-keying}
+use Rattle.paper.proofs.StoreCall.{same-key}
 use Rattle.paper.proofs.MendCall.{accepted-exactly, mend-kept, mend-lowered, Eight, eight}
 use Rattle.seen.proofs.Seen.{same-alphabet}
 use Rattle.cuts.specs.Mended.{mendedImage}
@@ -40,9 +44,11 @@ use Rattle.cuts.specs.Mended.{mendedImage}
 -- ---- either way
 
 -- "if the check answers 8 at p, and the image with G set to p-1 is accepted"
-lowers-tell : (l : List ℕ) (m : Numbers) → mends l m ≡ true → (m .number ≡ 8) × (isAccepted (putTotal l (m .place - 1)) ≡ true)
+lowers-tell : (l : List ℕ) (m : Numbers) → mends l m ≡ true → (m .number ≡ 8)
+    × (isAccepted (putTotal l (m .place - 1)) ≡ true)
 unfolding mends
-lowers-tell l m e = let b = both (eqb (m .number) 8) (isAccepted (putTotal l (m .place - 1))) e in (eqb-true (m .number) 8 (b .0), b .1)
+lowers-tell l m e = let b = both (eqb (m .number) 8) (isAccepted (putTotal l (m .place - 1))) e in
+    (eqb-true (m .number) 8 (b .0), b .1)
 
 module _ (l work : List ℕ) where
   abbrev numbers : Numbers
@@ -56,7 +62,8 @@ module _ (l work : List ℕ) where
   unfolding mendedImage
   mended-lowered e = ap (λ (b : Bool). cond b (putTotal l (numbers .place - 1)) l) e
 
-  either : (P : List ℕ → Type 0) → P l → (mends l numbers ≡ true → P (putTotal l (numbers .place - 1))) → P (mendedImage l work)
+  either : (P : List ℕ → Type 0) → P l
+      → (mends l numbers ≡ true → P (putTotal l (numbers .place - 1))) → P (mendedImage l work)
   either P kept lowered = go (mends l numbers) refl
     where
       go : (b : Bool) → mends l (checkOf l work .numbers) ≡ b → P (mendedImage l work)
@@ -67,18 +74,23 @@ module _ (l work : List ℕ) where
   pub mend-leaves : mendOf l work .lent ≡ mendedImage l work ∷ workAfter l work ∷ []
   mend-leaves = go (mends l numbers) refl
     where
-      go : (b : Bool) → mends l (checkOf l work .numbers) ≡ b → mendOf l work .lent ≡ mendedImage l work ∷ workAfter l work ∷ []
+      go : (b : Bool) → mends l (checkOf l work .numbers) ≡ b → mendOf l work .lent
+          ≡ mendedImage l work ∷ workAfter l work ∷ []
       go false e =
-          ap (λ (o : Outcome). o .lent) (mend-kept l work e) ∙ ap (λ (r : List ℕ). r ∷ workAfter l work ∷ []) (sym (mended-kept e))
+          ap (λ (o : Outcome). o .lent) (mend-kept l work e)
+          ∙ ap (λ (r : List ℕ). r ∷ workAfter l work ∷ []) (sym (mended-kept e))
       go true e =
-          ap (λ (o : Outcome). o .lent) (mend-lowered l work e) ∙ ap (λ (r : List ℕ). r ∷ workAfter l work ∷ []) (sym (mended-lowered e))
+          ap (λ (o : Outcome). o .lent) (mend-lowered l work e)
+          ∙ ap (λ (r : List ℕ). r ∷ workAfter l work ∷ []) (sym (mended-lowered e))
 
   -- the image is as long as it was, and of its bytes only the four of G change
   pub mend-length : length (mendedImage l work) ≡ length l
-  mend-length = either (λ (r : List ℕ). length r ≡ length l) refl (λ _. length-total l (numbers .place - 1))
+  mend-length =
+      either (λ (r : List ℕ). length r ≡ length l) refl (λ _. length-total l (numbers .place - 1))
 
   pub mend-four : (p : ℕ) → totalAt + totalLen ≤ p → getD (mendedImage l work) p 0 ≡ getD l p 0
-  mend-four p b = either (λ (r : List ℕ). getD r p 0 ≡ getD l p 0) refl (λ _. total-outside l (numbers .place - 1) p b)
+  mend-four p b = either (λ (r : List ℕ). getD r p 0 ≡ getD l p 0) refl
+      (λ _. total-outside l (numbers .place - 1) p b)
 
   -- an accepted image is left as it is, with whatever working numbers
   pub mend-accepted : Accepted l → mendedImage l work ≡ l
@@ -117,11 +129,14 @@ module _ (l work : List ℕ) (e : mends l (checkOf l work .numbers) ≡ true) wh
   fits : low < 2 ^ 32
   fits =
       let long = between-true (length l) shortestImage longestImage (opened .allowed) in
-      let each : (h .g + 1) * 1 ≤ (h .g + 1) * nodeWidth h = mul-le-mul (le-refl (h .g + 1)) (omega (arith, width-least (bounds h (opened .head-permitted)))) in
+      let each : (h .g + 1) * 1 ≤ (h .g + 1) * nodeWidth h =
+      mul-le-mul (le-refl (h .g + 1))
+      (omega (arith, width-least (bounds h (opened .head-permitted)))) in
       omega (arith, below, used h, opened .room)
 
   heads : headOf m ≡ withTotal h low
-  heads = let long = between-true (length l) shortestImage longestImage (opened .allowed) in head-total l low (omega arith) fits
+  heads = let long = between-true (length l) shortestImage longestImage (opened .allowed) in
+      head-total l low (omega arith) fits
 
   tables : tableIn m ≡ tableOf (withTotal h low) l
   unfolding tableIn
@@ -133,8 +148,10 @@ module _ (l work : List ℕ) (e : mends l (checkOf l work .numbers) ≡ true) wh
   unfolding tableIn
   agree =
       record {
-        links = λ q i b. ap (λ (t : Table). t .child q i) tables ∙ child-kept h l low q (omega (arith, below)) b i;
-        values = λ q b. ap (λ (t : Table). t .value q) tables ∙ value-kept h l low q (omega (arith, below)) b;
+        links = λ q i b. ap (λ (t : Table). t .child q i) tables ∙ child-kept h l low q
+            (omega (arith, below)) b i;
+        values = λ q b. ap (λ (t : Table). t .value q) tables ∙ value-kept h l low q
+            (omega (arith, below)) b;
       }
 
   within : Within (tableIn m) low
@@ -142,7 +159,8 @@ module _ (l work : List ℕ) (e : mends l (checkOf l work .numbers) ≡ true) wh
 
   -- what is bad with the G there was is bad with the lower one
   milder-here : (q c : ℕ) → badLink (headOf m .g) q c ≡ false → badLink (h .g) q c ≡ false
-  milder-here q c f = let g : headOf m .g ≡ low = ap (λ (k : Head). k .g) heads in milder (headOf m .g) (h .g) q c (omega (arith, below)) f
+  milder-here q c f = let g : headOf m .g ≡ low = ap (λ (k : Head). k .g) heads in
+      milder (headOf m .g) (h .g) q c (omega (arith, below)) f
 
   same-letters : alphabetIn (headOf m) m ≡ alphabetIn h l
   unfolding alphabetIn
@@ -154,29 +172,37 @@ module _ (l work : List ℕ) (e : mends l (checkOf l work .numbers) ≡ true) wh
   looks-alike given =
       let key : List ℕ = keyIn l given in
       looks-up-accepted again given
-      ∙ ap₂ (λ (rows : List Row) (k : List ℕ). heard (first rows) [] (telling (answer (tableIn m) k)))
+      ∙ ap₂ (λ (rows : List Row) (k : List ℕ). heard (first rows) []
+      (telling (answer (tableIn m) k)))
       (same-keying m l heads same-letters given) (same-key m l heads same-letters given)
-      ∙ ap (λ (v : ℕ). heard (first (keyRows l given)) [] (telling v)) (answer-alike agree within key)
+      ∙ ap (λ (v : ℕ). heard (first (keyRows l given)) [] (telling v))
+      (answer-alike agree within key)
       ∙ sym
       (looks-up-open l given (told .opened)
-      (fault-alike agree within (badLink (headOf m .g)) (badLink (h .g)) milder-here 0 key (omega arith) (unfaulted again 0 key)))
+      (fault-alike agree within (badLink (headOf m .g)) (badLink (h .g)) milder-here 0 key
+      (omega arith) (unfaulted again 0 key)))
 
 -- ---- no look up's answer changes: no stored key's value becomes another's
 
-pub mend-looks : (l work : List ℕ) (given : Given) → lookUpOf (mendedImage l work) given ≡ lookUpOf l given
-mend-looks l work given = either l work (λ (r : List ℕ). lookUpOf r given ≡ lookUpOf l given) refl (λ e. looks-alike l work e given)
+pub mend-looks : (l work : List ℕ) (given : Given) → lookUpOf (mendedImage l work) given
+    ≡ lookUpOf l given
+mend-looks l work given = either l work (λ (r : List ℕ). lookUpOf r given ≡ lookUpOf l given) refl
+    (λ e. looks-alike l work e given)
 
 -- ---- a mending that answers 0 leaves an accepted image
 
 check-zero : (l work : List ℕ) → checkOf l work .numbers .number ≡ 0 → Accepted l
 unfolding checkOf among
-check-zero l work z = check-accepts l work (none-heard _ _ (first-says (checking-says l work)) refl z)
+check-zero l work z =
+    check-accepts l work (none-heard _ _ (first-says (checking-says l work)) refl z)
 
-pub mend-zero : (l work : List ℕ) → mendOf l work .numbers .number ≡ 0 → Accepted (mendedImage l work)
+pub mend-zero : (l work : List ℕ) → mendOf l work .numbers .number ≡ 0
+    → Accepted (mendedImage l work)
 mend-zero l work z = go (mends l (checkOf l work .numbers)) refl
   where
     go : (b : Bool) → mends l (checkOf l work .numbers) ≡ b → Accepted (mendedImage l work)
     go false e =
-        let n : checkOf l work .numbers .number ≡ 0 = sym (ap (λ (o : Outcome). o .numbers .number) (mend-kept l work e)) ∙ z in
+        let n : checkOf l work .numbers .number ≡ 0 =
+        sym (ap (λ (o : Outcome). o .numbers .number) (mend-kept l work e)) ∙ z in
         subst Accepted (sym (mended-kept l work e)) (check-zero l work n)
     go true e = subst Accepted (sym (mended-lowered l work e)) (again l work e)

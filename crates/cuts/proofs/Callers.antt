@@ -1,5 +1,6 @@
--- What a caller has of a listed store: all that the store leaves, and of the lent array the writes, since they are at most 66. Read back with
--- the image after the call they are the store's own.
+-- What a caller has of a listed store: all that the store leaves, and of the lent array the
+-- writes, since they are at most 66. Read back with the image after the call they are the store's
+-- own.
 use Prim.Native.Nat.{ℕ, zero, suc, _+_, _*_, _≤_}
 use mathlib.Core.Path.{_≡_, refl, sym, ap, _∙_}
 use mathlib.Core.Bool.{Bool, true, false, cond}
@@ -20,7 +21,8 @@ use Rattle.node.specs.Writes.{Write, noted, totalWrite, linkWrite, storeWrites}
 use Rattle.node.proofs.Nodes.{nodes-count}
 use Rattle.paper.specs.Hearing.{Outcome, outcome, doneNumbers}
 use Rattle.paper.specs.Given.{Given, keyIn}
-use Rattle.paper.specs.Calls.{tableIn, workAfter, writesIn, storedImage, storeOf, withWrites, storeWritesOf}
+use Rattle.paper.specs.Calls.{tableIn, workAfter, writesIn, storedImage, storeOf, withWrites}
+use Rattle.paper.specs.Calls.{storeWritesOf}
 use Rattle.paper.specs.Granted.{Granted}
 use Rattle.paper.proofs.StoreCall.{store-granted, store-leaves}
 use Rattle.cuts.specs.Mended.{readBack}
@@ -29,22 +31,26 @@ use Rattle.cuts.proofs.Noted.{read-back}
 -- ---- how many they are
 
 -- a node for each letter of the key at most, the node total and the link
-long-writes : (h : Head) (key : List ℕ) (d : Descent) (v : ℕ) → ((q x : ℕ) (xs : List ℕ) → d ≡ stopped q x xs → suc (length xs) ≤ length key)
+long-writes : (h : Head) (key : List ℕ) (d : Descent) (v : ℕ)
+    → ((q x : ℕ) (xs : List ℕ) → d ≡ stopped q x xs → suc (length xs) ≤ length key)
     → length (storeWrites h d v) ≤ length key + 2
 unfolding storeWrites
 long-writes h key (complete q) v few = omega arith
 long-writes h key (stopped q x xs) zero few = omega arith
 long-writes h key (stopped q x xs) (suc v) few =
-    let two : List Write = totalWrite (h .g + suc (length xs)) ∷ linkWrite h q x (suc (h .g)) ∷ [] in
+    let two : List Write =
+    totalWrite (h .g + suc (length xs)) ∷ linkWrite h q x (suc (h .g)) ∷ [] in
     omega (arith, few q x xs refl, nodes-count h (suc (h .g)) xs (suc v) two)
 
-pub few-writes : {l key : List ℕ} {value : ℕ} → Granted l key value → length (writesIn l key value) ≤ mostWrites
+pub few-writes : {l key : List ℕ} {value : ℕ} → Granted l key value → length (writesIn l key value)
+    ≤ mostWrites
 few-writes {l} {key} {value} s =
     let short = between-true (length key) (headOf l .min) (headOf l .max) (s .fit .allowed) .1 in
     let most = bounds (headOf l) (s .accepted .head-permitted) .max-most in
     omega (arith, long-writes (headOf l) key (descend (tableIn l) 0 key) value left)
   where
-    left : (q x : ℕ) (xs : List ℕ) → descend (tableIn l) 0 key ≡ stopped q x xs → suc (length xs) ≤ length key
+    left : (q x : ℕ) (xs : List ℕ) → descend (tableIn l) 0 key ≡ stopped q x xs → suc (length xs)
+        ≤ length key
     left q x xs e =
         let w = where-stopped (tableIn l) 0 key e in
         omega (arith, ap length (w .key), length-append (w .path) (x ∷ xs))
@@ -57,11 +63,16 @@ length-noted [] = refl
 length-noted (w ∷ ws) = omega (arith, length-noted ws)
 
 front : (list vs : List ℕ) → length vs ≤ length list → take (length vs) (sets list 0 vs) ≡ vs
-front list vs b = ap (take (length vs)) (sets-eq vs list 0 (omega arith)) ∙ take-append-seam vs (drop (0 + length vs) list)
+front list vs b = ap (take (length vs)) (sets-eq vs list 0 (omega arith)) ∙ take-append-seam vs
+    (drop (0 + length vs) list)
 
--- the writes that the first entries of the array and the image after the call tell are those of the store
-pub had-writes : {l key : List ℕ} {value : ℕ} → Granted l key value → (list : List ℕ) → mostNoted ≤ length list
-    → readBack (storedImage l key value) (take (2 * length (writesIn l key value)) (sets list 0 (noted (writesIn l key value)))) ≡ writesIn l key value
+-- the writes that the first entries of the array and the image after the call tell are those of
+-- the store
+pub had-writes : {l key : List ℕ} {value : ℕ} → Granted l key value → (list : List ℕ)
+    → mostNoted ≤ length list
+    → readBack (storedImage l key value)
+    (take (2 * length (writesIn l key value)) (sets list 0 (noted (writesIn l key value))))
+    ≡ writesIn l key value
 had-writes {l} {key} {value} s list b =
     let ws : List Write = writesIn l key value in
     let e : length (noted ws) ≡ 2 * length ws = length-noted ws in
@@ -72,12 +83,14 @@ had-writes {l} {key} {value} s list b =
 -- ---- the calls
 
 -- the store's own number
-same-number : (ws : List Write) (list : List ℕ) (o : Outcome) → withWrites ws list o .numbers .number ≡ o .numbers .number
+same-number : (ws : List Write) (list : List ℕ) (o : Outcome)
+    → withWrites ws list o .numbers .number ≡ o .numbers .number
 unfolding withWrites doneNumbers
 same-number ws list o = go (eqb (o .numbers .number) 0) refl
   where
     go : (b : Bool) → eqb (o .numbers .number) 0 ≡ b
-        → cond b (outcome (doneNumbers (length ws) (o .numbers .change) 0) (o .lent ++ (sets list 0 (noted ws) ∷ [])))
+        → cond b (outcome (doneNumbers (length ws) (o .numbers .change) 0)
+        (o .lent ++ (sets list 0 (noted ws) ∷ [])))
         (outcome (o .numbers) (o .lent ++ (list ∷ []))) .numbers .number
         ≡ o .numbers .number
     go true e = sym (eqb-true (o .numbers .number) 0 e)
@@ -87,17 +100,23 @@ module _ (l work : List ℕ) (given : Given) (value : ℕ) (list : List ℕ) whe
   abbrev key : List ℕ
   key = keyIn l given
 
-  pub store-writes-number : storeWritesOf l work given value list .numbers .number ≡ storeOf l work given value .numbers .number
+  pub store-writes-number : storeWritesOf l work given value list .numbers .number
+      ≡ storeOf l work given value .numbers .number
   unfolding storeWritesOf
   store-writes-number = same-number (writesIn l key value) list (storeOf l work given value)
 
   pub store-writes-leaves : storeOf l work given value .numbers .number ≡ 0
       → storeWritesOf l work given value list
-      ≡ outcome (doneNumbers (length (writesIn l key value)) (changeOf (answer (tableIn l) key) value) 0)
-      (storedImage l key value ∷ workAfter l work ∷ sets list 0 (noted (writesIn l key value)) ∷ [])
+      ≡ outcome (doneNumbers (length (writesIn l key value))
+      (changeOf (answer (tableIn l) key) value) 0)
+      (storedImage l key value ∷ workAfter l work ∷ sets list 0 (noted (writesIn l key value))
+      ∷ [])
   unfolding storeWritesOf withWrites doneNumbers
-  store-writes-leaves z = ap (withWrites (writesIn l key value) list) (store-leaves l work given value z)
+  store-writes-leaves z =
+      ap (withWrites (writesIn l key value) list) (store-leaves l work given value z)
 
   pub store-writes-told : storeOf l work given value .numbers .number ≡ 0 → mostNoted ≤ length list
-      → readBack (storedImage l key value) (take (2 * length (writesIn l key value)) (sets list 0 (noted (writesIn l key value)))) ≡ writesIn l key value
+      → readBack (storedImage l key value)
+      (take (2 * length (writesIn l key value)) (sets list 0 (noted (writesIn l key value))))
+      ≡ writesIn l key value
   store-writes-told z b = had-writes (store-granted l work given value z) list b

@@ -1,6 +1,8 @@
--- P7's store of 01, CCC = 1 in 55 bytes after P3, cut behind each of its writes, computed: what is left, where of the write that was hit
--- the bytes at odd places would land, and what mending makes of it. The bytes of G and of the link stand at odd places too. Then mending
--- where no store was cut: P10's image, P8's, and one whose 8 is not mended, since the link to node 2 would lead above G.
+-- P7's store of 01, CCC = 1 in 55 bytes after P3, cut behind each of its writes, computed: what is
+-- left, where of the write that was hit the bytes at odd places would land, and what mending makes
+-- of it. The bytes of G and of the link stand at odd places too. Then mending where no store was
+-- cut: P10's image, P8's, and one whose 8 is not mended, since the link to node 2 would lead above
+-- G.
 use Prim.Native.Nat.{ℕ, _%_}
 use mathlib.Core.Path.{_≡_, refl}
 use mathlib.Core.Bool.{Bool, cond}
@@ -28,7 +30,9 @@ before = file 2 (0 ∷ 1 ∷ 0 ∷ 0 ∷ 2 ∷ 0 ∷ 0 ∷ 5 ∷ 0 ∷ 0 ∷ 0 �
 
 -- what it is with three more nodes, with the link or without it
 abbrev grown : ℕ → ℕ → List ℕ
-grown g link = file g (0 ∷ 1 ∷ link ∷ 0 ∷ 2 ∷ 0 ∷ 0 ∷ 5 ∷ 0 ∷ 0 ∷ 0 ∷ 9 ∷ 0 ∷ 0 ∷ 4 ∷ 0 ∷ 0 ∷ 0 ∷ 5 ∷ 0 ∷ 0 ∷ 0 ∷ 0 ∷ 1 ∷ []) 0
+grown g link =
+    file g (0 ∷ 1 ∷ link ∷ 0 ∷ 2 ∷ 0 ∷ 0 ∷ 5 ∷ 0 ∷ 0 ∷ 0 ∷ 9 ∷ 0 ∷ 0 ∷ 4 ∷ 0 ∷ 0 ∷ 0 ∷ 5 ∷ 0 ∷ 0
+    ∷ 0 ∷ 0 ∷ 1 ∷ []) 0
 
 abbrev left : ℕ → List ℕ
 left k = cutAfter k odd before (writesIn before (2 ∷ 2 ∷ 2 ∷ []) 1)
@@ -53,11 +57,14 @@ abbrev done : List ℕ → List ℕ → Outcome
 done image lent = outcome (doneNumbers 0 (pos 0) 0) (image ∷ lent ∷ [])
 
 pub computed : (map left cuts ≡ expected)
-    × (map (λ (k : ℕ). mendedImage (left k) work) cuts ≡ map (λ (k : ℕ). cond (eqb k 4) (grown 2 0) (left k)) cuts)
+    × (map (λ (k : ℕ). mendedImage (left k) work) cuts
+    ≡ map (λ (k : ℕ). cond (eqb k 4) (grown 2 0) (left k)) cuts)
     × (mendOf (left 4) work ≡ done (grown 2 0) (0 ∷ 0 ∷ 0 ∷ 0 ∷ 0 ∷ 0 ∷ 7 ∷ []))
     × (noted (writesIn before (2 ∷ 2 ∷ 2 ∷ []) 1) ≡ 43 ∷ 4 ∷ 47 ∷ 4 ∷ 51 ∷ 4 ∷ 0 ∷ 4 ∷ 33 ∷ 1 ∷ [])
-    × (readBack (left 5) (noted (writesIn before (2 ∷ 2 ∷ 2 ∷ []) 1)) ≡ writesIn before (2 ∷ 2 ∷ 2 ∷ []) 1)
-unfolding row1 row2 row3 row4 row6 row7 row8 cutAfter mendedImage mendOf storedImage readBack noted storeWrites tableIn
+    × (readBack (left 5) (noted (writesIn before (2 ∷ 2 ∷ 2 ∷ []) 1)) ≡ writesIn before
+    (2 ∷ 2 ∷ 2 ∷ []) 1)
+unfolding row1 row2 row3 row4 row6 row7 row8 cutAfter mendedImage mendOf storedImage readBack noted
+    storeWrites tableIn
 computed = (refl, refl, refl, refl, refl)
 
 -- with three working numbers
@@ -75,6 +82,7 @@ blank g = file g (0 ∷ 0 ∷ 0 ∷ 0 ∷ 0 ∷ 0 ∷ 0 ∷ 0 ∷ []) 0
 
 pub computed-images : (mendOf (blank 1) three ≡ done (blank 0) (0 ∷ 0 ∷ 7 ∷ []))
     × (mendOf twice three ≡ outcome (refusedNumbers (said 7 1)) (twice ∷ (0 ∷ 0 ∷ 7 ∷ []) ∷ []))
-    × (mendOf unnamed three ≡ outcome (refusedNumbers (said 8 1)) (unnamed ∷ (0 ∷ 0 ∷ 0 ∷ []) ∷ []))
+    × (mendOf unnamed three ≡ outcome (refusedNumbers (said 8 1))
+    (unnamed ∷ (0 ∷ 0 ∷ 0 ∷ []) ∷ []))
 unfolding row1 row2 row3 row4 row6 row7 row8 mendOf
 computed-images = (refl, refl, refl)

@@ -1,6 +1,8 @@
--- 02, Ask 1: "After a cut anywhere, a mending call with enough working numbers must leave the answers from before the store or after it."
--- A cut among the new nodes has changed spare bytes alone. Once G has landed and the link has not, the first new node is the only one
--- that stands in no link; the check answers 8 there, and G lowered to the address before it is the G that was. Else all has landed.
+-- 02, Ask 1: "After a cut anywhere, a mending call with enough working numbers must leave the
+-- answers from before the store or after it." A cut among the new nodes has changed spare bytes
+-- alone. Once G has landed and the link has not, the first new node is the only one that stands in
+-- no link; the check answers 8 there, and G lowered to the address before it is the G that was.
+-- Else all has landed.
 use Prim.Native.Nat.{ℕ, zero, suc, _+_, _-_, _^_, _≤_, _<_}
 use mathlib.Core.Path.{_≡_, refl, sym, ap, ap₂, subst, _∙_}
 use mathlib.Core.Bool.{Bool, true, false, _&&_}
@@ -25,7 +27,8 @@ use Rattle.head.proofs.Fields.{head-outside, length-total, total-outside, head-
 use Rattle.head.proofs.Permitted.{bounds, addresses-fit}
 use Rattle.head.proofs.Places.{place-le, place-least}
 use Rattle.node.specs.Image.{linkPlace, dataPlace, tableOf}
-use Rattle.node.specs.Writes.{Write, carriedOut, newNodes, totalWrite, linkWrite, dataWrite, storeWrites}
+use Rattle.node.specs.Writes.{Write, carriedOut, newNodes, totalWrite, linkWrite, dataWrite}
+use Rattle.node.specs.Writes.{storeWrites}
 use Rattle.node.proofs.FieldPlaces.{link-from, link-inside, data-inside, inside-used}
 use Rattle.node.proofs.Tables.{table-bytes}
 use Rattle.node.proofs.Writes.{table-link}
@@ -35,7 +38,8 @@ use Rattle.paper.specs.Hearing.{Numbers, Outcome, outcome, first, refusedNumber
 use Rattle.paper.specs.Answers.{said}
 use Rattle.paper.specs.Orders.{openingRowsOf, checkOrder}
 use Rattle.paper.specs.Given.{Given, keyIn}
-use Rattle.paper.specs.Calls.{tableIn, workAfter, checkOf, writesIn, storedImage, storeOf, isAccepted, mends}
+use Rattle.paper.specs.Calls.{tableIn, workAfter, checkOf, writesIn, storedImage, storeOf}
+use Rattle.paper.specs.Calls.{isAccepted, mends}
 use Rattle.paper.specs.Accepted.{Accepted}
 use Rattle.paper.specs.Granted.{Granted}
 use Rattle.paper.proofs.Hearing.{heard-done}
@@ -45,18 +49,23 @@ use Rattle.paper.proofs.StoreCall.{able, accepted-again, store-granted}
 use Rattle.paper.proofs.MendCall.{accepted-exactly, mend-kept, mend-lowered}
 use Rattle.cuts.specs.Cut.{hit, cutAfter}
 use Rattle.cuts.specs.Mended.{MendsTo}
-use Rattle.cuts.proofs.WriteLists.{From, from-before, length-cut, carried-before, cut-before-all, cut-append, cut-whole, hit-none}
+use Rattle.cuts.proofs.WriteLists.{From, from-before, length-cut, carried-before}
+use Rattle.cuts.proofs.WriteLists.{cut-before-all, cut-append, cut-whole, hit-none}
 use Rattle.seen.specs.Seen.{seenIn}
-use Rattle.seen.proofs.Seen.{before-used, opens-same, seen-same, seen-below, same-answers, same-accepted}
+use Rattle.seen.proofs.Seen.{before-used, opens-same, seen-same, seen-below, same-answers}
+use Rattle.seen.proofs.Seen.{same-accepted}
 use Rattle.cuts.proofs.OneLinkShort.{check-unlinked}
 
 -- ---- an image that looks as an accepted one does
 
-module _ (a work m : List ℕ) (same : seenIn a ≡ seenIn m) (accepted : Accepted m) (lent : headOf a .g + 1 ≤ length work) where
+module _ (a work m : List ℕ) (same : seenIn a ≡ seenIn m) (accepted : Accepted m)
+    (lent : headOf a .g + 1 ≤ length work) where
   check-done : checkOf a work .numbers ≡ doneNumbers 0 (pos 0) 0
   unfolding checkOf
   check-done =
-      ap (λ (o : Outcome). o .numbers) (heard-done (first (checkOrder a work)) _ _ (accepted-checks a work (same-accepted same accepted) lent))
+      ap (λ (o : Outcome). o .numbers)
+      (heard-done (first (checkOrder a work)) _ _
+      (accepted-checks a work (same-accepted same accepted) lent))
 
   -- it is left as it is
   pub mends-kept : MendsTo a work m
@@ -65,16 +74,19 @@ module _ (a work m : List ℕ) (same : seenIn a ≡ seenIn m) (accepted : Accept
       let still : mends a (checkOf a work .numbers) ≡ false = rw check-done in
       record {
         image = a;
-        heard = mend-kept a work still ∙ ap (λ (n : Numbers). outcome n (a ∷ workAfter a work ∷ [])) check-done;
+        heard = mend-kept a work still
+            ∙ ap (λ (n : Numbers). outcome n (a ∷ workAfter a work ∷ [])) check-done;
         accepted = same-accepted same accepted;
         answers = same-answers same;
       }
 
 -- ---- where G is lowered
 
-lowers : (l : List ℕ) (m : Numbers) {g : ℕ} → m .number ≡ 8 → m .place - 1 ≡ g → isAccepted (putTotal l g) ≡ true → mends l m ≡ true
+lowers : (l : List ℕ) (m : Numbers) {g : ℕ} → m .number ≡ 8 → m .place - 1 ≡ g
+    → isAccepted (putTotal l g) ≡ true → mends l m ≡ true
 unfolding mends
-lowers l m n p e = ap₂ _&&_ (eq-eqb (m .number) 8 n) (ap (λ (g : ℕ). isAccepted (putTotal l g)) p ∙ e)
+lowers l m n p e =
+    ap₂ _&&_ (eq-eqb (m .number) 8 n) (ap (λ (g : ℕ). isAccepted (putTotal l g)) p ∙ e)
 
 -- ---- a write that was hit, and was none to spare bytes
 
@@ -82,20 +94,27 @@ lowers l m n p e = ap₂ _&&_ (eq-eqb (m .number) 8 n) (ap (λ (g : ℕ). isAcce
 abbrev Before : List ℕ → List ℕ → List ℕ → Type 0
 Before l work r = headOf r .g + 1 ≤ length work → MendsTo r work l
 
-not-landed : {l : List ℕ} (lands : ℕ → Bool) (work r : List ℕ) (w : Write) → Accepted l → seenIn r ≡ seenIn l → w .place < usedLen (headOf r)
+not-landed : {l : List ℕ} (lands : ℕ → Bool) (work r : List ℕ) (w : Write) → Accepted l
+    → seenIn r ≡ seenIn l → w .place < usedLen (headOf r)
     → Before l work (hit lands r w)
-not-landed {l} lands work r w a same b lent = mends-kept (hit lands r w) work l (ap seenIn (hit-none lands r w b) ∙ same) a lent
+not-landed {l} lands work r w a same b lent =
+    mends-kept (hit lands r w) work l (ap seenIn (hit-none lands r w b) ∙ same) a lent
 
 -- ---- new nodes, of which no link tells yet
 
 -- they are written to spare bytes
-pub nodes-from : (h : Head) (q : ℕ) (ys : List ℕ) (v : ℕ) → From (nodePlace h q) (newNodes h q ys v)
+pub nodes-from : (h : Head) (q : ℕ) (ys : List ℕ) (v : ℕ)
+    → From (nodePlace h q) (newNodes h q ys v)
 unfolding newNodes
 nodes-from h q [] v = (omega arith, tt)
-nodes-from h q (y ∷ ys) v =
-    (omega arith, from-before (nodePlace h q) (nodePlace h (suc q)) (newNodes h (suc q) ys v) (place-le h q (suc q) (omega arith)) (nodes-from h (suc q) ys v))
+nodes-from h q (y ∷ ys) v = (
+  omega arith,
+  from-before (nodePlace h q) (nodePlace h (suc q)) (newNodes h (suc q) ys v)
+      (place-le h q (suc q) (omega arith)) (nodes-from h (suc q) ys v),
+)
 
-module _ {l key : List ℕ} {v : ℕ} (s : Granted l key (suc v)) {q x : ℕ} {xs : List ℕ} (e : descend (tableIn l) 0 key ≡ stopped q x xs) where
+module _ {l key : List ℕ} {v : ℕ} (s : Granted l key (suc v)) {q x : ℕ} {xs : List ℕ}
+    (e : descend (tableIn l) 0 key ≡ stopped q x xs) where
   abbrev h : Head
   h = headOf l
 
@@ -123,7 +142,8 @@ module _ {l key : List ℕ} {v : ℕ} (s : Granted l key (suc v)) {q x : ℕ} {x
 
   spare : (p : ℕ) → p < usedLen (headOf l) → From (suc p) nodes
   unfolding usedLen
-  spare p b = from-before (suc p) (nodePlace h (suc g)) nodes (omega (arith, ap (nodePlace h) (add-one g))) (nodes-from h (suc g) xs (suc v))
+  spare p b = from-before (suc p) (nodePlace h (suc g)) nodes
+      (omega (arith, ap (nodePlace h) (add-one g))) (nodes-from h (suc g) xs (suc v))
 
   long : length counted ≡ length l
   long = length-total begun total ∙ length-carried l nodes
@@ -140,7 +160,8 @@ module _ {l key : List ℕ} {v : ℕ} (s : Granted l key (suc v)) {q x : ℕ} {x
   lowered : seenIn (putTotal counted g) ≡ seenIn l
   lowered =
       seen-same (putTotal counted g) l
-      (head-total counted g (omega (arith, long, s .accepted .long-enough)) (omega (arith, fits)) ∙ ap (λ (k : Head). withTotal k g) heads)
+      (head-total counted g (omega (arith, long, s .accepted .long-enough)) (omega (arith, fits))
+      ∙ ap (λ (k : Head). withTotal k g) heads)
       (length-total counted g ∙ long)
       (λ p a b. total-outside counted g p a ∙ after-g p a b)
 
@@ -156,7 +177,8 @@ module _ {l key : List ℕ} {v : ℕ} (s : Granted l key (suc v)) {q x : ℕ} {x
   far = omega (arith, place-least h q, link-from h q x)
 
   same-head : headOf (storedImage l key (suc v)) ≡ headOf counted
-  same-head = ap headOf last ∙ head-outside counted (digits (h .a) (suc g)) (linkPlace h q x) (omega (arith, far))
+  same-head = ap headOf last ∙ head-outside counted (digits (h .a) (suc g)) (linkPlace h q x)
+      (omega (arith, far))
 
   linked : tableIn (storedImage l key (suc v)) ≡ grow (tableIn counted) q x (suc g)
   unfolding tableIn linkPlace
@@ -165,7 +187,8 @@ module _ {l key : List ℕ} {v : ℕ} (s : Granted l key (suc v)) {q x : ℕ} {x
       let r : usedLen k ≤ length counted = omega (arith, long, enough .room) in
       ap (λ (m : Head). tableOf m (storedImage l key (suc v))) (same-head ∙ heads)
       ∙ ap (tableOf k) last
-      ∙ table-link k counted r q x (suc g) (omega (arith, enough .node)) (enough .letters .0) (omega (arith, enough .addresses))
+      ∙ table-link k counted r q x (suc g) (omega (arith, enough .node)) (enough .letters .0)
+      (omega (arith, enough .addresses))
       ∙ ap (λ (m : Head). grow (tableOf m counted) q x (suc g)) (sym heads)
 
   empty : tableIn counted .child q x ≡ 0
@@ -173,7 +196,8 @@ module _ {l key : List ℕ} {v : ℕ} (s : Granted l key (suc v)) {q x : ℕ} {x
   empty =
       ap (λ (k : Head). tableOf k counted .child q x) heads
       ∙ child-kept h counted total q (enough .node) (omega (arith, enough .node)) x
-      ∙ ap (λ (t : Table). t .child q x) (table-bytes h counted l (λ p a b. after-g p (omega arith) b))
+      ∙ ap (λ (t : Table). t .child q x)
+      (table-bytes h counted l (λ p a b. after-g p (omega arith) b))
       ∙ where-stopped (tableIn l) 0 key e .empty
 
   unlinked : Unlinked (headOf counted .g) (tableIn counted) q x (suc g)
@@ -189,17 +213,20 @@ module _ {l key : List ℕ} {v : ℕ} (s : Granted l key (suc v)) {q x : ℕ} {x
   opened : first (openingRowsOf counted) ≡ none
   opened =
       let a = accepted-again s in
-      let f : headOf (storedImage l key (suc v)) .f ≡ h .f = ap (λ (k : Head). k .f) (same-head ∙ heads) in
+      let f : headOf (storedImage l key (suc v)) .f ≡ h .f =
+      ap (λ (k : Head). k .f) (same-head ∙ heads) in
       let at : ℕ = linkPlace h q x in
       let bs : List ℕ = digits (h .a) (suc g) in
       ap first
-      (opens-same counted (storedImage l key (suc v)) (sym same-head) (rw last (sym (length-sets counted at bs)))
+      (opens-same counted (storedImage l key (suc v)) (sym same-head)
+      (rw last (sym (length-sets counted at bs)))
       (λ p low high. rw last (sym (getD-outside counted bs at p 0 (inl (omega (arith, far)))))))
       ∙ accepted-opens a
 
   -- ---- the image between the two writes that tell of the nodes
 
-  eight : (work : List ℕ) → headOf counted .g + 1 ≤ length work → checkOf counted work .numbers ≡ refusedNumbers (said 8 (suc g))
+  eight : (work : List ℕ) → headOf counted .g + 1 ≤ length work → checkOf counted work .numbers
+      ≡ refusedNumbers (said 8 (suc g))
   eight work lent = check-unlinked counted work unlinked opened lent
 
   mends-lowered : (work : List ℕ) → headOf counted .g + 1 ≤ length work → MendsTo counted work l
@@ -208,12 +235,16 @@ module _ {l key : List ℕ} {v : ℕ} (s : Granted l key (suc v)) {q x : ℕ} {x
       let numbers : Numbers = checkOf counted work .numbers in
       let again : Accepted (putTotal counted g) = same-accepted lowered (s .accepted) in
       let number : numbers .number ≡ 8 = ap (λ (n : Numbers). n .number) (eight work lent) in
-      let place : numbers .place - 1 ≡ g = ap (λ (n : Numbers). n .place - 1) (eight work lent) ∙ omega arith in
+      let place : numbers .place - 1 ≡ g =
+      ap (λ (n : Numbers). n .place - 1) (eight work lent) ∙ omega arith in
       record {
         image = putTotal counted g;
         heard =
-            mend-lowered counted work (lowers counted numbers number place (accepted-exactly (putTotal counted g) .1 again))
-            ∙ ap (λ (p : ℕ). outcome (doneNumbers 0 (pos 0) 0) (putTotal counted p ∷ workAfter counted work ∷ [])) place;
+            mend-lowered counted work
+            (lowers counted numbers number place
+            (accepted-exactly (putTotal counted g) .1 again))
+            ∙ ap (λ (p : ℕ). outcome (doneNumbers 0 (pos 0) 0)
+            (putTotal counted p ∷ workAfter counted work ∷ [])) place;
         accepted = again;
         answers = same-answers lowered;
       }
@@ -221,26 +252,35 @@ module _ {l key : List ℕ} {v : ℕ} (s : Granted l key (suc v)) {q x : ℕ} {x
   -- ---- a cut behind the nodes
 
   looks-begun : seenIn begun ≡ seenIn l
-  looks-begun = seen-below begun l (length-carried l nodes) (λ p b. carried-before p l nodes (spare p b))
+  looks-begun =
+      seen-below begun l (length-carried l nodes) (λ p b. carried-before p l nodes (spare p b))
 
   link-used : linkPlace h q x < usedLen (headOf counted)
   link-used =
       let a = link-inside h q (enough .letters .0) in
       rw (heads, used-total h total)
-      (omega (arith, bounds h (s .accepted .head-permitted) .a-least, place-le h (q + 1) (suc total) (omega (arith, enough .node))))
+      (omega (
+        arith,
+        bounds h (s .accepted .head-permitted) .a-least,
+        place-le h (q + 1)
+            (suc total) (omega (arith, enough .node)),
+      ))
 
   cut-later : (lands : ℕ → Bool) (work : List ℕ) (j : ℕ) → j < 2
       → Before l work (cutAfter j lands begun (totalWrite total ∷ linkWrite h q x (suc g) ∷ []))
   unfolding cutAfter totalWrite linkWrite
   cut-later lands work zero b =
-      not-landed lands work begun (totalWrite total) (s .accepted) looks-begun (omega (arith, before-used (headOf begun)))
+      not-landed lands work begun (totalWrite total) (s .accepted) looks-begun
+      (omega (arith, before-used (headOf begun)))
   cut-later lands work (suc zero) b =
-      subst (Before l work) (sym (hit-none lands counted (linkWrite h q x (suc g)) link-used)) (mends-lowered work)
+      subst (Before l work) (sym (hit-none lands counted (linkWrite h q x (suc g)) link-used))
+      (mends-lowered work)
   cut-later lands work (suc (suc j)) b = absurd (omega arith)
 
   -- ---- a cut among them or behind them
 
-  cut-new : (lands : ℕ → Bool) (work : List ℕ) (k : ℕ) → k < length (storeWrites (headOf l) (stopped q x xs) (suc v))
+  cut-new : (lands : ℕ → Bool) (work : List ℕ) (k : ℕ)
+      → k < length (storeWrites (headOf l) (stopped q x xs) (suc v))
       → Before l work (cutAfter k lands l (storeWrites (headOf l) (stopped q x xs) (suc v)))
   unfolding storeWrites
   cut-new lands work k b = go (decLt k (length nodes))
@@ -251,62 +291,82 @@ module _ {l key : List ℕ} {v : ℕ} (s : Granted l key (suc v)) {q x : ℕ} {x
       go : Dec (k < length nodes) → Before l work (cutAfter k lands l (nodes ++ two))
       go (yes c) =
           mends-kept (cutAfter k lands l (nodes ++ two)) work l
-          (seen-below (cutAfter k lands l (nodes ++ two)) l (length-cut k lands l (nodes ++ two)) (λ p d. cut-before-all p k lands l nodes two (spare p d) c))
+          (seen-below (cutAfter k lands l (nodes ++ two)) l (length-cut k lands l (nodes ++ two))
+          (λ p d. cut-before-all p k lands l nodes two (spare p d) c))
           (s .accepted)
       go (no c) =
           let j : ℕ = k - length nodes in
           let at : k ≡ length nodes + j = omega arith in
           let few : j < 2 = omega (arith, length-append nodes two) in
-          subst (Before l work) (sym (ap (λ (i : ℕ). cutAfter i lands l (nodes ++ two)) at ∙ cut-append j lands l nodes two)) (cut-later lands work j few)
+          subst (Before l work) (sym (ap (λ (i : ℕ). cutAfter i lands l (nodes ++ two)) at
+          ∙ cut-append j lands l nodes two)) (cut-later lands work j few)
 
 -- ---- the theorem
 
 -- a complete path
-cut-data : {l key : List ℕ} {value q : ℕ} → Granted l key value → descend (tableIn l) 0 key ≡ complete q
-    → (lands : ℕ → Bool) (work : List ℕ) (k : ℕ) → k < length (storeWrites (headOf l) (complete q) value)
+cut-data : {l key : List ℕ} {value q : ℕ} → Granted l key value → descend (tableIn l) 0 key
+    ≡ complete q
+    → (lands : ℕ → Bool) (work : List ℕ) (k : ℕ)
+    → k < length (storeWrites (headOf l) (complete q) value)
     → Before l work (cutAfter k lands l (storeWrites (headOf l) (complete q) value))
 unfolding storeWrites cutAfter dataWrite
 cut-data {l} {key} {value} {q} s e lands work zero b =
     let h : Head = headOf l in
     let within = complete-within (tableIn l) (h .g) key (s .accepted .links .within) e in
-    let used : dataPlace h q < usedLen h = omega (arith, inside-used (data-inside h q) within, bounds h (s .accepted .head-permitted) .d-least) in
+    let used : dataPlace h q < usedLen h =
+    omega (
+      arith,
+      inside-used (data-inside h q) within,
+      bounds h (s .accepted .head-permitted) .d-least,
+    ) in
     not-landed lands work l (dataWrite h q value) (s .accepted) refl used
 cut-data s e lands work (suc k) b = absurd (omega arith)
 
 -- "Path incomplete and value 0: nothing changes"
-none-written : (h : Head) (q x : ℕ) (xs : List ℕ) (k : ℕ) → ¬ (k < length (storeWrites h (stopped q x xs) 0))
+none-written : (h : Head) (q x : ℕ) (xs : List ℕ) (k : ℕ)
+    → ¬ (k < length (storeWrites h (stopped q x xs) 0))
 unfolding storeWrites
 none-written h q x xs k b = omega arith
 
-module _ {l key : List ℕ} {value : ℕ} (s : Granted l key value) (k : ℕ) (lands : ℕ → Bool) (work : List ℕ) where
+module _ {l key : List ℕ} {value : ℕ} (s : Granted l key value) (k : ℕ) (lands : ℕ → Bool)
+    (work : List ℕ) where
   -- before the last write landed: the answers from before the store
-  pub cut-before : k < length (writesIn l key value) → headOf (cutAfter k lands l (writesIn l key value)) .g + 1 ≤ length work
+  pub cut-before : k < length (writesIn l key value)
+      → headOf (cutAfter k lands l (writesIn l key value)) .g + 1 ≤ length work
       → MendsTo (cutAfter k lands l (writesIn l key value)) work l
   cut-before = go (descend (tableIn l) 0 key) value refl s
     where
-      go : (d : Descent) (v : ℕ) → descend (tableIn l) 0 key ≡ d → Granted l key v → k < length (storeWrites (headOf l) d v)
+      go : (d : Descent) (v : ℕ) → descend (tableIn l) 0 key ≡ d → Granted l key v
+          → k < length (storeWrites (headOf l) d v)
           → Before l work (cutAfter k lands l (storeWrites (headOf l) d v))
       go (complete q) v e t b = cut-data t e lands work k b
       go (stopped q x xs) zero e t b = absurd (none-written (headOf l) q x xs k b)
       go (stopped q x xs) (suc v) e t b = cut-new t e lands work k b
 
   -- after it: those from after the store
-  pub cut-after : length (writesIn l key value) ≤ k → headOf (cutAfter k lands l (writesIn l key value)) .g + 1 ≤ length work
+  pub cut-after : length (writesIn l key value) ≤ k
+      → headOf (cutAfter k lands l (writesIn l key value)) .g + 1 ≤ length work
       → MendsTo (cutAfter k lands l (writesIn l key value)) work (storedImage l key value)
   unfolding storedImage
-  cut-after b = mends-kept _ work _ (ap seenIn (cut-whole k lands l (writesIn l key value) b)) (accepted-again s)
+  cut-after b = mends-kept _ work _ (ap seenIn (cut-whole k lands l (writesIn l key value) b))
+      (accepted-again s)
 
 -- ---- by the calls, whose numbers tell that the store is done
 
 -- either way
 abbrev pub Mended : List ℕ → List ℕ → ℕ → Type 0
 Mended l key value =
-    (k : ℕ) (lands : ℕ → Bool) (work : List ℕ) → headOf (cutAfter k lands l (writesIn l key value)) .g + 1 ≤ length work
-    → (k < length (writesIn l key value) → MendsTo (cutAfter k lands l (writesIn l key value)) work l)
-    × (length (writesIn l key value) ≤ k → MendsTo (cutAfter k lands l (writesIn l key value)) work (storedImage l key value))
+    (k : ℕ) (lands : ℕ → Bool) (work : List ℕ)
+    → headOf (cutAfter k lands l (writesIn l key value)) .g + 1 ≤ length work
+    → (k < length (writesIn l key value) → MendsTo (cutAfter k lands l (writesIn l key value)) work
+    l)
+    × (length (writesIn l key value) ≤ k → MendsTo (cutAfter k lands l (writesIn l key value)) work
+    (storedImage l key value))
 
 cut-anywhere : {l key : List ℕ} {value : ℕ} → Granted l key value → Mended l key value
-cut-anywhere s k lands work lent = (λ b. cut-before s k lands work b lent, λ b. cut-after s k lands work b lent)
+cut-anywhere s k lands work lent =
+    (λ b. cut-before s k lands work b lent, λ b. cut-after s k lands work b lent)
 
-pub cut-store : (l work : List ℕ) (given : Given) (value : ℕ) → storeOf l work given value .numbers .number ≡ 0 → Mended l (keyIn l given) value
+pub cut-store : (l work : List ℕ) (given : Given) (value : ℕ)
+    → storeOf l work given value .numbers .number ≡ 0 → Mended l (keyIn l given) value
 cut-store l work given value z = cut-anywhere (store-granted l work given value z)

@@ -1,5 +1,6 @@
--- 02, Ask 1: "The list carried out whole gives the bytes of 01's store." And from those bytes and the list of places and lengths a caller
--- has the writes again: no two of them meet, since a new node meets no other node, nor the four bytes of G, nor a link of an older node.
+-- 02, Ask 1: "The list carried out whole gives the bytes of 01's store." And from those bytes and
+-- the list of places and lengths a caller has the writes again: no two of them meet, since a new
+-- node meets no other node, nor the four bytes of G, nor a link of an older node.
 use Prim.Native.Nat.{ℕ, zero, suc, _+_, _≤_}
 use mathlib.Core.Path.{_≡_, refl, ap}
 use mathlib.Core.Logic.{inl, inr}
@@ -15,7 +16,8 @@ use Rattle.head.specs.declared.Head.{Head}
 use Rattle.head.specs.Fields.{headOf, nodeWidth, nodePlace, totalLen}
 use Rattle.head.proofs.Places.{place-add, place-le, place-least}
 use Rattle.node.specs.Image.{linkPlace}
-use Rattle.node.specs.Writes.{Write, carriedOut, noted, pathNode, lastNode, newNodes, totalWrite, linkWrite, dataWrite, storeWrites}
+use Rattle.node.specs.Writes.{Write, carriedOut, noted, pathNode, lastNode, newNodes, totalWrite}
+use Rattle.node.specs.Writes.{linkWrite, dataWrite, storeWrites}
 use Rattle.node.proofs.FieldPlaces.{link-from, link-inside, data-inside, inside-used}
 use Rattle.node.proofs.Heads.{used-total}
 use Rattle.node.proofs.Nodes.{length-path, length-last}
@@ -27,7 +29,8 @@ use Rattle.cuts.proofs.WriteLists.{From, Misses, Laid, read-laid}
 use Rattle.cuts.proofs.Cuts.{nodes-from}
 
 -- whether the store is granted or not
-pub whole : (l key : List ℕ) (value : ℕ) → carriedOut l (writesIn l key value) ≡ storedImage l key value
+pub whole : (l key : List ℕ) (value : ℕ) → carriedOut l (writesIn l key value)
+    ≡ storedImage l key value
 unfolding storedImage
 whole l key value = refl
 
@@ -51,30 +54,47 @@ misses at n (u ∷ us) ws f t = (inr (f .0), misses at n us ws (f .1) t)
 next-place : (h : Head) (q : ℕ) → nodePlace h (suc q) ≡ nodePlace h q + nodeWidth h
 next-place h q = omega (arith, ap (nodePlace h) (add-one q), place-add h q 1)
 
-nodes-laid : (h : Head) (len q : ℕ) (ys : List ℕ) (v : ℕ) (ws : List Write) → LettersBelow (h .n) ys → nodePlace h (q + suc (length ys)) ≤ len
+nodes-laid : (h : Head) (len q : ℕ) (ys : List ℕ) (v : ℕ) (ws : List Write)
+    → LettersBelow (h .n) ys → nodePlace h (q + suc (length ys)) ≤ len
     → Until (nodePlace h q) ws → Laid len ws → Laid len (newNodes h q ys v ++ ws)
 unfolding newNodes
 nodes-laid h len q [] v ws s r t a =
-    let n : length (lastNode h v) ≡ nodeWidth h = length-last h v in
-    (omega (arith, next-place h q, ap (nodePlace h) (add-one q)), misses (nodePlace h q) (length (lastNode h v)) [] ws tt t, a)
+    let n : length (lastNode h v) ≡ nodeWidth h = length-last h v in (
+      omega (arith, next-place h q, ap (nodePlace h) (add-one q)),
+      misses (nodePlace h q)
+          (length (lastNode h v)) [] ws tt t,
+      a,
+    )
 nodes-laid h len q (y ∷ ys) v ws s r t a =
     let bs : List ℕ = pathNode h y (suc q) in
-    let n : nodePlace h q + length bs ≡ nodePlace h (suc q) = omega (arith, length-path h y (suc q) (s .0), next-place h q) in
+    let n : nodePlace h q + length bs ≡ nodePlace h (suc q) =
+    omega (arith, length-path h y (suc q) (s .0), next-place h q) in
     let e : q + suc (suc (length ys)) ≡ suc q + suc (length ys) = omega arith in
-    let later : From (nodePlace h q + length bs) (newNodes h (suc q) ys v) = rw n (nodes-from h (suc q) ys v) in (
+    let later : From (nodePlace h q + length bs) (newNodes h (suc q) ys v) =
+    rw n (nodes-from h (suc q) ys v) in (
       omega (arith, place-le h (suc q) (q + suc (suc (length ys))) (omega arith)),
       misses (nodePlace h q) (length bs) (newNodes h (suc q) ys v) ws later t,
-      nodes-laid h len (suc q) ys v ws (s .1) (rw (← e) r) (until-after (nodePlace h q) (nodePlace h (suc q)) ws (omega arith) t) a,
+      nodes-laid h len (suc q) ys v ws (s .1) (rw (← e) r)
+          (until-after (nodePlace h q) (nodePlace h (suc q)) ws (omega arith) t) a,
     )
 
 -- ---- a store
 
-store-laid : {l key : List ℕ} (d : Descent) (v : ℕ) → descend (tableIn l) 0 key ≡ d → Granted l key v → Laid (length l) (storeWrites (headOf l) d v)
+store-laid : {l key : List ℕ} (d : Descent) (v : ℕ) → descend (tableIn l) 0 key ≡ d
+    → Granted l key v → Laid (length l) (storeWrites (headOf l) d v)
 unfolding storeWrites dataWrite totalWrite linkWrite
 store-laid {l} {key} (complete q) v e s =
     let h : Head = headOf l in
-    let within = complete-within (tableIn l) (h .g) key (s .accepted .links .within) e in
-    (omega (arith, length-digits (h .d) v, inside-used (data-inside h q) within, s .accepted .room), tt, tt)
+    let within = complete-within (tableIn l) (h .g) key (s .accepted .links .within) e in (
+      omega (
+        arith,
+        length-digits (h .d) v,
+        inside-used (data-inside h q) within,
+        s .accepted .room,
+      ),
+      tt,
+      tt,
+    )
 store-laid (stopped q x xs) zero e s = tt
 store-laid {l} (stopped q x xs) (suc v) e s =
     let h : Head = headOf l in
@@ -87,14 +107,20 @@ store-laid {l} (stopped q x xs) (suc v) e s =
     let far = place-least h q in
     let from = link-from h q x in
     let inside = link-inside h q (a .letters .0) in
-    let before : linkPlace h q x + h .a ≤ nodePlace h (suc g) = omega (arith, place-le h (q + 1) (suc g) (omega (arith, a .node))) in
+    let before : linkPlace h q x + h .a ≤ nodePlace h (suc g) =
+    omega (arith, place-le h (q + 1) (suc g) (omega (arith, a .node))) in
     let room : nodePlace h (suc total) ≤ length l = omega (arith, used-total h total, a .room) in
-    let end : nodePlace h (suc g + suc (length xs)) ≤ length l = omega (arith, room, ap (nodePlace h) (suc-add g (suc (length xs)))) in
+    let end : nodePlace h (suc g + suc (length xs)) ≤ length l =
+    omega (arith, room, ap (nodePlace h) (suc-add g (suc (length xs)))) in
     nodes-laid h (length l) (suc g) xs (suc v) _ (a .letters .1) end
-    (omega arith, (omega arith, tt))
-    (omega (arith, s .accepted .long-enough), (inr (omega arith), tt), (omega (arith, place-le h (suc g) (suc total) (omega arith)), tt, tt))
+    (omega arith, (omega arith, tt)) (
+      omega (arith, s .accepted .long-enough),
+      (inr (omega arith), tt),
+      (omega (arith, place-le h (suc g) (suc total) (omega arith)), tt, tt),
+    )
 
 pub read-back : {l key : List ℕ} {value : ℕ} → Granted l key value
     → readBack (storedImage l key value) (noted (writesIn l key value)) ≡ writesIn l key value
 unfolding storedImage
-read-back {l} {key} {value} s = read-laid l (writesIn l key value) (store-laid (descend (tableIn l) 0 key) value refl s)
+read-back {l} {key} {value} s =
+    read-laid l (writesIn l key value) (store-laid (descend (tableIn l) 0 key) value refl s)

@@ -1,4 +1,5 @@
--- An image that wants one link, and is accepted with it: the check answers 8 at the address of that link.
+-- An image that wants one link, and is accepted with it: the check answers 8 at the address of
+-- that link.
 use Prim.Native.Nat.{ℕ, _+_, _≤_}
 use mathlib.Core.Path.{_≡_, _∙_, ap}
 use mathlib.Core.Option.{none}
@@ -15,8 +16,10 @@ use Rattle.paper.proofs.Linking.{Unlinked, unlinked-8}
 use Rattle.paper.proofs.CheckCall.{left-6}
 
 module _ (l work : List ℕ) {q x c : ℕ} (u : Unlinked (headOf l .g) (tableIn l) q x c) where
-  pub check-unlinked : first (openingRowsOf l) ≡ none → headOf l .g + 1 ≤ length work → checkOf l work .numbers ≡ refusedNumbers (said 8 c)
+  pub check-unlinked : first (openingRowsOf l) ≡ none → headOf l .g + 1 ≤ length work
+      → checkOf l work .numbers ≡ refusedNumbers (said 8 c)
   unfolding checkOf tableIn
   check-unlinked opened lent =
-      let e = left-6 l work opened lent ∙ unlinked-8 (headOf l) (tableIn l) (framed (headOf l) l) u in
+      let e =
+      left-6 l work opened lent ∙ unlinked-8 (headOf l) (tableIn l) (framed (headOf l) l) u in
       ap (λ (o : Outcome). o .numbers) (heard-refused (first (checkOrder l work)) _ _ e)

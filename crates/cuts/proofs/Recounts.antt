@@ -1,5 +1,6 @@
--- 02, Ask 7, after Ask 1: counts stand beside the image, so a cut and a mending may leave them wrong. In any accepted image working out
--- makes the list right again; a mending that answers 0 leaves an accepted image, and after a cut in a store it answers 0.
+-- 02, Ask 7, after Ask 1: counts stand beside the image, so a cut and a mending may leave them
+-- wrong. In any accepted image working out makes the list right again; a mending that answers 0
+-- leaves an accepted image, and after a cut in a store it answers 0.
 use Prim.Native.Nat.{ℕ, _+_, _≤_, _<_}
 use mathlib.Core.Path.{_≡_, ap}
 use mathlib.Core.Bool.{Bool}
@@ -27,14 +28,16 @@ use Rattle.cuts.proofs.AfterMending.{mend-zero}
 -- the counts were worked out, the list that was left is right, and a check with it answers 0
 pub record Recounted (l work counts work₂ : List ℕ) : Type 0 where
   pub done : countsOf l work counts .numbers .number ≡ 0
-  pub leaves : countsOf l work counts ≡ outcome (doneNumbers 0 (pos 0) 0) (workAfter l work ∷ worked l counts ∷ [])
+  pub leaves : countsOf l work counts ≡ outcome (doneNumbers 0 (pos 0) 0)
+      (workAfter l work ∷ worked l counts ∷ [])
   pub right : RightCounts l (worked l counts)
   pub checked : checkCountsOf l work₂ (worked l counts) .numbers .number ≡ 0
 
 -- whatever the lists hold, where they are long enough
 abbrev pub Recounts : List ℕ → Type 0
 Recounts l =
-    (work counts work₂ : List ℕ) → headOf l .g + 1 ≤ length work → headOf l .g + 1 ≤ length counts → headOf l .g + 1 ≤ length work₂
+    (work counts work₂ : List ℕ) → headOf l .g + 1 ≤ length work → headOf l .g + 1 ≤ length counts
+    → headOf l .g + 1 ≤ length work₂
     → Recounted l work counts work₂
 
 pub accepted-recounts : {l : List ℕ} → Accepted l → Recounts l
@@ -49,7 +52,8 @@ accepted-recounts {l} a work counts work₂ lent long lent₂ =
 
 -- ---- after any mending that answers 0
 
-pub mend-recounts : (l work : List ℕ) → mendOf l work .numbers .number ≡ 0 → Recounts (mendedImage l work)
+pub mend-recounts : (l work : List ℕ) → mendOf l work .numbers .number ≡ 0
+    → Recounts (mendedImage l work)
 mend-recounts l work z = accepted-recounts (mend-zero l work z)
 
 -- ---- after a store that was cut anywhere and mended
@@ -57,7 +61,8 @@ mend-recounts l work z = accepted-recounts (mend-zero l work z)
 -- with working numbers enough for what the cut left
 abbrev pub RecountsAfter : List ℕ → List ℕ → ℕ → Type 0
 RecountsAfter l key value =
-    (k : ℕ) (lands : ℕ → Bool) (work : List ℕ) → headOf (cutAfter k lands l (writesIn l key value)) .g + 1 ≤ length work
+    (k : ℕ) (lands : ℕ → Bool) (work : List ℕ)
+    → headOf (cutAfter k lands l (writesIn l key value)) .g + 1 ≤ length work
     → Recounts (mendedImage (cutAfter k lands l (writesIn l key value)) work)
 
 mends-zero : {l work m : List ℕ} → MendsTo l work m → mendOf l work .numbers .number ≡ 0
@@ -65,7 +70,8 @@ unfolding doneNumbers
 mends-zero t = ap (λ (o : Outcome). o .numbers .number) (t .heard)
 
 mended-recounts : (l key : List ℕ) (value : ℕ) → Mended l key value → RecountsAfter l key value
-mended-recounts l key value mended k lands work lent = mend-recounts left work (go (decLt k (length (writesIn l key value))))
+mended-recounts l key value mended k lands work lent =
+    mend-recounts left work (go (decLt k (length (writesIn l key value))))
   where
     left : List ℕ
     left = cutAfter k lands l (writesIn l key value)
@@ -75,13 +81,19 @@ mended-recounts l key value mended k lands work lent = mend-recounts left work (
     go (no b) = mends-zero (mended k lands work lent .1 (omega arith))
 
 module _ (l work : List ℕ) (given : Given) (value : ℕ) where
-  pub cut-recounts : storeOf l work given value .numbers .number ≡ 0 → RecountsAfter l (keyIn l given) value
+  pub cut-recounts : storeOf l work given value .numbers .number ≡ 0
+      → RecountsAfter l (keyIn l given) value
   cut-recounts z = mended-recounts l (keyIn l given) value (cut-store l work given value z)
 
   -- a store with counts is cut and mended as the plain one
-  pub cut-store-counts : (counts : List ℕ) → storeCountsOf l work given value counts .numbers .number ≡ 0 → Mended l (keyIn l given) value
-  cut-store-counts counts z = cut-store l work given value (store-counts-plain l work given value counts z .0)
+  pub cut-store-counts : (counts : List ℕ)
+      → storeCountsOf l work given value counts .numbers .number ≡ 0
+      → Mended l (keyIn l given) value
+  cut-store-counts counts z =
+      cut-store l work given value (store-counts-plain l work given value counts z .0)
 
-  pub cut-counts-recounts : (counts : List ℕ) → storeCountsOf l work given value counts .numbers .number ≡ 0
+  pub cut-counts-recounts : (counts : List ℕ)
+      → storeCountsOf l work given value counts .numbers .number ≡ 0
       → RecountsAfter l (keyIn l given) value
-  cut-counts-recounts counts z = mended-recounts l (keyIn l given) value (cut-store-counts counts z)
+  cut-counts-recounts counts z =
+      mended-recounts l (keyIn l given) value (cut-store-counts counts z)

@@ -1,5 +1,6 @@
--- 02, Ask 1: what a cut can leave. The writes before it landed whole. "A write of G, a link or a data field lands whole or not at all; one
--- to spare bytes may land in part": any of its bytes may have landed. None after it was begun.
+-- 02, Ask 1: what a cut can leave. The writes before it landed whole. "A write of G, a link or a
+-- data field lands whole or not at all; one to spare bytes may land in part": any of its bytes may
+-- have landed. None after it was begun.
 use Prim.Native.Nat.{ℕ, zero, suc}
 use mathlib.Core.Bool.{Bool, cond}
 use mathlib.Core.List.{List, [], _∷_}
@@ -19,8 +20,8 @@ unfoldable pub hit : (ℕ → Bool) → List ℕ → Write → List ℕ
 unfolding torn headOf usedLen
 hit lands l w = cond (leb (usedLen (headOf l)) (w .place)) (torn lands l (w .place) (w .bytes)) l
 
--- A cut behind the first k writes of a list. Where the write that was hit landed whole, the cut is one behind k+1, of which nothing of the
--- next landed.
+-- A cut behind the first k writes of a list. Where the write that was hit landed whole, the cut is
+-- one behind k+1, of which nothing of the next landed.
 unfoldable pub cutAfter : ℕ → (ℕ → Bool) → List ℕ → List Write → List ℕ
 unfolding hit
 cutAfter k lands l [] = l

@@ -1,4 +1,5 @@
--- 02, Ask 1: "a mending call with enough working numbers must leave the answers from before the store or after it".
+-- 02, Ask 1: "a mending call with enough working numbers must leave the answers from before the
+-- store or after it".
 use Prim.Native.Nat.{ℕ, _-_}
 use mathlib.Core.Path.{_≡_}
 use mathlib.Core.Bool.{cond}
@@ -22,10 +23,13 @@ pub record MendsTo (l work m : List ℕ) : Type 0 where
 -- the image that mending leaves, whatever it answers
 unfoldable pub mendedImage : List ℕ → List ℕ → List ℕ
 unfolding mends checkOf
-mendedImage l work = cond (mends l (checkOf l work .numbers)) (putTotal l (checkOf l work .numbers .place - 1)) l
+mendedImage l work =
+    cond (mends l (checkOf l work .numbers)) (putTotal l (checkOf l work .numbers .place - 1)) l
 
--- The bytes of a write are those of the image after the call: the writes that a caller has from the list and the image
+-- The bytes of a write are those of the image after the call: the writes that a caller has from
+-- the list and the image
 unfoldable pub readBack : List ℕ → List ℕ → List Write
 readBack after [] = []
 readBack after (place ∷ []) = []
-readBack after (place ∷ len ∷ rest) = record { place = place; bytes = take len (drop place after) } ∷ readBack after rest
+readBack after (place ∷ len ∷ rest) =
+    record { place = place; bytes = take len (drop place after) } ∷ readBack after rest

@@ -1,5 +1,6 @@
--- One link of a node at a depth: the keys that come by it are the child's own and those below the child, each behind the link's letter.
--- A search and the count both go from letter to letter by this, and both ask for a node's own key by `own_value`.
+-- One link of a node at a depth: the keys that come by it are the child's own and those below the
+-- child, each behind the link's letter. A search and the count both go from letter to letter by
+-- this, and both ask for a node's own key by `own_value`.
 use Prim.Native.Nat.{ℕ, suc, pred, _-_, _<_, _≤_}
 use native.Mathlib.Omega.{arith}
 use native.Mathlib.Decide.{decLt}
@@ -11,7 +12,8 @@ use borrow.Author.Tests.{lt-ltb, le-ltb}
 use Rattle.trie.specs.Table.{Table}
 use Rattle.trie.specs.Keys.{ownKey}
 use Rattle.trie.specs.Beyond.{keysFrom}
-use Rattle.trie.proofs.Beyond.{own-none, own-short, own-there, under-split, from-shallow, from-childless, from-on}
+use Rattle.trie.proofs.Beyond.{own-none, own-short, own-there, under-split, from-shallow}
+use Rattle.trie.proofs.Beyond.{from-childless, from-on}
 use Rattle.head.specs.declared.Head.{Head}
 use Rattle.depths.specs.Depths.{ownValue, KeysBelow}
 
@@ -56,14 +58,24 @@ module _ (h : Head) (t : Table) where
   pub keys-below-full : (q depth : ℕ) → h .max ≤ depth → KeysBelow h t q depth true
   keys-below-full q depth b =
       let e : h .max - depth ≡ 0 = omega arith in
-      record { nothing = λ z i. rw e (from-shallow t (h .n) (h .min - depth) q i); deep = λ z. absurd (true≢false z) }
+      record {
+        nothing = λ z i. rw e (from-shallow t (h .n) (h .min - depth) q i);
+        deep =
+            λ z. absurd (true≢false z);
+      }
 
-  pub keys-below-asked : (q depth : ℕ) {r : Bool} → depth < h .max → (r ≡ true → (i : ℕ) → t .child q i ≡ 0) → KeysBelow h t q depth r
+  pub keys-below-asked : (q depth : ℕ) {r : Bool} → depth < h .max
+      → (r ≡ true → (i : ℕ) → t .child q i ≡ 0) → KeysBelow h t q depth r
   keys-below-asked q depth deep childless =
-      record { nothing = λ z i. from-childless t (h .n) (h .min - depth) (h .max - depth) q i (childless z); deep = λ z. deep }
+      record {
+        nothing = λ z i. from-childless t (h .n) (h .min - depth) (h .max - depth) q i
+            (childless z);
+        deep = λ z. deep;
+      }
 
   pub from-link : (q depth i : ℕ) {c : ℕ} → depth < h .max → i < h .n → t .child q i ≡ c → c ≢ 0
-      → from q depth i ≡ map (i ∷_) (ownKey t (h .min - suc depth) c ++ from c (suc depth) 0) ++ from q depth (suc i)
+      → from q depth i ≡ map (i ∷_) (ownKey t (h .min - suc depth) c ++ from c (suc depth) 0)
+      ++ from q depth (suc i)
   from-link q depth i {c} deep low e full =
       let m : h .max - depth ≡ suc (h .max - suc depth) = omega arith in
       let s : pred (h .min - depth) ≡ h .min - suc depth = omega arith in

@@ -1,5 +1,5 @@
--- What an accepted image gives a program that walks through it, for the crates above: the image is open, its links are inside, its keys are
--- few.
+-- What an accepted image gives a program that walks through it, for the crates above: the image is
+-- open, its links are inside, its keys are few.
 use mathlib.Core.Path.{_≡_, sym, subst}
 use Prim.Native.Nat.{ℕ, _≤_, _<_, _^_}
 use native.Mathlib.Omega.{arith}
@@ -25,7 +25,13 @@ pub record Walkable (h : Head) (l : List ℕ) : Type 0 where
 pub walkable : {h : Head} {l : List ℕ} → Accepted l → h ≡ headOf l → Walkable h l
 unfolding tableIn storedKeys
 walkable {h} {l} a e =
-    subst (λ (k : Head). Walkable k l) (sym e) (record { opened = accepted-open a; within = accepted-linked a .within; few = counted-fits a })
+    subst (λ (k : Head). Walkable k l) (sym e)
+    (record {
+      opened = accepted-open a;
+      within = accepted-linked a .within;
+      few =
+          counted-fits a;
+    })
 
 pub short : {h : Head} {l : List ℕ} → Walkable h l → h .max ≤ mostLetters
 short {h} w = omega (arith, bounds h (w .opened .head-permitted))

@@ -1,5 +1,5 @@
--- 01, "Walking, storing, listing": "A stored key is one with length in min..max whose data is not 0". What that makes of a node at a depth,
--- the length of the key that ends there.
+-- 01, "Walking, storing, listing": "A stored key is one with length in min..max whose data is not
+-- 0". What that makes of a node at a depth, the length of the key that ends there.
 use Prim.Native.Nat.{ℕ, _+_, _-_, _^_, _<_}
 use mathlib.Core.Path.{_≡_}
 use mathlib.Core.Bool.{Bool, true, false, cond}
@@ -14,12 +14,14 @@ use Rattle.node.specs.Image.{Masks}
 unfoldable pub ownValue : Head → Table → ℕ → ℕ → ℕ
 ownValue h t q depth = cond (ltb depth (h .min)) 0 (t .value q)
 
--- whether no key lies below a node at a depth, from any letter on; otherwise a letter may follow there
+-- whether no key lies below a node at a depth, from any letter on; otherwise a letter may follow
+-- there
 pub record KeysBelow (h : Head) (t : Table) (q depth : ℕ) (noKeys : Bool) : Type 0 where
-  pub nothing : noKeys ≡ true → (x : ℕ) → keysFrom t (h .n) (h .min - depth) (h .max - depth) q x ≡ []
+  pub nothing : noKeys ≡ true → (x : ℕ) → keysFrom t (h .n) (h .min - depth) (h .max - depth) q x
+      ≡ []
   pub deep : noKeys ≡ false → depth < h .max
 
 -- the masks by which a walk that meets many nodes reads their links and their data
-pub record ReadMasks (h : Head) (mask ones : ℕ) : Type 0 where
+pub record ReadMasks (h : Head) (mask dataMask : ℕ) : Type 0 where
   pub links : Masks h mask
-  pub values : ones + 1 ≡ 256 ^ h .d
+  pub values : dataMask + 1 ≡ 256 ^ h .d

@@ -1,5 +1,6 @@
-// What stands at a node at a depth: the data of the key that ends there, and whether a longer key can lie below it. The search for the next
-// key and the count both ask this of every node that they meet.
+// What stands at a node at a depth: the data of the key that ends there, and whether a longer key
+// can lie below it. The search for the next key and the count both ask this of every node that
+// they meet.
 ghost use mathlib.Core.Path.{_≡_};
 ghost use Prim.Native.Nat.{_+_, _^_, _≤_};
 ghost use Rattle.node.specs.Image.{Open, tableOf};
@@ -25,8 +26,9 @@ pub fn own_value_by(image: &[u8], h: Head, mask: u32, node: u32, depth: usize) -
     node::data_by(image, h, mask, node)
 }
 
-// Whether no key lies below a node at a depth: no letter may follow, or all its links are empty. Asked of each child before a search goes
-// there, it spares a call where a key ends, as most do at a node without links.
+// Whether no key lies below a node at a depth: no letter may follow, or all its links are empty.
+// Asked of each child before a search goes there, it spares a call where a key ends, as most do at
+// a node without links.
 pub fn no_keys_below(image: &[u8], h: Head, node: u32, depth: usize) -> bool
     requires { ⌜ Open h (now image) ⌝ ∗ ⌜ node ≤ h .g ⌝ }
     ensures { λ r. ⌜ KeysBelow h (tableOf h (now (image .entry))) node depth r ⌝ }

@@ -3,4 +3,11 @@ use Rattle.face.specs.declared.TrieffAnswer.{TrieffAnswer}
 use Rattle.paper.specs.Hearing.{Numbers}
 
 abbrev pub numbersOf : TrieffAnswer → Numbers
-numbersOf r = record { number = r .number; place = r .place; length = r .length; change = r .change; value = r .value }
+numbersOf r = record {
+  number = r .number;
+  place = r .place;
+  length = r .length;
+  change =
+      r .change;
+  value = r .value;
+}

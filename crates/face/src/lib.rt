@@ -1,6 +1,8 @@
-// The answer that C is given, and each call's answer in its numbers. The exported functions stand in `trieff`.
+// The answer that C is given, and each call's answer in its numbers. The exported functions stand
+// in `trieff`.
 ghost use mathlib.Core.Path.{_≡_};
-ghost use Rattle.paper.specs.Answers.{refusalNumbers, doneOf, countedOf, placedOf, lookedOf, storedOf, notedOf, foundOf};
+ghost use Rattle.paper.specs.Answers.{refusalNumbers, doneOf, countedOf, placedOf, lookedOf};
+ghost use Rattle.paper.specs.Answers.{storedOf, notedOf, foundOf};
 ghost use Rattle.paper.specs.Hearing.{doneNumbers};
 ghost use Rattle.face.specs.Face.{numbersOf};
 use paper::Counted;

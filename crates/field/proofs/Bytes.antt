@@ -1,5 +1,5 @@
--- What is a list of bytes. Each law follows the list that it speaks of; past a list's end `getD` answers 0, which is a byte, so no law
--- asks for a place within the list.
+-- What is a list of bytes. Each law follows the list that it speaks of; past a list's end `getD`
+-- answers 0, which is a byte, so no law asks for a place within the list.
 use mathlib.Core.Bool.{Bool, true, _&&_}
 use Prim.Native.Nat.{ℕ, zero, suc, _<_}
 use native.Mathlib.Omega.{arith}

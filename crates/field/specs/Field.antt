@@ -1,5 +1,6 @@
--- 01, "The image": "All numbers are big-endian, here and in every later layout." A field is w bytes at a place of the image;
--- the width is free, so that no law is stated for one width. Bytes are numbers below 256.
+-- 01, "The image": "All numbers are big-endian, here and in every later layout." A field is w
+-- bytes at a place of the image; the width is free, so that no law is stated for one width. Bytes
+-- are numbers below 256.
 use Prim.Native.Nat.{ℕ, zero, suc, _+_, _*_, _/_, _%_, _≤_, _<_}
 use mathlib.Core.Path.{_≡_}
 use mathlib.Core.List.{List, [], _∷_, _++_}

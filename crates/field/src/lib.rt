@@ -1,5 +1,6 @@
-// Big-endian fields in a slice of bytes: read, written and cleared at a place. Widths are 1 to 8 bytes, values 64 bits wide.
-// A caller shows that the field lies inside the slice; nothing is assumed beyond that.
+// Big-endian fields in a slice of bytes: read, written and cleared at a place. Widths are 1 to 8
+// bytes, values 64 bits wide. A caller shows that the field lies inside the slice; nothing is
+// assumed beyond that.
 ghost use mathlib.Core.Path.{_≡_};
 ghost use mathlib.Core.Bool.{true};
 ghost use Prim.Native.Nat.{ℕ, _+_, _-_, _^_, _≤_, _<_};
@@ -7,7 +8,8 @@ ghost use lib.ListN.{length};
 ghost use lib.Seq.{sets};
 ghost use Rattle.field.specs.Field.{fieldAt, putField, cleared, Zeros};
 
-// The number in four bytes. Written straight, since the compiler makes one load of it; the head's fields are read so.
+// The number in four bytes. Written straight, since the compiler makes one load of it; the head's
+// fields are read so.
 pub fn read4(s: &[u8], at: usize) -> u32
     requires { ⌜ at + 4 ≤ length (now s) ⌝ }
     ensures { λ r. ⌜ r ≡ fieldAt (now (s .entry)) at 4 ⌝ }
@@ -39,18 +41,21 @@ pub fn read_few(s: &[u8], at: usize, w: usize) -> u32
     (three * 256 + wide(s[at + 3])) as u32
 }
 
-// The number in the w bytes that end at `end`, by the mask 256^w - 1. Four bytes are loaded whatever the width is, so that no loop and no
-// choice stands in the way of a reader of many fields; the caller has four bytes in front of `end`.
+// The number in the w bytes that end at `end`, by the mask 256^w - 1. Four bytes are loaded
+// whatever the width is, so that no loop and no choice stands in the way of a reader of many
+// fields; the caller has four bytes in front of `end`.
 pub fn load_masked(s: &[u8], end: usize, mask: u32) -> u32
     requires { ⌜ (4 ≤ end) × (end ≤ length (now s)) ⌝ }
-    ensures { λ r. ⌜ ((w : ℕ) → w ≤ 4 → mask + 1 ≡ 256 ^ w → r ≡ fieldAt (now (s .entry)) (end - w) w) ⌝ }
+    ensures { λ r. ⌜ ((w : ℕ) → w ≤ 4 → mask + 1 ≡ 256 ^ w → r ≡ fieldAt (now (s .entry))
+        (end - w) w) ⌝ }
 {
     read4(s, end - 4) & mask
 }
 
-// Are the bytes from `from` up to `to` all 0? The first sixteen and the last are looked at, then what is between, sixteen a turn. What is
-// shorter than eight bytes is answered false: a caller then reads it. All are held against the first eight and only these against
-// 0, since the compiler makes one comparison of that.
+// Are the bytes from `from` up to `to` all 0? The first sixteen and the last are looked at, then
+// what is between, sixteen a turn. What is shorter than eight bytes is answered false: a caller
+// then reads it. All are held against the first eight and only these against 0, since the compiler
+// makes one comparison of that.
 pub fn blank(s: &[u8], from: usize, to: usize) -> bool
     requires { ⌜ (from ≤ to) × (to ≤ length (now s)) ⌝ }
     ensures { λ r. ⌜ (r ≡ true → Zeros (now (s .entry)) from to) ⌝ }
@@ -96,8 +101,8 @@ fn short_blank(s: &[u8], from: usize, to: usize) -> bool
     first == 0
 }
 
-// Eight bytes as one number, the last of them highest. It is the sum of two numbers of four bytes, since the compiler then makes one load
-// of each. The contract covers only the result 0.
+// Eight bytes as one number, the last of them highest. It is the sum of two numbers of four bytes,
+// since the compiler then makes one load of each. The contract covers only the result 0.
 fn eight(s: &[u8], at: usize) -> u64
     requires { ⌜ at + 8 ≤ length (now s) ⌝ }
     ensures { λ r. ⌜ (r ≡ 0 → fieldAt (now (s .entry)) at 8 ≡ 0) ⌝ }
@@ -115,7 +120,8 @@ fn eight(s: &[u8], at: usize) -> u64
     low + high * 4294967296
 }
 
-// Writes v into the w bytes from `at` on, the last byte first; what does not fit the width is lost.
+// Writes v into the w bytes from `at` on, the last byte first; what does not fit the width is
+// lost.
 pub fn write(s: &mut [u8], at: usize, w: usize, v: u64)
     requires { ⌜ at + w ≤ length (now s) ⌝ }
     ensures { λ _. ⌜ now (s .exit) ≡ putField (now (s .entry)) at w v ⌝ }

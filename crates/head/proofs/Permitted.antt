@@ -1,5 +1,5 @@
--- What is permitted in a head, as a record of named bounds and back. The test is a chain of tests within limits, and a chain is true
--- exactly where each of its links is.
+-- What is permitted in a head, as a record of named bounds and back. The test is a chain of tests
+-- within limits, and a chain is true exactly where each of its links is.
 use mathlib.Core.Path.{_≡_}
 use mathlib.Core.Bool.{true}
 use Prim.Native.Nat.{_^_, _≤_}
@@ -8,7 +8,8 @@ use native.Mathlib.Omega.{arith}
 use Rattle.field.specs.Range.{between}
 use Rattle.field.proofs.Range.{both, between-true}
 use Rattle.head.specs.declared.Head.{Head}
-use Rattle.head.specs.Fields.{permitted, mostLinks, mostLinkBytes, mostDataBytes, mostAlphabet, mostLetters}
+use Rattle.head.specs.Fields.{permitted, mostLinks, mostLinkBytes, mostDataBytes}
+use Rattle.head.specs.Fields.{mostAlphabet, mostLetters}
 
 pub record Bounds (h : Head) : Type 0 where
   pub n-least : 1 ≤ h .n

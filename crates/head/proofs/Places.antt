@@ -1,11 +1,13 @@
--- Where nodes begin and how much is used. A node begins W bytes after the one before it, so that all follows from the laws of a product;
--- in a permitted head W is at most 1028, and no address takes a place past 43 bits.
+-- Where nodes begin and how much is used. A node begins W bytes after the one before it, so that
+-- all follows from the laws of a product; in a permitted head W is at most 1028, and no address
+-- takes a place past 43 bits.
 use mathlib.Core.Path.{_≡_, refl}
 use Prim.Native.Nat.{ℕ, _+_, _*_, _^_, _≤_, _<_}
 use native.Mathlib.Nat.{add-mul, suc-mul, one-le-mul, mul-le-mul, mul-le-mul-right}
 use native.Mathlib.Omega.{arith}
 use Rattle.head.specs.declared.Head.{Head}
-use Rattle.head.specs.Fields.{mostLinks, mostLinkBytes, mostDataBytes, fieldsLen, nodeWidth, nodePlace, usedLen}
+use Rattle.head.specs.Fields.{mostLinks, mostLinkBytes, mostDataBytes, fieldsLen, nodeWidth}
+use Rattle.head.specs.Fields.{nodePlace, usedLen}
 use Rattle.head.proofs.Permitted.{Bounds}
 
 -- a row of w ends before a later one begins

@@ -1,5 +1,6 @@
--- 01, "The image": the head is seven 32-bit fields, in the order G, N, A, D, F, min, max, then F bytes of alphabet; the table of what is
--- permitted; the node width W, where a node begins, and the used length U.
+-- 01, "The image": the head is seven 32-bit fields, in the order G, N, A, D, F, min, max, then F
+-- bytes of alphabet; the table of what is permitted; the node width W, where a node begins, and
+-- the used length U.
 use Prim.Native.Nat.{ℕ, _+_, _*_}
 use mathlib.Core.Bool.{Bool, _&&_}
 use mathlib.Core.List.{List, _++_}
@@ -23,8 +24,9 @@ mostAlphabet = 1024
 abbrev pub mostLetters : ℕ
 mostLetters = 64
 
--- what follows from them: the most nodes on a key's path, the root among them; the most writes of a store, a new node for each letter, G
--- and a link; and the numbers in the list of so many writes, two for each
+-- what follows from them: the most nodes on a key's path, the root among them; the most writes of
+-- a store, a new node for each letter, G and a link; and the numbers in the list of so many
+-- writes, two for each
 abbrev pub mostPath : ℕ
 mostPath = mostLetters + 1
 
@@ -69,7 +71,9 @@ headOf l =
 unfoldable pub headBytes : Head → List ℕ
 unfolding digits
 headBytes h =
-    digits 4 (h .g) ++ (digits 4 (h .n) ++ (digits 4 (h .a) ++ (digits 4 (h .d) ++ (digits 4 (h .f) ++ (digits 4 (h .min) ++ digits 4 (h .max))))))
+    digits 4 (h .g) ++ (digits 4 (h .n)
+    ++ (digits 4 (h .a) ++ (digits 4 (h .d)
+    ++ (digits 4 (h .f) ++ (digits 4 (h .min) ++ digits 4 (h .max))))))
 
 -- "the image with G set to" g
 abbrev pub putTotal : List ℕ → ℕ → List ℕ

@@ -1,5 +1,6 @@
-// The head of an image: its seven fields read and written, what is permitted in them, and the lengths that follow from them.
-// U is a 64-bit number: (G+1)*W is below 2^43, and a great G must not wrap into range.
+// The head of an image: its seven fields read and written, what is permitted in them, and the
+// lengths that follow from them. U is a 64-bit number: (G+1)*W is below 2^43, and a great G must
+// not wrap into range.
 ghost use mathlib.Core.Path.{_≡_};
 ghost use mathlib.Core.Bool.{true};
 ghost use Prim.Native.Nat.{_+_, _≤_, _^_};
@@ -7,7 +8,9 @@ ghost use lib.Dec.{leb};
 ghost use lib.ListN.{length};
 ghost use lib.Seq.{sets};
 ghost use Rattle.field.specs.Range.{between};
-ghost use Rattle.head.specs.Fields.{shortestImage, longestImage, fieldsLen, totalAt, totalLen, headOf, headBytes, putTotal, permitted, nodeWidth, nodePlace, usedLen};
+ghost use Rattle.head.specs.Fields.{shortestImage, longestImage, fieldsLen, totalAt};
+ghost use Rattle.head.specs.Fields.{totalLen, headOf, headBytes, putTotal, permitted};
+ghost use Rattle.head.specs.Fields.{nodeWidth, nodePlace, usedLen};
 
 pub struct Head {
     pub g: u32,
@@ -27,7 +30,8 @@ pub fn length_allowed(len: usize) -> bool
 }
 
 impl Head {
-    // The greatest number of links in a node, of bytes in a link, of bytes of data, of bytes of alphabet and of letters in a key.
+    // The greatest number of links in a node, of bytes in a link, of bytes of data, of bytes of
+    // alphabet and of letters in a key.
     pub const N_MOST: u32 = 256;
 
     pub const A_MOST: u32 = 4;
@@ -38,7 +42,8 @@ impl Head {
 
     pub const MAX_MOST: u32 = 64;
 
-    // What follows from them: the greatest number of nodes on a key's path, of writes of a store, and of numbers in the list of these.
+    // What follows from them: the greatest number of nodes on a key's path, of writes of a store,
+    // and of numbers in the list of these.
     pub const PATH_MOST: u32 = Head::MAX_MOST + 1;
 
     pub const WRITES_MOST: u32 = Head::MAX_MOST + 2;

@@ -1,4 +1,5 @@
--- The outcome of make, at each way out: refused with the image as it was, or done with the fresh image.
+-- The outcome of make, at each way out: refused with the image as it was, or done with the fresh
+-- image.
 use Prim.Native.Nat.{ℕ, _<_}
 use mathlib.Core.Path.{_≡_, refl, sym, _∙_, ap}
 use mathlib.Core.Bool.{Bool, true, false}
@@ -29,17 +30,20 @@ module _ (image : List ℕ) (n a d : ℕ) (alphabet : List ℕ) (least most : �
   abbrev pub heardOf : Row
   heardOf = first (openingRows fresh alphabet (length image))
 
-  pub makes-refused : (why : Refusal) → heardOf ≡ some (saidOf why) → Makes image n a d alphabet least most (doneOf (Done.Refused why)) image
+  pub makes-refused : (why : Refusal) → heardOf ≡ some (saidOf why)
+      → Makes image n a d alphabet least most (doneOf (Done.Refused why)) image
   unfolding makeOf freshHead doneOf refusalNumbers
   makes-refused why e = sym (heard-refused _ _ _ e)
 
   pub makes-done : {after : List ℕ} → heardOf ≡ none → after ≡ freshImage fresh alphabet image
       → Makes image n a d alphabet least most (doneOf Done.Done) after
   unfolding makeOf freshHead doneOf
-  makes-done e f = ap (λ (l : List ℕ). outcome (doneNumbers 0 (pos 0) 0) (l ∷ [])) f ∙ sym (heard-done _ _ _ e)
+  makes-done e f =
+      ap (λ (l : List ℕ). outcome (doneNumbers 0 (pos 0) 0) (l ∷ [])) f ∙ sym (heard-done _ _ _ e)
 
   -- an alphabet of more bytes than F may count
-  pub too-many : between (length image) shortestImage longestImage ≡ true → mostAlphabet < length alphabet → heardOf ≡ some (said 2 0)
+  pub too-many : between (length image) shortestImage longestImage ≡ true → mostAlphabet
+      < length alphabet → heardOf ≡ some (said 2 0)
   too-many l b = heard-2 fresh alphabet (length image) l (go (permitted fresh) refl)
     where
       go : (p : Bool) → permitted fresh ≡ p → p ≡ false

@@ -1,5 +1,6 @@
-// The calls that write an image as a whole: make and mend. Neither has a `requires`: any bytes and numbers may be handed over. Each promises
-// one line, that the numbers of its answer and every lent buffer's last content are the outcome that documents 01 and 02 state (crate `paper`).
+// The calls that write an image as a whole: make and mend. Neither has a `requires`: any bytes and
+// numbers may be handed over. Each promises one line, that the numbers of its answer and every
+// lent buffer's last content are the outcome that documents 01 and 02 state (crate `paper`).
 ghost use Rattle.paper.specs.Answers.{doneOf};
 ghost use Rattle.paper.specs.Promises.{Makes, Mends};
 use head::Head;
@@ -9,7 +10,8 @@ use paper::Verdict;
 
 // Makes a fresh image in the lent slice: head, alphabet and a zero root. Refusals: 1, 2, 3, 4.
 pub fn make(image: &mut [u8], n: u32, a: u32, d: u32, alphabet: &[u8], min: u32, max: u32) -> Done
-    ensures { λ r. ⌜ Makes (now (image .entry)) n a d (now (alphabet .entry)) min max (doneOf r) (now (image .exit)) ⌝ }
+    ensures { λ r. ⌜ Makes (now (image .entry)) n a d (now (alphabet .entry)) min max (doneOf r)
+        (now (image .exit)) ⌝ }
 {
     let len = image.len();
     if !head::length_allowed(len) {
@@ -40,10 +42,12 @@ pub fn make(image: &mut [u8], n: u32, a: u32, d: u32, alphabet: &[u8], min: u32,
     }
 }
 
-// Mends an image after a cut between two writes of a store: where the check answers 8 at p, and the image is accepted with G set to p-1, G is
-// set so. Otherwise nothing changes, and the check's answer is returned. Refusals: 1 to 8.
+// Mends an image after a cut between two writes of a store: where the check answers 8 at p, and
+// the image is accepted with G set to p-1, G is set so. Otherwise nothing changes, and the check's
+// answer is returned. Refusals: 1 to 8.
 pub fn mend(image: &mut [u8], work: &mut [u32]) -> Done
-    ensures { λ r. ⌜ Mends (now (image .entry)) (now (work .entry)) (doneOf r) (now (image .exit)) (now (work .exit)) ⌝ }
+    ensures { λ r. ⌜ Mends (now (image .entry)) (now (work .entry)) (doneOf r) (now (image .exit))
+        (now (work .exit)) ⌝ }
 {
     let mut codes = [0u32; Head::N_MOST as usize];
     let checked = audit::check(image, work, &mut codes);

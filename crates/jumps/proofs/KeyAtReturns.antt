@@ -1,5 +1,6 @@
--- The outcome of key at position, at each way out. Every key passes the root, so the root's count is the number of stored keys, and past it is
--- past the end; the key that the way by counts tells is laid into the buffer from a path of its own.
+-- The outcome of key at position, at each way out. Every key passes the root, so the root's count
+-- is the number of stored keys, and past it is past the end; the key that the way by counts tells
+-- is laid into the buffer from a path of its own.
 use Prim.Native.Nat.{ℕ, _+_, _^_, _≤_, _<_}
 use mathlib.Core.Path.{_≡_, refl, sym, _∙_, ap}
 use mathlib.Core.Option.{Option, none, some}
@@ -27,7 +28,8 @@ use Rattle.paper.specs.Answers.{saidOf, refusalNumbers, foundOf}
 use Rattle.paper.specs.Rows.{row14, row15, isNone}
 use Rattle.paper.specs.Calls.{tableIn, storedKeys}
 use Rattle.paper.specs.Accepted.{Accepted}
-use Rattle.paper.proofs.Hearing.{first-part, second-part, yes-row, no-row, first-nil, heard-refused, heard-done, told-refused, told-passed}
+use Rattle.paper.proofs.Hearing.{first-part, second-part, yes-row, no-row, first-nil}
+use Rattle.paper.proofs.Hearing.{heard-refused, heard-done, told-refused, told-passed}
 use Rattle.paper.proofs.NextKeyCall.{stored-exactly}
 use Rattle.position.specs.Counts.{RightCounts}
 use Rattle.position.specs.Orders.{checkCountsOrder, keyAtOrder}
@@ -54,12 +56,14 @@ module _ (l work counts : List ℕ) (position : ℕ) (buffer : List ℕ) where
   abbrev answered : Outcome
   answered = placedKey l work counts buffer (orEmpty (keyAt (storedKeys l) position))
 
-  asked : keyAtOf l work counts position buffer ≡ heard (first order) (workLeft l work counts ∷ buffer ∷ []) answered
+  asked : keyAtOf l work counts position buffer ≡ heard (first order)
+      (workLeft l work counts ∷ buffer ∷ []) answered
   unfolding keyAtOf keyAtOrder
   asked = refl
 
   abbrev Leaves : Found → List ℕ → Type 0
-  Leaves r buffer′ = GivesKey l work counts position buffer (foundOf r) (workLeft l work counts) buffer′
+  Leaves r buffer′ =
+      GivesKey l work counts position buffer (foundOf r) (workLeft l work counts) buffer′
 
   refuses : (why : Refusal) → first order ≡ some (saidOf why) → Leaves (Found.Refused why) buffer
   unfolding foundOf refusalNumbers
@@ -72,7 +76,9 @@ module _ (l work counts : List ℕ) (position : ℕ) (buffer : List ℕ) where
 
     short : length buffer < headOf l .max → Leaves (Found.Refused Refusal.ShortBuffer) buffer
     unfolding row14
-    short b = refuses Refusal.ShortBuffer (left ∙ yes-row 14 0 _ (lt-ltb (length buffer) (headOf l .max) b))
+    short b =
+        refuses Refusal.ShortBuffer
+        (left ∙ yes-row 14 0 _ (lt-ltb (length buffer) (headOf l .max) b))
 
     module _ (room : headOf l .max ≤ length buffer) where
       left-15 : first order ≡ first (row15 (keyAt (storedKeys l) position) ∷ [])
@@ -91,7 +97,8 @@ module _ (l work counts : List ℕ) (position : ℕ) (buffer : List ℕ) where
             ∙ heard-done _ _ _ (left-15 ∙ no-row 15 0 [] (ap isNone e) ∙ first-nil)
             ∙ ap (λ (f : Option (List ℕ)). placedKey l work counts buffer (orEmpty f)) e
 
-        found : {n x : ℕ} {buffer′ : List ℕ} → n ≡ length k → x ≡ answer (tableIn l) k → buffer′ ≡ sets buffer 0 k
+        found : {n x : ℕ} {buffer′ : List ℕ} → n ≡ length k → x ≡ answer (tableIn l) k
+            → buffer′ ≡ sets buffer 0 k
             → Leaves (Found.Key n x) buffer′
         unfolding foundOf placedKey
         found count value laid = rw (count, value, laid) (sym done)
@@ -104,7 +111,8 @@ module _ {h : Head} {l counts : List ℕ} (w : Counted h l counts) where
   root-count =
       w .each 0 (omega arith)
       ∙ ap length
-      (filter-every (passes (tableOf h l) 0 0) (listing (tableOf h l) (h .n) (h .min) (h .max)) (λ k _. passes-here (tableOf h l) 0 k))
+      (filter-every (passes (tableOf h l) 0 0) (listing (tableOf h l) (h .n) (h .min) (h .max))
+      (λ k _. passes-here (tableOf h l) 0 k))
       ∙ ap length (sym (w .stored))
 
   pub few-keys : length (storedKeys l) < 2 ^ 32
@@ -115,64 +123,82 @@ module _ {h : Head} {l counts : List ℕ} (w : Counted h l counts) where
 
 -- ---- what the way by counts told
 
-module _ {l : List ℕ} {position : ℕ} {s : Spot} {path : List ℕ} (t : Spotted l position s path) where
-  -- the key is no longer than max, and stands in the path
-  spotted-short : s .length ≤ headOf l .max
-  spotted-short =
-      let (_, high, _) = stored-exactly l (t .key) .0 (at-held (storedKeys l) position (t .there)) in
-      omega (arith, t .long, high)
+module _ {l : List ℕ} {position : ℕ} {s : Spot} {path : List ℕ} (t : Spotted l position s path)
+  where
+    -- the key is no longer than max, and stands in the path
+    spotted-short : s .length ≤ headOf l .max
+    spotted-short =
+        let (_, high, _) =
+        stored-exactly l (t .key) .0 (at-held (storedKeys l) position (t .there)) in
+        omega (arith, t .long, high)
 
-  pub spotted-within : s .length ≤ length path
-  spotted-within = omega (arith, t .long, ap length (t .letters), length-take (length (t .key)) path)
+    pub spotted-within : s .length ≤ length path
+    spotted-within =
+        omega (arith, t .long, ap length (t .letters), length-take (length (t .key)) path)
 
-  front : take (s .length) path ≡ t .key
-  front = ap (λ (m : ℕ). take m path) (t .long) ∙ t .letters
+    front : take (s .length) path ≡ t .key
+    front = ap (λ (m : ℕ). take m path) (t .long) ∙ t .letters
 
-  pub spotted-front : s .length ≡ length (take (s .length) path)
-  spotted-front = t .long ∙ ap length (sym front)
+    pub spotted-front : s .length ≡ length (take (s .length) path)
+    spotted-front = t .long ∙ ap length (sym front)
 
-  -- it has room in a buffer that 14 passed, and its length is a number of 32 bits
-  module _ {h : Head} (same : h ≡ headOf l) where
-    short-head : s .length ≤ h .max
-    short-head = omega (arith, spotted-short, ap (λ (k : Head). k .max) same)
+    -- it has room in a buffer that 14 passed, and its length is a number of 32 bits
+    module _ {h : Head} (same : h ≡ headOf l) where
+      short-head : s .length ≤ h .max
+      short-head = omega (arith, spotted-short, ap (λ (k : Head). k .max) same)
 
-    pub spotted-room : {most : ℕ} → h .max ≤ most → 0 + length (take (s .length) path) ≤ most
-    spotted-room b = omega (arith, short-head, spotted-front)
+      pub spotted-room : {most : ℕ} → h .max ≤ most → 0 + length (take (s .length) path) ≤ most
+      spotted-room b = omega (arith, short-head, spotted-front)
 
-    pub spotted-fits : {counts : List ℕ} → Counted h l counts → s .length < 2 ^ 32
-    spotted-fits w = omega (arith, short-head, path-room w)
+      pub spotted-fits : {counts : List ℕ} → Counted h l counts → s .length < 2 ^ 32
+      spotted-fits w = omega (arith, short-head, path-room w)
 
-  -- ---- the ways out behind 25
+    -- ---- the ways out behind 25
 
-  pub spots-found : (buffer : List ℕ) {h : Head} {buffer′ : List ℕ} → h ≡ headOf l → h .max ≤ length buffer
-      → buffer′ ≡ sets buffer 0 (take (s .length) path)
-      → TellsKey l position buffer (Found.Key (s .length) (s .value)) buffer′
-  spots-found buffer same room laid work counts compared =
-      found l work counts position buffer compared (rw same at room) (t .key) (t .there) (t .long) (t .value) (rw front at laid)
+    pub spots-found : (buffer : List ℕ) {h : Head} {buffer′ : List ℕ} → h ≡ headOf l
+        → h .max ≤ length buffer
+        → buffer′ ≡ sets buffer 0 (take (s .length) path)
+        → TellsKey l position buffer (Found.Key (s .length) (s .value)) buffer′
+    spots-found buffer same room laid work counts compared =
+        found l work counts position buffer compared (rw same at room) (t .key) (t .there)
+        (t .long)
+        (t .value) (rw front at laid)
 
 module _ (l : List ℕ) (position : ℕ) (buffer : List ℕ) {h : Head} (same : h ≡ headOf l) where
-  pub spots-short : length buffer < h .max → TellsKey l position buffer (Found.Refused Refusal.ShortBuffer) buffer
+  pub spots-short : length buffer < h .max → TellsKey l position buffer
+      (Found.Refused Refusal.ShortBuffer) buffer
   spots-short b work counts compared = short l work counts position buffer compared (rw same at b)
 
-  pub spots-past : h .max ≤ length buffer → length (storedKeys l) ≤ position → TellsKey l position buffer (Found.Refused Refusal.NoKey) buffer
+  pub spots-past : h .max ≤ length buffer → length (storedKeys l) ≤ position
+      → TellsKey l position buffer (Found.Refused Refusal.NoKey) buffer
   spots-past room past work counts compared =
-      missing l work counts position buffer compared (rw same at room) (at-none (storedKeys l) position past)
+      missing l work counts position buffer compared (rw same at room)
+      (at-none (storedKeys l) position past)
 
 -- ---- the ways out of the whole call
 
-module _ {l work counts : List ℕ} {r : Opened} {work′ codes : List ℕ} (o : Compared l work counts r work′ codes) where
+module _ {l work counts : List ℕ} {r : Opened} {work′ codes : List ℕ}
+    (o : Compared l work counts r work′ codes) where
   -- what is asked behind 25
-  pub spot-asks : r .verdict ≡ Verdict.Passed → Accepted l × ((r .head ≡ headOf l) × RightCounts l counts)
+  pub spot-asks : r .verdict ≡ Verdict.Passed
+      → Accepted l × ((r .head ≡ headOf l) × RightCounts l counts)
   spot-asks e =
-      let passed = told-passed (o .verdict) e in
-      (counts-checked l work counts passed .accepted, (o .head (told-passed refl e), compared-right l work counts passed))
+      let passed = told-passed (o .verdict) e in (
+        counts-checked l work counts passed .accepted,
+        (o .head (told-passed refl e), compared-right l work counts passed),
+      )
 
-  pub gives-key-refused : (position : ℕ) (buffer : List ℕ) {why : Refusal} → r .verdict ≡ Verdict.Refused why
+  pub gives-key-refused : (position : ℕ) (buffer : List ℕ) {why : Refusal}
+      → r .verdict ≡ Verdict.Refused why
       → GivesKey l work counts position buffer (foundOf (Found.Refused why)) work′ buffer
   gives-key-refused position buffer {why} e =
       rw (o .numbers)
-      (refuses l work counts position buffer why (first-part (checkCountsOrder l work counts) _ (told-refused (o .verdict) e)))
+      (refuses l work counts position buffer why
+      (first-part (checkCountsOrder l work counts) _ (told-refused (o .verdict) e)))
 
-  pub gives-key-spotted : (position : ℕ) (buffer : List ℕ) (f : Found) {buffer′ : List ℕ} → r .verdict ≡ Verdict.Passed
-      → TellsKey l position buffer f buffer′ → GivesKey l work counts position buffer (foundOf f) work′ buffer′
-  gives-key-spotted position buffer f e s = rw (o .numbers) (s work counts (told-passed (o .verdict) e))
+  pub gives-key-spotted : (position : ℕ) (buffer : List ℕ) (f : Found) {buffer′ : List ℕ}
+      → r .verdict ≡ Verdict.Passed
+      → TellsKey l position buffer f buffer′ → GivesKey l work counts position buffer
+      (foundOf f) work′ buffer′
+  gives-key-spotted position buffer f e s =
+      rw (o .numbers) (s work counts (told-passed (o .verdict) e))

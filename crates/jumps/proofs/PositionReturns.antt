@@ -1,5 +1,5 @@
--- The outcome of a key's position, at each way out: refused in front of 15, not stored, or how many stored keys come before it. It is said once
--- for a key given by letters or by text.
+-- The outcome of a key's position, at each way out: refused in front of 15, not stored, or how
+-- many stored keys come before it. It is said once for a key given by letters or by text.
 use Prim.Native.Nat.{ℕ}
 use mathlib.Core.Path.{_≡_, refl, sym, _∙_, ap}
 use mathlib.Core.Bool.{Bool, true, false, cond}
@@ -23,7 +23,8 @@ use Rattle.paper.specs.Given.{Given, keyIn}
 use Rattle.paper.specs.Orders.{keyRows}
 use Rattle.paper.specs.Calls.{tableIn, storedKeys}
 use Rattle.paper.specs.Accepted.{Accepted}
-use Rattle.paper.proofs.Hearing.{first-part, second-part, yes-row, no-row, first-nil, heard-refused, heard-done, told-refused, told-passed}
+use Rattle.paper.proofs.Hearing.{first-part, second-part, yes-row, no-row, first-nil}
+use Rattle.paper.proofs.Hearing.{heard-refused, heard-done, told-refused, told-passed}
 use Rattle.position.specs.Counts.{RightCounts}
 use Rattle.position.specs.Orders.{checkCountsOrder, ifStored, positionOrder}
 use Rattle.position.specs.Calls.{workLeft, positionOf}
@@ -86,9 +87,12 @@ module _ (l work counts : List ℕ) (given : Given) where
   joined : first order ≡ first ((checkCountsOrder l work counts ++ keyRows l given) ++ last)
   joined = ap first (sym (append-assoc (checkCountsOrder l work counts) (keyRows l given) last))
 
-  refuses : (why : Refusal) → first (checkCountsOrder l work counts ++ keyRows l given) ≡ some (saidOf why) → Leaves (Placed.Refused why)
+  refuses : (why : Refusal) → first (checkCountsOrder l work counts ++ keyRows l given)
+      ≡ some (saidOf why) → Leaves (Placed.Refused why)
   unfolding placedOf refusalNumbers
-  refuses why e = sym (asked ∙ heard-refused _ _ _ (joined ∙ first-part (checkCountsOrder l work counts ++ keyRows l given) last e))
+  refuses why e =
+      sym (asked ∙ heard-refused _ _ _
+      (joined ∙ first-part (checkCountsOrder l work counts ++ keyRows l given) last e))
 
   module _ (passed : first (checkCountsOrder l work counts ++ keyRows l given) ≡ none) where
     left : first order ≡ first last
@@ -99,7 +103,8 @@ module _ (l work counts : List ℕ) (given : Given) where
     placed = go (eqb (answer (tableIn l) key) 0) refl
       where
         go : (b : Bool) → eqb (answer (tableIn l) key) 0 ≡ b
-            → Leaves (cond b (Placed.Refused Refusal.NoKey) (Placed.At (rankIn (storedKeys l) key)))
+            → Leaves (cond b (Placed.Refused Refusal.NoKey)
+            (Placed.At (rankIn (storedKeys l) key)))
         go true e =
             let missing : isNone (ifStored l key) ≡ true = rw e in
             sym (asked ∙ heard-refused _ _ _ (left ∙ yes-row 15 0 [] missing))
@@ -109,23 +114,37 @@ module _ (l work counts : List ℕ) (given : Given) where
 
 -- ---- the ways out
 
-module _ {l : List ℕ} (work counts : List ℕ) {given : Given} {r : Asked} {work′ : List ℕ} (a : AsksCounts l work counts given r work′) where
+module _ {l : List ℕ} (work counts : List ℕ) {given : Given} {r : Asked} {work′ : List ℕ}
+    (a : AsksCounts l work counts given r work′) where
   pub gives-position-refused : {why : Refusal} → r .verdict ≡ Verdict.Refused why
       → GivesPosition l work counts given (placedOf (Placed.Refused why)) work′
-  gives-position-refused {why} e = rw (a .numbers) (refuses l work counts given why (told-refused (a .verdict) e))
+  gives-position-refused {why} e =
+      rw (a .numbers) (refuses l work counts given why (told-refused (a .verdict) e))
 
   module _ (e : r .verdict ≡ Verdict.Passed) where
     -- what is asked behind 10
     pub place-asks : Accepted l
         × ((r .head ≡ headOf l)
-        × (RightCounts l counts × (Ready (r .head) (r .key) × (between (length (lettersOf (r .key))) (r .head .min) (r .head .max) ≡ true))))
+        × (RightCounts l counts ×
+        (Ready (r .head) (r .key)
+        × (between (length (lettersOf (r .key))) (r .head .min) (r .head .max) ≡ true))))
     place-asks =
-        let b = a .allowed (told-passed refl e) in
-        (b .accepted, (b .head, (asked-right work counts a e, (b .ready, asked-length work counts a e))))
+        let b = a .allowed (told-passed refl e) in (
+          b .accepted,
+          (
+            b .head,
+            (
+              asked-right work counts a e,
+              (b .ready, asked-length work counts a e),
+            ),
+          ),
+        )
 
-    pub gives-position-placed : {p : Placed} → p ≡ ranksAs l (lettersOf (r .key)) → GivesPosition l work counts given (placedOf p) work′
+    pub gives-position-placed : {p : Placed} → p ≡ ranksAs l (lettersOf (r .key))
+        → GivesPosition l work counts given (placedOf p) work′
     gives-position-placed told =
-        let same : ranksAs l (lettersOf (r .key)) ≡ ranksAs l (keyIn l given) = ap (ranksAs l) (a .allowed (told-passed refl e) .letters) in
+        let same : ranksAs l (lettersOf (r .key)) ≡ ranksAs l (keyIn l given) =
+        ap (ranksAs l) (a .allowed (told-passed refl e) .letters) in
         rw (a .numbers)
         (ap (λ (p : Placed). outcome (placedOf p) (workLeft l work counts ∷ [])) (told ∙ same)
         ∙ placed l work counts given (told-passed (a .verdict) e))

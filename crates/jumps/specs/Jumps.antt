@@ -1,5 +1,6 @@
--- 02, Ask 7: what a jump tells once the counts have been compared. Where that part of the order has passed, what is answered and left in the
--- buffer is what the whole call does, whatever working numbers were lent.
+-- 02, Ask 7: what a jump tells once the counts have been compared. Where that part of the order
+-- has passed, what is answered and left in the buffer is what the whole call does, whatever
+-- working numbers were lent.
 use Prim.Native.Nat.{ℕ}
 use mathlib.Core.Path.{_≡_}
 use mathlib.Core.Bool.{cond}
@@ -26,4 +27,5 @@ TellsKey l position buffer r buffer′ =
 -- a key's position, or 15 where it is not stored
 unfoldable pub ranksAs : List ℕ → List ℕ → Placed
 unfolding answer tableIn rankIn storedKeys
-ranksAs l key = cond (eqb (answer (tableIn l) key) 0) (Placed.Refused Refusal.NoKey) (Placed.At (rankIn (storedKeys l) key))
+ranksAs l key = cond (eqb (answer (tableIn l) key) 0) (Placed.Refused Refusal.NoKey)
+    (Placed.At (rankIn (storedKeys l) key))

@@ -1,5 +1,6 @@
-// The calls that jump by position: the key at a position, and the position of a key. None has a `requires`: any bytes, counts, position, key or
-// text may be handed over. Each promises one line, that the numbers of its answer and every lent buffer's last content are the outcome that
+// The calls that jump by position: the key at a position, and the position of a key. None has a
+// `requires`: any bytes, counts, position, key or text may be handed over. Each promises one line,
+// that the numbers of its answer and every lent buffer's last content are the outcome that
 // document 02 states (crate `position`).
 ghost use mathlib.Core.Path.{_≡_};
 ghost use mathlib.Core.Bool.{true};
@@ -21,8 +22,8 @@ use paper::Refusal;
 use paper::Verdict;
 use ranking::Ranked;
 
-// The stored key at a position, from 0: its letters at the front of the key buffer, its length and its value. Refusals: 1 to 8, with 5 for either
-// list, 25, 14, 15 for a position past the end.
+// The stored key at a position, from 0: its letters at the front of the key buffer, its length and
+// its value. Refusals: 1 to 8, with 5 for either list, 25, 14, 15 for a position past the end.
 pub fn key_at(
     image: &[u8],
     work: &mut [u32],
@@ -30,7 +31,8 @@ pub fn key_at(
     position: u64,
     buffer: &mut [u8],
 ) -> Found
-    ensures { λ r. ⌜ GivesKey (now (image .entry)) (now (work .entry)) (now (counts .entry)) position (now (buffer .entry)) (foundOf r) (now (work .exit)) (now (buffer .exit)) ⌝ }
+    ensures { λ r. ⌜ GivesKey (now (image .entry)) (now (work .entry)) (now (counts .entry))
+        position (now (buffer .entry)) (foundOf r) (now (work .exit)) (now (buffer .exit)) ⌝ }
 {
     let mut codes = [0u32; Head::N_MOST as usize];
     let compared = comparing::compare(image, work, counts, &mut codes);
@@ -41,9 +43,11 @@ pub fn key_at(
     }
 }
 
-// The position of a stored key given by its letters. Refusals: 1 to 8, with 5 for either list, 25, 9, 10, 15 for a key that is not stored.
+// The position of a stored key given by its letters. Refusals: 1 to 8, with 5 for either list, 25,
+// 9, 10, 15 for a key that is not stored.
 pub fn position(image: &[u8], work: &mut [u32], counts: &[u32], letters: &[u8]) -> Placed
-    ensures { λ r. ⌜ GivesPosition (now (image .entry)) (now (work .entry)) (now (counts .entry)) (asLetters (now (letters .entry))) (placedOf r) (now (work .exit)) ⌝ }
+    ensures { λ r. ⌜ GivesPosition (now (image .entry)) (now (work .entry)) (now (counts .entry))
+        (asLetters (now (letters .entry))) (placedOf r) (now (work .exit)) ⌝ }
 {
     let asked = asking_counts::ask(image, work, counts, letters);
     let verdict = asked.verdict;
@@ -56,7 +60,8 @@ pub fn position(image: &[u8], work: &mut [u32], counts: &[u32], letters: &[u8]) 
 
 // The same for a key given by its text; 10 stands before 9.
 pub fn position_text(image: &[u8], work: &mut [u32], counts: &[u32], text: &[u8]) -> Placed
-    ensures { λ r. ⌜ GivesPosition (now (image .entry)) (now (work .entry)) (now (counts .entry)) (asText (now (text .entry))) (placedOf r) (now (work .exit)) ⌝ }
+    ensures { λ r. ⌜ GivesPosition (now (image .entry)) (now (work .entry)) (now (counts .entry))
+        (asText (now (text .entry))) (placedOf r) (now (work .exit)) ⌝ }
 {
     let named = asking_counts::ask_text(image, work, counts, text);
     let verdict = named.verdict;
@@ -67,10 +72,13 @@ pub fn position_text(image: &[u8], work: &mut [u32], counts: &[u32], text: &[u8]
     }
 }
 
-// The part of key at position after 25: 14, 15 and the key. The key is found on a path of its own, since the rest of the buffer keeps what it held.
+// The part of key at position after 25: 14, 15 and the key. The key is found on a path of its own,
+// since the rest of the buffer keeps what it held.
 fn tell_key(image: &[u8], h: Head, counts: &[u32], position: u64, buffer: &mut [u8]) -> Found
-    requires { ⌜ Accepted (now image) ⌝ ∗ ⌜ h ≡ headOf (now image) ⌝ ∗ ⌜ RightCounts (now image) (now counts) ⌝ }
-    ensures { λ r. ⌜ TellsKey (now (image .entry)) position (now (buffer .entry)) r (now (buffer .exit)) ⌝ }
+    requires { ⌜ Accepted (now image) ⌝ ∗ ⌜ h ≡ headOf (now image) ⌝
+        ∗ ⌜ RightCounts (now image) (now counts) ⌝ }
+    ensures { λ r. ⌜ TellsKey (now (image .entry)) position (now (buffer .entry)) r
+        (now (buffer .exit)) ⌝ }
 {
     if buffer.len() < (h.max as usize) {
         return Found::Refused(Refusal::ShortBuffer);
@@ -90,7 +98,8 @@ fn tell_key(image: &[u8], h: Head, counts: &[u32], position: u64, buffer: &mut [
 
 // The part of a key's position after 10: 15, or how many stored keys come before it.
 fn tell_position(image: &[u8], h: Head, counts: &[u32], key: Key) -> Placed
-    requires { ⌜ Accepted (now image) ⌝ ∗ ⌜ h ≡ headOf (now image) ⌝ ∗ ⌜ RightCounts (now image) (now counts) ⌝ }
+    requires { ⌜ Accepted (now image) ⌝ ∗ ⌜ h ≡ headOf (now image) ⌝
+        ∗ ⌜ RightCounts (now image) (now counts) ⌝ }
     requires { ⌜ Ready h key ⌝ ∗ ⌜ between (length (lettersOf key)) (h .min) (h .max) ≡ true ⌝ }
     ensures { λ r. ⌜ r ≡ ranksAs (now (image .entry)) (lettersOf key) ⌝ }
 {

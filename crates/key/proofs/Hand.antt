@@ -1,5 +1,5 @@
--- The key in hand of a list of letters holds it: its front is the list where the array is long enough, and zeros fill the rest. All by
--- going down the array.
+-- The key in hand of a list of letters holds it: its front is the list where the array is long
+-- enough, and zeros fill the rest. All by going down the array.
 use Prim.Native.Nat.{ℕ, zero, suc, _+_, _≤_, _<_, min}
 use mathlib.Core.Path.{_≡_, refl, sym, _∙_, ap}
 use mathlib.Core.Bool.{Bool, true, false}
@@ -30,18 +30,22 @@ padded-nil zero = refl
 padded-nil (suc w) = ap (λ (l : List ℕ). 0 ∷ l) (padded-nil w)
 
 -- one letter more, where there is room for it
-pub padded-more : (w : ℕ) (k : List ℕ) (x : ℕ) → length k < w → set (padded w k) (length k) x ≡ padded w (k ++ (x ∷ []))
+pub padded-more : (w : ℕ) (k : List ℕ) (x : ℕ) → length k < w → set (padded w k) (length k) x
+    ≡ padded w (k ++ (x ∷ []))
 unfolding padded
 padded-more zero k x h = absurd (not-suc-le-zero h)
 padded-more (suc w) [] x h = refl
-padded-more (suc w) (y ∷ k) x h = ap (λ (l : List ℕ). y ∷ l) (padded-more w k x (le-of-suc-le-suc h))
+padded-more (suc w) (y ∷ k) x h =
+    ap (λ (l : List ℕ). y ∷ l) (padded-more w k x (le-of-suc-le-suc h))
 
 -- and where there is none
-pub padded-full : (w : ℕ) (k : List ℕ) (x : ℕ) → w ≤ length k → padded w k ≡ padded w (k ++ (x ∷ []))
+pub padded-full : (w : ℕ) (k : List ℕ) (x : ℕ) → w ≤ length k
+    → padded w k ≡ padded w (k ++ (x ∷ []))
 unfolding padded
 padded-full zero k x h = refl
 padded-full (suc w) [] x h = absurd (not-suc-le-zero h)
-padded-full (suc w) (y ∷ k) x h = ap (λ (l : List ℕ). y ∷ l) (padded-full w k x (le-of-suc-le-suc h))
+padded-full (suc w) (y ∷ k) x h =
+    ap (λ (l : List ℕ). y ∷ l) (padded-full w k x (le-of-suc-le-suc h))
 
 -- letters past the array's end are not kept
 pub padded-take : (w : ℕ) (k : List ℕ) → padded w (take w k) ≡ padded w k
@@ -52,7 +56,8 @@ padded-take (suc w) (x ∷ k) = ap (λ (l : List ℕ). x ∷ l) (padded-take w k
 
 -- ---- letters copied one after the other
 
-pub copy-more : (w : ℕ) (l kept : List ℕ) (i : ℕ) → i < length l → i < w → kept ≡ padded w (take i l)
+pub copy-more : (w : ℕ) (l kept : List ℕ) (i : ℕ) → i < length l → i < w
+    → kept ≡ padded w (take i l)
     → set kept i (getD l i 0) ≡ padded w (take (i + 1) l)
 copy-more w l kept i h k e =
     let so : length (take i l) ≡ i = length-take-le i l (omega arith) in
@@ -62,7 +67,8 @@ copy-more w l kept i h k e =
     ∙ ap (padded w) (sym (take-suc l i 0 h) ∙ ap (λ (j : ℕ). take j l) (sym (add-one i)))
 
 -- as many as there are, and as the array can hold
-pub copy-all : (w : ℕ) (l : List ℕ) (i : ℕ) → i ≡ min (length l) w → padded w (take i l) ≡ padded w l
+pub copy-all : (w : ℕ) (l : List ℕ) (i : ℕ) → i ≡ min (length l) w → padded w (take i l)
+    ≡ padded w l
 copy-all w l i e = go (leb (length l) w) refl
   where
     go : (b : Bool) → leb (length l) w ≡ b → padded w (take i l) ≡ padded w l
@@ -78,16 +84,21 @@ hand-holds k = record { len = refl; letters = λ h. take-padded mostLetters k h 
 
 -- ---- the letters of a key in hand that is not too long
 
-module _ (hand : Key) (w : length (hand .letters) ≡ mostLetters) (s : hand .len ≤ mostLetters) where
-  pub letters-count : length (lettersOf hand) ≡ hand .len
-  letters-count = length-take-le (hand .len) (hand .letters) (omega arith)
+module _ (hand : Key) (w : length (hand .letters) ≡ mostLetters) (s : hand .len ≤ mostLetters)
+  where
+    pub letters-count : length (lettersOf hand) ≡ hand .len
+    letters-count = length-take-le (hand .len) (hand .letters) (omega arith)
 
-  -- those from the i-th on
-  pub letters-from : (i : ℕ) → i < hand .len → drop i (lettersOf hand) ≡ getD (hand .letters) i 0 ∷ drop (suc i) (lettersOf hand)
-  letters-from i h =
-      drop-cons (lettersOf hand) i 0 (omega (arith, letters-count))
-      ∙ ap (λ (x : ℕ). x ∷ drop (suc i) (lettersOf hand)) (getD-take (hand .len) (hand .letters) i 0 h)
+    -- those from the i-th on
+    pub letters-from : (i : ℕ) → i < hand .len → drop i (lettersOf hand) ≡ getD (hand .letters) i 0
+        ∷ drop (suc i) (lettersOf hand)
+    letters-from i h =
+        drop-cons (lettersOf hand) i 0 (omega (arith, letters-count))
+        ∙ ap (λ (x : ℕ). x ∷ drop (suc i) (lettersOf hand))
+        (getD-take (hand .len) (hand .letters) i 0 h)
 
-  pub letter-below : (n i : ℕ) → LettersBelow n (lettersOf hand) → i < hand .len → getD (hand .letters) i 0 < n
-  letter-below n i l h =
-      rw (getD-take (hand .len) (hand .letters) i 0 h) at (letters-at n (lettersOf hand) l i (omega (arith, letters-count)))
+    pub letter-below : (n i : ℕ) → LettersBelow n (lettersOf hand) → i < hand .len
+        → getD (hand .letters) i 0 < n
+    letter-below n i l h =
+        rw (getD-take (hand .len) (hand .letters) i 0 h) at
+        (letters-at n (lettersOf hand) l i (omega (arith, letters-count)))

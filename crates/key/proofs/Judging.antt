@@ -1,5 +1,6 @@
--- 9 and 10, row by row, of a key in hand: a key whose length is allowed is at most max, and no max is above what is held, so all of it is held.
--- What neither refuses is ready for a walk: its letters are those of the array, and all below N.
+-- 9 and 10, row by row, of a key in hand: a key whose length is allowed is at most max, and no max
+-- is above what is held, so all of it is held. What neither refuses is ready for a walk: its
+-- letters are those of the array, and all below N.
 use Prim.Native.Nat.{ℕ, zero, suc, _≤_, _<_}
 use mathlib.Core.Path.{_≡_, refl, sym, _∙_, ap}
 use mathlib.Core.Bool.{Bool, true, false, not, true≢false, and-false}
@@ -34,11 +35,14 @@ pub held : {hand : Key} {k : List ℕ} → Holds hand k → hand .len ≤ mostLe
 held {hand} {k} o h = rw (o .len) (o .letters (rw (o .len) at h))
 
 -- a key whose length is allowed can be held
-pub short : (h : Head) {len : ℕ} → permitted h ≡ true → between len (h .min) (h .max) ≡ true → len ≤ mostLetters
-short h {len} p b = let m = bounds h p in let u = between-true len (h .min) (h .max) b in omega arith
+pub short : (h : Head) {len : ℕ} → permitted h ≡ true → between len (h .min) (h .max) ≡ true
+    → len ≤ mostLetters
+short h {len} p b =
+    let m = bounds h p in let u = between-true len (h .min) (h .max) b in omega arith
 
 -- 10, by the letters of such a key
-pub ten-by : (h : Head) {hand : Key} {k : List ℕ} {b : Bool} → Holds hand k → hand .len ≤ mostLetters → allBelow (h .n) (lettersOf hand) ≡ b
+pub ten-by : (h : Head) {hand : Key} {k : List ℕ} {b : Bool} → Holds hand k
+    → hand .len ≤ mostLetters → allBelow (h .n) (lettersOf hand) ≡ b
     → row10 h k ≡ rowWhen 10 0 (not b)
 unfolding row10
 ten-by h o l e = ap (λ (t : Bool). rowWhen 10 0 (not t)) (rw (held o l) at e)
@@ -58,10 +62,12 @@ abbrev pub longer : Head → ℕ → Bool
 longer h len = ltb (h .max) len
 
 module _ (h : Head) (test : ℕ → Bool) {hand : Key} {k : List ℕ} (o : Holds hand k) where
-  pub nine-given : test (hand .len) ≡ true → first (rowWhen 9 0 (test (length k)) ∷ row10 h k ∷ []) ≡ some (said 9 0)
+  pub nine-given : test (hand .len) ≡ true → first (rowWhen 9 0 (test (length k)) ∷ row10 h k ∷ [])
+      ≡ some (said 9 0)
   nine-given e = yes-row 9 0 _ (sym (ap test (o .len)) ∙ e)
 
-  pub ten-decides : test (hand .len) ≡ false → first (rowWhen 9 0 (test (length k)) ∷ row10 h k ∷ []) ≡ row10 h k
+  pub ten-decides : test (hand .len) ≡ false
+      → first (rowWhen 9 0 (test (length k)) ∷ row10 h k ∷ []) ≡ row10 h k
   ten-decides e = no-row 9 0 _ (sym (ap test (o .len)) ∙ e) ∙ alone (row10 h k)
 
 -- ---- 10, then 9, of a key given by its text
@@ -72,21 +78,26 @@ unfolding textRows row10text isNone
 text-10 h = yes-row 10 0 _ refl
 
 -- one that names a key: 9 by its length
-text-by : (h : Head) (k : List ℕ) {b : Bool} → between (length k) (h .min) (h .max) ≡ b → first (textRows h (some k)) ≡ rowWhen 9 0 (not b)
+text-by : (h : Head) (k : List ℕ) {b : Bool} → between (length k) (h .min) (h .max) ≡ b
+    → first (textRows h (some k)) ≡ rowWhen 9 0 (not b)
 unfolding textRows row10text isNone row9 orEmpty
 text-by h k e = no-row 10 0 _ refl ∙ alone _ ∙ ap (λ (t : Bool). rowWhen 9 0 (not t)) e
 
 -- the same of a typed key
 module _ (h : Head) (t : Typed) where
-  pub typed-10 : (named : Option (List ℕ)) → t ≡ typedAs named → t .named ≡ false → first (textRows h named) ≡ some (said 10 0)
+  pub typed-10 : (named : Option (List ℕ)) → t ≡ typedAs named → t .named ≡ false
+      → first (textRows h named) ≡ some (said 10 0)
   unfolding typedAs
   typed-10 none e f = text-10 h
-  typed-10 (some k) e f = let z : _≡_ {A = Bool} true false = ap (λ (r : Typed). r .named) (sym e) ∙ f in absurd (true≢false z)
+  typed-10 (some k) e f = let z : _≡_ {A = Bool} true false = ap (λ (r : Typed). r .named) (sym e)
+      ∙ f in absurd (true≢false z)
 
   pub typed-by : (named : Option (List ℕ)) → t ≡ typedAs named → t .named ≡ true → {b : Bool}
-      → between (t .key .len) (h .min) (h .max) ≡ b → first (textRows h named) ≡ rowWhen 9 0 (not b)
+      → between (t .key .len) (h .min) (h .max) ≡ b → first (textRows h named) ≡ rowWhen 9 0
+      (not b)
   unfolding typedAs inHand
-  typed-by none e f b = let z : _≡_ {A = Bool} true false = sym f ∙ ap (λ (r : Typed). r .named) e in absurd (true≢false z)
+  typed-by none e f b = let z : _≡_ {A = Bool} true false =
+      sym f ∙ ap (λ (r : Typed). r .named) e in absurd (true≢false z)
   typed-by (some k) e f b = text-by h k (rw (ap (λ (r : Typed). r .key .len) e) at b)
 
 -- ---- the letters looked through one after the other
@@ -95,22 +106,27 @@ pub below-none : (n : ℕ) (l : List ℕ) → allBelow n (take 0 l) ≡ true
 unfolding allBelow
 below-none n l = refl
 
-pub below-more : (n : ℕ) (l : List ℕ) (i : ℕ) → allBelow n (take i l) ≡ true → getD l i 0 < n → allBelow n (take (suc i) l) ≡ true
+pub below-more : (n : ℕ) (l : List ℕ) (i : ℕ) → allBelow n (take i l) ≡ true → getD l i 0 < n
+    → allBelow n (take (suc i) l) ≡ true
 unfolding allBelow
 below-more n [] i a h = refl
 below-more n (x ∷ l) zero a h = rw (lt-ltb x n h)
-below-more n (x ∷ l) (suc i) a h = let u = both (ltb x n) (allBelow n (take i l)) a in rw (u .0, below-more n l i (u .1) h)
+below-more n (x ∷ l) (suc i) a h =
+    let u = both (ltb x n) (allBelow n (take i l)) a in rw (u .0, below-more n l i (u .1) h)
 
-pub below-not : (n : ℕ) (l : List ℕ) (i len : ℕ) → i < len → i < length l → n ≤ getD l i 0 → allBelow n (take len l) ≡ false
+pub below-not : (n : ℕ) (l : List ℕ) (i len : ℕ) → i < len → i < length l → n ≤ getD l i 0
+    → allBelow n (take len l) ≡ false
 unfolding allBelow
 below-not n [] i len k m h = absurd (omega arith)
 below-not n (x ∷ l) i zero k m h = absurd (omega arith)
 below-not n (x ∷ l) zero (suc len) k m h = rw (le-ltb x n h)
-below-not n (x ∷ l) (suc i) (suc len) k m h = rw (below-not n l i len (omega arith) (omega arith) h) (and-false (ltb x n))
+below-not n (x ∷ l) (suc i) (suc len) k m h =
+    rw (below-not n l i len (omega arith) (omega arith) h) (and-false (ltb x n))
 
 -- ---- what is known of a key that 9 and 10 have passed
 
-ready : (h : Head) {hand : Key} {k : List ℕ} → Holds hand k → length k ≤ mostLetters → LettersBelow (h .n) k
+ready : (h : Head) {hand : Key} {k : List ℕ} → Holds hand k → length k ≤ mostLetters
+    → LettersBelow (h .n) k
     → Ready h hand × (lettersOf hand ≡ k)
 ready h {hand} {k} o s l =
     let fits : hand .len ≤ mostLetters = rw (o .len) s in
@@ -118,7 +134,8 @@ ready h {hand} {k} o s l =
     (record { short = fits; letters = rw e l }, e)
 
 -- of the two rows of a key given by its letters, neither is given
-neither : (h : Head) (k : List ℕ) {test : Bool} → first (rowWhen 9 0 test ∷ row10 h k ∷ []) ≡ none → (test ≡ false) × LettersBelow (h .n) k
+neither : (h : Head) (k : List ℕ) {test : Bool} → first (rowWhen 9 0 test ∷ row10 h k ∷ []) ≡ none
+    → (test ≡ false) × LettersBelow (h .n) k
 unfolding row10
 neither h k {test} e =
     let u = passed-row _ _ e in
@@ -130,7 +147,8 @@ module _ (h : Head) {hand : Key} {k : List ℕ} (p : permitted h ≡ true) (o : 
   unfolding lettersRows row9
   letters-ready e = let u = neither h k e in ready h o (short h p (not-false _ (u .0))) (u .1)
 
-  pub next-ready : first (nextRows h k) ≡ none → Ready h hand × (lettersOf hand ≡ k) × (hand .len ≤ h .max)
+  pub next-ready : first (nextRows h k) ≡ none → Ready h hand × (lettersOf hand ≡ k)
+      × (hand .len ≤ h .max)
   unfolding nextRows row9next
   next-ready e =
       let u = neither h k e in
@@ -149,7 +167,8 @@ text-passing h (some k) e =
     (k, refl, not-false _ (was-false 9 0 _ (v .0)))
 
 -- the same of a text, whose letters are those of an alphabet of at most N
-pub typed-ready : (h : Head) (t : Typed) (alphabet text : List ℕ) {named : Option (List ℕ)} → permitted h ≡ true → t ≡ typedAs named
+pub typed-ready : (h : Head) (t : Typed) (alphabet text : List ℕ) {named : Option (List ℕ)}
+    → permitted h ≡ true → t ≡ typedAs named
     → named ≡ keyOfText alphabet text → length alphabet ≤ h .n → first (textRows h named) ≡ none
     → Ready h (t .key) × (named ≡ some (lettersOf (t .key)))
 unfolding typedAs
@@ -158,5 +177,6 @@ typed-ready h t alphabet text {named} p e spelt few passed =
     let same : t .key ≡ inHand k = ap (λ (r : Typed). r .key) (e ∙ ap typedAs is) in
     let among = named-letters alphabet text (sym spelt ∙ is) in
     let o : Holds (t .key) k = rw same (hand-holds k) in
-    let r = ready h o (short h p allowed) (letters-of (h .n) k (λ i b. omega (arith, letters-at (length alphabet) k among i b))) in
+    let r = ready h o (short h p allowed)
+    (letters-of (h .n) k (λ i b. omega (arith, letters-at (length alphabet) k among i b))) in
     (r .0, is ∙ ap some (sym (r .1)))

@@ -1,5 +1,6 @@
--- A key in hand, judged against the head of an image that 1 to 4 have passed: what its verdict says of the rows for the key, and what the key
--- is where it passed them, for every call that takes a key. The letters and the text differ in how the key in hand was made.
+-- A key in hand, judged against the head of an image that 1 to 4 have passed: what its verdict
+-- says of the rows for the key, and what the key is where it passed them, for every call that
+-- takes a key. The letters and the text differ in how the key in hand was made.
 use Prim.Native.Nat.{ℕ, _≤_}
 use mathlib.Core.Path.{_≡_, refl, sym, ap}
 use mathlib.Core.Option.{Option, some}
@@ -35,15 +36,23 @@ module _ {l : List ℕ} {h : Head} (b : Known l h) where
     holds = rw made (hand-holds key)
 
     hand-ready : v ≡ Verdict.Passed → Ready h hand × (lettersOf hand ≡ key)
-    hand-ready f = letters-ready h (b .image .head-permitted) holds (told-passed (told key holds) f)
+    hand-ready f =
+        letters-ready h (b .image .head-permitted) holds (told-passed (told key holds) f)
 
     pub by-letters : Keyed l h (asLetters key) hand v
     unfolding keyRows keyRowsBy keyIn meantIn meantBy orEmpty
-    by-letters = record { told = rw (b .own) at (told key holds); ready = λ f. hand-ready f .0; same = λ f. hand-ready f .1 }
+    by-letters = record {
+      told = rw (b .own) at (told key holds);
+      ready = λ f. hand-ready f .0;
+      same = λ f. hand-ready f .1;
+    }
 
   -- with the alphabet's letters decoded
-  module _ {codes : List ℕ} (decoded : codes ≡ letters (alphabetIn (headOf l) l)) (text : List ℕ) {t : Typed} (v : Verdict)
-      (made : t ≡ typedAs (keyOfText codes text)) (told : (named : Option (List ℕ)) → t ≡ typedAs named → rowOf v ≡ first (textRows h named)) where
+  module _ {codes : List ℕ} (decoded : codes ≡ letters (alphabetIn (headOf l) l)) (text : List ℕ)
+      {t : Typed} (v : Verdict)
+      (made : t ≡ typedAs (keyOfText codes text))
+      (told : (named : Option (List ℕ)) → t ≡ typedAs named
+      → rowOf v ≡ first (textRows h named)) where
     abbrev named : Option (List ℕ)
     named = keyOfText (letters (alphabetIn (headOf l) l)) text
 
@@ -52,10 +61,17 @@ module _ {l : List ℕ} {h : Head} (b : Known l h) where
 
     text-ready : v ≡ Verdict.Passed → Ready h (t .key) × (named ≡ some (lettersOf (t .key)))
     text-ready f =
-        let few : length (letters (alphabetIn (headOf l) l)) ≤ h .n = rw (b .own) (alphabet-most l (b .opened)) in
-        typed-ready h t _ text (b .image .head-permitted) names refl few (told-passed (told _ names) f)
+        let few : length (letters (alphabetIn (headOf l) l)) ≤ h .n =
+        rw (b .own) (alphabet-most l (b .opened)) in
+        typed-ready h t _ text (b .image .head-permitted) names refl few
+        (told-passed (told _ names) f)
 
     pub by-text : Keyed l h (asText text) (t .key) v
     unfolding keyRows keyRowsBy keyIn meantIn meantBy orEmpty
     by-text =
-        record { told = rw (b .own) at (told _ names); ready = λ f. text-ready f .0; same = λ f. ap orEmpty (sym (text-ready f .1)) }
+        record {
+          told = rw (b .own) at (told _ names);
+          ready = λ f. text-ready f .0;
+          same =
+              λ f. ap orEmpty (sym (text-ready f .1));
+        }

@@ -1,4 +1,5 @@
--- A text typed letter by letter: the letters so far are those of the characters passed, and the array holds as many of them as it can.
+-- A text typed letter by letter: the letters so far are those of the characters passed, and the
+-- array holds as many of them as it can.
 use Prim.Native.Nat.{ℕ, _+_, _≤_, _<_}
 use mathlib.Core.Path.{_≡_, refl, sym, _∙_, ap}
 use mathlib.Core.Logic.{_≢_}
@@ -11,7 +12,8 @@ use Rattle.utf8.specs.Table37.{charLen}
 use Rattle.utf8.specs.Text.{charAt}
 use Rattle.head.specs.Fields.{mostLetters}
 use Rattle.alphabet.specs.Letters.{letterOf, keyOfText}
-use Rattle.alphabet.proofs.Spelling.{Spelling, spelling-none, spelling-more, spelling-all, spelling-ill, spelling-outside}
+use Rattle.alphabet.proofs.Spelling.{Spelling, spelling-none, spelling-more, spelling-all}
+use Rattle.alphabet.proofs.Spelling.{spelling-ill, spelling-outside}
 use Rattle.key.specs.declared.Typed.{Typed}
 use Rattle.key.specs.Hand.{padded, inHand, typedAs}
 use Rattle.key.proofs.Hand.{padded-nil, padded-more, padded-full}
@@ -23,7 +25,13 @@ pub record Typing (alphabet text kept : List ℕ) (len at : ℕ) : Type 0 where
   pub count : len ≡ length letters
 
 pub typing-none : (alphabet text : List ℕ) → Typing alphabet text (replicate mostLetters 0) 0 0
-typing-none alphabet text = record { letters = []; spelling = spelling-none alphabet text; array = sym (padded-nil mostLetters); count = refl }
+typing-none alphabet text = record {
+  letters = [];
+  spelling = spelling-none alphabet text;
+  array =
+      sym (padded-nil mostLetters);
+  count = refl;
+}
 
 module _ {alphabet text kept : List ℕ} {len at : ℕ} (t : Typing alphabet text kept len at) where
   -- the length after one letter more
@@ -31,7 +39,8 @@ module _ {alphabet text kept : List ℕ} {len at : ℕ} (t : Typing alphabet tex
   longer x = omega (arith, length-append (t .letters) (x ∷ []), t .count)
 
   -- one letter more, put into the array where there is room
-  pub typing-more : {n x : ℕ} → n ≡ charLen text at → n ≢ 0 → x ≡ letterOf alphabet (charAt text at) → x < length alphabet → len < mostLetters
+  pub typing-more : {n x : ℕ} → n ≡ charLen text at → n ≢ 0
+      → x ≡ letterOf alphabet (charAt text at) → x < length alphabet → len < mostLetters
       → Typing alphabet text (set kept len x) (len + 1) (at + n)
   typing-more {n} {x} e z l b r =
       record {
@@ -45,7 +54,8 @@ module _ {alphabet text kept : List ℕ} {len at : ℕ} (t : Typing alphabet tex
       }
 
   -- and counted alone where there is none
-  pub typing-past : {n x : ℕ} → n ≡ charLen text at → n ≢ 0 → x ≡ letterOf alphabet (charAt text at) → x < length alphabet → mostLetters ≤ len
+  pub typing-past : {n x : ℕ} → n ≡ charLen text at → n ≢ 0
+      → x ≡ letterOf alphabet (charAt text at) → x < length alphabet → mostLetters ≤ len
       → Typing alphabet text kept (len + 1) (at + n)
   typing-past {n} {x} e z l b r =
       record {
@@ -55,12 +65,18 @@ module _ {alphabet text kept : List ℕ} {len at : ℕ} (t : Typing alphabet tex
         count = longer x;
       }
 
-  pub typing-all : length text ≤ at → _≡_ {A = Typed} (record { named = true; key = record { letters = kept; len = len } }) (typedAs (keyOfText alphabet text))
+  pub typing-all : length text ≤ at
+      → _≡_ {A = Typed} (record { named = true; key = record { letters = kept; len = len } })
+      (typedAs (keyOfText alphabet text))
   unfolding typedAs inHand
-  typing-all h = rw (spelling-all (t .spelling) h) (λ j. record { named = true; key = record { letters = t .array j; len = t .count j } })
+  typing-all h =
+      rw (spelling-all (t .spelling) h)
+      (λ j. record { named = true; key = record { letters = t .array j; len = t .count j } })
 
-  pub typing-ill : at < length text → charLen text at ≡ 0 → typedAs none ≡ typedAs (keyOfText alphabet text)
+  pub typing-ill : at < length text → charLen text at ≡ 0 → typedAs none
+      ≡ typedAs (keyOfText alphabet text)
   typing-ill h e = ap typedAs (sym (spelling-ill (t .spelling) h e))
 
-  pub typing-outside : charLen text at ≢ 0 → length alphabet ≤ letterOf alphabet (charAt text at) → typedAs none ≡ typedAs (keyOfText alphabet text)
+  pub typing-outside : charLen text at ≢ 0 → length alphabet ≤ letterOf alphabet (charAt text at)
+      → typedAs none ≡ typedAs (keyOfText alphabet text)
   typing-outside z h = ap typedAs (sym (spelling-outside (t .spelling) z h))

@@ -1,5 +1,5 @@
--- 01, "Walking, storing, listing": "A key in hand is up to 64 letter numbers together with its length." A key that is longer cannot be held
--- whole; its length is, and no max reaches it.
+-- 01, "Walking, storing, listing": "A key in hand is up to 64 letter numbers together with its
+-- length." A key that is longer cannot be held whole; its length is, and no max reaches it.
 use Prim.Native.Nat.{ℕ, zero, suc, _≤_}
 use mathlib.Core.Path.{_≡_}
 use mathlib.Core.Bool.{true, false}
@@ -23,7 +23,8 @@ unfoldable pub inHand : List ℕ → Key
 unfolding padded
 inHand k = record { letters = padded mostLetters k; len = length k }
 
--- The key in hand holds this key: its length and, where they can be held, its letters. What stands in the array after them is not judged.
+-- The key in hand holds this key: its length and, where they can be held, its letters. What stands
+-- in the array after them is not judged.
 pub record Holds (hand : Key) (k : List ℕ) : Type 0 where
   pub len : hand .len ≡ length k
   pub letters : length k ≤ mostLetters → take (length k) (hand .letters) ≡ k

@@ -1,5 +1,5 @@
-// A key in hand, from letters and from text, and what is said against it: 9 and 10. A text is read to its end however long it is, since
-// one bad character far behind the sixty-fourth is still 10.
+// A key in hand, from letters and from text, and what is said against it: 9 and 10. A text is read
+// to its end however long it is, since one bad character far behind the sixty-fourth is still 10.
 ghost use mathlib.Core.Path.{_≡_};
 ghost use mathlib.Core.Bool.{true};
 ghost use mathlib.Core.Option.{Option, none};
@@ -67,7 +67,8 @@ impl Key {
         self.spelled(h)
     }
 
-    // 9, then 10, of the key from which the next one is sought: here only a key longer than max is 9.
+    // 9, then 10, of the key from which the next one is sought: here only a key longer than max is
+    // 9.
     pub fn judge_next(self, h: Head) -> Verdict
         requires { ⌜ permitted h ≡ true ⌝ }
         ensures { λ r. ⌜ ((k : List ℕ) → Holds self k → rowOf r ≡ first (nextRows h k)) ⌝ }
@@ -95,7 +96,8 @@ impl Typed {
     // The key that a text names, by an alphabet whose letters are the first n codes.
     pub fn of(text: &[u8], codes: &[u32; Head::N_MOST as usize], n: usize) -> Typed
         requires { ⌜ n ≤ mostLinks ⌝ }
-        ensures { λ r. ⌜ r ≡ typedAs (keyOfText (take n (now (codes .entry))) (now (text .entry))) ⌝ }
+        ensures { λ r. ⌜ r ≡ typedAs
+            (keyOfText (take n (now (codes .entry))) (now (text .entry))) ⌝ }
     {
         let letters: &[u32] = codes;
         let mut kept = [0u8; HELD];
@@ -125,7 +127,8 @@ impl Typed {
     // 10, then 9, of a key given by its text.
     pub fn judge(self, h: Head) -> Verdict
         requires { ⌜ permitted h ≡ true ⌝ }
-        ensures { λ r. ⌜ ((named : Option (List ℕ)) → self ≡ typedAs named → rowOf r ≡ first (textRows h named)) ⌝ }
+        ensures { λ r. ⌜ ((named : Option (List ℕ)) → self ≡ typedAs named
+            → rowOf r ≡ first (textRows h named)) ⌝ }
     {
         if !self.named {
             return Verdict::Refused(Refusal::Letter);

@@ -1,5 +1,6 @@
--- The text of a number in decimal: one digit below ten, else the text of its tenth and the last digit. What stands before a number's first
--- digit is never written, so steps that are left over change nothing (`step-left`).
+-- The text of a number in decimal: one digit below ten, else the text of its tenth and the last
+-- digit. What stands before a number's first digit is never written, so steps that are left over
+-- change nothing (`step-left`).
 use mathlib.Core.Path.{_≡_, refl, sym, ap, _∙_}
 use Prim.Native.Nat.{ℕ, zero, suc, _+_, _/_, _%_, _^_, _≤_, _<_}
 use native.Mathlib.Nat.{zero-add, suc-add, pow-suc, pow-le-pow-right, mod-eq-of-lt, lt-of-lt-of-le}
@@ -33,7 +34,8 @@ step-left : (n v : ℕ) → v < 10 ^ suc n → decimalBy (suc n) v ≡ decimalBy
 step-left zero v h = by-one 1 v h ∙ sym (by-one 0 v h)
 step-left (suc n) v h = go (decLt v 10) (step-left n (v / 10) (tenth n v h))
   where
-    go : Dec (v < 10) → decimalBy (suc n) (v / 10) ≡ decimalBy n (v / 10) → decimalBy (suc (suc n)) v ≡ decimalBy (suc n) v
+    go : Dec (v < 10) → decimalBy (suc n) (v / 10) ≡ decimalBy n (v / 10)
+        → decimalBy (suc (suc n)) v ≡ decimalBy (suc n) v
     go (yes s) e = by-one (suc (suc n)) v s ∙ sym (by-one (suc n) v s)
     go (no b) e = by-more (suc n) v (omega arith) ∙ with-last v e ∙ sym (by-more n v (omega arith))
 
@@ -41,7 +43,8 @@ steps-left : (k n v : ℕ) → v < 10 ^ suc n → decimalBy (k + n) v ≡ decima
 steps-left zero n v h = rw (zero-add n)
 steps-left (suc k) n v h =
     rw (suc-add k n)
-    (step-left (k + n) v (lt-of-lt-of-le h (pow-le-pow-right (omega arith) (omega arith))) ∙ steps-left k n v h)
+    (step-left (k + n) v (lt-of-lt-of-le h (pow-le-pow-right (omega arith) (omega arith)))
+    ∙ steps-left k n v h)
 
 -- ---- as it is written
 
@@ -49,14 +52,17 @@ pub decimal-one : (v : ℕ) → v < 10 → decimal v ≡ (48 + v) ∷ []
 unfolding decimal
 decimal-one v h = by-one 19 v h
 
-pub decimal-more : (v : ℕ) → 10 ≤ v → v < 10 ^ 20 → decimal v ≡ decimal (v / 10) ++ ((48 + v % 10) ∷ [])
+pub decimal-more : (v : ℕ) → 10 ≤ v → v < 10 ^ 20 → decimal v ≡ decimal (v / 10)
+    ++ ((48 + v % 10) ∷ [])
 unfolding decimal
 decimal-more v h b = by-more 18 v h ∙ with-last v (sym (step-left 18 (v / 10) (tenth 18 v b)))
 
 pub decimal-two : (v : ℕ) → 10 ≤ v → v < 100 → decimal v ≡ (48 + v / 10) ∷ (48 + v % 10) ∷ []
-decimal-two v h b = decimal-more v h (omega arith) ∙ with-last v (decimal-one (v / 10) (omega arith))
+decimal-two v h b =
+    decimal-more v h (omega arith) ∙ with-last v (decimal-one (v / 10) (omega arith))
 
-pub decimal-three : (v : ℕ) → 100 ≤ v → v < 1000 → decimal v ≡ (48 + v / 100) ∷ (48 + v / 10 % 10) ∷ (48 + v % 10) ∷ []
+pub decimal-three : (v : ℕ) → 100 ≤ v → v < 1000 → decimal v ≡ (48 + v / 100) ∷ (48 + v / 10 % 10)
+    ∷ (48 + v % 10) ∷ []
 decimal-three v h b =
     let e : v / 10 / 10 ≡ v / 100 = omega arith in
     decimal-more v (omega arith) (omega arith)
@@ -70,9 +76,12 @@ unfolding decimalBy
 long-by zero v = omega arith
 long-by (suc n) v = go (decLt v 10) (long-by n (v / 10))
   where
-    go : Dec (v < 10) → length (decimalBy n (v / 10)) ≤ suc n → length (decimalBy (suc n) v) ≤ suc (suc n)
+    go : Dec (v < 10) → length (decimalBy n (v / 10)) ≤ suc n → length (decimalBy (suc n) v)
+        ≤ suc (suc n)
     go (yes s) h = rw (by-one (suc n) v s) (omega arith)
-    go (no b) h = rw (by-more n v (omega arith), length-append (decimalBy n (v / 10)) ((48 + v % 10) ∷ [])) (omega arith)
+    go (no b) h =
+        rw (by-more n v (omega arith), length-append (decimalBy n (v / 10)) ((48 + v % 10) ∷ []))
+        (omega arith)
 
 pub decimal-long : (v : ℕ) → length (decimal v) ≤ 20
 unfolding decimal
@@ -92,17 +101,23 @@ figures (suc w) v = figures w (v / 10) ++ ((48 + v % 10) ∷ [])
 pub length-figures : (w v : ℕ) → length (figures w v) ≡ w
 unfolding figures
 length-figures zero v = refl
-length-figures (suc w) v = length-append (figures w (v / 10)) ((48 + v % 10) ∷ []) ∙ omega (arith, length-figures w (v / 10))
+length-figures (suc w) v = length-append (figures w (v / 10)) ((48 + v % 10) ∷ [])
+    ∙ omega (arith, length-figures w (v / 10))
 
 figures-one : (n v : ℕ) → v < 10 → figures (length (decimalBy n v)) v ≡ decimalBy n v
 unfolding figures
 figures-one n v h = rw (by-one n v h) (ap (λ (d : ℕ). (48 + d) ∷ []) (mod-eq-of-lt h))
 
-figures-more : (n v : ℕ) → 10 ≤ v → figures (length (decimalBy n (v / 10))) (v / 10) ≡ decimalBy n (v / 10)
+figures-more : (n v : ℕ) → 10 ≤ v → figures (length (decimalBy n (v / 10))) (v / 10) ≡ decimalBy n
+    (v / 10)
     → figures (length (decimalBy (suc n) v)) v ≡ decimalBy (suc n) v
 unfolding figures
 figures-more n v h e =
-    rw (by-more n v h, length-append (decimalBy n (v / 10)) ((48 + v % 10) ∷ []), add-one (length (decimalBy n (v / 10))))
+    rw (
+      by-more n v h,
+      length-append (decimalBy n (v / 10)) ((48 + v % 10) ∷ []),
+      add-one (length (decimalBy n (v / 10))),
+    )
     (with-last v e)
 
 figures-by : (n v : ℕ) → v < 10 ^ suc n → figures (length (decimalBy n v)) v ≡ decimalBy n v

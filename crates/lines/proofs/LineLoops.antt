@@ -1,5 +1,6 @@
--- What the loops keep. Counting, the digits counted and those of what is left are those of the number. Filling from the last digit, what is
--- left is still to be laid in the width that is left (`sets-last`). Spelling, the letters so far are laid, and a turn joins one more.
+-- What the loops keep. Counting, the digits counted and those of what is left are those of the
+-- number. Filling from the last digit, what is left is still to be laid in the width that is left
+-- (`sets-last`). Spelling, the letters so far are laid, and a turn joins one more.
 use mathlib.Core.Path.{_≡_, refl, sym, ap, _∙_}
 use Prim.Native.Nat.{ℕ, zero, suc, _+_, _-_, _*_, _/_, _%_, _^_, _≤_, _<_}
 use native.Mathlib.Nat.{not-suc-le-zero}
@@ -11,7 +12,8 @@ use lib.Seq.{sets, take-suc, length-take-le, drop-append-le, getD-take}
 use Rattle.field.specs.Field.{Bytes}
 use Rattle.field.proofs.Bytes.{bytes-take, bytes-drop}
 use Rattle.lines.specs.Lines.{decimal, dotted, keyText, TextAt}
-use Rattle.lines.proofs.Digits.{decimal-one, decimal-more, decimal-long, letter-long, figures, length-figures, figures-all}
+use Rattle.lines.proofs.Digits.{decimal-one, decimal-more, decimal-long, letter-long}
+use Rattle.lines.proofs.Digits.{figures, length-figures, figures-all}
 use Rattle.lines.proofs.TextsAt.{laid-long, laid-as, laid-one, laid-join, sets-last}
 use Rattle.lines.proofs.LineTexts.{dotted-more, dotted-long, key-parts}
 
@@ -23,10 +25,12 @@ pub record Counting (v x n : ℕ) : Type 0 where
 pub counting-none : (v : ℕ) → Counting v v 1
 counting-none v = record { below = omega arith; counted = omega arith }
 
-pub counting-more : {v x n : ℕ} → Counting v x n → 10 ≤ x → v < 2 ^ 64 → Counting v (x / 10) (n + 1)
+pub counting-more : {v x n : ℕ} → Counting v x n → 10 ≤ x → v < 2 ^ 64
+    → Counting v (x / 10) (n + 1)
 counting-more {v} {x} {n} p h b =
     let more : length (decimal x) ≡ length (decimal (x / 10)) + 1 =
-    ap length (decimal-more x h (omega (arith, p .below))) ∙ length-append (decimal (x / 10)) ((48 + x % 10) ∷ []) in
+    ap length (decimal-more x h (omega (arith, p .below))) ∙ length-append (decimal (x / 10))
+    ((48 + x % 10) ∷ []) in
     record { below = omega (arith, p .below); counted = omega (arith, p .counted) }
 
 pub counting-room : {v x n : ℕ} → Counting v x n → n ≤ 21
@@ -35,18 +39,21 @@ counting-room {v} p = omega (arith, p .counted, decimal-long v)
 pub counting-all : {v x n : ℕ} → Counting v x n → x < 10 → n ≡ length (decimal v)
 counting-all {v} {x} p h = omega (arith, p .counted, ap length (decimal-one x h))
 
--- `number`: what is left of the number is x, and of the width i: laying it into s is laying v into l
+-- `number`: what is left of the number is x, and of the width i: laying it into s is laying v into
+-- l
 pub record Filling (l : List ℕ) (at v : ℕ) (s : List ℕ) (x i : ℕ) : Type 0 where
   pub within : i ≤ length (decimal v)
   pub long : length s ≡ length l
   pub left : sets s at (figures i x) ≡ sets l at (decimal v)
 
-pub filling-none : (l : List ℕ) (at v : ℕ) {i : ℕ} → i ≡ length (decimal v) → v < 2 ^ 64 → Filling l at v l v i
+pub filling-none : (l : List ℕ) (at v : ℕ) {i : ℕ} → i ≡ length (decimal v) → v < 2 ^ 64
+    → Filling l at v l v i
 filling-none l at v e b =
     record {
       within = omega arith;
       long = refl;
-      left = ap (λ (w : ℕ). sets l at (figures w v)) e ∙ ap (λ (d : List ℕ). sets l at d) (figures-all v (omega arith));
+      left = ap (λ (w : ℕ). sets l at (figures w v)) e ∙ ap (λ (d : List ℕ). sets l at d)
+          (figures-all v (omega arith));
     }
 
 pub filling-more : {l : List ℕ} {at v : ℕ} {s : List ℕ} {x i : ℕ}
@@ -61,43 +68,56 @@ filling-more {at} {s} {x} {i = suc i} p h =
       within = omega (arith, p .within);
       long = length-set s (at + i) (48 + x % 10) ∙ p .long;
       left =
-          ap (λ (k : ℕ). sets (set s (at + k) (48 + x % 10)) at (figures i (x / 10))) (sym (length-figures i (x / 10)))
+          ap (λ (k : ℕ). sets (set s (at + k) (48 + x % 10)) at (figures i (x / 10)))
+          (sym (length-figures i (x / 10)))
           ∙ sym (sets-last s (figures i (x / 10)) at (48 + x % 10))
           ∙ p .left;
     })
 
-pub filling-all : {l : List ℕ} {at v : ℕ} {s : List ℕ} {x i : ℕ} → Filling l at v s x i → i ≤ 0 → s ≡ sets l at (decimal v)
+pub filling-all : {l : List ℕ} {at v : ℕ} {s : List ℕ} {x i : ℕ} → Filling l at v s x i → i ≤ 0
+    → s ≡ sets l at (decimal v)
 unfolding figures
 filling-all {i = zero} p h = p .left
 filling-all {i = suc i} p h = absurd (not-suc-le-zero h)
 
 -- `letters`: of the first i letters of the path, those behind the first are laid from `start` on
-pub record Spelling (l : List ℕ) (start : ℕ) (path : List ℕ) (len : ℕ) (s : List ℕ) (end i : ℕ) : Type 0 where
+pub record Spelling (l : List ℕ) (start : ℕ) (path : List ℕ) (len : ℕ) (s : List ℕ)
+    (end i : ℕ) : Type 0 where
   pub some : 0 < i
   pub within : i ≤ len
   pub inside : len ≤ length path
   pub laid : TextAt l start (dotted (drop 1 (take i path))) end s
 
-pub spelling-none : (l : List ℕ) (start : ℕ) (path : List ℕ) {len : ℕ} → 0 < len → len ≤ length path → Spelling l start path len l start 1
+pub spelling-none : (l : List ℕ) (start : ℕ) (path : List ℕ) {len : ℕ} → 0 < len
+    → len ≤ length path → Spelling l start path len l start 1
 unfolding dotted
 spelling-none l start [] h f = absurd (omega arith)
 spelling-none l start (x ∷ path) h f =
-    record { some = omega arith; within = h; inside = f; laid = record { bytes = refl; ends = omega arith } }
+    record {
+      some = omega arith;
+      within = h;
+      inside = f;
+      laid =
+          record { bytes = refl; ends = omega arith };
+    }
 
 taken : {l : List ℕ} {start : ℕ} {path : List ℕ} {len : ℕ} {s : List ℕ} {end i : ℕ}
     → Spelling l start path len s end i
     → length (take i path) ≡ i
 taken {path} {i} p = length-take-le i path (omega (arith, p .within, p .inside))
 
-pub spelling-more : {l : List ℕ} {start : ℕ} {path : List ℕ} {len : ℕ} {s : List ℕ} {end i : ℕ} {s′ : List ℕ} {end′ : ℕ}
+pub spelling-more : {l : List ℕ} {start : ℕ} {path : List ℕ} {len : ℕ} {s : List ℕ} {end i : ℕ}
+    {s′ : List ℕ} {end′ : ℕ}
     → Spelling l start path len s end i
     → i < len
     → TextAt (set s end 46) (end + 1) (decimal (getD path i 0)) end′ s′
     → Spelling l start path len s′ end′ (i + 1)
 spelling-more {path} {s} {end} {i} p h q =
-    let e : dotted (drop 1 (take i path)) ++ (46 ∷ decimal (getD path i 0)) ≡ dotted (drop 1 (take (i + 1) path)) =
+    let e : dotted (drop 1 (take i path)) ++ (46 ∷ decimal (getD path i 0))
+    ≡ dotted (drop 1 (take (i + 1) path)) =
     sym (dotted-more (drop 1 (take i path)) (getD path i 0))
-    ∙ ap dotted (sym (drop-append-le 1 (take i path) (getD path i 0 ∷ []) (omega (arith, p .some, taken p))))
+    ∙ ap dotted (sym (drop-append-le 1 (take i path) (getD path i 0 ∷ [])
+    (omega (arith, p .some, taken p))))
     ∙ ap (λ (k : List ℕ). dotted (drop 1 k)) (sym (take-suc path i 0 (omega (arith, p .inside))))
     ∙ ap (λ (k : ℕ). dotted (drop 1 (take k path))) (sym (add-one i)) in
     record {
@@ -107,7 +127,8 @@ spelling-more {path} {s} {end} {i} p h q =
       laid = laid-as e (laid-join (p .laid) (laid-join (laid-one s end 46 refl) q));
     }
 
-module _ {l′ : List ℕ} {at : ℕ} {l : List ℕ} {start : ℕ} {path : List ℕ} {len : ℕ} {s : List ℕ} {end i : ℕ}
+module _ {l′ : List ℕ} {at : ℕ} {l : List ℕ} {start : ℕ} {path : List ℕ} {len : ℕ} {s : List ℕ}
+    {end i : ℕ}
     (first : TextAt l′ at (decimal (getD path 0 0)) start l)
     (p : Spelling l start path len s end i) where
   -- a dot and a letter more have room
@@ -130,6 +151,7 @@ module _ {l′ : List ℕ} {at : ℕ} {l : List ℕ} {start : ℕ} {path : List 
   spelling-all h =
       let e : i ≡ len = omega (arith, p .within) in
       let t : decimal (getD path 0 0) ++ dotted (drop 1 (take i path)) ≡ keyText (take i path) =
-      ap (λ (x : ℕ). decimal x ++ dotted (drop 1 (take i path))) (sym (getD-take i path 0 0 (p .some)))
+      ap (λ (x : ℕ). decimal x ++ dotted (drop 1 (take i path)))
+      (sym (getD-take i path 0 0 (p .some)))
       ∙ sym (key-parts (take i path) (omega (arith, p .some, taken p))) in
       laid-as (t ∙ ap (λ (k : ℕ). keyText (take k path)) e) (laid-join first (p .laid))

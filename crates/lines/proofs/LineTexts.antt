@@ -1,5 +1,6 @@
--- The texts of keys and lines. A key one letter longer has a dot and that letter more; a letter takes three digits and a dot at most, a
--- number twenty digits: so each line fits the room that its function asks for.
+-- The texts of keys and lines. A key one letter longer has a dot and that letter more; a letter
+-- takes three digits and a dot at most, a number twenty digits: so each line fits the room that
+-- its function asks for.
 use mathlib.Core.Path.{_≡_, refl, sym, ap, _∙_}
 use Prim.Native.Nat.{ℕ, suc, _+_, _*_, _≤_, _<_}
 use native.Mathlib.Nat.{not-suc-le-zero}
@@ -8,10 +9,11 @@ use mathlib.Core.List.{List, [], _∷_, _++_, append-assoc, append-nil}
 use lib.ListN.{length, getD, take, drop, length-append, length-take}
 use Rattle.field.specs.Field.{Bytes}
 use Rattle.field.proofs.Bytes.{bytes-take}
-use Rattle.lines.specs.Lines.{decimal, dotted, keyText, entryLine, entriesLine, refusedLine, entryRoom, entriesRoom, refusedRoom, TextAt}
+use Rattle.lines.specs.Lines.{decimal, dotted, keyText, entryLine, entriesLine, refusedLine}
+use Rattle.lines.specs.Lines.{entryRoom, entriesRoom, refusedRoom, TextAt}
 use Rattle.lines.proofs.Digits.{decimal-long, letter-long}
 
--- ---- a key is its first letter and the dotted others, and one more of these is a dot and that letter more
+-- ---- a key is its first letter and the dotted others; one letter more is a dot and that letter
 
 pub dotted-more : (k : List ℕ) (x : ℕ) → dotted (k ++ (x ∷ [])) ≡ dotted k ++ (46 ∷ decimal x)
 unfolding dotted
@@ -31,24 +33,34 @@ key-parts (x ∷ k) h = refl
 
 -- ---- how long they are, and where a number ends
 
-pub decimal-end : (v : ℕ) {l : List ℕ} {at end : ℕ} {m : List ℕ} → TextAt l at (decimal v) end m → end ≤ at + 20
+pub decimal-end : (v : ℕ) {l : List ℕ} {at end : ℕ} {m : List ℕ} → TextAt l at (decimal v) end m
+    → end ≤ at + 20
 decimal-end v p = omega (arith, p .ends, decimal-long v)
 
 pub dotted-long : (k : List ℕ) → Bytes k → length (dotted k) ≤ length k * 4
 unfolding dotted
 dotted-long [] b = omega arith
 dotted-long (x ∷ k) b =
-    omega (arith, length-append (decimal x) (dotted k), letter-long x (b 0), dotted-long k (λ j. b (suc j)))
+    omega (
+      arith,
+      length-append (decimal x) (dotted k),
+      letter-long x (b 0),
+      dotted-long k
+          (λ j. b (suc j)),
+    )
 
 key-long : (k : List ℕ) → Bytes k → length (keyText k) ≤ length k * 4 + 1
 unfolding keyText dotted
 key-long [] b = omega arith
 key-long (x ∷ k) b = omega (arith, dotted-long (x ∷ k) b)
 
-pub letters-long : (path : List ℕ) (len : ℕ) → Bytes path → length (keyText (take len path)) ≤ len * 4 + 1
-letters-long path len b = omega (arith, length-take len path, key-long (take len path) (bytes-take len path b))
+pub letters-long : (path : List ℕ) (len : ℕ) → Bytes path → length (keyText (take len path))
+    ≤ len * 4 + 1
+letters-long path len b =
+    omega (arith, length-take len path, key-long (take len path) (bytes-take len path b))
 
-pub entry-long : (path : List ℕ) (len v : ℕ) → Bytes path → length (entryLine (take len path) v) ≤ entryRoom len
+pub entry-long : (path : List ℕ) (len v : ℕ) → Bytes path → length (entryLine (take len path) v)
+    ≤ entryRoom len
 unfolding entryLine
 entry-long path len v b =
     omega (

@@ -1,5 +1,5 @@
--- 01, "The listing program": its lines, as text in ASCII. "Letter numbers are joined by dots; the empty key is `-`." "A refused image
--- writes one line".
+-- 01, "The listing program": its lines, as text in ASCII. "Letter numbers are joined by dots; the
+-- empty key is `-`." "A refused image writes one line".
 use Prim.Native.Nat.{ℕ, zero, suc, _+_, _*_, _/_, _%_}
 use mathlib.Core.Path.{_≡_}
 use mathlib.Core.Bool.{cond}
@@ -11,7 +11,8 @@ use lib.Seq.{sets}
 -- the digits of a number that has `more` besides its first at most
 unfoldable pub decimalBy : ℕ → ℕ → List ℕ
 decimalBy zero v = (48 + v) ∷ []
-decimalBy (suc more) v = cond (ltb v 10) ((48 + v) ∷ []) (decimalBy more (v / 10) ++ ((48 + v % 10) ∷ []))
+decimalBy (suc more) v =
+    cond (ltb v 10) ((48 + v) ∷ []) (decimalBy more (v / 10) ++ ((48 + v % 10) ∷ []))
 
 -- a number in decimal, without zeros in front; one of 64 bits has twenty digits at most
 unfoldable pub decimal : ℕ → List ℕ
@@ -43,9 +44,11 @@ entriesLine n = (101 ∷ 110 ∷ 116 ∷ 114 ∷ 105 ∷ 101 ∷ 115 ∷ 32 ∷ 
 unfoldable pub refusedLine : ℕ → ℕ → List ℕ
 unfolding decimal
 refusedLine n place =
-    (114 ∷ 101 ∷ 102 ∷ 117 ∷ 115 ∷ 101 ∷ 100 ∷ 32 ∷ []) ++ (decimal n ++ ((32 ∷ 97 ∷ 116 ∷ 32 ∷ []) ++ (decimal place ++ (10 ∷ []))))
+    (114 ∷ 101 ∷ 102 ∷ 117 ∷ 115 ∷ 101 ∷ 100 ∷ 32 ∷ [])
+    ++ (decimal n ++ ((32 ∷ 97 ∷ 116 ∷ 32 ∷ []) ++ (decimal place ++ (10 ∷ []))))
 
--- the room for each that a caller has: numbers have twenty digits at most, letter numbers three and a dot
+-- the room for each that a caller has: numbers have twenty digits at most, letter numbers three
+-- and a dot
 abbrev pub entryRoom : ℕ → ℕ
 entryRoom len = len * 4 + 32
 

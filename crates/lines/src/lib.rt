@@ -1,8 +1,10 @@
-// Document 01's lines, laid into lent bytes at a place: each function writes its text there and answers where it ends. A caller has room.
+// Document 01's lines, laid into lent bytes at a place: each function writes its text there and
+// answers where it ends. A caller has room.
 ghost use mathlib.Core.Path.{_≡_};
 ghost use Prim.Native.Nat.{_+_, _*_, _≤_};
 ghost use lib.ListN.{length, take};
-ghost use Rattle.lines.specs.Lines.{TextAt, decimal, entriesLine, entryLine, refusedLine, keyText, entryRoom, entriesRoom, refusedRoom};
+ghost use Rattle.lines.specs.Lines.{TextAt, decimal, entriesLine, entryLine, refusedLine};
+ghost use Rattle.lines.specs.Lines.{keyText, entryRoom, entriesRoom, refusedRoom};
 
 // The room for "refused N at P".
 pub const REFUSED_ROOM: usize = 64;
@@ -38,7 +40,8 @@ pub fn refused(out: &mut [u8], at: usize, n: u32, place: u32) -> usize
 pub fn entry(out: &mut [u8], at: usize, path: &[u8], len: usize, value: u64) -> usize
     requires { ⌜ len ≤ length (now path) ⌝ }
     requires { ⌜ at + entryRoom len ≤ length (now out) ⌝ }
-    ensures { λ r. ⌜ TextAt (now (out .entry)) at (entryLine (take len (now (path .entry))) value) r (now (out .exit)) ⌝ }
+    ensures { λ r. ⌜ TextAt (now (out .entry)) at (entryLine (take len (now (path .entry))) value)
+        r (now (out .exit)) ⌝ }
     ensures { λ r. ⌜ r ≤ at + entryRoom len ⌝ }
 {
     let mut end = letters(out, at, path, len);
@@ -52,7 +55,8 @@ pub fn entry(out: &mut [u8], at: usize, path: &[u8], len: usize, value: u64) -> 
 fn letters(out: &mut [u8], at: usize, path: &[u8], len: usize) -> usize
     requires { ⌜ len ≤ length (now path) ⌝ }
     requires { ⌜ at + (len * 4 + 1) ≤ length (now out) ⌝ }
-    ensures { λ r. ⌜ TextAt (now (out .entry)) at (keyText (take len (now (path .entry)))) r (now (out .exit)) ⌝ }
+    ensures { λ r. ⌜ TextAt (now (out .entry)) at (keyText (take len (now (path .entry)))) r
+        (now (out .exit)) ⌝ }
 {
     if len == 0 {
         out[at] = 45;
@@ -68,7 +72,8 @@ fn letters(out: &mut [u8], at: usize, path: &[u8], len: usize) -> usize
     end
 }
 
-// A letter number in decimal. It has three digits at most, and most lines are letters, so no loop is spent on it.
+// A letter number in decimal. It has three digits at most, and most lines are letters, so no loop
+// is spent on it.
 fn letter(out: &mut [u8], at: usize, x: u8) -> usize
     requires { ⌜ at + 3 ≤ length (now out) ⌝ }
     ensures { λ r. ⌜ TextAt (now (out .entry)) at (decimal x) r (now (out .exit)) ⌝ }

@@ -1,5 +1,6 @@
-// The listing program: reads an image of at most 65,536 bytes from standard input and writes its stored keys in order, a line for each, or
-// the one line of a refusal. It checks the image once and then walks through it; lines are written many at a time.
+// The listing program: reads an image of at most 65,536 bytes from standard input and writes its
+// stored keys in order, a line for each, or the one line of a refusal. It checks the image once
+// and then walks through it; lines are written many at a time.
 ghost use mathlib.Core.Path.{_≡_};
 ghost use Prim.Native.Nat.{_+_, _≤_};
 ghost use lib.ListN.{length};
@@ -46,7 +47,8 @@ fn refuse(number: u32, place: u32) {
     io::write_all(STDOUT_FILENO, &out[..end]);
 }
 
-// How many keys are stored, then each of them: the root's own, where it is one, and those that follow.
+// How many keys are stored, then each of them: the root's own, where it is one, and those that
+// follow.
 fn list(image: &[u8], h: Head)
     requires { ⌜ Accepted (now image) ⌝ }
     requires { ⌜ h ≡ headOf (now image) ⌝ }
@@ -83,7 +85,8 @@ fn root_line(out: &mut [u8], at: usize, value: u64) -> usize
     lines::entry(out, at, b"", 0, value)
 }
 
-// Where the next line goes: behind the last one or, if it might not fit there, at the front, when the lines so far have been written.
+// Where the next line goes: behind the last one or, if it might not fit there, at the front, when
+// the lines so far have been written.
 fn room(out: &[u8], end: usize) -> usize
     requires { ⌜ end ≤ length (now out) ⌝ }
     ensures { λ r. ⌜ r + entryRoom mostLetters ≤ 65536 ⌝ }

@@ -1,5 +1,6 @@
-// The look ups. Neither has a `requires`: any bytes, key or text may be handed over. Each promises one line, that the numbers of its answer
-// are the outcome that document 01 states (crate `paper`).
+// The look ups. Neither has a `requires`: any bytes, key or text may be handed over. Each promises
+// one line, that the numbers of its answer are the outcome that document 01 states (crate
+// `paper`).
 ghost use Rattle.paper.specs.Answers.{lookedOf};
 ghost use Rattle.paper.specs.Given.{asLetters, asText};
 ghost use Rattle.paper.specs.Promises.{LooksUp};
@@ -9,10 +10,11 @@ use key::Typed;
 use paper::Looked;
 use paper::Verdict;
 
-// The value that is stored under a key given by its letters, 0 for none. It does not check the image: 6 is a bad link on the key's own path.
-// Refusals: 1 to 4, 9, 10, 6.
+// The value that is stored under a key given by its letters, 0 for none. It does not check the
+// image: 6 is a bad link on the key's own path. Refusals: 1 to 4, 9, 10, 6.
 pub fn look_up(image: &[u8], letters: &[u8]) -> Looked
-    ensures { λ r. ⌜ LooksUp (now (image .entry)) (asLetters (now (letters .entry))) (lookedOf r) ⌝ }
+    ensures { λ r. ⌜ LooksUp (now (image .entry)) (asLetters (now (letters .entry)))
+        (lookedOf r) ⌝ }
 {
     let mut codes = [0u32; Head::N_MOST as usize];
     let opened = opening::open(image, &mut codes);

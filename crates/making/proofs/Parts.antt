@@ -11,6 +11,8 @@ use Rattle.paper.specs.Calls.{freshImage}
 use Rattle.paper.proofs.MakeCall.{parts}
 
 -- the image after the head, after the alphabet and after the root
-pub written : (h : Head) (alphabet image : List ℕ) {headed lettered rooted : List ℕ} {w : ℕ} → headed ≡ sets image 0 (headBytes h)
-    → lettered ≡ sets headed fieldsLen alphabet → w ≡ nodeWidth h → rooted ≡ cleared lettered (fieldsLen + length alphabet) w → rooted ≡ freshImage h alphabet image
+pub written : (h : Head) (alphabet image : List ℕ) {headed lettered rooted : List ℕ} {w : ℕ}
+    → headed ≡ sets image 0 (headBytes h)
+    → lettered ≡ sets headed fieldsLen alphabet → w ≡ nodeWidth h → rooted ≡ cleared lettered
+    (fieldsLen + length alphabet) w → rooted ≡ freshImage h alphabet image
 written h alphabet image p q r s = s ∙ rw (q, p, r) (parts h alphabet image)

@@ -1,4 +1,5 @@
-// What make writes: head, alphabet and a zero root, one behind the other. A caller has judged 1 to 4, so all three lie inside the image.
+// What make writes: head, alphabet and a zero root, one behind the other. A caller has judged 1 to
+// 4, so all three lie inside the image.
 ghost use mathlib.Core.Path.{_≡_};
 ghost use mathlib.Core.Bool.{true};
 ghost use Prim.Native.Nat.{_≤_};
@@ -13,7 +14,8 @@ pub fn fresh(image: &mut [u8], h: Head, alphabet: &[u8])
     requires { ⌜ h .g ≡ 0 ⌝ }
     requires { ⌜ h .f ≡ length (now alphabet) ⌝ }
     requires { ⌜ usedLen h ≤ length (now image) ⌝ }
-    ensures { λ _. ⌜ now (image .exit) ≡ freshImage h (now (alphabet .entry)) (now (image .entry)) ⌝ }
+    ensures { λ _. ⌜ now (image .exit) ≡ freshImage h (now (alphabet .entry))
+        (now (image .entry)) ⌝ }
 {
     h.write(image);
     field::copy(image, Head::FIELDS_LEN, alphabet);

@@ -1,5 +1,5 @@
--- The keys of a walk, counted: each key that is met is one fewer to come, since the keys after the first one after a key are the rest of
--- those after that key.
+-- The keys of a walk, counted: each key that is met is one fewer to come, since the keys after the
+-- first one after a key are the rest of those after that key.
 use Prim.Native.Nat.{ℕ, suc, _+_, _<_, _^_}
 use native.Mathlib.Omega.{arith}
 use mathlib.Core.Bool.{true}
@@ -46,12 +46,16 @@ module _ (h : Head) (l : List ℕ) where
 
   one-less : (m : List ℕ) {k : List ℕ} → nextStored h l true m ≡ some k → toCome m ≡ suc (toCome k)
   unfolding firstOf
-  one-less m {k} e = go (filter (meets true m) keys) refl (sym (first-filter (meets true m) keys) ∙ e)
+  one-less m {k} e =
+      go (filter (meets true m) keys) refl (sym (first-filter (meets true m) keys) ∙ e)
     where
-      go : (ks : List (List ℕ)) → filter (meets true m) keys ≡ ks → firstOf ks ≡ some k → length ks ≡ suc (toCome k)
+      go : (ks : List (List ℕ)) → filter (meets true m) keys ≡ ks → firstOf ks ≡ some k
+          → length ks ≡ suc (toCome k)
       go [] f g = absurd (Option·some-ne-none k (sym g))
       go (j ∷ ks) f g =
-          let rest : filter (meets true j) keys ≡ ks = filter-next keys m (keysUnder-ascending (tableOf h l) (h .n) (h .min) (h .max) 0) f in
+          let rest : filter (meets true j) keys ≡ ks =
+          filter-next keys m (keysUnder-ascending (tableOf h l) (h .n) (h .min) (h .max) 0) f
+          in
           ap (λ (xs : List (List ℕ)). suc (length xs)) (sym rest)
           ∙ ap (λ (x : List ℕ). suc (toCome x)) (Option·some-injective j k g)
 
@@ -60,42 +64,54 @@ pub record Meeting (h : Head) (l path nodes : List ℕ) (n count : ℕ) : Type 0
   pub walking : Walking h l path nodes n
   pub all : count + toCome h l (take n path) ≡ toCome h l []
 
-pub meeting-start : {h : Head} {l path nodes : List ℕ} → Walking h l path nodes 0 → Meeting h l path nodes 0 0
+pub meeting-start : {h : Head} {l path nodes : List ℕ} → Walking h l path nodes 0
+    → Meeting h l path nodes 0 0
 meeting-start w = record { walking = w; all = omega arith }
 
-module _ {h : Head} {l path nodes : List ℕ} {n count : ℕ} (w : Meeting h l path nodes n count) where
-  pub meeting-few : Walkable h l → count < 2 ^ 32
-  meeting-few a = omega (arith, w .all, a .few, filter-length (meets true []) (keys h l))
+module _ {h : Head} {l path nodes : List ℕ} {n count : ℕ} (w : Meeting h l path nodes n count)
+  where
+    pub meeting-few : Walkable h l → count < 2 ^ 32
+    meeting-few a = omega (arith, w .all, a .few, filter-length (meets true []) (keys h l))
 
-  module _ {r : Search} {path₁ nodes₁ : List ℕ} (told : SearchTells h l (nextStored h l true (take n path)) r path₁ nodes₁) where
-    pub meeting-end : h ≡ headOf l → r ≡ Search.Missing → count ≡ keysMet l
-    unfolding keysMet storedKeys tableIn
-    meeting-end same e =
-        let none-left = none-to-come h l (take n path) (was-missing h l told e) in
-        let total : count ≡ toCome h l [] = omega (arith, w .all, none-left) in
-        total ∙ ap (λ (k : Head). toCome k l []) same
+    module _ {r : Search} {path₁ nodes₁ : List ℕ}
+        (told : SearchTells h l (nextStored h l true (take n path)) r path₁ nodes₁) where
+      pub meeting-end : h ≡ headOf l → r ≡ Search.Missing → count ≡ keysMet l
+      unfolding keysMet storedKeys tableIn
+      meeting-end same e =
+          let none-left = none-to-come h l (take n path) (was-missing h l told e) in
+          let total : count ≡ toCome h l [] = omega (arith, w .all, none-left) in
+          total ∙ ap (λ (k : Head). toCome k l []) same
 
-    module _ {m v : ℕ} (e : r ≡ Search.Found m v) where
-      fewer : toCome h l (take n path) ≡ suc (toCome h l (take m path₁))
-      fewer =
-          let (k, is, long) = was-found h l told e in
-          let front : take m path₁ ≡ k = ap (λ (j : ℕ). take j path₁) long ∙ told .reached k is .letters in
-          one-less h l (take n path) is ∙ ap (λ (x : List ℕ). suc (toCome h l x)) (sym front)
+      module _ {m v : ℕ} (e : r ≡ Search.Found m v) where
+        fewer : toCome h l (take n path) ≡ suc (toCome h l (take m path₁))
+        fewer =
+            let (k, is, long) = was-found h l told e in
+            let front : take m path₁ ≡ k =
+            ap (λ (j : ℕ). take j path₁) long ∙ told .reached k is .letters in
+            one-less h l (take n path) is ∙ ap (λ (x : List ℕ). suc (toCome h l x)) (sym front)
 
-      pub meeting-less : toCome h l (take m path₁) < toCome h l (take n path)
-      meeting-less = omega (arith, fewer)
+        pub meeting-less : toCome h l (take m path₁) < toCome h l (take n path)
+        meeting-less = omega (arith, fewer)
 
-      pub meeting-on : length path₁ ≡ mostLetters → length nodes₁ ≡ mostPath → Meeting h l path₁ nodes₁ m (count + 1)
-      meeting-on p q =
-          record { walking = record { letters = p; ends = q; key = met told e }; all = omega (arith, w .all, fewer) }
+        pub meeting-on : length path₁ ≡ mostLetters → length nodes₁ ≡ mostPath
+            → Meeting h l path₁ nodes₁ m (count + 1)
+        meeting-on p q =
+            record {
+              walking = record { letters = p; ends = q; key = met told e };
+              all =
+                  omega (arith, w .all, fewer);
+            }
 
 -- ---- after the check
 
-module _ {l work : List ℕ} {r : Opened} {work′ codes : List ℕ} (o : Checked l work r work′ codes) where
-  pub walk-refused : {why : Refusal} → r .verdict ≡ Verdict.Refused why → 0 ≡ checkedKeysMet l work
-  unfolding keysMetBy
-  walk-refused e = rw (told-refused (o .verdict) e)
+module _ {l work : List ℕ} {r : Opened} {work′ codes : List ℕ} (o : Checked l work r work′ codes)
+  where
+    pub walk-refused : {why : Refusal} → r .verdict ≡ Verdict.Refused why
+        → 0 ≡ checkedKeysMet l work
+    unfolding keysMetBy
+    walk-refused e = rw (told-refused (o .verdict) e)
 
-  pub walk-passed : {n : ℕ} → r .verdict ≡ Verdict.Passed → n ≡ keysMet l → n ≡ checkedKeysMet l work
-  unfolding keysMetBy
-  walk-passed e f = rw (told-passed (o .verdict) e) f
+    pub walk-passed : {n : ℕ} → r .verdict ≡ Verdict.Passed → n ≡ keysMet l
+        → n ≡ checkedKeysMet l work
+    unfolding keysMetBy
+    walk-passed e f = rw (told-passed (o .verdict) e) f

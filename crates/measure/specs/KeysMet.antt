@@ -1,5 +1,5 @@
--- The walk of a listing, as bench/ measures it: how many stored keys it meets. The empty key, where it is stored, is read before the walk
--- starts and not counted.
+-- The walk of a listing, as bench/ measures it: how many stored keys it meets. The empty key,
+-- where it is stored, is read before the walk starts and not counted.
 use Prim.Native.Nat.{ℕ}
 use mathlib.Core.Bool.{true}
 use mathlib.Core.Option.{none, some}

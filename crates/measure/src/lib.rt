@@ -1,5 +1,5 @@
-// An entry point for bench/: what the walk of a listing takes, without its lines, on an image of any length. It answers how many keys the
-// walk met.
+// An entry point for bench/: what the walk of a listing takes, without its lines, on an image of
+// any length. It answers how many keys the walk met.
 ghost use mathlib.Core.Path.{_≡_};
 ghost use Rattle.head.specs.Fields.{headOf};
 ghost use Rattle.paper.specs.Accepted.{Accepted};
@@ -9,8 +9,9 @@ use head::Head;
 use paper::Verdict;
 use traversal::Search;
 
-// A check, then the walk of a listing, without its lines: how many stored keys it meets besides the root's, 0 for an image that is refused.
-// The working numbers are left as by every call that checks.
+// A check, then the walk of a listing, without its lines: how many stored keys it meets besides
+// the root's, 0 for an image that is refused. The working numbers are left as by every call that
+// checks.
 #[no_mangle]
 pub extern "C" fn measure_walk(image: &[u8], work: &mut [u32]) -> u64
     ensures { λ r. ⌜ r ≡ checkedKeysMet (now (image .entry)) (now (work .entry)) ⌝ }

@@ -1,4 +1,5 @@
--- The trial at each way out: the image with G lowered was checked and stays, or the old G is written back over the lower one.
+-- The trial at each way out: the image with G lowered was checked and stays, or the old G is
+-- written back over the lower one.
 use Prim.Native.Nat.{ℕ, _+_, _-_, _≤_}
 use mathlib.Core.Path.{_≡_, sym, _∙_}
 use mathlib.Core.Logic.{_≢_}
@@ -17,7 +18,8 @@ use Rattle.mending.specs.Trial.{Lowers}
 one-verdict : {why : Refusal} → Verdict.Passed ≢ Verdict.Refused why
 one-verdict e = let z : _≡_ {A = ℕ} 0 1 = cc in absurd (omega arith)
 
-module _ {l lowered work : List ℕ} {p : ℕ} {r : Opened} {work′ codes : List ℕ} (low : lowered ≡ putTotal l (p - 1))
+module _ {l lowered work : List ℕ} {p : ℕ} {r : Opened} {work′ codes : List ℕ}
+    (low : lowered ≡ putTotal l (p - 1))
     (o : Checked lowered work r work′ codes) where
   pub trial-passed : r .verdict ≡ Verdict.Passed → Lowers l work p (r .verdict) lowered work′
   trial-passed e =
@@ -28,8 +30,10 @@ module _ {l lowered work : List ℕ} {p : ℕ} {r : Opened} {work′ codes : Lis
         kept = λ why f. absurd (one-verdict (sym e ∙ f));
       }
 
-  pub trial-refused : {why : Refusal} → r .verdict ≡ Verdict.Refused why → Bytes l → totalAt + totalLen ≤ length l → {total : ℕ} {last : List ℕ}
-      → total ≡ headOf l .g → last ≡ putTotal lowered total → Lowers l work p (r .verdict) last work′
+  pub trial-refused : {why : Refusal} → r .verdict ≡ Verdict.Refused why → Bytes l
+      → totalAt + totalLen ≤ length l → {total : ℕ} {last : List ℕ}
+      → total ≡ headOf l .g → last ≡ putTotal lowered total
+      → Lowers l work p (r .verdict) last work′
   trial-refused e bytes long t w =
       record {
         verdict = rw low at (o .verdict);

@@ -1,5 +1,5 @@
--- 02, Ask 1: "the image with G set to p-1 is accepted". The trial checks that image; what it leaves is that image or, where it is refused,
--- the one that was there.
+-- 02, Ask 1: "the image with G set to p-1 is accepted". The trial checks that image; what it
+-- leaves is that image or, where it is refused, the one that was there.
 use Prim.Native.Nat.{ℕ, _-_}
 use mathlib.Core.Path.{_≡_}
 use mathlib.Core.List.{List}

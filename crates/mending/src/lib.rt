@@ -6,8 +6,9 @@ ghost use Rattle.mending.specs.Trial.{Lowers};
 use head::Head;
 use paper::Verdict;
 
-// Sets G to p-1 where the image is accepted then; where it is refused, the image is left as it was. What is told is the trial's 1 to 8.
-// The codes are lent for the alphabet's letters, which are unused here.
+// Sets G to p-1 where the image is accepted then; where it is refused, the image is left as it
+// was. What is told is the trial's 1 to 8. The codes are lent for the alphabet's letters, which
+// are unused here.
 pub fn lower(
     image: &mut [u8],
     work: &mut [u32],
@@ -15,7 +16,8 @@ pub fn lower(
     codes: &mut [u32; Head::N_MOST as usize],
 ) -> Verdict
     requires { ⌜ 1 ≤ p ⌝ ∗ ⌜ totalAt + totalLen ≤ length (now image) ⌝ }
-    ensures { λ r. ⌜ Lowers (now (image .entry)) (now (work .entry)) p r (now (image .exit)) (now (work .exit)) ⌝ }
+    ensures { λ r. ⌜ Lowers (now (image .entry)) (now (work .entry)) p r (now (image .exit))
+        (now (work .exit)) ⌝ }
 {
     let total = Head::total(image);
     Head::set_total(image, p - 1);

@@ -1,5 +1,6 @@
--- Where links and data stand. A link takes A bytes and the N links of a node stand before its data, so each stands inside its node; nodes
--- do not overlap, and no more do the fields of one node.
+-- Where links and data stand. A link takes A bytes and the N links of a node stand before its
+-- data, so each stands inside its node; nodes do not overlap, and no more do the fields of one
+-- node.
 use mathlib.Core.Path.{_≡_}
 use mathlib.Core.Logic.{_⊎_, inl, inr, _≢_}
 use Prim.Native.Nat.{ℕ, _+_, _*_, _≤_, _<_}
@@ -57,7 +58,8 @@ pub inside-used : {h : Head} {q at w : ℕ} → Inside h q at w → q ≤ h .g �
 inside-used {h} {q} s b = omega (arith, used-le h (q + 1) (omega arith))
 
 -- and so inside an image that was opened
-pub inside-room : {h : Head} {q at w : ℕ} {l : List ℕ} → Inside h q at w → Open h l → q ≤ h .g → at + w ≤ length l
+pub inside-room : {h : Head} {q at w : ℕ} {l : List ℕ} → Inside h q at w → Open h l → q ≤ h .g
+    → at + w ≤ length l
 inside-room s o b = omega (arith, inside-used s b)
 
 -- what the links of a node take at most
@@ -70,7 +72,8 @@ links-most b l = let m = b .n-most in omega (arith, mul-le-mul (le-trans l m) (b
 abbrev pub Apart : ℕ → ℕ → ℕ → ℕ → Type 0
 Apart at w bt u = (bt + u ≤ at) ⊎ (at + w ≤ bt)
 
-pub inside-apart : {h : Head} {q p at w bt u : ℕ} → Inside h q at w → Inside h p bt u → p ≢ q → Apart at w bt u
+pub inside-apart : {h : Head} {q p at w bt u : ℕ} → Inside h q at w → Inside h p bt u → p ≢ q
+    → Apart at w bt u
 inside-apart {h} {q} {p} {at} {w} {bt} {u} s t d = go (decLt p q)
   where
     go : Dec (p < q) → Apart at w bt u
@@ -78,7 +81,8 @@ inside-apart {h} {q} {p} {at} {w} {bt} {u} s t d = go (decLt p q)
     go (no b) = inr (omega (arith, place-le h (q + 1) p (omega arith)))
 
 -- a link and another link
-pub links-apart : (h : Head) (q i p j : ℕ) → i < h .n → j < h .n → ¬ ((p ≡ q) × (j ≡ i)) → Apart (linkPlace h q i) (h .a) (linkPlace h p j) (h .a)
+pub links-apart : (h : Head) (q i p j : ℕ) → i < h .n → j < h .n → ¬ ((p ≡ q) × (j ≡ i))
+    → Apart (linkPlace h q i) (h .a) (linkPlace h p j) (h .a)
 links-apart h q i p j b c d = go (ℕ-discrete p q) (decLt j i)
   where
     go : Dec (p ≡ q) → Dec (j < i) → Apart (linkPlace h q i) (h .a) (linkPlace h p j) (h .a)
@@ -87,7 +91,8 @@ links-apart h q i p j b c d = go (ℕ-discrete p q) (decLt j i)
     go (yes e) (no f) = let o : j ≢ i = λ x. d (e, x) in rw e (inr (link-row h q (omega arith)))
 
 -- a link and any node's data
-pub link-data-apart : (h : Head) (q i p : ℕ) → i < h .n → Apart (linkPlace h q i) (h .a) (dataPlace h p) (h .d)
+pub link-data-apart : (h : Head) (q i p : ℕ) → i < h .n → Apart (linkPlace h q i) (h .a)
+    (dataPlace h p) (h .d)
 link-data-apart h q i p b = go (ℕ-discrete p q)
   where
     go : Dec (p ≡ q) → Apart (linkPlace h q i) (h .a) (dataPlace h p) (h .d)

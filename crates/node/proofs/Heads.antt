@@ -1,5 +1,5 @@
--- The tables that two heads see in one image. A table depends on the head's G, N, A, D and F; where G is greater it has more nodes, and
--- the nodes there were are the same.
+-- The tables that two heads see in one image. A table depends on the head's G, N, A, D and F;
+-- where G is greater it has more nodes, and the nodes there were are the same.
 use mathlib.Core.Path.{_≡_, ap, _∙_}
 use Prim.Native.Nat.{ℕ, suc, _+_, _*_, _≤_}
 use native.Mathlib.Numerals.{add-one}
@@ -13,7 +13,8 @@ use Rattle.node.specs.Image.{tableOf}
 
 -- the head with another G
 abbrev pub withTotal : Head → ℕ → Head
-withTotal h g = record { g = g; n = h .n; a = h .a; d = h .d; f = h .f; min = h .min; max = h .max }
+withTotal h g =
+    record { g = g; n = h .n; a = h .a; d = h .d; f = h .f; min = h .min; max = h .max }
 
 module _ (h : Head) (l : List ℕ) (g q : ℕ) (b : q ≤ h .g) (c : q ≤ g) where
   pub child-kept : (i : ℕ) → tableOf (withTotal h g) l .child q i ≡ tableOf h l .child q i

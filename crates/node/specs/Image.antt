@@ -1,4 +1,5 @@
--- 01, "The image": "A node takes W = N*A + D bytes: N links, then its data." From here on an image is its table of nodes.
+-- 01, "The image": "A node takes W = N*A + D bytes: N links, then its data." From here on an image
+-- is its table of nodes.
 use Prim.Native.Nat.{ℕ, _+_, _*_, _^_, _≤_}
 use mathlib.Core.Path.{_≡_}
 use mathlib.Core.Bool.{true, _&&_, cond}

@@ -1,6 +1,6 @@
--- What a store writes, as an ordered list (01, "Walking, storing, listing"; the order is 02's, Ask 1): "first the new nodes, one write
--- each by rising address, then G, then the old link; for a complete path, the data field alone". The bytes after a store are this list
--- carried out.
+-- What a store writes, as an ordered list (01, "Walking, storing, listing"; the order is 02's, Ask
+-- 1): "first the new nodes, one write each by rising address, then G, then the old link; for a
+-- complete path, the data field alone". The bytes after a store are this list carried out.
 use Prim.Native.Nat.{ℕ, zero, suc, _+_, _-_, _*_}
 use mathlib.Core.List.{List, [], _∷_, _++_}
 use lib.ListN.{length, replicate}
@@ -34,7 +34,8 @@ lastNode h v = replicate (h .n * h .a) 0 ++ digits (h .d) v
 -- a whole node whose link for letter y is c, "all else zero"
 unfoldable pub pathNode : Head → ℕ → ℕ → List ℕ
 unfolding digits
-pathNode h y c = replicate (y * h .a) 0 ++ (digits (h .a) c ++ replicate ((h .n - suc y) * h .a + h .d) 0)
+pathNode h y c =
+    replicate (y * h .a) 0 ++ (digits (h .a) c ++ replicate ((h .n - suc y) * h .a + h .d) 0)
 
 -- the whole of node q, a new one
 abbrev pub pathWrite : Head → ℕ → ℕ → ℕ → Write
@@ -43,8 +44,9 @@ pathWrite h q y c = record { place = nodePlace h q; bytes = pathNode h y c }
 abbrev pub lastWrite : Head → ℕ → ℕ → Write
 lastWrite h q v = record { place = nodePlace h q; bytes = lastNode h v }
 
--- "nodes G+1 to G+k are written in key order, each linking to the next by the key's letter, all else zero; the last holds the value":
--- the node at address q and, for each letter that follows, the next
+-- "nodes G+1 to G+k are written in key order, each linking to the next by the key's letter, all
+-- else zero; the last holds the value": the node at address q and, for each letter that follows,
+-- the next
 unfoldable pub newNodes : Head → ℕ → List ℕ → ℕ → List Write
 unfolding lastNode pathNode nodePlace
 newNodes h q [] v = lastWrite h q v ∷ []

@@ -1,5 +1,6 @@
-// A node of an image: its links and its data, read and written where they stand. This is the one place that turns bytes into the
-// table of nodes; every floor above speaks of the table. A caller has opened the image (`Open`) and stays inside G and N.
+// A node of an image: its links and its data, read and written where they stand. This is the one
+// place that turns bytes into the table of nodes; every floor above speaks of the table. A caller
+// has opened the image (`Open`) and stays inside G and N.
 ghost use mathlib.Core.Path.{_≡_};
 ghost use Prim.Native.Nat.{ℕ, _+_, _≤_, _<_, _^_};
 ghost use mathlib.Core.Bool.{true};
@@ -36,7 +37,8 @@ pub fn link(image: &[u8], h: Head, mask: u32, q: u32, i: u32) -> u32
     field::load_masked(image, link_place(h, q, i) + (h.a as usize), mask)
 }
 
-// Has node q no links but empty ones? Links that take less than eight bytes are answered false: a caller then reads them.
+// Has node q no links but empty ones? Links that take less than eight bytes are answered false: a
+// caller then reads them.
 pub fn childless(image: &[u8], h: Head, q: u32) -> bool
     requires { ⌜ Open h (now image) ⌝ ∗ ⌜ q ≤ h .g ⌝ }
     ensures { λ r. ⌜ (r ≡ true → (i : ℕ) → tableOf h (now (image .entry)) .child q i ≡ 0) ⌝ }
@@ -52,7 +54,8 @@ pub fn data(image: &[u8], h: Head, q: u32) -> u64
     data_by(image, h, greatest(h), q) as u64
 }
 
-// The data of node q, by the mask of its bytes, which is the greatest value that they hold. A reader of many nodes makes it once.
+// The data of node q, by the mask of its bytes, which is the greatest value that they hold. A
+// reader of many nodes makes it once.
 pub fn data_by(image: &[u8], h: Head, mask: u32, q: u32) -> u32
     requires { ⌜ Open h (now image) ⌝ ∗ ⌜ mask + 1 ≡ 256 ^ h .d ⌝ ∗ ⌜ q ≤ h .g ⌝ }
     ensures { λ r. ⌜ r ≡ tableOf h (now (image .entry)) .value q ⌝ }
@@ -63,8 +66,10 @@ pub fn data_by(image: &[u8], h: Head, mask: u32, q: u32) -> u32
 // Writes the link for letter i of node q: on the table, node c is linked there.
 pub fn set_link(image: &mut [u8], h: Head, q: u32, i: u32, c: u32)
     requires { ⌜ Open h (now image) ⌝ ∗ ⌜ q ≤ h .g ⌝ ∗ ⌜ i < h .n ⌝ ∗ ⌜ c < 256 ^ h .a ⌝ }
-    ensures { λ _. ⌜ now (image .exit) ≡ carriedOut (now (image .entry)) (linkWrite h q i c ∷ []) ⌝ }
-    ensures { λ _. ⌜ tableOf h (now (image .exit)) ≡ grow (tableOf h (now (image .entry))) q i c ⌝ }
+    ensures { λ _. ⌜ now (image .exit) ≡ carriedOut (now (image .entry))
+        (linkWrite h q i c ∷ []) ⌝ }
+    ensures { λ _. ⌜ tableOf h (now (image .exit)) ≡ grow (tableOf h (now (image .entry))) q i
+        c ⌝ }
 {
     field::write(image, link_place(h, q, i), h.a as usize, c as u64);
 }
@@ -80,8 +85,10 @@ pub fn set_data(image: &mut [u8], h: Head, q: u32, v: u64)
 
 // Writes the whole of node q, a new one: the link for letter i is c, all else is zero.
 pub fn write_path(image: &mut [u8], h: Head, q: u32, i: u32, c: u32)
-    requires { ⌜ permitted h ≡ true ⌝ ∗ ⌜ nodePlace h (q + 1) ≤ length (now image) ⌝ ∗ ⌜ i < h .n ⌝ }
-    ensures { λ _. ⌜ now (image .exit) ≡ carriedOut (now (image .entry)) (pathWrite h q i c ∷ []) ⌝ }
+    requires { ⌜ permitted h ≡ true ⌝ ∗ ⌜ nodePlace h (q + 1) ≤ length (now image) ⌝
+        ∗ ⌜ i < h .n ⌝ }
+    ensures { λ _. ⌜ now (image .exit) ≡ carriedOut (now (image .entry))
+        (pathWrite h q i c ∷ []) ⌝ }
 {
     wipe(image, h, q);
     field::write(image, link_place(h, q, i), h.a as usize, c as u64);
@@ -115,7 +122,8 @@ pub fn data_place(h: Head, q: u32) -> usize
 // Clears the whole of node q: spare bytes may hold anything.
 fn wipe(image: &mut [u8], h: Head, q: u32)
     requires { ⌜ permitted h ≡ true ⌝ ∗ ⌜ nodePlace h (q + 1) ≤ length (now image) ⌝ }
-    ensures { λ _. ⌜ now (image .exit) ≡ cleared (now (image .entry)) (nodePlace h q) (nodeWidth h) ⌝ }
+    ensures { λ _. ⌜ now (image .exit) ≡ cleared (now (image .entry)) (nodePlace h q)
+        (nodeWidth h) ⌝ }
 {
     field::clear(
         image,

@@ -1,5 +1,6 @@
--- The writes of a store as they are listed. A new node's write is as long as a node and stands where the one before ends, so that the
--- list of a new path is told by how many nodes there are; what is still to be listed leaves what all of it would have left.
+-- The writes of a store as they are listed. A new node's write is as long as a node and stands
+-- where the one before ends, so that the list of a new path is told by how many nodes there are;
+-- what is still to be listed leaves what all of it would have left.
 use Prim.Native.Nat.{ℕ, zero, suc, _+_, _-_, _*_, _≤_, _<_}
 use mathlib.Core.Path.{_≡_, refl, sym, _∙_, ap}
 use mathlib.Core.Logic.{_≢_}
@@ -16,7 +17,8 @@ use Rattle.head.specs.declared.Head.{Head}
 use Rattle.head.specs.Fields.{totalLen, nodeWidth, nodePlace, usedLen}
 use Rattle.head.proofs.Places.{row, place-add}
 use Rattle.node.specs.Image.{linkPlace, dataPlace}
-use Rattle.node.specs.Writes.{Write, noted, newNodes, totalWrite, linkWrite, dataWrite, storeWrites}
+use Rattle.node.specs.Writes.{Write, noted, newNodes, totalWrite, linkWrite, dataWrite}
+use Rattle.node.specs.Writes.{storeWrites}
 use Rattle.node.proofs.Nodes.{length-path, length-last, nodes-count}
 use Rattle.walk.specs.declared.Position.{Position}
 use Rattle.walk.specs.declared.Walked.{Walked}
@@ -32,16 +34,21 @@ nodesAt place width (suc k) = place ∷ width ∷ nodesAt (place + width) width 
 
 module _ (h : Head) (v : ℕ) (ws : List Write) where
   nodes-noted : (q : ℕ) (ys : List ℕ) → LettersBelow (h .n) ys
-      → noted (newNodes h q ys v ++ ws) ≡ nodesAt (nodePlace h q) (nodeWidth h) (suc (length ys)) ++ noted ws
+      → noted (newNodes h q ys v ++ ws) ≡ nodesAt (nodePlace h q) (nodeWidth h) (suc (length ys))
+      ++ noted ws
   unfolding noted newNodes nodesAt
   nodes-noted q [] s = ap (λ (w : ℕ). nodePlace h q ∷ w ∷ noted ws) (length-last h v)
   nodes-noted q (y ∷ ys) s =
-      let next : nodePlace h (suc q) ≡ nodePlace h q + nodeWidth h = ap (nodePlace h) (sym (add-one q)) ∙ omega (arith, place-add h q 1) in
+      let next : nodePlace h (suc q) ≡ nodePlace h q + nodeWidth h =
+      ap (nodePlace h) (sym (add-one q)) ∙ omega (arith, place-add h q 1) in
       rw (length-path h y (suc q) (s .0), nodes-noted (suc q) ys (s .1), next)
 
--- by the letters left, which are as many as the nodes missing; behind the nodes stand the node total and the link
-pub notes-path : (h : Head) (q x : ℕ) (xs list : List ℕ) {left list′ : List ℕ} {r nodes from width place : ℕ} → left ≡ x ∷ xs
-    → LettersBelow (h .n) left → nodes ≡ length left → from ≡ usedLen h → width ≡ nodeWidth h → place ≡ linkPlace h q x → r ≡ nodes + 2
+-- by the letters left, which are as many as the nodes missing; behind the nodes stand the node
+-- total and the link
+pub notes-path : (h : Head) (q x : ℕ) (xs list : List ℕ) {left list′ : List ℕ}
+    {r nodes from width place : ℕ} → left ≡ x ∷ xs
+    → LettersBelow (h .n) left → nodes ≡ length left → from ≡ usedLen h → width ≡ nodeWidth h
+    → place ≡ linkPlace h q x → r ≡ nodes + 2
     → list′ ≡ sets list 0 (nodesAt from width nodes ++ (0 ∷ 4 ∷ place ∷ h .a ∷ [])) → (v : ℕ)
     → Notes h (stoppedAt q left) (suc v) list r list′
 unfolding stoppedAt storeWrites totalWrite linkWrite noted usedLen
@@ -75,7 +82,8 @@ missing-all q [] = refl
 missing-all q (x ∷ xs) = refl
 
 -- a node is missing for each letter left
-pub missing-left : (k : List ℕ) (value : ℕ) {o : Walked} {p : Position} → o ≡ Walked.Stopped p → value ≢ 0
+pub missing-left : (k : List ℕ) (value : ℕ) {o : Walked} {p : Position} → o ≡ Walked.Stopped p
+    → value ≢ 0
     → added (missing (endOf k o)) value ≡ length (drop (p .depth) k)
 unfolding endOf added
 missing-left k zero e z = absurd (z refl)
@@ -83,19 +91,23 @@ missing-left k (suc v) {p = p} e z = rw e (missing-all (p .node) (drop (p .depth
 
 module _ (h : Head) (k list : List ℕ) {o : Walked} where
   -- the data alone
-  pub notes-data : (value : ℕ) {q place : ℕ} {list′ : List ℕ} → o ≡ Walked.Complete q → place ≡ dataPlace h q
+  pub notes-data : (value : ℕ) {q place : ℕ} {list′ : List ℕ} → o ≡ Walked.Complete q
+      → place ≡ dataPlace h q
       → list′ ≡ sets list 0 (place ∷ h .d ∷ []) → Notes h (endOf k o) value list 1 list′
   unfolding endOf storeWrites dataWrite noted
-  notes-data value {q} e p w = rw e (record { count = refl; entries = rw (length-digits (h .d) value, ← p) w })
+  notes-data value {q} e p w =
+      rw e (record { count = refl; entries = rw (length-digits (h .d) value, ← p) w })
 
   module _ {p : Position} (e : o ≡ Walked.Stopped p) where
     -- nothing for 0
-    pub notes-none : (value x : ℕ) (xs : List ℕ) → value ≡ 0 → drop (p .depth) k ≡ x ∷ xs → Notes h (endOf k o) value list 0 list
+    pub notes-none : (value x : ℕ) (xs : List ℕ) → value ≡ 0 → drop (p .depth) k ≡ x ∷ xs
+        → Notes h (endOf k o) value list 0 list
     unfolding endOf stoppedAt storeWrites noted
     notes-none value x xs z left = rw (e, z, left) (record { count = refl; entries = refl })
 
     pub notes-value : (value : ℕ) {r : ℕ} {list′ : List ℕ} → value ≢ 0
-        → ((v : ℕ) → Notes h (stoppedAt (p .node) (drop (p .depth) k)) (suc v) list r list′) → Notes h (endOf k o) value list r list′
+        → ((v : ℕ) → Notes h (stoppedAt (p .node) (drop (p .depth) k)) (suc v) list r list′)
+        → Notes h (endOf k o) value list r list′
     unfolding endOf
     notes-value zero z all = absurd (z refl)
     notes-value (suc v) z all = rw e (all v)
@@ -106,13 +118,19 @@ module _ (h : Head) (k list : List ℕ) {o : Walked} where
 pub record Noting (nodes width from : ℕ) (list₀ list : List ℕ) (i place : ℕ) : Type 0 where
   pub few : i ≤ nodes
   pub here : place ≡ from + i * width
-  pub rest : (more : List ℕ) → sets list (2 * i) (nodesAt place width (nodes - i) ++ more) ≡ sets list₀ 0 (nodesAt from width nodes ++ more)
+  pub rest : (more : List ℕ) → sets list (2 * i) (nodesAt place width (nodes - i) ++ more)
+      ≡ sets list₀ 0 (nodesAt from width nodes ++ more)
 
 module _ {nodes width from : ℕ} {list₀ : List ℕ} where
   pub noting-start : Noting nodes width from list₀ list₀ 0 from
   noting-start =
       let all : nodes - 0 ≡ nodes = omega arith in
-      record { few = omega arith; here = omega arith; rest = λ more. ap (λ (k : ℕ). sets list₀ 0 (nodesAt from width k ++ more)) all }
+      record {
+        few = omega arith;
+        here = omega arith;
+        rest =
+            λ more. ap (λ (k : ℕ). sets list₀ 0 (nodesAt from width k ++ more)) all;
+      }
 
   module _ {list : List ℕ} {i place : ℕ} (w : Noting nodes width from list₀ list i place) where
     -- the next ends where all of them end, or before
@@ -131,8 +149,10 @@ module _ {nodes width from : ℕ} {list₀ : List ℕ} where
           rest = λ more. rw (e, on) (rw left at (w .rest more));
         }
 
-    pub noting-end : (p m q n : ℕ) {list₁ list₂ : List ℕ} → nodes ≤ i → list₁ ≡ sets list (2 * nodes) (p ∷ m ∷ [])
-        → list₂ ≡ sets list₁ (2 * (nodes + 1)) (q ∷ n ∷ []) → list₂ ≡ sets list₀ 0 (nodesAt from width nodes ++ (p ∷ m ∷ q ∷ n ∷ []))
+    pub noting-end : (p m q n : ℕ) {list₁ list₂ : List ℕ} → nodes ≤ i
+        → list₁ ≡ sets list (2 * nodes) (p ∷ m ∷ [])
+        → list₂ ≡ sets list₁ (2 * (nodes + 1)) (q ∷ n ∷ [])
+        → list₂ ≡ sets list₀ 0 (nodesAt from width nodes ++ (p ∷ m ∷ q ∷ n ∷ []))
     unfolding nodesAt
     noting-end p m q n b e f =
         let all : i ≡ nodes = omega (arith, w .few) in

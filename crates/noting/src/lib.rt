@@ -1,5 +1,6 @@
-// A store whose writes are listed for the caller: a place and a length for each write, in the order in which they are done. The list is told
-// from how the key's walk ended; the store itself is `storing`'s.
+// A store whose writes are listed for the caller: a place and a length for each write, in the
+// order in which they are done. The list is told from how the key's walk ended; the store itself
+// is `storing`'s.
 ghost use mathlib.Core.Path.{_≡_};
 ghost use Prim.Native.Nat.{ℕ, suc, _+_, _-_, _*_, _≤_, _<_};
 ghost use mathlib.Core.Bool.{true};
@@ -8,7 +9,8 @@ ghost use lib.ListN.{drop};
 ghost use lib.Seq.{sets};
 ghost use Rattle.trie.specs.Table.{missing};
 ghost use Rattle.trie.specs.Storing.{added};
-ghost use Rattle.head.specs.Fields.{mostWrites, headOf, longestImage, permitted, nodeWidth, usedLen};
+ghost use Rattle.head.specs.Fields.{mostWrites, headOf, longestImage, permitted, nodeWidth};
+ghost use Rattle.head.specs.Fields.{usedLen};
 ghost use Rattle.paper.specs.Accepted.{Accepted};
 ghost use Rattle.key.specs.Hand.{Ready, lettersOf};
 ghost use Rattle.storing.specs.StoreStage.{Stop, endOf, stoppedAt, Ends};
@@ -20,7 +22,8 @@ use paper::Stored;
 use walk::Position;
 use walk::Walked;
 
-// Stores a value under a key, 0 to delete it, and lists what it wrote. Refusals: 11, 12, 13; they leave the list as it was.
+// Stores a value under a key, 0 to delete it, and lists what it wrote. Refusals: 11, 12, 13; they
+// leave the list as it was.
 pub fn store_noted(
     image: &mut [u8],
     h: Head,
@@ -29,7 +32,8 @@ pub fn store_noted(
     writes: &mut [u32; Head::NOTED_MOST as usize],
 ) -> Noted
     requires { ⌜ Accepted (now image) ⌝ ∗ ⌜ h ≡ headOf (now image) ⌝ ∗ ⌜ Ready h key ⌝ }
-    ensures { λ r. ⌜ NotesIn (now (image .entry)) (lettersOf key) value (now (writes .entry)) r (now (image .exit)) (now (writes .exit)) ⌝ }
+    ensures { λ r. ⌜ NotesIn (now (image .entry)) (lettersOf key) value (now (writes .entry)) r
+        (now (image .exit)) (now (writes .exit)) ⌝ }
 {
     let walked = walk::walk(image, h, key);
     let stored = storing::store_at(image, h, key, walked, value);
@@ -42,7 +46,8 @@ pub fn store_noted(
     }
 }
 
-// Lists what a store wrote, given how the key's walk ended, and tells how many writes it is. The places fit, since the new nodes did.
+// Lists what a store wrote, given how the key's walk ended, and tells how many writes it is. The
+// places fit, since the new nodes did.
 fn note_all(
     writes: &mut [u32; Head::NOTED_MOST as usize],
     h: Head,
@@ -50,8 +55,11 @@ fn note_all(
     walked: Walked,
     value: u64,
 ) -> u32
-    requires { ⌜ permitted h ≡ true ⌝ ∗ ⌜ Ready h key ⌝ ∗ ⌜ Ends h key walked ⌝ ∗ ⌜ usedLen h + added (missing (endOf (lettersOf key) walked)) value * nodeWidth h ≤ longestImage ⌝ }
-    ensures { λ r. ⌜ Notes h (endOf (lettersOf key) walked) value (now (writes .entry)) r (now (writes .exit)) ⌝ }
+    requires { ⌜ permitted h ≡ true ⌝ ∗ ⌜ Ready h key ⌝ ∗ ⌜ Ends h key walked ⌝
+        ∗ ⌜ usedLen h + added (missing (endOf (lettersOf key) walked)) value * nodeWidth h
+        ≤ longestImage ⌝ }
+    ensures { λ r. ⌜ Notes h (endOf (lettersOf key) walked) value (now (writes .entry)) r
+        (now (writes .exit)) ⌝ }
 {
     match walked {
         Walked::Complete(node) => {
@@ -70,8 +78,10 @@ fn note_all(
 
 // A new path: the new nodes by rising address, the node total, the link.
 fn note_path(writes: &mut [u32; Head::NOTED_MOST as usize], h: Head, key: Key, at: Position) -> u32
-    requires { ⌜ permitted h ≡ true ⌝ ∗ ⌜ Ready h key ⌝ ∗ ⌜ Stop h key at ⌝ ∗ ⌜ usedLen h + (key .len - at .depth) * nodeWidth h ≤ longestImage ⌝ }
-    ensures { λ r. ⌜ ((v : ℕ) → Notes h (stoppedAt (at .node) (drop (at .depth) (lettersOf key))) (suc v) (now (writes .entry)) r (now (writes .exit))) ⌝ }
+    requires { ⌜ permitted h ≡ true ⌝ ∗ ⌜ Ready h key ⌝ ∗ ⌜ Stop h key at ⌝
+        ∗ ⌜ usedLen h + (key .len - at .depth) * nodeWidth h ≤ longestImage ⌝ }
+    ensures { λ r. ⌜ ((v : ℕ) → Notes h (stoppedAt (at .node) (drop (at .depth) (lettersOf key)))
+        (suc v) (now (writes .entry)) r (now (writes .exit))) ⌝ }
 {
     let depth = at.depth;
     let letters = key.letters;

@@ -1,5 +1,5 @@
-// An image opened: 1 to 4, each judged once, with the head and the letters of the alphabet as what was learnt on the way. Neither
-// function has a `requires`.
+// An image opened: 1 to 4, each judged once, with the head and the letters of the alphabet as what
+// was learnt on the way. Neither function has a `requires`.
 ghost use mathlib.Core.Path.{_≡_};
 ghost use mathlib.Core.Bool.{true};
 ghost use Prim.Native.Nat.{_+_, min};
@@ -9,8 +9,8 @@ use head::Head;
 use paper::Refusal;
 use paper::Verdict;
 
-// The letters of the alphabet are the first `count` of the lent codes. An image whose F is 0 has none, and the codes are then not touched;
-// what they hold after a refusal is left open.
+// The letters of the alphabet are the first `count` of the lent codes. An image whose F is 0 has
+// none, and the codes are then not touched; what they hold after a refusal is left open.
 pub struct Opened {
     pub verdict: Verdict,
     pub head: Head,
@@ -98,7 +98,8 @@ fn refused(h: Head, why: Refusal) -> Opened
     }
 }
 
-// Where the alphabet ends in an image of so many bytes: after its F bytes, or where the image ends before that.
+// Where the alphabet ends in an image of so many bytes: after its F bytes, or where the image ends
+// before that.
 fn alphabet_end(h: Head, len: usize) -> usize
     ensures { λ r. ⌜ r ≡ min (fieldsLen + h .f) len ⌝ }
 {

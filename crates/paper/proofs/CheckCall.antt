@@ -1,4 +1,5 @@
--- 1 to 8 and the rules of `Accepted`: demand 2's theorem, both ways. What 6 to 8 are of the links is in Linking.
+-- 1 to 8 and the rules of `Accepted`: demand 2's theorem, both ways. What 6 to 8 are of the links
+-- is in Linking.
 use Prim.Native.Nat.{ℕ, _+_, _≤_}
 use mathlib.Core.Path.{_≡_, refl, _∙_}
 use mathlib.Core.Logic.{_↔_}
@@ -23,8 +24,10 @@ use Rattle.paper.specs.Orders.{openingRowsOf, linkRows, checkOrder}
 use Rattle.paper.specs.Calls.{tableIn, checkOf}
 use Rattle.paper.specs.Accepted.{Accepted}
 use Rattle.paper.proofs.Hearing.{was-false, no-row, second-part, passed-row, passed-parts}
-use Rattle.paper.proofs.Numbers.{AllSay, end, _then_, given-says, parts-say, first-says, none-heard}
-use Rattle.paper.proofs.Opening.{fits-4, left-4, Passed, passed, opening-says, good-unspoilt, unspoilt-good, alphabet-whole}
+use Rattle.paper.proofs.Numbers.{AllSay, end, _then_, given-says, parts-say, first-says}
+use Rattle.paper.proofs.Numbers.{none-heard}
+use Rattle.paper.proofs.Opening.{fits-4, left-4, Passed, passed, opening-says}
+use Rattle.paper.proofs.Opening.{good-unspoilt, unspoilt-good, alphabet-whole}
 use Rattle.paper.proofs.Linking.{rules-pass, passed-rules, linking-says}
 
 -- ---- 1 to 5
@@ -33,8 +36,10 @@ pub accepted-opens : {l : List ℕ} → Accepted l → first (openingRowsOf l) �
 unfolding openingRowsOf
 accepted-opens {l} a =
     let h : Head = headOf l in
-    let long = true-between (length l) shortestImage longestImage (a .long-enough) (a .short-enough) in
-    let unspoilt = good-unspoilt h (alphabetIn h l) (length l) (λ b _. a .alphabet-good (omega arith)) in
+    let long =
+    true-between (length l) shortestImage longestImage (a .long-enough) (a .short-enough) in
+    let unspoilt =
+    good-unspoilt h (alphabetIn h l) (length l) (λ b _. a .alphabet-good (omega arith)) in
     left-4 h (alphabetIn h l) (length l) long (a .head-permitted) unspoilt
     ∙ fits-4 h (length l) (le-leb (usedLen h) (length l) (a .room))
 
@@ -49,7 +54,8 @@ module _ (l work : List ℕ) where
   pub left-6 : first (openingRowsOf l) ≡ none → headOf l .g + 1 ≤ length work
       → first (checkOrder l work) ≡ first (linkRows (headOf l) (tableOf (headOf l) l))
   unfolding checkOrder row5
-  left-6 e b = second-part (openingRowsOf l) _ e ∙ no-row 5 0 _ (le-ltb (length work) (headOf l .g + 1) b)
+  left-6 e b =
+      second-part (openingRowsOf l) _ e ∙ no-row 5 0 _ (le-ltb (length work) (headOf l .g + 1) b)
 
   -- what a check that passed tells
   pub record Checked : Type 0 where
@@ -61,7 +67,8 @@ module _ (l work : List ℕ) where
   unfolding checkOrder openingRowsOf row5
   checked e =
       let h : Head = headOf l in
-      let parts = passed-parts (openingRowsOf l) (row5 h (length work) ∷ linkRows h (tableOf h l)) e in
+      let parts =
+      passed-parts (openingRowsOf l) (row5 h (length work) ∷ linkRows h (tableOf h l)) e in
       let after5 = passed-row (row5 h (length work)) (linkRows h (tableOf h l)) (parts .1) in
       record {
         opened = passed h (alphabetIn h l) (length l) (parts .0);
@@ -82,15 +89,18 @@ module _ (l work : List ℕ) where
         long-enough = long .0;
         short-enough = long .1;
         head-permitted = c .opened .head-permitted;
-        alphabet-good = λ b. unspoilt-good h (alphabetIn h l) (length l) (c .opened .unspoilt) (omega arith) whole;
+        alphabet-good = λ b. unspoilt-good h (alphabetIn h l) (length l) (c .opened .unspoilt)
+            (omega arith) whole;
         room = c .opened .room;
         links = passed-rules h (tableOf h l) (framed h l) (c .links);
       }
 
-  pub accepted-checks : Accepted l → headOf l .g + 1 ≤ length work → first (checkOrder l work) ≡ none
+  pub accepted-checks : Accepted l → headOf l .g + 1 ≤ length work → first (checkOrder l work)
+      ≡ none
   unfolding tableIn
   accepted-checks a b =
-      left-6 (accepted-opens a) b ∙ rules-pass (headOf l) (tableIn l) (framed (headOf l) l) (a .links)
+      left-6 (accepted-opens a) b ∙ rules-pass (headOf l) (tableIn l) (framed (headOf l) l)
+      (a .links)
 
   -- ---- in the words of the outcome
 
@@ -98,12 +108,18 @@ module _ (l work : List ℕ) where
   unfolding checkOrder openingRowsOf row5 among
   checking-says =
       let h : Head = headOf l in
-      let five : AllSay (5 ∷ []) (row5 h (length work) ∷ []) = given-says 5 0 (ltb (length work) (h .g + 1)) refl then end in
-      parts-say (opening-says h (alphabetIn h l) (length l)) (parts-say five (linking-says h (tableOf h l)))
+      let five : AllSay (5 ∷ []) (row5 h (length work) ∷ []) =
+      given-says 5 0 (ltb (length work) (h .g + 1)) refl then end in
+      parts-say (opening-says h (alphabetIn h l) (length l))
+      (parts-say five (linking-says h (tableOf h l)))
 
-  pub check-exactly : headOf l .g + 1 ≤ length work → (checkOf l work .numbers .number ≡ 0) ↔ Accepted l
+  pub check-exactly : headOf l .g + 1 ≤ length work → (checkOf l work .numbers .number ≡ 0)
+      ↔ Accepted l
   unfolding checkOf doneNumbers heard among
-  check-exactly b = (λ z. check-accepts (none-heard _ _ (first-says checking-says) refl z), λ a. rw (accepted-checks a b))
+  check-exactly b = (
+    λ z. check-accepts (none-heard _ _ (first-says checking-says) refl z),
+    λ a. rw (accepted-checks a b),
+  )
 
 -- ---- what an accepted image leaves to count on
 

@@ -1,5 +1,6 @@
--- Laws on rows, orders and outcomes, for every call alike: a row that is given ends its order, one that is not is passed over, orders
--- are joined, and an order that passed tells of each row that its test failed. Each is by cases on the row.
+-- Laws on rows, orders and outcomes, for every call alike: a row that is given ends its order, one
+-- that is not is passed over, orders are joined, and an order that passed tells of each row that
+-- its test failed. Each is by cases on the row.
 use Prim.Native.Nat.{ℕ}
 use mathlib.Core.Path.{_≡_, refl, sym, _∙_, ap}
 use mathlib.Core.Bool.{Bool, true, false, not}
@@ -10,7 +11,8 @@ use native.Mathlib.Omega.{arith}
 use Rattle.paper.specs.declared.Refusal.{Refusal}
 use Rattle.paper.specs.declared.Verdict.{Verdict}
 use Rattle.paper.specs.Answers.{saidOf, rowOf}
-use Rattle.paper.specs.Hearing.{Said, Row, Outcome, rowWhen, first, heard, outcome, refusedNumbers}
+use Rattle.paper.specs.Hearing.{Said, Row, Outcome, rowWhen, first, heard, outcome}
+use Rattle.paper.specs.Hearing.{refusedNumbers}
 
 -- ---- one row
 
@@ -21,7 +23,8 @@ untrue e = rw e
 pub unfalse : {b : Bool} → b ≡ false → not b ≡ true
 unfalse e = rw e
 
-pub is-given : (number place : ℕ) {test : Bool} → test ≡ true → rowWhen number place test ≡ some (record { number = number; place = place })
+pub is-given : (number place : ℕ) {test : Bool} → test ≡ true → rowWhen number place test
+    ≡ some (record { number = number; place = place })
 unfolding rowWhen
 is-given number place e = rw e
 
@@ -50,11 +53,13 @@ unfolding first
 first-none r rows e = rw e
 
 -- a row that is given is heard, whatever follows
-pub yes-row : (number place : ℕ) {test : Bool} (rows : List Row) → test ≡ true → first (rowWhen number place test ∷ rows) ≡ some (record { number = number; place = place })
+pub yes-row : (number place : ℕ) {test : Bool} (rows : List Row) → test ≡ true
+    → first (rowWhen number place test ∷ rows) ≡ some (record { number = number; place = place })
 yes-row number place rows e = first-some _ rows (is-given number place e)
 
 -- a row that is not given is passed over
-pub no-row : (number place : ℕ) {test : Bool} (rows : List Row) → test ≡ false → first (rowWhen number place test ∷ rows) ≡ first rows
+pub no-row : (number place : ℕ) {test : Bool} (rows : List Row) → test ≡ false
+    → first (rowWhen number place test ∷ rows) ≡ first rows
 no-row number place rows e = first-none _ rows (not-given number place e)
 
 -- the first part of a joined order is heard first
@@ -71,12 +76,14 @@ second-part (none ∷ xs) ys e = second-part xs ys e
 second-part (some t ∷ xs) ys e = let z : _≡_ {A = ℕ} 0 1 = cc in absurd (omega arith)
 
 -- an order that passed: none of its rows is given
-pub passed-row : (r : Row) (rows : List Row) → first (r ∷ rows) ≡ none → (r ≡ none) × (first rows ≡ none)
+pub passed-row : (r : Row) (rows : List Row) → first (r ∷ rows) ≡ none
+    → (r ≡ none) × (first rows ≡ none)
 unfolding first
 passed-row none rows e = (refl, e)
 passed-row (some s) rows e = let z : _≡_ {A = ℕ} 0 1 = cc in absurd (omega arith)
 
-pub passed-parts : (xs ys : List Row) → first (xs ++ ys) ≡ none → (first xs ≡ none) × (first ys ≡ none)
+pub passed-parts : (xs ys : List Row) → first (xs ++ ys) ≡ none → (first xs ≡ none)
+    × (first ys ≡ none)
 unfolding first
 passed-parts [] ys e = (refl, e)
 passed-parts (none ∷ xs) ys e = passed-parts xs ys e
@@ -92,7 +99,8 @@ silent-end xs ys e = go (first xs) refl
 
 -- ---- a verdict, which tells the row that its part of an order came to
 
-pub told-refused : {v : Verdict} {row : Row} {why : Refusal} → rowOf v ≡ row → v ≡ Verdict.Refused why → row ≡ some (saidOf why)
+pub told-refused : {v : Verdict} {row : Row} {why : Refusal} → rowOf v ≡ row
+    → v ≡ Verdict.Refused why → row ≡ some (saidOf why)
 unfolding rowOf
 told-refused told e = sym told ∙ ap rowOf e
 
@@ -102,22 +110,26 @@ told-passed told e = sym told ∙ ap rowOf e
 
 -- ---- an outcome
 
-pub heard-refused : (r : Row) {s : Said} (kept : List (List ℕ)) (done : Outcome) → r ≡ some s → heard r kept done ≡ outcome (refusedNumbers s) kept
+pub heard-refused : (r : Row) {s : Said} (kept : List (List ℕ)) (done : Outcome) → r ≡ some s
+    → heard r kept done ≡ outcome (refusedNumbers s) kept
 unfolding heard
 heard-refused r kept done e = rw e
 
-pub heard-done : (r : Row) (kept : List (List ℕ)) (done : Outcome) → r ≡ none → heard r kept done ≡ done
+pub heard-done : (r : Row) (kept : List (List ℕ)) (done : Outcome) → r ≡ none → heard r kept done
+    ≡ done
 unfolding heard
 heard-done r kept done e = rw e
 
 -- two outcomes that differ only where something is done
-pub heard-alike : (r : Row) (kept : List (List ℕ)) {x y : Outcome} → (r ≡ none → x ≡ y) → heard r kept x ≡ heard r kept y
+pub heard-alike : (r : Row) (kept : List (List ℕ)) {x y : Outcome} → (r ≡ none → x ≡ y)
+    → heard r kept x ≡ heard r kept y
 unfolding heard
 heard-alike none kept e = e refl
 heard-alike (some t) kept e = refl
 
 -- an answer with another number than what is done is a refusal
-pub kept-lent : (r : Row) (kept : List (List ℕ)) (done : Outcome) → done .numbers .number ≡ 0 → heard r kept done .numbers .number ≢ 0
+pub kept-lent : (r : Row) (kept : List (List ℕ)) (done : Outcome) → done .numbers .number ≡ 0
+    → heard r kept done .numbers .number ≢ 0
     → heard r kept done .lent ≡ kept
 unfolding heard
 kept-lent none kept done e z = absurd (z e)

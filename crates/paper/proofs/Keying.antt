@@ -1,5 +1,5 @@
--- 9 and 10, whoever asks: what a key that passes them is known to be, by letters, by text and for next key, and which numbers they say.
--- Each law goes down the two rows by the laws of `Hearing`.
+-- 9 and 10, whoever asks: what a key that passes them is known to be, by letters, by text and for
+-- next key, and which numbers they say. Each law goes down the two rows by the laws of `Hearing`.
 use Prim.Native.Nat.{ℕ, _≤_}
 use mathlib.Core.Path.{_≡_, refl, ap, _∙_}
 use mathlib.Core.Logic.{_↔_}
@@ -28,7 +28,8 @@ pub below-letters : (n : ℕ) (k : List ℕ) → (allBelow n k ≡ true) ↔ Let
 unfolding allBelow
 below-letters n [] = (λ e. tt, λ s. refl)
 below-letters n (x ∷ k) = (
-  λ e. let u = both (ltb x n) (allBelow n k) e in (ltb-true x n (u .0), below-letters n k .0 (u .1)),
+  λ e. let u =
+      both (ltb x n) (allBelow n k) e in (ltb-true x n (u .0), below-letters n k .0 (u .1)),
   λ s. rw (lt-ltb x n (s .0), below-letters n k .1 (s .1)),
 )
 
@@ -64,7 +65,8 @@ text-fit h named e =
 -- a key that is fit passes
 pub fit-letters : {h : Head} {key : List ℕ} → Fit h key → first (lettersRows h key) ≡ none
 unfolding lettersRows row9 row10
-fit-letters {h} {key} f = no-row 9 0 _ (untrue (f .allowed)) ∙ no-row 10 0 _ (untrue (below-letters (h .n) key .1 (f .below))) ∙ first-nil
+fit-letters {h} {key} f = no-row 9 0 _ (untrue (f .allowed)) ∙ no-row 10 0 _
+    (untrue (below-letters (h .n) key .1 (f .below))) ∙ first-nil
 
 pub fit-text : {h : Head} {key : List ℕ} → Fit h key → first (textRows h (some key)) ≡ none
 unfolding textRows row10text isNone row9 orEmpty
@@ -73,20 +75,24 @@ fit-text f = no-row 10 0 _ refl ∙ no-row 9 0 _ (untrue (f .allowed)) ∙ first
 -- ---- a key as it is given, by letters or by text
 
 -- one that passes is meant
-pub given-meant : (h : Head) (alphabet : List ℕ) (given : Given) → first (keyRowsBy h alphabet given) ≡ none
+pub given-meant : (h : Head) (alphabet : List ℕ) (given : Given)
+    → first (keyRowsBy h alphabet given) ≡ none
     → meantBy alphabet given ≡ some (orEmpty (meantBy alphabet given))
 unfolding keyRowsBy meantBy orEmpty
 given-meant h alphabet (asLetters key) e = refl
-given-meant h alphabet (asText text) e = let named = meantBy alphabet (asText text) in some-found named (text-fit h named e .0)
+given-meant h alphabet (asText text) e =
+    let named = meantBy alphabet (asText text) in some-found named (text-fit h named e .0)
 
 -- one that is meant, and fit, passes
-pub fit-given : (h : Head) (alphabet : List ℕ) (given : Given) {key : List ℕ} → meantBy alphabet given ≡ some key → Fit h key
+pub fit-given : (h : Head) (alphabet : List ℕ) (given : Given) {key : List ℕ}
+    → meantBy alphabet given ≡ some key → Fit h key
     → first (keyRowsBy h alphabet given) ≡ none
 unfolding keyRowsBy meantBy
 fit-given h alphabet (asLetters k) {key} e f = let same : k ≡ key = cc in fit-letters (rw same f)
-fit-given h alphabet (asText text) e f = ap (λ (named : Option (List ℕ)). first (textRows h named)) e ∙ fit-text f
+fit-given h alphabet (asText text) e f =
+    ap (λ (named : Option (List ℕ)). first (textRows h named)) e ∙ fit-text f
 
--- ---- the key from which the next one is sought: "For next key, 9 means only a key longer than max"
+-- ---- the key given to next key: "For next key, 9 means only a key longer than max"
 pub record Askable (h : Head) (key : List ℕ) : Type 0 where
   pub short : length key ≤ h .max
   pub below : LettersBelow (h .n) key
@@ -94,7 +100,8 @@ pub record Askable (h : Head) (key : List ℕ) : Type 0 where
 pub askable-passes : (h : Head) (key : List ℕ) → Askable h key → first (nextRows h key) ≡ none
 unfolding nextRows row9next row10
 askable-passes h key a =
-    no-row 9 0 _ (le-ltb (h .max) (length key) (a .short)) ∙ no-row 10 0 _ (untrue (below-letters (h .n) key .1 (a .below))) ∙ first-nil
+    no-row 9 0 _ (le-ltb (h .max) (length key) (a .short)) ∙ no-row 10 0 _
+    (untrue (below-letters (h .n) key .1 (a .below))) ∙ first-nil
 
 -- ---- the numbers
 
@@ -115,9 +122,11 @@ letters-say h key = nine-says h key then ten-says h key then end
 
 text-says : (h : Head) (named : Option (List ℕ)) → AllSay keyNumbers (textRows h named)
 unfolding textRows row10text among
-text-says h named = let ten : Says keyNumbers (row10text named) = given-says 10 0 (isNone named) refl in search (_then_, end, nine-says)
+text-says h named = let ten : Says keyNumbers (row10text named) =
+    given-says 10 0 (isNone named) refl in search (_then_, end, nine-says)
 
-pub given-says-key : (h : Head) (alphabet : List ℕ) (given : Given) → AllSay keyNumbers (keyRowsBy h alphabet given)
+pub given-says-key : (h : Head) (alphabet : List ℕ) (given : Given)
+    → AllSay keyNumbers (keyRowsBy h alphabet given)
 unfolding keyRowsBy
 given-says-key h alphabet (asLetters key) = letters-say h key
 given-says-key h alphabet (asText text) = text-says h (meantBy alphabet (asText text))

@@ -1,4 +1,5 @@
--- What a call knows once 1 to 4 have passed: the head in hand is the image's own, and the nodes lie inside the image.
+-- What a call knows once 1 to 4 have passed: the head in hand is the image's own, and the nodes
+-- lie inside the image.
 use Prim.Native.Nat.{ℕ}
 use mathlib.Core.Path.{_≡_}
 use mathlib.Core.Option.{none}
@@ -21,4 +22,9 @@ pub known : {l : List ℕ} {h : Head} → first (openingRowsOf l) ≡ none → h
 unfolding openingRowsOf
 known {l} opened own =
     let p = passed (headOf l) (alphabetIn (headOf l) l) (length l) opened in
-    record { opened = opened; own = own; image = rw own (record { head-permitted = p .head-permitted; room = p .room }) }
+    record {
+      opened = opened;
+      own = own;
+      image =
+          rw own (record { head-permitted = p .head-permitted; room = p .room });
+    }

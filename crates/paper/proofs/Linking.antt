@@ -1,6 +1,6 @@
--- Rows 6 to 8 and 01's rules on links: none of the rows is given exactly where the rules hold. The rows ask of the nodes and letters what
--- the rules ask of every link, since a table has no link outside them; how often an address stands in a link is a sum, above 0 where one
--- link holds it.
+-- Rows 6 to 8 and 01's rules on links: none of the rows is given exactly where the rules hold. The
+-- rows ask of the nodes and letters what the rules ask of every link, since a table has no link
+-- outside them; how often an address stands in a link is a sum, above 0 where one link holds it.
 use Prim.Native.Nat.{ℕ, zero, suc, _+_, _≤_, _<_}
 use mathlib.Core.Path.{_≡_, refl, sym, _∙_}
 use mathlib.Core.Bool.{Bool, true, false, not, _&&_, _||_, cond, or-true}
@@ -10,7 +10,8 @@ use mathlib.Core.List.{[], _∷_}
 use native.Mathlib.Omega.{arith}
 use native.Mathlib.Decide.{ℕ-discrete, decLe}
 use lib.Dec.{leb, ltb, eqb}
-use borrow.Author.Tests.{lt-ltb, le-ltb, le-leb, lt-leb, eq-eqb, ne-eqb, leb-true, leb-false, ltb-true, ltb-false, eqb-true, eqb-false, not-false}
+use borrow.Author.Tests.{lt-ltb, le-ltb, le-leb, lt-leb, eq-eqb, ne-eqb, leb-true, leb-false}
+use borrow.Author.Tests.{ltb-true, ltb-false, eqb-true, eqb-false, not-false}
 use Rattle.field.proofs.Range.{both}
 use Rattle.trie.specs.Table.{Table}
 use Rattle.trie.specs.Lowest.{lowest}
@@ -18,14 +19,17 @@ use Rattle.trie.specs.Rules.{Framed, Within, Rising, Named, Once, LinkRules}
 use Rattle.trie.specs.Storing.{grow}
 use Rattle.trie.proofs.Lowest.{NonePasses, lowest-none, none-lowest, lowest-least, lowest-at}
 use Rattle.trie.proofs.Counted.{Sums, one-part, two-parts, some-part, one-at-most}
-use Rattle.trie.proofs.Unlinked.{unlinked-within, unlinked-rising, unlinked-once, unlinked-names, unlinked-none}
+use Rattle.trie.proofs.Unlinked.{unlinked-within, unlinked-rising, unlinked-once, unlinked-names}
+use Rattle.trie.proofs.Unlinked.{unlinked-none}
 use Rattle.head.specs.declared.Head.{Head}
 use Rattle.alphabet.specs.Letters.{among}
 use Rattle.paper.specs.Hearing.{Said, Row, rowWhen, first}
 use Rattle.paper.specs.Answers.{said}
-use Rattle.paper.specs.Rows.{badLink, holdsBad, rowWhenLowest, row6, timesIn, times, row7, row8}
+use Rattle.paper.specs.Rows.{badLink, holdsBad, rowWhenLowest, row6, timesIn, times, row7}
+use Rattle.paper.specs.Rows.{row8}
 use Rattle.paper.specs.Orders.{linkRows}
-use Rattle.paper.proofs.Hearing.{not-given, is-given, was-false, first-nil, first-none, first-some, passed-row}
+use Rattle.paper.proofs.Hearing.{not-given, is-given, was-false, first-nil, first-none}
+use Rattle.paper.proofs.Hearing.{first-some, passed-row}
 use Rattle.paper.proofs.Numbers.{AllSay, end, _then_, lowest-says, pass-row}
 
 -- ---- a bad link, and a node that holds one
@@ -36,7 +40,8 @@ not-bad g q zero = (λ _. inl refl, λ _. refl)
 not-bad g q (suc c) = (to, from)
   where
     to : not (leb (suc c) g && ltb q (suc c)) ≡ false → (suc c ≡ 0) ⊎ ((suc c ≤ g) × (q < suc c))
-    to e = let u = both (leb (suc c) g) (ltb q (suc c)) (not-false _ e) in inr (leb-true (suc c) g (u .0), ltb-true q (suc c) (u .1))
+    to e = let u = both (leb (suc c) g) (ltb q (suc c)) (not-false _ e) in
+        inr (leb-true (suc c) g (u .0), ltb-true q (suc c) (u .1))
 
     from : (suc c ≡ 0) ⊎ ((suc c ≤ g) × (q < suc c)) → not (leb (suc c) g && ltb q (suc c)) ≡ false
     from (inl z) = absurd (omega arith)
@@ -50,24 +55,30 @@ link-within g q c e = ⊎-elim (λ z. omega arith) (λ b. b .0) (not-bad g q c .
 
 -- a link that is not bad is not with a greater G
 pub milder : (g g′ q c : ℕ) → g ≤ g′ → badLink g q c ≡ false → badLink g′ q c ≡ false
-milder g g′ q c b e = not-bad g′ q c .1 (⊎-elim inl (λ d. inr (omega arith, d .1)) (not-bad g q c .0 e))
+milder g g′ q c b e =
+    not-bad g′ q c .1 (⊎-elim inl (λ d. inr (omega arith, d .1)) (not-bad g q c .0 e))
 
 module _ (g : ℕ) (t : Table) (q : ℕ) where
-  pub holds-bad : (m : ℕ) {i : ℕ} → i < m → badLink g q (t .child q i) ≡ true → holdsBad g t q m ≡ true
+  pub holds-bad : (m : ℕ) {i : ℕ} → i < m → badLink g q (t .child q i) ≡ true → holdsBad g t q m
+      ≡ true
   unfolding holdsBad
   holds-bad zero h e = absurd (omega arith)
   holds-bad (suc m) {i} h e = go (ℕ-discrete i m) (λ b. holds-bad m b e)
     where
-      go : Dec (i ≡ m) → (i < m → holdsBad g t q m ≡ true) → (holdsBad g t q m || badLink g q (t .child q m)) ≡ true
-      go (yes s) on = let f : badLink g q (t .child q m) ≡ true = rw (← s) e in rw f (or-true (holdsBad g t q m))
+      go : Dec (i ≡ m) → (i < m → holdsBad g t q m ≡ true)
+          → (holdsBad g t q m || badLink g q (t .child q m)) ≡ true
+      go (yes s) on = let f : badLink g q (t .child q m) ≡ true = rw (← s) e in
+          rw f (or-true (holdsBad g t q m))
       go (no d) on = rw (on (omega arith))
 
-  pub holds-none : (m : ℕ) → ((i : ℕ) → i < m → badLink g q (t .child q i) ≡ false) → holdsBad g t q m ≡ false
+  pub holds-none : (m : ℕ) → ((i : ℕ) → i < m → badLink g q (t .child q i) ≡ false)
+      → holdsBad g t q m ≡ false
   unfolding holdsBad
   holds-none zero good = refl
   holds-none (suc m) good = rw (holds-none m (λ i h. good i (omega arith)), good m (omega arith))
 
-  pub none-held : (m : ℕ) → holdsBad g t q m ≡ false → (i : ℕ) → i < m → badLink g q (t .child q i) ≡ false
+  pub none-held : (m : ℕ) → holdsBad g t q m ≡ false → (i : ℕ) → i < m → badLink g q (t .child q i)
+      ≡ false
   none-held m e i h = go (badLink g q (t .child q i)) refl
     where
       go : (b : Bool) → badLink g q (t .child q i) ≡ b → b ≡ false
@@ -112,16 +123,30 @@ module _ (t : Table) (x : ℕ) where
   pub counted : (n : ℕ) {q i k : ℕ} → q < k → i < n → t .child q i ≡ x → 1 ≤ times t n x k
   counted n {q} a b e = omega (arith, one-part (in-node q) b, hit-one e, one-part (in-nodes n) a)
 
-  counted-once : (n : ℕ) {q i p j k : ℕ} → q < k → i < n → p < k → j < n → t .child q i ≡ x → t .child p j ≡ x → times t n x k < 2
+  counted-once : (n : ℕ) {q i p j k : ℕ} → q < k → i < n → p < k → j < n → t .child q i ≡ x
+      → t .child p j ≡ x → times t n x k < 2
       → (q ≡ p) × (i ≡ j)
   counted-once n {q} {i} {p} {j} {k} a b c d e f few = go (ℕ-discrete q p) (ℕ-discrete i j)
     where
       go : Dec (q ≡ p) → Dec (i ≡ j) → (q ≡ p) × (i ≡ j)
       go (no apart) _ =
-          absurd (omega (arith, one-part (in-node q) b, hit-one e, one-part (in-node p) d, hit-one f, two-parts (in-nodes n) a c apart))
+          absurd (omega (
+            arith,
+            one-part (in-node q) b,
+            hit-one e,
+            one-part (in-node p) d,
+            hit-one f,
+            two-parts (in-nodes n) a c apart,
+          ))
       go (yes s) (no apart) =
           let there : t .child q j ≡ x = rw s f in
-          absurd (omega (arith, two-parts (in-node q) b d apart, hit-one e, hit-one there, one-part (in-nodes n) a))
+          absurd (omega (
+            arith,
+            two-parts (in-node q) b d apart,
+            hit-one e,
+            hit-one there,
+            one-part (in-nodes n) a,
+          ))
       go (yes s) (yes r) = (s, r)
 
   -- what counts stands in a link, and in no other if no two links are one
@@ -136,14 +161,16 @@ module _ (t : Table) (x : ℕ) where
       omega (
         arith,
         one-at-most (in-nodes n) k
-            (λ q. one-at-most (in-node q) n (λ i. hit-most x (t .child q i)) (λ i j u v. same q i q j u v .1))
+            (λ q. one-at-most (in-node q) n (λ i. hit-most x (t .child q i))
+            (λ i j u v. same q i q j u v .1))
             (λ q p u v.
             let (i, a, e) = some-part (in-node q) n u in
             let (j, b, f) = some-part (in-node p) n v in
             same q i p j e f .0),
       )
     where
-      same : (q i p j : ℕ) → 1 ≤ hit x (t .child q i) → 1 ≤ hit x (t .child p j) → (q ≡ p) × (i ≡ j)
+      same : (q i p j : ℕ) → 1 ≤ hit x (t .child q i) → 1 ≤ hit x (t .child p j)
+          → (q ≡ p) × (i ≡ j)
       same q i p j u v =
           let e = one-hit x (t .child q i) u in
           let f = one-hit x (t .child p j) v in
@@ -155,14 +182,17 @@ module _ (t : Table) (x : ℕ) where
 module _ (number : ℕ) (test : ℕ → Bool) (a k : ℕ) where
   pub lowest-passed : NonePasses test a k → rowWhenLowest number test a k ≡ none
   unfolding rowWhenLowest
-  lowest-passed h = not-given number _ (le-ltb (lowest test a k) (a + k) (omega (arith, lowest-none test a k h)))
+  lowest-passed h =
+      not-given number _ (le-ltb (lowest test a k) (a + k) (omega (arith, lowest-none test a k h)))
 
   pub passed-lowest : rowWhenLowest number test a k ≡ none → NonePasses test a k
   unfolding rowWhenLowest
-  passed-lowest e = none-lowest test a k (ltb-false (lowest test a k) (a + k) (was-false number _ _ e))
+  passed-lowest e =
+      none-lowest test a k (ltb-false (lowest test a k) (a + k) (was-false number _ _ e))
 
 module _ (h : Head) (t : Table) where
-  -- what rows 6 to 8 test: a node holds a bad link, an address stands in two links or more, or in none
+  -- what rows 6 to 8 test: a node holds a bad link, an address stands in two links or more, or in
+  -- none
   abbrev pub holds : ℕ → Bool
   holds q = holdsBad (h .g) t q (h .n)
 
@@ -193,7 +223,8 @@ module _ (h : Head) (t : Table) where
 
   pub row8-none : ((x : ℕ) → 1 ≤ x → x ≤ h .g → count x ≢ 0) → row8 h t ≡ none
   unfolding row8
-  row8-none f = lowest-passed 8 nowhere 1 (h .g) (λ x b c. ne-eqb (count x) 0 (f x b (omega arith)))
+  row8-none f =
+      lowest-passed 8 nowhere 1 (h .g) (λ x b c. ne-eqb (count x) 0 (f x b (omega arith)))
 
   pub none-row8 : row8 h t ≡ none → (x : ℕ) → 1 ≤ x → x ≤ h .g → count x ≢ 0
   unfolding row8
@@ -239,7 +270,9 @@ module _ (h : Head) (t : Table) (f : Framed t (h .g) (h .n)) where
   none-rising e q i d = ⊎-elim (λ z. absurd (d z)) (λ b. b .1) (none-fair e q i)
 
   rules-6 : Within t (h .g) → Rising t → row6 h t ≡ none
-  rules-6 w r = row6-none h t (λ q _. holds-none (h .g) t q (h .n) (λ i _. not-bad (h .g) q (t .child q i) .1 (fair q i)))
+  rules-6 w r =
+      row6-none h t (λ q _. holds-none (h .g) t q (h .n)
+      (λ i _. not-bad (h .g) q (t .child q i) .1 (fair q i)))
     where
       fair : (q i : ℕ) → Fair q i
       fair q i = unless-empty q i (λ d. inr (w q i, r q i d))
@@ -249,7 +282,8 @@ module _ (h : Head) (t : Table) (f : Framed t (h .g) (h .n)) where
       let x : ℕ = t .child q i in
       let (a, b) = inside q i d in
       let (a′, b′) = inside p j (rw (← s) d) in
-      counted-once t x (h .n) (omega arith) b (omega arith) b′ refl (sym s) (none-row7 h t e x (omega arith) (w q i))
+      counted-once t x (h .n) (omega arith) b (omega arith) b′ refl (sym s)
+      (none-row7 h t e x (omega arith) (w q i))
 
   rules-7 : Once t → row7 h t ≡ none
   rules-7 once = row7-none h t (λ x b _. stands-once t x (h .n) (h .g + 1) b once)
@@ -279,10 +313,17 @@ module _ (h : Head) (t : Table) (f : Framed t (h .g) (h .n)) where
       let after7 = passed-row (row7 h t) (row8 h t ∷ []) (after6 .1) in
       let none-8 = passed-row (row8 h t) [] (after7 .1) .0 in
       let within : Within t (h .g) = none-within (after6 .0) in
-      record { within = within; rising = none-rising (after6 .0); named = none-named none-8; once = none-once within (after7 .0) }
+      record {
+        within = within;
+        rising = none-rising (after6 .0);
+        named = none-named none-8;
+        once =
+            none-once within (after7 .0);
+      }
 
 -- a link that is as 01 rules is no bad one
-pub ruled-link : {t : Table} {g : ℕ} → LinkRules t g → (q i : ℕ) → t .child q i ≢ 0 → badLink g q (t .child q i) ≡ false
+pub ruled-link : {t : Table} {g : ℕ} → LinkRules t g → (q i : ℕ) → t .child q i ≢ 0
+    → badLink g q (t .child q i) ≡ false
 ruled-link {t} {g} r q i d = not-bad g q (t .child q i) .1 (inr (r .within q i, r .rising q i d))
 
 -- the numbers that 6 to 8 say
@@ -297,21 +338,28 @@ linking-says h t =
 -- ---- what an 8 tells
 
 -- the place of a row that has one
-lowest-said : (number : ℕ) (test : ℕ → Bool) (a k : ℕ) {s : Said} → rowWhenLowest number test a k ≡ some s → (a ≤ s .place) × (s .place < a + k)
+lowest-said : (number : ℕ) (test : ℕ → Bool) (a k : ℕ) {s : Said} → rowWhenLowest number test a k
+    ≡ some s → (a ≤ s .place) × (s .place < a + k)
 unfolding rowWhenLowest rowWhen
 lowest-said number test a k {s} e = go (ltb (lowest test a k) (a + k)) refl e
   where
-    go : (b : Bool) → ltb (lowest test a k) (a + k) ≡ b → rowWhen number (lowest test a k) b ≡ some s → (a ≤ s .place) × (s .place < a + k)
+    go : (b : Bool) → ltb (lowest test a k) (a + k) ≡ b → rowWhen number (lowest test a k) b
+        ≡ some s → (a ≤ s .place) × (s .place < a + k)
     go true f g =
         let same : lowest test a k ≡ s .place = cc in
         (omega (arith, lowest-least test a k), omega (arith, ltb-true (lowest test a k) (a + k) f))
     go false f g = let z : _≡_ {A = ℕ} 0 1 = cc in absurd (omega arith)
 
-pub eight-place : (h : Head) (t : Table) {s : Said} → first (linkRows h t) ≡ some s → s .number ≡ 8 → (1 ≤ s .place) × (s .place ≤ h .g)
+pub eight-place : (h : Head) (t : Table) {s : Said} → first (linkRows h t) ≡ some s → s .number ≡ 8
+    → (1 ≤ s .place) × (s .place ≤ h .g)
 unfolding linkRows row6 row7 row8 among first
 eight-place h t e n =
-    let after6 = pass-row (row7 h t ∷ row8 h t ∷ []) 8 (lowest-says {numbers = 6 ∷ []} 6 (holds h t) 0 (h .g + 1) refl) refl n e in
-    let after7 = pass-row (row8 h t ∷ []) 8 (lowest-says {numbers = 7 ∷ []} 7 (twice h t) 1 (h .g) refl) refl n (after6 .1) in
+    let after6 =
+    pass-row (row7 h t ∷ row8 h t ∷ []) 8
+    (lowest-says {numbers = 6 ∷ []} 6 (holds h t) 0 (h .g + 1) refl) refl n e in
+    let after7 =
+    pass-row (row8 h t ∷ []) 8 (lowest-says {numbers = 7 ∷ []} 7 (twice h t) 1 (h .g) refl)
+    refl n (after6 .1) in
     let b = lowest-said 8 (nowhere h t) 1 (h .g) (only (row8 h t) (after7 .1)) in
     (b .0, omega (arith, b .1))
   where
@@ -328,19 +376,22 @@ pub record Unlinked (g : ℕ) (t : Table) (q x c : ℕ) : Type 0 where
   pub most : c ≤ g
   pub rules : LinkRules (grow t q x c) g
 
-module _ (h : Head) (t : Table) (f : Framed t (h .g) (h .n)) {q x c : ℕ} (u : Unlinked (h .g) t q x c) where
+module _ (h : Head) (t : Table) (f : Framed t (h .g) (h .n)) {q x c : ℕ}
+    (u : Unlinked (h .g) t q x c) where
   none-counted : count h t c ≡ 0
   none-counted = go (decLe 1 (count h t c))
     where
       go : Dec (1 ≤ count h t c) → count h t c ≡ 0
       go (yes b) =
           let (p, i, e) = stands t c (h .n) (h .g + 1) b in
-          absurd (unlinked-none t q x c (u .empty) (omega (arith, u .least)) (u .rules .once) p i e)
+          absurd (unlinked-none t q x c (u .empty) (omega (arith, u .least)) (u .rules .once) p i
+          e)
       go (no b) = omega arith
 
   others-counted : (y : ℕ) → 1 ≤ y → y < c → count h t y ≢ 0
   others-counted y low high z =
-      let (p, i, e) = unlinked-names t q x c (u .empty) (u .rules .named) y low (omega (arith, u .most)) (omega arith) in
+      let (p, i, e) = unlinked-names t q x c (u .empty) (u .rules .named) y low
+      (omega (arith, u .most)) (omega arith) in
       let (a, b) = inside h t f p i (omega arith) in
       omega (arith, counted t y (h .n) {q = p} {i = i} {k = h .g + 1} (omega arith) b e)
 
@@ -348,7 +399,8 @@ module _ (h : Head) (t : Table) (f : Framed t (h .g) (h .n)) {q x c : ℕ} (u : 
   unfolding row8 rowWhenLowest
   said-8 =
       let at : lowest (nowhere h t) 1 (h .g) ≡ c =
-      lowest-at (nowhere h t) 1 (h .g) c (u .least) (omega (arith, u .most)) (eq-eqb (count h t c) 0 none-counted)
+      lowest-at (nowhere h t) 1 (h .g) c (u .least) (omega (arith, u .most))
+      (eq-eqb (count h t c) 0 none-counted)
       (λ y low high. ne-eqb (count h t y) 0 (others-counted y low high)) in
       rw at (is-given 8 c (lt-ltb c (1 + h .g) (omega (arith, u .most))))
 
@@ -356,6 +408,7 @@ module _ (h : Head) (t : Table) (f : Framed t (h .g) (h .n)) {q x c : ℕ} (u : 
   unfolding linkRows
   unlinked-8 =
       first-none _ _
-      (rules-6 h t f (unlinked-within t q x c (u .empty) (u .rules .within)) (unlinked-rising t q x c (u .empty) (u .rules .rising)))
+      (rules-6 h t f (unlinked-within t q x c (u .empty) (u .rules .within))
+      (unlinked-rising t q x c (u .empty) (u .rules .rising)))
       ∙ first-none _ _ (rules-7 h t f (unlinked-once t q x c (u .empty) (u .rules .once)))
       ∙ first-some _ [] said-8

@@ -1,6 +1,7 @@
--- 01, "A lookup that is not refused answers what TRIEFF's walk answers", for letters and for text. Where no link on the key's path is bad,
--- each is at most G: there an entry of the table is the field that 002 reads, and an empty link ends both walks with 0. A text that names
--- a key names the one that 002 makes of it, since an opened image's alphabet has N letters or none.
+-- 01, "A lookup that is not refused answers what TRIEFF's walk answers", for letters and for text.
+-- Where no link on the key's path is bad, each is at most G: there an entry of the table is the
+-- field that 002 reads, and an empty link ends both walks with 0. A text that names a key names
+-- the one that 002 makes of it, since an opened image's alphabet has N letters or none.
 use Prim.Native.Nat.{ℕ, zero, suc, _+_, _*_, _≤_, _<_}
 use mathlib.Core.Path.{_≡_, refl, sym, _∙_, ap}
 use mathlib.Core.Bool.{Bool, true, false, cond}
@@ -20,7 +21,8 @@ use Rattle.trie.proofs.Walk.{follow-empty, follow-on}
 use Rattle.trie.proofs.Faults.{fault-none, value-nil, value-empty, value-on}
 use Rattle.head.specs.declared.Head.{Head}
 use Rattle.head.specs.Fields.{headOf, nodeWidth, nodePlace}
-use Rattle.alphabet.specs.Letters.{among, letters, orEmpty, letterOf, withLetter, lettersOfChars, keyOfChars, keyOfText}
+use Rattle.alphabet.specs.Letters.{among, letters, orEmpty, letterOf, withLetter, lettersOfChars}
+use Rattle.alphabet.specs.Letters.{keyOfChars, keyOfText}
 use Rattle.alphabet.proofs.Alphabets.{good-length, no-letters}
 use Rattle.node.specs.Image.{linkPlace, dataPlace, tableOf}
 use Rattle.node.proofs.Tables.{child-in, value-in}
@@ -29,11 +31,14 @@ use Rattle.paper.specs.Rows.{badLink, isNone, row6At, row6path}
 use Rattle.paper.specs.Given.{Given, asLetters, asText, alphabetIn, meantBy, meantIn, keyIn}
 use Rattle.paper.specs.Orders.{openingRowsOf, keyRowsBy, keyRows, lookUpOrder}
 use Rattle.paper.specs.Calls.{tableIn, lookUpOf}
-use Rattle.paper.specs.Walk002.{dataRead, linkRead, unlessEmpty, queryFrom, query002, indexOf, queryChars, queryOf002}
+use Rattle.paper.specs.Walk002.{dataRead, linkRead, unlessEmpty, queryFrom, query002}
+use Rattle.paper.specs.Walk002.{indexOf, queryChars, queryOf002}
 use Rattle.paper.specs.Granted.{Fit}
 use Rattle.paper.proofs.Hearing.{passed-row, passed-parts, heard-done}
-use Rattle.paper.proofs.Numbers.{Says, end, _then_, at-says, parts-say, first-says, one-of, none-heard}
-use Rattle.paper.proofs.Opening.{Passed, passed, opening-says, unspoilt-good, alphabet-whole}
+use Rattle.paper.proofs.Numbers.{Says, end, _then_, at-says, parts-say, first-says, one-of}
+use Rattle.paper.proofs.Numbers.{none-heard}
+use Rattle.paper.proofs.Opening.{Passed, passed, opening-says, unspoilt-good}
+use Rattle.paper.proofs.Opening.{alphabet-whole}
 use Rattle.paper.proofs.Keying.{some-found, letters-fit, text-fit, given-says-key}
 use Rattle.paper.proofs.Named.{named-letters}
 use Rattle.paper.proofs.Linking.{good-link}
@@ -50,7 +55,8 @@ module _ (h : Head) (l : List ℕ) where
   data-read : (q : ℕ) → q ≤ h .g → dataRead h l q ≡ tableOf h l .value q
   unfolding dataRead dataPlace nodePlace nodeWidth
   data-read q b =
-      let same : q * (h .n * h .a + h .d) + h .f + 28 + h .n * h .a ≡ dataPlace h q = omega arith in
+      let same : q * (h .n * h .a + h .d) + h .f + 28 + h .n * h .a ≡ dataPlace h q =
+      omega arith in
       ap (λ (at : ℕ). fieldAt l at (h .d)) same ∙ sym (value-in h l q b)
 
   link-read : (q x : ℕ) → q ≤ h .g → x < h .n → linkRead h l q x ≡ tableOf h l .child q x
@@ -63,7 +69,8 @@ module _ (h : Head) (l : List ℕ) where
   queried : (q x : ℕ) (xs : List ℕ) → q ≤ h .g → x < h .n
       → queryFrom h l q (x ∷ xs) ≡ follow (tableOf h l .child q x) 0 (λ c. queryFrom h l c xs)
   unfolding queryFrom
-  queried q x xs b c = rw (lt-leb (h .n) x c, link-read q x b c) (unless (tableOf h l .child q x) (λ c. queryFrom h l c xs))
+  queried q x xs b c = rw (lt-leb (h .n) x c, link-read q x b c)
+      (unless (tableOf h l .child q x) (λ c. queryFrom h l c xs))
 
   -- from a node up to G on, the walks agree
   abbrev Agree : ℕ → List ℕ → Type 0
@@ -81,8 +88,10 @@ module _ (h : Head) (l : List ℕ) where
       c : ℕ
       c = tableOf h l .child q x
 
-      go : Dec (c ≡ 0) → valueAt (tableOf h l) (descend (tableOf h l) q (x ∷ xs)) ≡ follow c 0 (λ p. queryFrom h l p xs)
-      go (yes e) = value-empty (tableOf h l) q x xs e ∙ sym (follow-empty c 0 (λ p. queryFrom h l p xs) e)
+      go : Dec (c ≡ 0) → valueAt (tableOf h l) (descend (tableOf h l) q (x ∷ xs))
+          ≡ follow c 0 (λ p. queryFrom h l p xs)
+      go (yes e) =
+          value-empty (tableOf h l) q x xs e ∙ sym (follow-empty c 0 (λ p. queryFrom h l p xs) e)
       go (no e) =
           let on = fault-none (badLink (h .g)) (tableOf h l) q x xs refl e f in
           value-on (tableOf h l) q x xs refl e
@@ -101,7 +110,8 @@ Spells h alphabet cs none = Unit {0}
 Spells h alphabet cs (some k) = map (indexOf h alphabet) cs ≡ k
 
 module _ (h : Head) (alphabet : List ℕ) where
-  index-in : (c : ℕ) → ltb (letterOf alphabet c) (length alphabet) ≡ true → indexOf h alphabet c ≡ letterOf alphabet c
+  index-in : (c : ℕ) → ltb (letterOf alphabet c) (length alphabet) ≡ true → indexOf h alphabet c
+      ≡ letterOf alphabet c
   unfolding indexOf
   index-in c e = rw e
 
@@ -114,7 +124,8 @@ module _ (h : Head) (alphabet : List ℕ) where
       x : ℕ
       x = letterOf alphabet c
 
-      go : (t : Bool) → ltb x (length alphabet) ≡ t → Spells h alphabet (c ∷ cs) (cond (ltb x (length alphabet)) (some (x ∷ k)) none)
+      go : (t : Bool) → ltb x (length alphabet) ≡ t → Spells h alphabet (c ∷ cs)
+          (cond (ltb x (length alphabet)) (some (x ∷ k)) none)
       go true e = rw e (rw (index-in c e, s))
       go false e = rw e tt
 
@@ -128,7 +139,8 @@ abbrev allowedIn : List ℕ → List ℕ
 allowedIn l = letters (alphabetIn (headOf l) l)
 
 -- in an image that was opened there are N of them, or none where F is 0
-pub alphabet-most : (l : List ℕ) → first (openingRowsOf l) ≡ none → length (allowedIn l) ≤ headOf l .n
+pub alphabet-most : (l : List ℕ) → first (openingRowsOf l) ≡ none → length (allowedIn l)
+    ≤ headOf l .n
 unfolding openingRowsOf
 alphabet-most l e = go (ℕ-discrete (headOf l .f) 0)
   where
@@ -144,7 +156,8 @@ alphabet-most l e = go (ℕ-discrete (headOf l .f) 0)
         omega (
           arith,
           good-length (headOf l .n) (alphabetIn (headOf l) l)
-              (unspoilt-good (headOf l) (alphabetIn (headOf l) l) (length l) (p .unspoilt) (omega arith) whole),
+              (unspoilt-good (headOf l) (alphabetIn (headOf l) l) (length l) (p .unspoilt)
+              (omega arith) whole),
         )
 
 -- a text that names a key: 002 makes the same of it
@@ -152,15 +165,18 @@ named-002 : (l : List ℕ) (cs : Option (List ℕ)) → isNone (keyOfChars (allo
     → queryChars l cs ≡ query002 l (orEmpty (keyOfChars (allowedIn l) cs))
 unfolding keyOfChars queryChars isNone orEmpty
 named-002 l none e = let z : _≡_ {A = ℕ} 0 1 = cc in absurd (omega arith)
-named-002 l (some cs) e = go (lettersOfChars (allowedIn l) cs) (spells (headOf l) (allowedIn l) cs) e
+named-002 l (some cs) e =
+    go (lettersOfChars (allowedIn l) cs) (spells (headOf l) (allowedIn l) cs) e
   where
-    go : (named : Option (List ℕ)) → Spells (headOf l) (allowedIn l) cs named → isNone named ≡ false
+    go : (named : Option (List ℕ)) → Spells (headOf l) (allowedIn l) cs named → isNone named
+        ≡ false
         → queryChars l (some cs) ≡ query002 l (orEmpty named)
     go none s f = let z : _≡_ {A = ℕ} 0 1 = cc in absurd (omega arith)
     go (some k) s f = ap (query002 l) s
 
 -- the letters of the key that is meant are letters of the image
-pub given-fit : (l : List ℕ) (given : Given) → first (openingRowsOf l) ≡ none → first (keyRows l given) ≡ none → Fit (headOf l) (keyIn l given)
+pub given-fit : (l : List ℕ) (given : Given) → first (openingRowsOf l) ≡ none
+    → first (keyRows l given) ≡ none → Fit (headOf l) (keyIn l given)
 unfolding keyRows keyRowsBy keyIn meantIn meantBy orEmpty
 given-fit l (asLetters key) opened passes = letters-fit (headOf l) key passes
 given-fit l (asText text) opened passes =
@@ -168,7 +184,8 @@ given-fit l (asText text) opened passes =
     let t = text-fit (headOf l) named passes in
     record {
       allowed = t .1;
-      below = letters-more _ _ (orEmpty named) (alphabet-most l opened) (named-letters (allowedIn l) text (some-found named (t .0)));
+      below = letters-more _ _ (orEmpty named) (alphabet-most l opened)
+          (named-letters (allowedIn l) text (some-found named (t .0)));
     }
 
 -- ---- a lookup that is not refused
@@ -190,21 +207,27 @@ no-fault none e = refl
 no-fault (some q) e = let z : _≡_ {A = ℕ} 0 1 = cc in absurd (omega arith)
 
 -- where the key passed, 002 makes the same of what is given
-meant-002 : (l : List ℕ) (given : Given) → first (keyRows l given) ≡ none → queryOf002 l given ≡ query002 l (keyIn l given)
+meant-002 : (l : List ℕ) (given : Given) → first (keyRows l given) ≡ none → queryOf002 l given
+    ≡ query002 l (keyIn l given)
 unfolding keyRows keyRowsBy keyIn meantIn meantBy orEmpty queryOf002 keyOfText
 meant-002 l (asLetters key) e = refl
-meant-002 l (asText text) e = named-002 l (chars text) (text-fit (headOf l) (keyOfText (allowedIn l) text) e .0)
+meant-002 l (asText text) e =
+    named-002 l (chars text) (text-fit (headOf l) (keyOfText (allowedIn l) text) e .0)
 
 module _ (l : List ℕ) (given : Given) where
   pub looking-says : Says lookUpNumbers (first (lookUpOrder l given))
   unfolding lookUpOrder keyRows openingRowsOf row6path among
   looking-says =
-      let path = at-says {numbers = 6 ∷ []} (fault (badLink (headOf l .g)) (tableOf (headOf l) l) 0 (keyIn l given)) refl in
+      let path =
+      at-says {numbers = 6 ∷ []}
+      (fault (badLink (headOf l .g)) (tableOf (headOf l) l) 0 (keyIn l given)) refl in
       let keyed = given-says-key (headOf l) (alphabetIn (headOf l) l) given in
-      first-says (parts-say (opening-says (headOf l) (alphabetIn (headOf l) l) (length l)) (parts-say keyed (path then end)))
+      first-says (parts-say (opening-says (headOf l) (alphabetIn (headOf l) l) (length l))
+      (parts-say keyed (path then end)))
 
   -- a lookup's refusals have these numbers alone
-  pub looking-refuses : {s : Said} → first (lookUpOrder l given) ≡ some s → among (s .number) lookUpNumbers ≡ true
+  pub looking-refuses : {s : Said} → first (lookUpOrder l given) ≡ some s
+      → among (s .number) lookUpNumbers ≡ true
   looking-refuses e = one-of looking-says e
 
   pub unrefused : lookUpOf l given .numbers .number ≡ 0 → Unrefused l given
@@ -228,9 +251,15 @@ module _ (l : List ℕ) (given : Given) where
       let key : List ℕ = keyIn l given in
       let k = given-fit l given (o .opened) (o .key-passed) in
       let b = between-true (length key) (headOf l .min) (headOf l .max) (k .allowed) in
-      ap (λ (r : Outcome). r .numbers .value) (heard-done (first (lookUpOrder l given)) [] _ (o .none-given))
+      ap (λ (r : Outcome). r .numbers .value)
+      (heard-done (first (lookUpOrder l given)) [] _ (o .none-given))
       ∙ agree (headOf l) l 0 key (omega arith) (k .below) (o .path)
-      ∙ sym (rw (le-ltb (length key) (headOf l .min) (b .0), le-ltb (headOf l .max) (length key) (b .1)))
+      ∙ sym (rw (
+        le-ltb (length key) (headOf l .min) (b .0),
+        le-ltb (headOf l .max) (length key)
+            (b .1),
+      ))
 
-  pub looks-up-002 : lookUpOf l given .numbers .number ≡ 0 → lookUpOf l given .numbers .value ≡ queryOf002 l given
+  pub looks-up-002 : lookUpOf l given .numbers .number ≡ 0 → lookUpOf l given .numbers .value
+      ≡ queryOf002 l given
   looks-up-002 e = let o = unrefused e in answered o ∙ sym (meant-002 l given (o .key-passed))

@@ -1,5 +1,6 @@
--- The image that a make leaves which was done: its head and alphabet are those given, its one node has no link and no data. So it is
--- accepted, answers 0 to every key and lists none. Head, alphabet and root stand one behind the other, and U is where the root ends.
+-- The image that a make leaves which was done: its head and alphabet are those given, its one node
+-- has no link and no data. So it is accepted, answers 0 to every key and lists none. Head,
+-- alphabet and root stand one behind the other, and U is where the root ends.
 use Prim.Native.Nat.{ℕ, zero, suc, _+_, _*_, _≤_}
 use mathlib.Core.Path.{_≡_, refl, sym, _∙_, ap, subst}
 use mathlib.Core.Option.{none}
@@ -16,7 +17,8 @@ use Rattle.trie.specs.Table.{Table, answer}
 use Rattle.trie.proofs.Walk.{descend-nil, descend-empty, answer-complete, answer-stopped}
 use Rattle.trie.proofs.Count.{blank-keys}
 use Rattle.head.specs.declared.Head.{Head}
-use Rattle.head.specs.Fields.{fieldsLen, shortestImage, longestImage, headOf, headBytes, nodeWidth, nodePlace, usedLen}
+use Rattle.head.specs.Fields.{fieldsLen, shortestImage, longestImage, headOf, headBytes, nodeWidth}
+use Rattle.head.specs.Fields.{nodePlace, usedLen}
 use Rattle.head.proofs.Permitted.{bounds}
 use Rattle.head.proofs.Places.{used, place}
 use Rattle.head.proofs.Fields.{fit-bounds, length-head, head-begun}
@@ -36,7 +38,8 @@ use Rattle.paper.proofs.Opening.{Passed, passed, opening-says, unspoilt
 -- ---- what make writes, part after part
 
 -- head, alphabet and one node lie inside the image
-pub whole : (h : Head) (alphabet image : List ℕ) → h .g ≡ 0 → h .f ≡ length alphabet → usedLen h ≤ length image
+pub whole : (h : Head) (alphabet image : List ℕ) → h .g ≡ 0 → h .f ≡ length alphabet
+    → usedLen h ≤ length image
     → fieldsLen + length alphabet + nodeWidth h ≤ length image
 whole h alphabet image g f room =
     let one : (h .g + 1) * nodeWidth h ≡ nodeWidth h =
@@ -44,7 +47,8 @@ whole h alphabet image g f room =
     omega (arith, used h)
 
 pub parts : (h : Head) (alphabet image : List ℕ)
-    → cleared (sets (sets image 0 (headBytes h)) fieldsLen alphabet) (fieldsLen + length alphabet) (nodeWidth h) ≡ freshImage h alphabet image
+    → cleared (sets (sets image 0 (headBytes h)) fieldsLen alphabet) (fieldsLen + length alphabet)
+    (nodeWidth h) ≡ freshImage h alphabet image
 unfolding freshImage
 parts h alphabet image =
     let zeros : List ℕ = replicate (nodeWidth h) 0 in
@@ -55,15 +59,19 @@ parts h alphabet image =
     ∙ sets-append (sets image 0 (headBytes h)) fieldsLen alphabet zeros)
 
 -- the middle part of a list that was laid at the front
-middle : (l a b c : List ℕ) → length (a ++ (b ++ c)) ≤ length l → take (length b) (drop (length a) (sets l 0 (a ++ (b ++ c)))) ≡ b
+middle : (l a b c : List ℕ) → length (a ++ (b ++ c)) ≤ length l
+    → take (length b) (drop (length a) (sets l 0 (a ++ (b ++ c)))) ≡ b
 middle l a b c r =
     let rest : List ℕ = drop (0 + length (a ++ (b ++ c))) l in
-    let e : sets l 0 (a ++ (b ++ c)) ≡ a ++ (b ++ (c ++ rest)) = sets-eq (a ++ (b ++ c)) l 0 (omega arith) ∙ simp append-assoc in
-    rw e (ap (take (length b)) (drop-at a (b ++ (c ++ rest)) (length a) refl) ∙ take-at b (c ++ rest) (length b) refl)
+    let e : sets l 0 (a ++ (b ++ c)) ≡ a ++ (b ++ (c ++ rest)) =
+    sets-eq (a ++ (b ++ c)) l 0 (omega arith) ∙ simp append-assoc in
+    rw e (ap (take (length b)) (drop-at a (b ++ (c ++ rest)) (length a) refl)
+    ∙ take-at b (c ++ rest) (length b) refl)
 
 -- ---- a make that is done
 
--- what it is given: a head with no node but the root, for this alphabet and an image that passes 1 to 4
+-- what it is given: a head with no node but the root, for this alphabet and an image that passes 1
+-- to 4
 pub record Made (h : Head) (alphabet image : List ℕ) : Type 0 where
   pub root-alone : h .g ≡ 0
   pub all-letters : h .f ≡ length alphabet
@@ -81,9 +89,16 @@ module _ (image : List ℕ) (n a d : ℕ) (alphabet : List ℕ) (least most : �
 
   pub make-done : Made h alphabet image
   unfolding freshHead
-  make-done = record { root-alone = refl; all-letters = refl; judged = passed h alphabet (length image) passes }
+  make-done =
+      record {
+        root-alone = refl;
+        all-letters = refl;
+        judged =
+            passed h alphabet (length image) passes;
+      }
 
-  pub make-leaves : makeOf image n a d alphabet least most ≡ outcome (doneNumbers 0 (pos 0) 0) (freshImage h alphabet image ∷ [])
+  pub make-leaves : makeOf image n a d alphabet least most ≡ outcome (doneNumbers 0 (pos 0) 0)
+      (freshImage h alphabet image ∷ [])
   unfolding makeOf
   make-leaves = heard-done (first (openingRows h alphabet (length image))) _ _ passes
 
@@ -105,7 +120,8 @@ module _ {h : Head} {alphabet image : List ℕ} (m : Made h alphabet image) wher
       (fit-bounds (bounds h (m .judged .head-permitted)) (omega (arith, m .root-alone)))
       (lent .0)
 
-  pub fresh-alphabet : alphabetIn (headOf (freshImage h alphabet image)) (freshImage h alphabet image) ≡ alphabet
+  pub fresh-alphabet : alphabetIn (headOf (freshImage h alphabet image))
+      (freshImage h alphabet image) ≡ alphabet
   unfolding alphabetIn freshImage
   fresh-alphabet =
       let zeros : List ℕ = replicate (nodeWidth h) 0 in
@@ -127,12 +143,15 @@ module _ {h : Head} {alphabet image : List ℕ} (m : Made h alphabet image) wher
   blank-root : Blank h (freshImage h alphabet image) 0
   blank-root =
       let lettered : List ℕ = sets (sets image 0 (headBytes h)) fieldsLen alphabet in
-      let at : nodePlace h 0 ≡ fieldsLen + length alphabet = omega (arith, place h 0, m .all-letters) in
+      let at : nodePlace h 0 ≡ fieldsLen + length alphabet =
+      omega (arith, place h 0, m .all-letters) in
       let same : cleared lettered (nodePlace h 0) (nodeWidth h) ≡ freshImage h alphabet image =
       ap (λ (k : ℕ). cleared lettered k (nodeWidth h)) at ∙ parts h alphabet image in
       let long : length lettered ≡ length image =
-      length-sets (sets image 0 (headBytes h)) fieldsLen alphabet ∙ length-sets image 0 (headBytes h) in
-      subst (λ (l : List ℕ). Blank h l 0) same (blank-cleared h lettered 0 (omega (arith, written)))
+      length-sets (sets image 0 (headBytes h)) fieldsLen alphabet ∙ length-sets image 0
+      (headBytes h) in
+      subst (λ (l : List ℕ). Blank h l 0) same
+      (blank-cleared h lettered 0 (omega (arith, written)))
 
   table : tableIn (freshImage h alphabet image) ≡ tableOf h (freshImage h alphabet image)
   unfolding tableIn
@@ -143,14 +162,16 @@ module _ {h : Head} {alphabet image : List ℕ} (m : Made h alphabet image) wher
     where
       go : (q : ℕ) → tableOf h (freshImage h alphabet image) .child q i ≡ 0
       go zero = blank-child h (freshImage h alphabet image) 0 blank-root i
-      go (suc q) = framed h (freshImage h alphabet image) .no-node (suc q) i (omega (arith, m .root-alone))
+      go (suc q) =
+          framed h (freshImage h alphabet image) .no-node (suc q) i (omega (arith, m .root-alone))
 
   pub fresh-value : (q : ℕ) → tableIn (freshImage h alphabet image) .value q ≡ 0
   fresh-value q = ap (λ (t : Table). t .value q) table ∙ go q
     where
       go : (q : ℕ) → tableOf h (freshImage h alphabet image) .value q ≡ 0
       go zero = blank-value h (freshImage h alphabet image) 0 blank-root
-      go (suc q) = framed h (freshImage h alphabet image) .no-data (suc q) (omega (arith, m .root-alone))
+      go (suc q) =
+          framed h (freshImage h alphabet image) .no-data (suc q) (omega (arith, m .root-alone))
 
   pub fresh-accepted : Accepted (freshImage h alphabet image)
   fresh-accepted =
@@ -162,23 +183,28 @@ module _ {h : Head} {alphabet image : List ℕ} (m : Made h alphabet image) wher
         head-permitted = rw e (m .judged .head-permitted);
         alphabet-good = λ b.
             rw (fresh-alphabet, e)
-            (unspoilt-good h alphabet (length image) (m .judged .unspoilt) (rw e at b) (sym (m .all-letters)));
+            (unspoilt-good h alphabet (length image) (m .judged .unspoilt) (rw e at b)
+            (sym (m .all-letters)));
         room = rw (e, long) (m .judged .room);
         links =
             record {
               within = λ q i. omega (arith, fresh-child q i);
               rising = λ q i full. absurd (full (fresh-child q i));
-              named = λ x low high. absurd (omega (arith, ap (λ (k : Head). k .g) e, m .root-alone));
+              named =
+                  λ x low high. absurd (omega (arith, ap (λ (k : Head). k .g) e, m .root-alone));
               once = λ q i p j full same. absurd (full (fresh-child q i));
             };
       }
 
   pub fresh-answers : (k : List ℕ) → answer (tableIn (freshImage h alphabet image)) k ≡ 0
-  fresh-answers [] = answer-complete (tableIn (freshImage h alphabet image)) [] (descend-nil _ 0) ∙ fresh-value 0
-  fresh-answers (x ∷ xs) = answer-stopped (tableIn (freshImage h alphabet image)) (x ∷ xs) (descend-empty _ 0 x xs (fresh-child 0 x))
+  fresh-answers [] =
+      answer-complete (tableIn (freshImage h alphabet image)) [] (descend-nil _ 0) ∙ fresh-value 0
+  fresh-answers (x ∷ xs) = answer-stopped (tableIn (freshImage h alphabet image)) (x ∷ xs)
+      (descend-empty _ 0 x xs (fresh-child 0 x))
 
   pub fresh-keys : storedKeys (freshImage h alphabet image) ≡ []
   unfolding storedKeys
   fresh-keys =
       let k : Head = headOf (freshImage h alphabet image) in
-      blank-keys (tableIn (freshImage h alphabet image)) (k .n) (k .min) (k .max) 0 (fresh-child 0) (fresh-value 0)
+      blank-keys (tableIn (freshImage h alphabet image)) (k .n) (k .min) (k .max) 0 (fresh-child 0)
+      (fresh-value 0)

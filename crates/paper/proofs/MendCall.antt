@@ -1,5 +1,5 @@
--- Mending (02, Ask 1) in the words of the check: what it answers and leaves either way, what an 8 of the check tells, and that the working
--- numbers of the trial are enough.
+-- Mending (02, Ask 1) in the words of the check: what it answers and leaves either way, what an 8
+-- of the check tells, and that the working numbers of the trial are enough.
 use Prim.Native.Nat.{ℕ, zero, suc, _+_, _-_, _^_, _≤_, _<_}
 use mathlib.Core.Path.{_≡_, refl, sym, _∙_, ap}
 use mathlib.Core.Bool.{Bool, true, false, _&&_, and-false}
@@ -18,11 +18,13 @@ use Rattle.head.specs.Fields.{shortestImage, longestImage, headOf, putTotal, to
 use Rattle.head.proofs.Fields.{head-total}
 use Rattle.alphabet.specs.Letters.{among}
 use Rattle.node.specs.Image.{tableOf}
-use Rattle.paper.specs.Hearing.{Said, Row, Outcome, outcome, first, heard, refusedNumbers, doneNumbers}
+use Rattle.paper.specs.Hearing.{Said, Row, Outcome, outcome, first, heard, refusedNumbers}
+use Rattle.paper.specs.Hearing.{doneNumbers}
 use Rattle.paper.specs.Rows.{row5}
 use Rattle.paper.specs.Given.{alphabetIn}
 use Rattle.paper.specs.Orders.{openingRowsOf, linkRows, checkOrder}
-use Rattle.paper.specs.Calls.{clearedBy, workAfter, checkOf, isAccepted, mends, mendBy, mendOf}
+use Rattle.paper.specs.Calls.{clearedBy, workAfter, checkOf, isAccepted, mends, mendBy}
+use Rattle.paper.specs.Calls.{mendOf}
 use Rattle.paper.specs.Accepted.{Accepted}
 use Rattle.paper.proofs.Hearing.{was-false, first-nil, no-row, second-part}
 use Rattle.paper.proofs.Numbers.{given-says, pass-row, pass-part}
@@ -44,20 +46,25 @@ module _ (l work : List ℕ) where
   unfolding checkOf heard
   check-lent = go (first (checkOrder l work))
     where
-      go : (r : Row) → heard r (workAfter l work ∷ []) (outcome (doneNumbers 0 (pos 0) 0) (workAfter l work ∷ [])) .lent ≡ workAfter l work ∷ []
+      go : (r : Row) → heard r (workAfter l work ∷ [])
+          (outcome (doneNumbers 0 (pos 0) 0) (workAfter l work ∷ [])) .lent ≡ workAfter l work ∷ []
       go none = refl
       go (some s) = refl
 
-  pub mend-kept : mends l (checkOf l work .numbers) ≡ false → mendOf l work ≡ outcome (checkOf l work .numbers) (l ∷ workAfter l work ∷ [])
+  pub mend-kept : mends l (checkOf l work .numbers) ≡ false → mendOf l work
+      ≡ outcome (checkOf l work .numbers) (l ∷ workAfter l work ∷ [])
   unfolding mendOf mendBy
-  mend-kept e = rw e (ap (λ (ls : List (List ℕ)). outcome (checkOf l work .numbers) (l ∷ ls)) check-lent)
+  mend-kept e =
+      rw e (ap (λ (ls : List (List ℕ)). outcome (checkOf l work .numbers) (l ∷ ls)) check-lent)
 
   pub mend-lowered : mends l (checkOf l work .numbers) ≡ true
-      → mendOf l work ≡ outcome (doneNumbers 0 (pos 0) 0) (putTotal l (checkOf l work .numbers .place - 1) ∷ workAfter l work ∷ [])
+      → mendOf l work ≡ outcome (doneNumbers 0 (pos 0) 0)
+      (putTotal l (checkOf l work .numbers .place - 1) ∷ workAfter l work ∷ [])
   unfolding mendOf mendBy
   mend-lowered e =
       rw e
-      (ap (λ (ls : List (List ℕ)). outcome (doneNumbers 0 (pos 0) 0) (putTotal l (checkOf l work .numbers .place - 1) ∷ ls)) check-lent)
+      (ap (λ (ls : List (List ℕ)). outcome (doneNumbers 0 (pos 0) 0)
+      (putTotal l (checkOf l work .numbers .place - 1) ∷ ls)) check-lent)
 
 -- ---- what an 8 tells
 
@@ -72,15 +79,21 @@ module _ (l work : List ℕ) where
     pub most : place ≤ headOf l .g
 
   -- the row that was heard
-  heard-eight : checkOf l work .numbers .number ≡ 8 → first (checkOrder l work) ≡ some (record { number = 8; place = place })
+  heard-eight : checkOf l work .numbers .number ≡ 8 → first (checkOrder l work)
+      ≡ some (record { number = 8; place = place })
   unfolding checkOf heard refusedNumbers doneNumbers
   heard-eight e = go (first (checkOrder l work)) refl e
     where
       done : Outcome
       done = outcome (doneNumbers 0 (pos 0) 0) (workAfter l work ∷ [])
 
-      go : (r : Row) → first (checkOrder l work) ≡ r → heard r (workAfter l work ∷ []) done .numbers .number ≡ 8
-          → r ≡ some (record { number = 8; place = heard r (workAfter l work ∷ []) done .numbers .place })
+      go : (r : Row) → first (checkOrder l work) ≡ r
+          → heard r (workAfter l work ∷ []) done .numbers .number ≡ 8
+          → r ≡ some (record {
+            number = 8;
+            place =
+                heard r (workAfter l work ∷ []) done .numbers .place;
+          })
       go none f z = absurd (omega arith)
       go (some s) f z = ap (λ (n : ℕ). some (record { number = n; place = s .place })) z
 
@@ -89,8 +102,12 @@ module _ (l work : List ℕ) where
   eight e =
       let h : Head = headOf l in
       let t : Table = tableOf h l in
-      let after4 = pass-part (row5 h (length work) ∷ linkRows h t) 8 (opening-says h (alphabetIn h l) (length l)) refl refl (heard-eight e) in
-      let after5 = pass-row (linkRows h t) 8 (given-says {numbers = 5 ∷ []} 5 0 (ltb (length work) (h .g + 1)) refl) refl refl (after4 .1) in
+      let after4 = pass-part (row5 h (length work) ∷ linkRows h t) 8
+      (opening-says h (alphabetIn h l) (length l)) refl refl (heard-eight e) in
+      let after5 =
+      pass-row (linkRows h t) 8
+      (given-says {numbers = 5 ∷ []} 5 0 (ltb (length work) (h .g + 1)) refl) refl refl
+      (after4 .1) in
       let b = eight-place h t (after5 .1) refl in
       record {
         opened = after4 .0;
@@ -102,12 +119,14 @@ module _ (l work : List ℕ) where
 -- ---- the trial
 
 -- numbers of which the first m are 0 stay so where no more of them are cleared
-zeros-kept : (n m : ℕ) (rest : List ℕ) → n ≤ m → replicate n 0 ++ drop n (replicate m 0 ++ rest) ≡ replicate m 0 ++ rest
+zeros-kept : (n m : ℕ) (rest : List ℕ) → n ≤ m → replicate n 0 ++ drop n (replicate m 0 ++ rest)
+    ≡ replicate m 0 ++ rest
 zeros-kept zero m rest b = refl
 zeros-kept (suc n) zero rest b = absurd (omega arith)
 zeros-kept (suc n) (suc m) rest b = ap (λ (r : List ℕ). 0 ∷ r) (zeros-kept n m rest (omega arith))
 
-cleared-kept : (row : Row) (n m : ℕ) (rest : List ℕ) → n ≤ m → clearedBy row n (replicate m 0 ++ rest) ≡ replicate m 0 ++ rest
+cleared-kept : (row : Row) (n m : ℕ) (rest : List ℕ) → n ≤ m
+    → clearedBy row n (replicate m 0 ++ rest) ≡ replicate m 0 ++ rest
 unfolding clearedBy
 cleared-kept none n m rest b = zeros-kept n m rest b
 cleared-kept (some s) n m rest b = refl
@@ -128,12 +147,19 @@ module _ (l work : List ℕ) (e : checkOf l work .numbers .number ≡ 8) where
   eight-work =
       let g = eight l work e in
       ap (λ (r : Row). clearedBy r (headOf l .g + 1) work)
-      (second-part (openingRowsOf l) (row5 (headOf l) (length work) ∷ []) (g .opened) ∙ no-row 5 0 [] (le-ltb (length work) (headOf l .g + 1) (g .lent)) ∙ first-nil)
+      (second-part (openingRowsOf l) (row5 (headOf l) (length work) ∷ []) (g .opened)
+      ∙ no-row 5 0 [] (le-ltb (length work) (headOf l .g + 1) (g .lent)) ∙ first-nil)
 
   -- a trial that passed is one of an accepted image
-  pub trial-mends : (w : List ℕ) → first (checkOrder (putTotal l lower) w) ≡ none → mends l (checkOf l work .numbers) ≡ true
+  pub trial-mends : (w : List ℕ) → first (checkOrder (putTotal l lower) w) ≡ none
+      → mends l (checkOf l work .numbers) ≡ true
   unfolding mends
-  trial-mends w f = rw (eq-eqb _ 8 e, accepted-exactly (putTotal l lower) .1 (check-accepts (putTotal l lower) w f))
+  trial-mends w f =
+      rw (
+        eq-eqb _ 8 e,
+        accepted-exactly (putTotal l lower) .1
+            (check-accepts (putTotal l lower) w f),
+      )
 
   module _ (narrow : lower < 2 ^ 32) where
     trial-total : headOf (putTotal l lower) .g ≡ lower
@@ -145,7 +171,9 @@ module _ (l work : List ℕ) (e : checkOf l work .numbers .number ≡ 8) where
     trial-work =
         let g = eight l work e in
         rw eight-work
-        (cleared-kept (first (openingRowsOf (putTotal l lower) ++ (row5 (headOf (putTotal l lower)) _ ∷ []))) (headOf (putTotal l lower) .g + 1) (headOf l .g + 1)
+        (cleared-kept (first (openingRowsOf (putTotal l lower)
+        ++ (row5 (headOf (putTotal l lower)) _ ∷ []))) (headOf (putTotal l lower) .g + 1)
+        (headOf l .g + 1)
         (drop (headOf l .g + 1) work)
         (omega (arith, trial-total, g .least, g .most)))
 
@@ -153,17 +181,21 @@ module _ (l work : List ℕ) (e : checkOf l work .numbers .number ≡ 8) where
     trial-lent : headOf (putTotal l lower) .g + 1 ≤ length (workAfter l work)
     trial-lent =
         let g = eight l work e in
-        let n : length (replicate {A = ℕ} (headOf l .g + 1) 0 ++ drop (headOf l .g + 1) work) ≡ length work =
+        let n : length (replicate {A = ℕ} (headOf l .g + 1) 0 ++ drop (headOf l .g + 1) work)
+        ≡ length work =
         simp (length-append, length-replicate, length-drop) (omega (arith, g .lent)) in
         omega (arith, trial-total, g .least, g .most, g .lent, ap length eight-work ∙ n)
 
     -- so a trial that was refused is not one of an accepted image
-    pub trial-keeps : {s : Said} → first (checkOrder (putTotal l lower) (workAfter l work)) ≡ some s → mends l (checkOf l work .numbers) ≡ false
+    pub trial-keeps : {s : Said} → first (checkOrder (putTotal l lower) (workAfter l work))
+        ≡ some s → mends l (checkOf l work .numbers) ≡ false
     unfolding mends
     trial-keeps {s} f = go (isAccepted (putTotal l lower)) refl
       where
-        go : (b : Bool) → isAccepted (putTotal l lower) ≡ b → (eqb (checkOf l work .numbers .number) 8 && isAccepted (putTotal l lower)) ≡ false
+        go : (b : Bool) → isAccepted (putTotal l lower) ≡ b
+            → (eqb (checkOf l work .numbers .number) 8 && isAccepted (putTotal l lower)) ≡ false
         go false g = rw g (and-false (eqb (checkOf l work .numbers .number) 8))
         go true g =
             let a = accepted-exactly (putTotal l lower) .0 g in
-            absurd (Option·some-ne-none s (sym f ∙ accepted-checks (putTotal l lower) (workAfter l work) a trial-lent))
+            absurd (Option·some-ne-none s
+            (sym f ∙ accepted-checks (putTotal l lower) (workAfter l work) a trial-lent))

@@ -1,6 +1,7 @@
--- 01 on next key, about the outcomes that its promise cites: what it gives is the first stored key that meets the request, 15 is given
--- exactly where there is none, and calls of it one after the other list the stored keys, each once and in order. Every key on the way is
--- stored, so that 9 and 10 let it pass; the rest are the laws on lists in order.
+-- 01 on next key, about the outcomes that its promise cites: what it gives is the first stored key
+-- that meets the request, 15 is given exactly where there is none, and calls of it one after the
+-- other list the stored keys, each once and in order. Every key on the way is stored, so that 9
+-- and 10 let it pass; the rest are the laws on lists in order.
 use Prim.Native.Nat.{ℕ, suc, _+_, _^_, _≤_, _<_}
 use mathlib.Core.Path.{_≡_, refl, sym, _∙_, ap}
 use mathlib.Core.Logic.{_↔_, _≢_}
@@ -17,7 +18,8 @@ use Rattle.trie.specs.Table.{LettersBelow, answer}
 use Rattle.trie.specs.Keys.{meets, filter, withKey, Ascending}
 use Rattle.trie.specs.Beyond.{firstOf}
 use Rattle.trie.proofs.Before.{before-irrefl}
-use Rattle.trie.proofs.Listing.{First, first-some, first-none, under-listed, listing-holds, keysUnder-ascending}
+use Rattle.trie.proofs.Listing.{First, first-some, first-none, under-listed, listing-holds}
+use Rattle.trie.proofs.Listing.{keysUnder-ascending}
 use Rattle.trie.proofs.Filter.{first-filter, first-listed, filter-all, filter-out, filter-every}
 use Rattle.trie.proofs.InTurn.{same-turns, in-turn}
 use Rattle.trie.proofs.Few.{listing-few}
@@ -33,8 +35,10 @@ use Rattle.paper.specs.Orders.{checkOrder, nextRows, nextKeyOrder}
 use Rattle.paper.specs.Calls.{tableIn, workAfter, storedKeys, nextIn, foundIn, nextKeyOf}
 use Rattle.paper.specs.Repeated.{keyLeft, keyHeard, askedAfter, askedForAll}
 use Rattle.paper.specs.Accepted.{Accepted}
-use Rattle.paper.proofs.Hearing.{was-false, first-nil, yes-row, no-row, second-part, passed-row, passed-parts, heard-refused, heard-done}
-use Rattle.paper.proofs.Numbers.{AllSay, end, _then_, given-says, parts-say, first-says, none-heard}
+use Rattle.paper.proofs.Hearing.{was-false, first-nil, yes-row, no-row, second-part}
+use Rattle.paper.proofs.Hearing.{passed-row, passed-parts, heard-refused, heard-done}
+use Rattle.paper.proofs.Numbers.{AllSay, end, _then_, given-says, parts-say, first-says}
+use Rattle.paper.proofs.Numbers.{none-heard}
 use Rattle.paper.proofs.Keying.{some-found, Askable, askable-passes, next-says}
 use Rattle.paper.proofs.CheckCall.{checking-says, accepted-checks, accepted-linked}
 
@@ -42,13 +46,15 @@ use Rattle.paper.proofs.CheckCall.{checking-says, accepted-checks, acce
 
 -- "A stored key is one with length in min..max whose data is not 0"
 pub stored-exactly : (l k : List ℕ)
-    → List·Memᴰ k (storedKeys l) ↔ ((headOf l .min ≤ length k) × (length k ≤ headOf l .max) × (answer (tableIn l) k ≢ 0))
+    → List·Memᴰ k (storedKeys l)
+    ↔ ((headOf l .min ≤ length k) × (length k ≤ headOf l .max) × (answer (tableIn l) k ≢ 0))
 unfolding storedKeys tableIn
 stored-exactly l k = listing-holds (framed (headOf l) l) (headOf l .min) (headOf l .max) k
 
 pub stored-ascending : (l : List ℕ) → Ascending (storedKeys l)
 unfolding storedKeys
-stored-ascending l = keysUnder-ascending (tableIn l) (headOf l .n) (headOf l .min) (headOf l .max) 0
+stored-ascending l =
+    keysUnder-ascending (tableIn l) (headOf l .n) (headOf l .min) (headOf l .max) 0
 
 -- 9 and 10 let the key after a stored key be asked for
 pub stored-askable : (l k : List ℕ) → List·Memᴰ k (storedKeys l) → Askable (headOf l) k
@@ -65,7 +71,15 @@ counted-few {l} a = listing-few (accepted-linked a) (headOf l .min) (headOf l .m
 pub counted-fits : {l : List ℕ} → Accepted l → length (storedKeys l) < 2 ^ 32
 counted-fits {l} a =
     let wide = width-least (bounds (headOf l) (a .head-permitted)) in
-    omega (arith, counted-few a, used (headOf l), a .room, a .short-enough, mul-le-mul-right (headOf l .g + 1) wide)
+    omega (
+      arith,
+      counted-few a,
+      used (headOf l),
+      a .room,
+      a .short-enough,
+      mul-le-mul-right
+          (headOf l .g + 1) wide,
+    )
 
 -- ---- one call
 
@@ -75,7 +89,8 @@ nextNumbers = 1 ∷ 2 ∷ 3 ∷ 4 ∷ 5 ∷ 6 ∷ 7 ∷ 8 ∷ 9 ∷ 10 ∷ 14 �
 
 -- a key at the front of a buffer that has room for it is read back
 pub front : (buffer k : List ℕ) → length k ≤ length buffer → take (length k) (sets buffer 0 k) ≡ k
-front buffer k b = ap (take (length k)) (sets-eq k buffer 0 (omega arith)) ∙ take-at k (drop (0 + length k) buffer) (length k) refl
+front buffer k b = ap (take (length k)) (sets-eq k buffer 0 (omega arith))
+    ∙ take-at k (drop (0 + length k) buffer) (length k) refl
 
 module _ (l work key : List ℕ) (after : Bool) (buffer : List ℕ) where
   -- what next key tells and leaves where it gives k
@@ -84,19 +99,24 @@ module _ (l work key : List ℕ) (after : Bool) (buffer : List ℕ) where
     pub first-key : First (meets after key) (storedKeys l) k
     pub length-told : nextKeyOf l work key after buffer .numbers .length ≡ length k
     pub value-told : nextKeyOf l work key after buffer .numbers .value ≡ answer (tableIn l) k
-    pub lent-left : nextKeyOf l work key after buffer .lent ≡ workAfter l work ∷ sets buffer 0 k ∷ []
+    pub lent-left : nextKeyOf l work key after buffer .lent ≡ workAfter l work ∷ sets buffer 0 k
+        ∷ []
 
-  nexting-says : (found : Option (List ℕ)) → AllSay nextNumbers (nextKeyOrder l work key (length buffer) found)
+  nexting-says : (found : Option (List ℕ))
+      → AllSay nextNumbers (nextKeyOrder l work key (length buffer) found)
   unfolding nextKeyOrder row14 row15 among
   nexting-says found =
       parts-say (checking-says l work)
       (parts-say (next-says (headOf l) key)
-      (given-says 14 0 (ltb (length buffer) (headOf l .max)) refl then given-says 15 0 (isNone found) refl then end))
+      (given-says 14 0 (ltb (length buffer) (headOf l .max)) refl then given-says 15 0
+      (isNone found) refl then end))
 
   -- where the check, 9, 10 and 14 pass, 15 decides
-  module _ (checked : first (checkOrder l work) ≡ none) (keyed : first (nextRows (headOf l) key) ≡ none)
+  module _ (checked : first (checkOrder l work) ≡ none)
+      (keyed : first (nextRows (headOf l) key) ≡ none)
       (room : headOf l .max ≤ length buffer) where
-    left-15 : (found : Option (List ℕ)) → first (nextKeyOrder l work key (length buffer) found) ≡ first (row15 found ∷ [])
+    left-15 : (found : Option (List ℕ)) → first (nextKeyOrder l work key (length buffer) found)
+        ≡ first (row15 found ∷ [])
     unfolding nextKeyOrder row14
     left-15 found =
         second-part (checkOrder l work) _ checked
@@ -104,20 +124,24 @@ module _ (l work key : List ℕ) (after : Bool) (buffer : List ℕ) where
         ∙ no-row 14 0 _ (le-ltb (length buffer) (headOf l .max) room)
 
     pub leaves-none : nextIn l key after ≡ none
-        → nextKeyOf l work key after buffer ≡ outcome (refusedNumbers (said 15 0)) (workAfter l work ∷ buffer ∷ [])
+        → nextKeyOf l work key after buffer ≡ outcome (refusedNumbers (said 15 0))
+        (workAfter l work ∷ buffer ∷ [])
     unfolding nextKeyOf row15 isNone
     leaves-none e = rw e (heard-refused _ _ _ (left-15 none ∙ yes-row 15 0 [] refl))
 
-    pub leaves-some : {k : List ℕ} → nextIn l key after ≡ some k → nextKeyOf l work key after buffer ≡ foundIn l work buffer k
+    pub leaves-some : {k : List ℕ} → nextIn l key after ≡ some k
+        → nextKeyOf l work key after buffer ≡ foundIn l work buffer k
     unfolding nextKeyOf row15 isNone orEmpty
-    leaves-some {k} e = rw e (heard-done _ _ _ (left-15 (some k) ∙ no-row 15 0 [] refl ∙ first-nil))
+    leaves-some {k} e =
+        rw e (heard-done _ _ _ (left-15 (some k) ∙ no-row 15 0 [] refl ∙ first-nil))
 
     gives : {k : List ℕ} → nextIn l key after ≡ some k → Gives k
     unfolding nextIn foundIn keyHeard keyLeft doneNumbers
     gives {k} e =
         let o = leaves-some e in
         let f = first-some (meets after key) (storedKeys l) k (stored-ascending l) e in
-        let fits : length k ≤ length buffer = omega (arith, stored-askable l k (f .listed) .short) in
+        let fits : length k ≤ length buffer =
+        omega (arith, stored-askable l k (f .listed) .short) in
         record {
           heard-key = ap keyHeard o ∙ ap (λ (j : List ℕ). some j) (front buffer k fits);
           first-key = f;
@@ -131,7 +155,8 @@ module _ (l work key : List ℕ) (after : Bool) (buffer : List ℕ) where
     unfolding keyHeard refusedNumbers
     hears = go (nextIn l key after) refl
       where
-        go : (found : Option (List ℕ)) → nextIn l key after ≡ found → keyHeard (nextKeyOf l work key after buffer) ≡ nextIn l key after
+        go : (found : Option (List ℕ)) → nextIn l key after ≡ found
+            → keyHeard (nextKeyOf l work key after buffer) ≡ nextIn l key after
         go none e = ap keyHeard (leaves-none e) ∙ sym e
         go (some k) e = gives e .heard-key ∙ sym e
 
@@ -139,18 +164,25 @@ module _ (l work key : List ℕ) (after : Bool) (buffer : List ℕ) where
     pub next-none : (nextKeyOf l work key after buffer .numbers .number ≡ 15)
         ↔ ((k : List ℕ) → List·Memᴰ k (storedKeys l) → meets after key k ≡ false)
     unfolding nextIn foundIn refusedNumbers doneNumbers
-    next-none = (λ z. missed .0 (go (nextIn l key after) refl z), λ h. ap (λ (r : Outcome). r .numbers .number) (leaves-none (missed .1 h)))
+    next-none = (
+      λ z. missed .0 (go (nextIn l key after) refl z),
+      λ h. ap (λ (r : Outcome). r .numbers .number) (leaves-none (missed .1 h)),
+    )
       where
-        missed : (nextIn l key after ≡ none) ↔ ((k : List ℕ) → List·Memᴰ k (storedKeys l) → meets after key k ≡ false)
+        missed : (nextIn l key after ≡ none)
+            ↔ ((k : List ℕ) → List·Memᴰ k (storedKeys l) → meets after key k ≡ false)
         missed = first-none (meets after key) (storedKeys l)
 
-        go : (found : Option (List ℕ)) → nextIn l key after ≡ found → nextKeyOf l work key after buffer .numbers .number ≡ 15
+        go : (found : Option (List ℕ)) → nextIn l key after ≡ found
+            → nextKeyOf l work key after buffer .numbers .number ≡ 15
             → nextIn l key after ≡ none
         go none e z = e
-        go (some k) e z = absurd (omega (arith, z, ap (λ (r : Outcome). r .numbers .number) (leaves-some e)))
+        go (some k) e z =
+            absurd (omega (arith, z, ap (λ (r : Outcome). r .numbers .number) (leaves-some e)))
 
   -- "gives the first stored key that meets it"
-  pub next-is-first : nextKeyOf l work key after buffer .numbers .number ≡ 0 → (k : List ℕ) × Gives k
+  pub next-is-first : nextKeyOf l work key after buffer .numbers .number ≡ 0 → (k : List ℕ)
+      × Gives k
   unfolding nextKeyOf nextKeyOrder row14 row15 among
   next-is-first z =
       let found : Option (List ℕ) = nextIn l key after in
@@ -158,10 +190,14 @@ module _ (l work key : List ℕ) (after : Bool) (buffer : List ℕ) where
       let passes = none-heard _ _ (first-says (nexting-says found)) refl z in
       let after8 = passed-parts (checkOrder l work) (nextRows (headOf l) key ++ last) passes in
       let after10 = passed-parts (nextRows (headOf l) key) last (after8 .1) in
-      let after14 = passed-row (row14 (headOf l) (length buffer)) (row15 found ∷ []) (after10 .1) in
+      let after14 =
+      passed-row (row14 (headOf l) (length buffer)) (row15 found ∷ []) (after10 .1) in
       let after15 = passed-row (row15 found) [] (after14 .1) in
-      let room = ltb-false (length buffer) (headOf l .max) (was-false 14 0 _ (after14 .0)) in
-      (orEmpty found, gives (after8 .0) (after10 .0) room (some-found found (was-false 15 0 _ (after15 .0))))
+      let room = ltb-false (length buffer) (headOf l .max) (was-false 14 0 _ (after14 .0)) in (
+        orEmpty found,
+        gives (after8 .0) (after10 .0) room
+            (some-found found (was-false 15 0 _ (after15 .0))),
+      )
 
 -- ---- calls one after the other
 
@@ -173,30 +209,38 @@ unfolding withKey firstOf meets
 first-and-after [] rest up e = refl
 first-and-after (m ∷ ms) rest up e =
     ap (m ∷_)
-    (e m (List·Memᴰ·head refl) ∙ filter-out (meets true m) m ms (before-irrefl m) ∙ filter-every (meets true m) ms (up .0))
+    (e m (List·Memᴰ·head refl) ∙ filter-out (meets true m) m ms (before-irrefl m) ∙ filter-every
+    (meets true m) ms (up .0))
 
-module _ (l work buffer : List ℕ) (a : Accepted l) (lent : headOf l .g + 1 ≤ length work) (room : headOf l .max ≤ length buffer) where
-  asked : (key : List ℕ) (after : Bool) → Askable (headOf l) key → keyHeard (nextKeyOf l work key after buffer) ≡ nextIn l key after
+module _ (l work buffer : List ℕ) (a : Accepted l) (lent : headOf l .g + 1 ≤ length work)
+    (room : headOf l .max ≤ length buffer) where
+  asked : (key : List ℕ) (after : Bool) → Askable (headOf l) key
+      → keyHeard (nextKeyOf l work key after buffer) ≡ nextIn l key after
   asked key after s =
-      hears l work key after buffer (accepted-checks l work a lent) (askable-passes (headOf l) key s) room
+      hears l work key after buffer (accepted-checks l work a lent)
+      (askable-passes (headOf l) key s) room
 
-  pub listed-after : (k : List ℕ) → LettersBelow (headOf l .n) k → length k ≤ headOf l .max → (times : ℕ) → length (storedKeys l) ≤ times
+  pub listed-after : (k : List ℕ) → LettersBelow (headOf l .n) k → length k ≤ headOf l .max
+      → (times : ℕ) → length (storedKeys l) ≤ times
       → askedAfter l work buffer times k ≡ filter (meets true k) (storedKeys l)
   unfolding askedAfter nextIn
   listed-after k below short times enough =
-      same-turns (λ j. keyHeard (nextKeyOf l work j true buffer)) (λ j. nextIn l j true) (Askable (headOf l))
+      same-turns (λ j. keyHeard (nextKeyOf l work j true buffer)) (λ j. nextIn l j true)
+      (Askable (headOf l))
       (λ j. asked j true)
       (λ j m e. stored-askable l m (first-listed (meets true j) (storedKeys l) e .0))
       times k (record { short = short; below = below })
       ∙ in-turn (storedKeys l) (stored-ascending l) times enough k
 
   -- "The listing names each stored key once, in order"
-  pub listed-all : (times : ℕ) → length (storedKeys l) ≤ times → askedForAll l work buffer times ≡ storedKeys l
+  pub listed-all : (times : ℕ) → length (storedKeys l) ≤ times → askedForAll l work buffer times
+      ≡ storedKeys l
   unfolding askedForAll nextIn
   listed-all times enough =
       let rest : List ℕ → List (List ℕ) = askedAfter l work buffer times in
       let found : nextIn l [] false ≡ firstOf (storedKeys l) =
       first-filter (meets false []) (storedKeys l) ∙ ap firstOf (filter-all (storedKeys l)) in
-      ap (λ (o : Option (List ℕ)). withKey o (λ k. k ∷ rest k)) (asked [] false (record { short = omega arith; below = tt }) ∙ found)
+      ap (λ (o : Option (List ℕ)). withKey o (λ k. k ∷ rest k))
+      (asked [] false (record { short = omega arith; below = tt }) ∙ found)
       ∙ first-and-after (storedKeys l) rest (stored-ascending l)
       (λ m h. let s = stored-askable l m h in listed-after m (s .below) (s .short) times enough)

@@ -1,5 +1,5 @@
--- 1 to 4, row by row, for whoever opens an image: which is heard when, and what is known where none is. Each law goes down the order by the
--- laws of `Hearing`.
+-- 1 to 4, row by row, for whoever opens an image: which is heard when, and what is known where
+-- none is. Each law goes down the order by the laws of `Hearing`.
 use Prim.Native.Nat.{ℕ, _+_, _≤_, _<_}
 use mathlib.Core.Path.{_≡_, refl, _∙_}
 use mathlib.Core.Bool.{Bool, true, false, not, _&&_, and-false}
@@ -21,7 +21,8 @@ use Rattle.paper.specs.Answers.{said}
 use Rattle.paper.specs.Rows.{row1, row2, row3, row4}
 use Rattle.paper.specs.Given.{alphabetIn}
 use Rattle.paper.specs.Orders.{openingRows}
-use Rattle.paper.proofs.Hearing.{is-given, not-given, untrue, unfalse, yes-row, no-row, passed-row, was-false}
+use Rattle.paper.proofs.Hearing.{is-given, not-given, untrue, unfalse, yes-row, no-row}
+use Rattle.paper.proofs.Hearing.{passed-row, was-false}
 use Rattle.paper.proofs.Numbers.{AllSay, given-says, end, _then_}
 
 -- the order's last row alone is the row
@@ -44,22 +45,27 @@ module _ (h : Head) (alphabet : List ℕ) (len : ℕ) where
   abbrev pub spoilt : Bool
   spoilt = ltb 0 (h .f) && eqb (length alphabet) (h .f) && not (goodAlphabet (h .n) alphabet)
 
-  pub heard-1 : between len shortestImage longestImage ≡ false → first (openingRows h alphabet len) ≡ some (said 1 0)
+  pub heard-1 : between len shortestImage longestImage ≡ false → first (openingRows h alphabet len)
+      ≡ some (said 1 0)
   unfolding openingRows row1
   heard-1 e = yes-row 1 0 _ (unfalse e)
 
-  pub heard-2 : between len shortestImage longestImage ≡ true → permitted h ≡ false → first (openingRows h alphabet len) ≡ some (said 2 0)
+  pub heard-2 : between len shortestImage longestImage ≡ true → permitted h ≡ false
+      → first (openingRows h alphabet len) ≡ some (said 2 0)
   unfolding openingRows row1 row2
   heard-2 e p = no-row 1 0 _ (untrue e) ∙ yes-row 2 0 _ (unfalse p)
 
-  pub heard-3 : between len shortestImage longestImage ≡ true → permitted h ≡ true → spoilt ≡ true → first (openingRows h alphabet len) ≡ some (said 3 0)
+  pub heard-3 : between len shortestImage longestImage ≡ true → permitted h ≡ true → spoilt ≡ true
+      → first (openingRows h alphabet len) ≡ some (said 3 0)
   unfolding openingRows row1 row2 row3
   heard-3 e p s = no-row 1 0 _ (untrue e) ∙ no-row 2 0 _ (untrue p) ∙ yes-row 3 0 _ s
 
   -- where 1 to 3 have passed, what is heard is row 4
-  pub left-4 : between len shortestImage longestImage ≡ true → permitted h ≡ true → spoilt ≡ false → first (openingRows h alphabet len) ≡ row4 h len
+  pub left-4 : between len shortestImage longestImage ≡ true → permitted h ≡ true → spoilt ≡ false
+      → first (openingRows h alphabet len) ≡ row4 h len
   unfolding openingRows row1 row2 row3
-  left-4 e p s = no-row 1 0 _ (untrue e) ∙ no-row 2 0 _ (untrue p) ∙ no-row 3 0 _ s ∙ last-row (row4 h len)
+  left-4 e p s =
+      no-row 1 0 _ (untrue e) ∙ no-row 2 0 _ (untrue p) ∙ no-row 3 0 _ s ∙ last-row (row4 h len)
 
   -- what an image that was opened is known to be
   pub record Passed : Type 0 where
@@ -92,7 +98,8 @@ module _ (h : Head) (alphabet : List ℕ) (len : ℕ) where
       then end
 
   -- row 3 asks that the alphabet is good where F is above 0 and all of it is there
-  pub good-unspoilt : (0 < h .f → length alphabet ≡ h .f → goodAlphabet (h .n) alphabet ≡ true) → spoilt ≡ false
+  pub good-unspoilt : (0 < h .f → length alphabet ≡ h .f → goodAlphabet (h .n) alphabet ≡ true)
+      → spoilt ≡ false
   good-unspoilt good = go (decLe 1 (h .f)) (ℕ-discrete (length alphabet) (h .f))
     where
       go : Dec (0 < h .f) → Dec (length alphabet ≡ h .f) → spoilt ≡ false
@@ -100,21 +107,27 @@ module _ (h : Head) (alphabet : List ℕ) (len : ℕ) where
       go (yes b) (no d) = rw (ne-eqb (length alphabet) (h .f) d, and-false (ltb 0 (h .f)))
       go (yes b) (yes e) = rw (good b e) (and-false (ltb 0 (h .f) && eqb (length alphabet) (h .f)))
 
-  pub unspoilt-good : spoilt ≡ false → 0 < h .f → length alphabet ≡ h .f → goodAlphabet (h .n) alphabet ≡ true
-  unspoilt-good s f w = not-false _ (simp (lt-ltb 0 (h .f) f, eq-eqb (length alphabet) (h .f) w) at s)
+  pub unspoilt-good : spoilt ≡ false → 0 < h .f → length alphabet ≡ h .f
+      → goodAlphabet (h .n) alphabet ≡ true
+  unspoilt-good s f w =
+      not-false _ (simp (lt-ltb 0 (h .f) f, eq-eqb (length alphabet) (h .f) w) at s)
 
 -- images of one length whose F bytes after the fields are the same have the same alphabet
 pub alphabet-same : (h : Head) (a b : List ℕ) → length a ≡ length b
-    → ((i : ℕ) → i < h .f → getD a (fieldsLen + i) 0 ≡ getD b (fieldsLen + i) 0) → alphabetIn h a ≡ alphabetIn h b
+    → ((i : ℕ) → i < h .f → getD a (fieldsLen + i) 0 ≡ getD b (fieldsLen + i) 0) → alphabetIn h a
+    ≡ alphabetIn h b
 unfolding alphabetIn
 alphabet-same h a b n e =
-    ext-getD 0 (take (h .f) (drop fieldsLen a)) (take (h .f) (drop fieldsLen b)) (simp (length-take, length-drop, n))
+    ext-getD 0 (take (h .f) (drop fieldsLen a)) (take (h .f) (drop fieldsLen b))
+    (simp (length-take, length-drop, n))
     (λ i c.
     let d : i < h .f = omega (arith, simp length-take at c) in
     simp (getD-take, getD-drop) (e i d))
 
 -- where what is used lies inside the image, so does the alphabet
-pub alphabet-whole : (h : Head) (l : List ℕ) → usedLen h ≤ length l → length (alphabetIn h l) ≡ h .f
+pub alphabet-whole : (h : Head) (l : List ℕ) → usedLen h ≤ length l → length (alphabetIn h l)
+    ≡ h .f
 unfolding alphabetIn
 alphabet-whole h l b =
-    length-take-le (h .f) (drop fieldsLen l) (omega (arith, length-drop fieldsLen l, used-le h 0 (omega arith), place-least h 0))
+    length-take-le (h .f) (drop fieldsLen l)
+    (omega (arith, length-drop fieldsLen l, used-le h 0 (omega arith), place-least h 0))

@@ -1,5 +1,6 @@
--- Demand 3: what a store that is not refused does to an image, to its answers and to its stored keys, and for which reasons a store is
--- refused. The image after a store is the table after a store (`stored-table`), so the laws on tables are laws on images.
+-- Demand 3: what a store that is not refused does to an image, to its answers and to its stored
+-- keys, and for which reasons a store is refused. The image after a store is the table after a
+-- store (`stored-table`), so the laws on tables are laws on images.
 use Prim.Native.Nat.{ℕ, zero, suc, _+_, _-_, _*_, _^_, _≤_, _<_}
 use mathlib.Core.Path.{_≡_, refl, sym, ap, ap₂, subst, _∙_}
 use mathlib.Core.Bool.{Bool, true, false, _&&_, and-false}
@@ -40,31 +41,40 @@ use Rattle.node.proofs.Tables.{framed}
 use Rattle.node.proofs.StoreOnTable.{length-carried, Storable, store-new, store-over, store-head}
 use Rattle.node.proofs.Frame.{EndsIn, frame, none-before, spare}
 use Rattle.paper.specs.Hearing.{Said, Row, Outcome, first, heard, outcome, doneNumbers}
-use Rattle.paper.specs.Rows.{row5, badLink, row9, row10, row11, row12, row13, row6At, row6path}
+use Rattle.paper.specs.Rows.{row5, badLink, row9, row10, row11, row12, row13, row6At}
+use Rattle.paper.specs.Rows.{row6path}
 use Rattle.paper.specs.Given.{Given, asLetters, asText, alphabetIn, meantBy, meantIn, keyIn}
-use Rattle.paper.specs.Orders.{openingRowsOf, checkOrder, lettersRows, textRows, keyRowsBy, keyRows, lookUpOrder, addingRows, newOf, storeOrder}
-use Rattle.paper.specs.Calls.{tableIn, workAfter, storedKeys, telling, lookUpOf, storedImage, storeOf}
+use Rattle.paper.specs.Orders.{openingRowsOf, checkOrder, lettersRows, textRows, keyRowsBy}
+use Rattle.paper.specs.Orders.{keyRows, lookUpOrder, addingRows, newOf, storeOrder}
+use Rattle.paper.specs.Calls.{tableIn, workAfter, storedKeys, telling, lookUpOf, storedImage}
+use Rattle.paper.specs.Calls.{storeOf}
 use Rattle.paper.specs.Accepted.{Accepted}
 use Rattle.paper.specs.Granted.{Granted}
-use Rattle.paper.proofs.Hearing.{not-given, was-false, first-nil, first-none, yes-row, no-row, first-part, second-part, passed-row, passed-parts, silent-end, heard-done, heard-alike, kept-lent}
-use Rattle.paper.proofs.Numbers.{AllSay, end, _then_, given-says, parts-say, first-says, one-of, none-heard}
+use Rattle.paper.proofs.Hearing.{not-given, was-false, first-nil, first-none, yes-row}
+use Rattle.paper.proofs.Hearing.{no-row, first-part, second-part, passed-row, passed-parts}
+use Rattle.paper.proofs.Hearing.{silent-end, heard-done, heard-alike, kept-lent}
+use Rattle.paper.proofs.Numbers.{AllSay, end, _then_, given-says, parts-say, first-says}
+use Rattle.paper.proofs.Numbers.{one-of, none-heard}
 use Rattle.paper.proofs.Opening.{alphabet-same}
 use Rattle.paper.proofs.Keying.{keyNumbers, given-meant, fit-given, given-says-key}
-use Rattle.paper.proofs.CheckCall.{accepted-opens, check-accepts, accepted-checks, checking-says, checked, accepted-linked}
+use Rattle.paper.proofs.CheckCall.{accepted-opens, check-accepts, accepted-checks}
+use Rattle.paper.proofs.CheckCall.{checking-says, checked, accepted-linked}
 use Rattle.paper.proofs.Linking.{ruled-link}
 use Rattle.paper.proofs.LookUpCall.{given-fit}
 
 -- ---- the head and the table after it
 
 -- where nodes are missing, what is granted is what the writes of the new ones ask
-pub able : {l key : List ℕ} {v q x : ℕ} {xs : List ℕ} → Granted l key (suc v) → descend (tableIn l) 0 key ≡ stopped q x xs
+pub able : {l key : List ℕ} {v q x : ℕ} {xs : List ℕ} → Granted l key (suc v)
+    → descend (tableIn l) 0 key ≡ stopped q x xs
     → Storable (headOf l) l q x xs (suc v)
 unfolding tableIn newOf missing added
 able {l} {key} {v} {xs = xs} s e =
     let h : Head = headOf l in
     let r = room key (accepted-linked (s .accepted)) (s .fit .below) e in
     let k : newOf h l key (suc v) ≡ suc (length xs) = rw e in
-    let lies : usedLen h + suc (length xs) * nodeWidth h ≤ length l = rw k at (s .room (omega arith)) in
+    let lies : usedLen h + suc (length xs) * nodeWidth h ≤ length l =
+    rw k at (s .room (omega arith)) in
     record {
       node = r .node;
       letters = r .letters;
@@ -73,10 +83,12 @@ able {l} {key} {v} {xs = xs} s e =
       room = rw (used-more h (suc (length xs))) lies;
     }
 
--- what the writes of a store make of them, where the key's walk ended so and g is the G there will be
+-- what the writes of a store make of them, where the key's walk ended so and g is the G there will
+-- be
 record Written (l : List ℕ) (d : Descent) (v g : ℕ) : Type 0 where
   head : headOf (carriedOut l (storeWrites (headOf l) d v)) ≡ withTotal (headOf l) g
-  table : tableOf (withTotal (headOf l) g) (carriedOut l (storeWrites (headOf l) d v)) ≡ storedBy d (tableOf (headOf l) l) (headOf l .g) v
+  table : tableOf (withTotal (headOf l) g) (carriedOut l (storeWrites (headOf l) d v))
+      ≡ storedBy d (tableOf (headOf l) l) (headOf l .g) v
 
 module _ {l key : List ℕ} {value : ℕ} (s : Granted l key value) where
   -- where the key's walk ends
@@ -84,8 +96,10 @@ module _ {l key : List ℕ} {value : ℕ} (s : Granted l key value) where
   ends = go (descend (tableIn l) 0 key) refl
     where
       go : (d : Descent) → descend (tableIn l) 0 key ≡ d → EndsIn (headOf l) d
-      go (complete q) e = complete-within (tableIn l) (headOf l .g) key (s .accepted .links .within) e
-      go (stopped q x xs) e = let r = room key (accepted-linked (s .accepted)) (s .fit .below) e in (r .node, r .letters)
+      go (complete q) e =
+          complete-within (tableIn l) (headOf l .g) key (s .accepted .links .within) e
+      go (stopped q x xs) e = let r = room key (accepted-linked (s .accepted)) (s .fit .below) e in
+          (r .node, r .letters)
 
   written : (d : Descent) (v : ℕ) → descend (tableIn l) 0 key ≡ d → value ≡ v → EndsIn (headOf l) d
       → Written l d v (headOf l .g + added (missing d) v)
@@ -95,19 +109,23 @@ module _ {l key : List ℕ} {value : ℕ} (s : Granted l key value) where
       let same : h .g + added 0 v ≡ h .g = ap (h .g +_) (none-added v) ∙ add-zero (h .g) in
       rw same
       (record {
-        head = head-outside l (digits (h .d) v) (dataPlace h q) (omega (arith, data-from h q, place-least h q));
+        head = head-outside l (digits (h .d) v) (dataPlace h q)
+            (omega (arith, data-from h q, place-least h q));
         table = store-over h l q v (s .accepted .room) i (rw (← f) (s .value-fits));
       })
-  written (stopped q x xs) zero e f i = rw (add-zero (headOf l .g)) (record { head = refl; table = refl })
+  written (stopped q x xs) zero e f i =
+      rw (add-zero (headOf l .g)) (record { head = refl; table = refl })
   written (stopped q x xs) (suc v) e f i =
       let a = able (subst (Granted l key) f s) e in
       let narrow = addresses-fit (bounds (headOf l) (s .accepted .head-permitted)) in
       record {
-        head = store-head (headOf l) l q x xs v (omega (arith, s .accepted .long-enough)) (omega (arith, a .addresses));
+        head = store-head (headOf l) l q x xs v (omega (arith, s .accepted .long-enough))
+            (omega (arith, a .addresses));
         table = store-new (headOf l) l q x xs v a;
       }
 
-  pub stored-head : headOf (storedImage l key value) ≡ withTotal (headOf l) (headOf l .g + newOf (headOf l) l key value)
+  pub stored-head : headOf (storedImage l key value) ≡ withTotal (headOf l)
+      (headOf l .g + newOf (headOf l) l key value)
   unfolding storedImage newOf tableIn
   stored-head = written (descend (tableIn l) 0 key) value refl refl ends .head
 
@@ -120,7 +138,8 @@ module _ {l key : List ℕ} {value : ℕ} (s : Granted l key value) where
 -- whether it is granted or not
 pub stored-length : (l key : List ℕ) (value : ℕ) → length (storedImage l key value) ≡ length l
 unfolding storedImage
-stored-length l key value = length-carried l (storeWrites (headOf l) (descend (tableIn l) 0 key) value)
+stored-length l key value =
+    length-carried l (storeWrites (headOf l) (descend (tableIn l) 0 key) value)
 
 -- ---- the bytes
 
@@ -132,11 +151,14 @@ module _ {l key : List ℕ} {value : ℕ} (s : Granted l key value) where
   stored-frame p miss = frame (headOf l) l (descend (tableIn l) 0 key) value p (ends s) miss
 
   -- "bytes from U on are spare", with the U there is now
-  pub stored-spare : (p : ℕ) → usedLen (headOf (storedImage l key value)) ≤ p → getD (storedImage l key value) p 0 ≡ getD l p 0
+  pub stored-spare : (p : ℕ) → usedLen (headOf (storedImage l key value)) ≤ p
+      → getD (storedImage l key value) p 0 ≡ getD l p 0
   unfolding storedImage newOf tableIn
-  stored-spare p b = spare (headOf l) l (descend (tableIn l) 0 key) value p (ends s) (subst (λ (h : Head). usedLen h ≤ p) (stored-head s) b)
+  stored-spare p b = spare (headOf l) l (descend (tableIn l) 0 key) value p (ends s)
+      (subst (λ (h : Head). usedLen h ≤ p) (stored-head s) b)
 
-  pub stored-alphabet : alphabetIn (headOf (storedImage l key value)) (storedImage l key value) ≡ alphabetIn (headOf l) l
+  pub stored-alphabet : alphabetIn (headOf (storedImage l key value)) (storedImage l key value)
+      ≡ alphabetIn (headOf l) l
   unfolding alphabetIn
   stored-alphabet =
       rw (stored-head s)
@@ -146,7 +168,8 @@ module _ {l key : List ℕ} {value : ℕ} (s : Granted l key value) where
   -- ---- the rules
 
   stored-room : usedLen (headOf (storedImage l key value)) ≤ length (storedImage l key value)
-  stored-room = rw (stored-head s, stored-length l key value, used-more (headOf l) k) (go (ℕ-discrete k 0))
+  stored-room =
+      rw (stored-head s, stored-length l key value, used-more (headOf l) k) (go (ℕ-discrete k 0))
     where
       k : ℕ
       k = newOf (headOf l) l key value
@@ -155,7 +178,8 @@ module _ {l key : List ℕ} {value : ℕ} (s : Granted l key value) where
       go (yes z) = rw z (omega (arith, s .accepted .room))
       go (no z) = s .room (omega arith)
 
-  stored-links : LinkRules (stored (tableIn l) (headOf l .g) key value) (headOf l .g + newOf (headOf l) l key value)
+  stored-links : LinkRules (stored (tableIn l) (headOf l .g) key value)
+      (headOf l .g + newOf (headOf l) l key value)
   unfolding newOf tableIn
   stored-links = stored-rules (framed (headOf l) l) (s .accepted .links) key (s .fit .below) value
 
@@ -186,11 +210,14 @@ module _ (l : List ℕ) (given : Given) (opened : first (openingRowsOf l) ≡ no
   -- none of 1 to 4 and no 6 is heard, so the part for the key alone decides
   key-decides : first (lookUpOrder l given) ≡ first (keyRows l given)
   unfolding lookUpOrder row6path tableIn
-  key-decides = second-part (openingRowsOf l) _ opened ∙ silent-end (keyRows l given) _ (first-none _ [] (quiet fair) ∙ first-nil)
+  key-decides = second-part (openingRowsOf l) _ opened ∙ silent-end (keyRows l given) _
+      (first-none _ [] (quiet fair) ∙ first-nil)
 
-  pub looks-up-open : lookUpOf l given ≡ heard (first (keyRows l given)) [] (telling (answer (tableIn l) (keyIn l given)))
+  pub looks-up-open : lookUpOf l given ≡ heard (first (keyRows l given)) []
+      (telling (answer (tableIn l) (keyIn l given)))
   unfolding lookUpOf
-  looks-up-open = ap (λ (r : Row). heard r [] (telling (answer (tableIn l) (keyIn l given)))) key-decides
+  looks-up-open =
+      ap (λ (r : Row). heard r [] (telling (answer (tableIn l) (keyIn l given)))) key-decides
 
 -- ---- and in an accepted image
 
@@ -206,27 +233,32 @@ module _ {l : List ℕ} (a : Accepted l) where
       bad : ℕ → ℕ → Bool
       bad = badLink (headOf l .g)
 
-      go : Dec (c ≡ 0) → fault bad (tableIn l) c xs ≡ none → fault bad (tableIn l) q (x ∷ xs) ≡ none
+      go : Dec (c ≡ 0) → fault bad (tableIn l) c xs ≡ none → fault bad (tableIn l) q (x ∷ xs)
+          ≡ none
       go (yes e) rest = fault-empty bad (tableIn l) q x xs e
       go (no e) rest =
           fault-on bad (tableIn l) q x xs refl e (ruled-link (a .links) q x e) ∙ rest
 
-  pub looks-up-accepted : (given : Given) → lookUpOf l given ≡ heard (first (keyRows l given)) [] (telling (answer (tableIn l) (keyIn l given)))
+  pub looks-up-accepted : (given : Given) → lookUpOf l given ≡ heard (first (keyRows l given)) []
+      (telling (answer (tableIn l) (keyIn l given)))
   looks-up-accepted given = looks-up-open l given (accepted-opens a) (unfaulted 0 (keyIn l given))
 
 -- ---- the part for the key, where G alone changed and the alphabet did not
 
-pub keying-total : (h : Head) (g : ℕ) (alphabet : List ℕ) (given : Given) → keyRowsBy (withTotal h g) alphabet given ≡ keyRowsBy h alphabet given
+pub keying-total : (h : Head) (g : ℕ) (alphabet : List ℕ) (given : Given)
+    → keyRowsBy (withTotal h g) alphabet given ≡ keyRowsBy h alphabet given
 unfolding keyRowsBy lettersRows textRows row9 row10
 keying-total h g alphabet (asLetters key) = refl
 keying-total h g alphabet (asText text) = refl
 
-module _ (a b : List ℕ) {g : ℕ} (heads : headOf a ≡ withTotal (headOf b) g) (alphabets : alphabetIn (headOf a) a ≡ alphabetIn (headOf b) b)
+module _ (a b : List ℕ) {g : ℕ} (heads : headOf a ≡ withTotal (headOf b) g)
+    (alphabets : alphabetIn (headOf a) a ≡ alphabetIn (headOf b) b)
     (given : Given) where
   pub same-keying : keyRows a given ≡ keyRows b given
   unfolding keyRows
   same-keying =
-      ap₂ (λ (h : Head) (alphabet : List ℕ). keyRowsBy h alphabet given) heads alphabets ∙ keying-total (headOf b) g (alphabetIn (headOf b) b) given
+      ap₂ (λ (h : Head) (alphabet : List ℕ). keyRowsBy h alphabet given) heads alphabets
+      ∙ keying-total (headOf b) g (alphabetIn (headOf b) b) given
 
   pub same-meant : meantIn a given ≡ meantIn b given
   unfolding meantIn
@@ -243,11 +275,14 @@ module _ {l key : List ℕ} {value : ℕ} (s : Granted l key value) (given : Giv
   after = storedImage l key value
 
   -- 9 and 10 are what they were, and the key that is meant is the same
-  looks-after : lookUpOf after given ≡ heard (first (keyRows l given)) [] (telling (answer (tableIn after) (keyIn l given)))
+  looks-after : lookUpOf after given ≡ heard (first (keyRows l given)) []
+      (telling (answer (tableIn after) (keyIn l given)))
   looks-after =
       looks-up-accepted (accepted-again s) given
-      ∙ ap₂ (λ (rows : List Row) (k : List ℕ). heard (first rows) [] (telling (answer (tableIn after) k)))
-      (same-keying after l (stored-head s) (stored-alphabet s) given) (same-key after l (stored-head s) (stored-alphabet s) given)
+      ∙ ap₂ (λ (rows : List Row) (k : List ℕ). heard (first rows) []
+      (telling (answer (tableIn after) k)))
+      (same-keying after l (stored-head s) (stored-alphabet s) given)
+      (same-key after l (stored-head s) (stored-alphabet s) given)
 
   -- the key answers the value, by letters and by every text that means it
   pub stored-answers : meantIn l given ≡ some key → lookUpOf after given ≡ telling value
@@ -268,7 +303,8 @@ module _ {l key : List ℕ} {value : ℕ} (s : Granted l key value) (given : Giv
       λ e.
       let meant = given-meant (headOf l) (alphabetIn (headOf l) l) given e in
       ap (λ (t : Table). answer t k) (stored-table s)
-      ∙ stored-answer-other (accepted-linked (s .accepted)) key (s .fit .below) value k (λ f. other (meant ∙ ap (λ (x : List ℕ). some x) f)) in
+      ∙ stored-answer-other (accepted-linked (s .accepted)) key (s .fit .below) value k
+      (λ f. other (meant ∙ ap (λ (x : List ℕ). some x) f)) in
       looks-after
       ∙ heard-alike (first (keyRows l given)) [] (λ e. ap telling (same e))
       ∙ sym (looks-up-accepted (s .accepted) given)
@@ -282,10 +318,12 @@ module _ {l key : List ℕ} {value : ℕ} (s : Granted l key value) where
   unfolding storedKeys
   stored-change =
       let b = between-true (length key) (headOf l .min) (headOf l .max) (s .fit .allowed) in
-      ap₂ (λ (h : Head) (t : Table). pos (length (listing t (h .n) (h .min) (h .max)))) (stored-head s) (stored-table s)
-      ∙ stored-count (accepted-linked (s .accepted)) key (s .fit .below) value (headOf l .min) (headOf l .max) (b .0) (b .1)
+      ap₂ (λ (h : Head) (t : Table). pos (length (listing t (h .n) (h .min) (h .max))))
+      (stored-head s) (stored-table s)
+      ∙ stored-count (accepted-linked (s .accepted)) key (s .fit .below) value (headOf l .min)
+      (headOf l .max) (b .0) (b .1)
 
--- ---- 11, 12 and 13: none of them is given exactly where the value, the new addresses and the new nodes fit
+-- ---- 11, 12 and 13: none is given exactly where value, new addresses and new nodes fit
 
 -- a test "with k above 0"
 with-new : (k most x : ℕ) → ((ltb 0 k && ltb most x) ≡ false) ↔ (0 < k → x ≤ most)
@@ -299,7 +337,12 @@ module _ (h : Head) where
   pub none-11 : (value : ℕ) → (row11 h value ≡ none) ↔ (value < 256 ^ h .d)
   unfolding row11
   none-11 value = (
-    λ e. omega (arith, ltb-false (256 ^ h .d - 1) value (was-false 11 0 _ e), one-le-pow (h .d) 256 (omega arith)),
+    λ e. omega (
+      arith,
+      ltb-false (256 ^ h .d - 1) value (was-false 11 0 _ e),
+      one-le-pow (h .d) 256
+          (omega arith),
+    ),
     λ b. not-given 11 0 (le-ltb (256 ^ h .d - 1) value (omega arith)),
   )
 
@@ -350,7 +393,8 @@ module _ (l work : List ℕ) (given : Given) (value : ℕ) where
 
   -- what an order that passed tells of its parts
   pub order-passed : first (storeOrder l work given value) ≡ none
-      → (first (checkOrder l work) ≡ none) × (first (keyRows l given) ≡ none) × (first (valued l key value) ≡ none)
+      → (first (checkOrder l work) ≡ none) × (first (keyRows l given) ≡ none)
+      × (first (valued l key value) ≡ none)
   unfolding storeOrder
   order-passed e =
       let after8 = passed-parts (checkOrder l work) (keyRows l given ++ valued l key value) e in
@@ -377,12 +421,14 @@ module _ (l work : List ℕ) (given : Given) (value : ℕ) where
       }
 
   -- and one that is granted passes them, where its key does and the working numbers are enough
-  pub grants : Granted l key value → headOf l .g + 1 ≤ length work → first (keyRows l given) ≡ none → first (storeOrder l work given value) ≡ none
+  pub grants : Granted l key value → headOf l .g + 1 ≤ length work → first (keyRows l given) ≡ none
+      → first (storeOrder l work given value) ≡ none
   unfolding storeOrder addingRows
   grants s lent passes =
       let h : Head = headOf l in
       let k : ℕ = newOf h l key value in
-      second-part (checkOrder l work) (keyRows l given ++ valued l key value) (accepted-checks l work (s .accepted) lent)
+      second-part (checkOrder l work) (keyRows l given ++ valued l key value)
+      (accepted-checks l work (s .accepted) lent)
       ∙ second-part (keyRows l given) (valued l key value) passes
       ∙ first-none (row11 h value) _ (none-11 h value .1 (s .value-fits))
       ∙ first-none (row12 h k) _ (none-12 h k .1 (s .addresses))
@@ -391,20 +437,24 @@ module _ (l work : List ℕ) (given : Given) (value : ℕ) where
 
   -- in an accepted image 5 is asked, then the key's part, then the value's
   pub accepted-order : Accepted l
-      → first (storeOrder l work given value) ≡ first (row5 (headOf l) (length work) ∷ (keyRows l given ++ valued l key value))
+      → first (storeOrder l work given value)
+      ≡ first (row5 (headOf l) (length work) ∷ (keyRows l given ++ valued l key value))
   unfolding storeOrder checkOrder row5
   accepted-order a = go (decLe (headOf l .g + 1) (length work))
     where
       rest : List Row
       rest = keyRows l given ++ valued l key value
 
-      go : Dec (headOf l .g + 1 ≤ length work) → first (storeOrder l work given value) ≡ first (row5 (headOf l) (length work) ∷ rest)
+      go : Dec (headOf l .g + 1 ≤ length work) → first (storeOrder l work given value)
+          ≡ first (row5 (headOf l) (length work) ∷ rest)
       go (yes b) =
           second-part (checkOrder l work) rest (accepted-checks l work a b)
           ∙ sym (no-row 5 0 rest (le-ltb (length work) (headOf l .g + 1) b))
       go (no b) =
-          let few : ltb (length work) (headOf l .g + 1) ≡ true = lt-ltb (length work) (headOf l .g + 1) (omega arith) in
-          first-part (checkOrder l work) rest (second-part (openingRowsOf l) _ (accepted-opens a) ∙ yes-row 5 0 _ few)
+          let few : ltb (length work) (headOf l .g + 1) ≡ true =
+          lt-ltb (length work) (headOf l .g + 1) (omega arith) in
+          first-part (checkOrder l work) rest (second-part (openingRowsOf l) _ (accepted-opens a)
+          ∙ yes-row 5 0 _ few)
           ∙ sym (yes-row 5 0 rest few)
 
   says : AllSay keyNumbers (keyRows l given)
@@ -412,19 +462,22 @@ module _ (l work : List ℕ) (given : Given) (value : ℕ) where
   says = given-says-key (headOf l) (alphabetIn (headOf l) l) given
 
   -- the reasons for which a store in an accepted image is refused
-  pub store-refuses : {s : Said} → Accepted l → first (storeOrder l work given value) ≡ some s → among (s .number) acceptedNumbers ≡ true
+  pub store-refuses : {s : Said} → Accepted l → first (storeOrder l work given value) ≡ some s
+      → among (s .number) acceptedNumbers ≡ true
   unfolding row5 among
   store-refuses a e =
       let five : AllSay (5 ∷ []) (row5 (headOf l) (length work) ∷ []) =
       given-says 5 0 (ltb (length work) (headOf l .g + 1)) refl then end in
-      one-of (first-says (parts-say five (parts-say says (valued-says l key value)))) (sym (accepted-order a) ∙ e)
+      one-of (first-says (parts-say five (parts-say says (valued-says l key value))))
+      (sym (accepted-order a) ∙ e)
 
   pub storing-says : AllSay storeNumbers (storeOrder l work given value)
   unfolding storeOrder
   storing-says = parts-say (checking-says l work) (parts-say says (valued-says l key value))
 
   -- number 0 is said by no row
-  pub store-passed : storeOf l work given value .numbers .number ≡ 0 → first (storeOrder l work given value) ≡ none
+  pub store-passed : storeOf l work given value .numbers .number ≡ 0
+      → first (storeOrder l work given value) ≡ none
   unfolding storeOf among
   store-passed z = none-heard _ _ (first-says storing-says) refl z
 
@@ -434,29 +487,43 @@ module _ (l work : List ℕ) (given : Given) (value : ℕ) where
   -- the key that it means
   pub store-means : storeOf l work given value .numbers .number ≡ 0 → meantIn l given ≡ some key
   unfolding keyRows keyIn meantIn
-  store-means z = given-meant (headOf l) (alphabetIn (headOf l) l) given (order-passed (store-passed z) .1)
+  store-means z =
+      given-meant (headOf l) (alphabetIn (headOf l) l) given (order-passed (store-passed z) .1)
 
   -- what a store that is done answers and leaves
   pub store-leaves : storeOf l work given value .numbers .number ≡ 0
       → storeOf l work given value
-      ≡ outcome (doneNumbers 0 (changeOf (answer (tableIn l) key) value) 0) (storedImage l key value ∷ workAfter l work ∷ [])
+      ≡ outcome (doneNumbers 0 (changeOf (answer (tableIn l) key) value) 0)
+      (storedImage l key value ∷ workAfter l work ∷ [])
   unfolding storeOf
   store-leaves z = heard-done (first (storeOrder l work given value)) _ _ (store-passed z)
 
-  -- it is done exactly where enough working numbers are lent, a key is meant, and it is granted for that key
+  -- it is done exactly where enough working numbers are lent, a key is meant, and it is granted
+  -- for that key
   pub store-done-exactly : (storeOf l work given value .numbers .number ≡ 0)
-      ↔ ((headOf l .g + 1 ≤ length work) × (k : List ℕ) × (meantIn l given ≡ some k) × Granted l k value)
+      ↔ ((headOf l .g + 1 ≤ length work) × (k : List ℕ) × (meantIn l given ≡ some k)
+      × Granted l k value)
   unfolding storeOf doneNumbers keyRows keyIn meantIn orEmpty
   store-done-exactly = (
-    λ z. (checked l work (order-passed (store-passed z) .0) .lent, key, store-means z, store-granted z),
+    λ z. (
+      checked l work (order-passed (store-passed z) .0) .lent,
+      key,
+      store-means z,
+      store-granted z,
+    ),
     λ s.
         let (lent, k, e, g) = s in
         let same : key ≡ k = ap orEmpty e in
         let passes = fit-given (headOf l) (alphabetIn (headOf l) l) given e (g .fit) in
-        ap (λ (o : Outcome). o .numbers .number) (heard-done _ _ _ (grants (subst (λ (j : List ℕ). Granted l j value) (sym same) g) lent passes)),
+        ap (λ (o : Outcome). o .numbers .number)
+        (heard-done _ _ _ (grants (subst (λ (j : List ℕ). Granted l j value) (sym same) g) lent
+        passes)),
   )
 
-  -- "A refused call changes nothing in the image or in any other lent buffer but the working numbers"
-  pub refused-keeps : storeOf l work given value .numbers .number ≢ 0 → storeOf l work given value .lent ≡ l ∷ workAfter l work ∷ []
+  -- "A refused call changes nothing in the image or in any other lent buffer but the working
+  -- numbers"
+  pub refused-keeps : storeOf l work given value .numbers .number ≢ 0
+      → storeOf l work given value .lent ≡ l ∷ workAfter l work ∷ []
   unfolding storeOf doneNumbers
-  refused-keeps z = kept-lent (first (storeOrder l work given value)) (l ∷ workAfter l work ∷ []) _ refl z
+  refused-keeps z =
+      kept-lent (first (storeOrder l work given value)) (l ∷ workAfter l work ∷ []) _ refl z

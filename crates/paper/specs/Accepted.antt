@@ -1,5 +1,6 @@
--- 01, "The image": an image that meets every rule, rule by rule, in 01's words and with no word of the check. (01 calls an image accepted
--- if the check, lent enough working numbers, answers 0. That the two are the same is demand 2's theorem.)
+-- 01, "The image": an image that meets every rule, rule by rule, in 01's words and with no word of
+-- the check. (01 calls an image accepted if the check, lent enough working numbers, answers 0.
+-- That the two are the same is demand 2's theorem.)
 use Prim.Native.Nat.{ℕ, _≤_, _<_}
 use mathlib.Core.Path.{_≡_}
 use mathlib.Core.Bool.{true}
@@ -17,10 +18,11 @@ pub record Accepted (l : List ℕ) : Type 0 where
   pub short-enough : length l ≤ longestImage
   -- every head field is as the table permits
   pub head-permitted : permitted (headOf l) ≡ true
-  -- "if F is 0, keys are letter numbers only ... Otherwise the F bytes are exactly N well-formed characters, all different"
+  -- "if F is 0, keys are letter numbers only ... Otherwise the F bytes are exactly N well-formed
+  -- characters, all different"
   pub alphabet-good : 0 < headOf l .f → goodAlphabet (headOf l .n) (alphabetIn (headOf l) l) ≡ true
   -- "The used length is U ... The lent image may be longer"
   pub room : usedLen (headOf l) ≤ length l
-  -- "every link that isn't empty is at most G and greater than the address of the node it stands in. Every address from 1 to G stands in
-  -- exactly one link"
+  -- "every link that isn't empty is at most G and greater than the address of the node it stands
+  -- in. Every address from 1 to G stands in exactly one link"
   pub links : LinkRules (tableIn l) (headOf l .g)

@@ -1,10 +1,15 @@
--- 01, "Where an answer is an enum, a definition lists this paper's number and values for each case": the table's numbers and places for
--- each refusal, and the numbers of each call's answer.
+-- 01, "Where an answer is an enum, a definition lists this paper's number and values for each
+-- case": the table's numbers and places for each refusal, and the numbers of each call's answer.
 use Prim.Native.Nat.{ℕ}
 use mathlib.Core.Option.{none, some}
 use lib.IntN.{pos}
 use Rattle.paper.specs.declared.Refusal.{Refusal}
-use Rattle.paper.specs.declared.Refusal.the-variants.{ImageLength, HeadField, Alphabet, ImageRoom, TooFewNumbers, Link, LinkedTwice, NotLinked, KeyLength, Letter, ValueTooGreat, NoAddress, NoRoom, ShortBuffer, NoKey, CountsDiffer}
+use Rattle.paper.specs.declared.Refusal.the-variants.{ImageLength, HeadField, Alphabet}
+use Rattle.paper.specs.declared.Refusal.the-variants.{ImageRoom, TooFewNumbers, Link}
+use Rattle.paper.specs.declared.Refusal.the-variants.{LinkedTwice, NotLinked, KeyLength}
+use Rattle.paper.specs.declared.Refusal.the-variants.{Letter, ValueTooGreat, NoAddress}
+use Rattle.paper.specs.declared.Refusal.the-variants.{NoRoom, ShortBuffer, NoKey}
+use Rattle.paper.specs.declared.Refusal.the-variants.{CountsDiffer}
 use Rattle.paper.specs.declared.Verdict.{Verdict}
 use Rattle.paper.specs.declared.Done.{Done}
 use Rattle.paper.specs.declared.Counted.{Counted}

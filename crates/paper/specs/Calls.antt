@@ -1,5 +1,6 @@
--- The outcome of each call, for any arguments: the answer's numbers and the last content of every buffer lent to be written. Each is the
--- first row of its order that is given, or else what 01 says the call does; the listed stores and mending are 02's, Ask 1.
+-- The outcome of each call, for any arguments: the answer's numbers and the last content of every
+-- buffer lent to be written. Each is the first row of its order that is given, or else what 01
+-- says the call does; the listed stores and mending are 02's, Ask 1.
 use Prim.Native.Nat.{ℕ, _+_, _-_}
 use mathlib.Core.Bool.{Bool, true, false, _&&_, cond}
 use mathlib.Core.Option.{Option, none, some}
@@ -20,22 +21,25 @@ use Rattle.node.specs.Writes.{Write, carriedOut, noted, storeWrites}
 use Rattle.paper.specs.Hearing.{Row, Numbers, Outcome, outcome, doneNumbers, first, heard}
 use Rattle.paper.specs.Rows.{row5}
 use Rattle.paper.specs.Given.{Given, keyIn}
-use Rattle.paper.specs.Orders.{openingRows, openingRowsOf, checkOrder, lookUpOrder, storeOrder, nextKeyOrder}
+use Rattle.paper.specs.Orders.{openingRows, openingRowsOf, checkOrder, lookUpOrder}
+use Rattle.paper.specs.Orders.{storeOrder, nextKeyOrder}
 
 -- the image's own table
 unfoldable pub tableIn : List ℕ → Table
 unfolding tableOf headOf
 tableIn l = tableOf (headOf l) l
 
--- "Once 5 is passed, the first G+1 of them are 0 when the call returns, with the G of entry, whatever the answer; the rest keep what they
--- held. If the call stops at 5, where its order first names it, or before that, all keep what they held."
+-- "Once 5 is passed, the first G+1 of them are 0 when the call returns, with the G of entry,
+-- whatever the answer; the rest keep what they held. If the call stops at 5, where its order first
+-- names it, or before that, all keep what they held."
 unfoldable pub clearedBy : Row → ℕ → List ℕ → List ℕ
 clearedBy none nodes work = replicate nodes 0 ++ drop nodes work
 clearedBy (some s) nodes work = work
 
 unfoldable pub workAfter : List ℕ → List ℕ → List ℕ
 unfolding clearedBy first openingRowsOf row5 headOf
-workAfter l work = clearedBy (first (openingRowsOf l ++ (row5 (headOf l) (length work) ∷ []))) (headOf l .g + 1) work
+workAfter l work = clearedBy (first (openingRowsOf l ++ (row5 (headOf l) (length work) ∷ [])))
+    (headOf l .g + 1) work
 
 -- make
 
@@ -52,14 +56,17 @@ freshImage h alphabet image = sets image 0 (headBytes h ++ (alphabet ++ replicat
 unfoldable pub makeOf : List ℕ → ℕ → ℕ → ℕ → List ℕ → ℕ → ℕ → Outcome
 unfolding heard first openingRows freshHead freshImage doneNumbers
 makeOf image n a d alphabet least most =
-    heard (first (openingRows (freshHead n a d alphabet least most) alphabet (length image))) (image ∷ [])
-    (outcome (doneNumbers 0 (pos 0) 0) (freshImage (freshHead n a d alphabet least most) alphabet image ∷ []))
+    heard (first (openingRows (freshHead n a d alphabet least most) alphabet (length image)))
+    (image ∷ [])
+    (outcome (doneNumbers 0 (pos 0) 0)
+    (freshImage (freshHead n a d alphabet least most) alphabet image ∷ []))
 
 -- check
 
 unfoldable pub checkOf : List ℕ → List ℕ → Outcome
 unfolding heard first checkOrder workAfter doneNumbers
-checkOf l work = heard (first (checkOrder l work)) (workAfter l work ∷ []) (outcome (doneNumbers 0 (pos 0) 0) (workAfter l work ∷ []))
+checkOf l work = heard (first (checkOrder l work)) (workAfter l work ∷ [])
+    (outcome (doneNumbers 0 (pos 0) 0) (workAfter l work ∷ []))
 
 -- number of keys
 
@@ -82,7 +89,8 @@ telling v = outcome (doneNumbers 0 (pos 0) v) []
 
 unfoldable pub lookUpOf : List ℕ → Given → Outcome
 unfolding heard first lookUpOrder doneNumbers answer tableIn keyIn
-lookUpOf l given = heard (first (lookUpOrder l given)) [] (telling (answer (tableIn l) (keyIn l given)))
+lookUpOf l given =
+    heard (first (lookUpOrder l given)) [] (telling (answer (tableIn l) (keyIn l given)))
 
 -- store
 
@@ -104,18 +112,20 @@ storeOf l work given value =
 
 -- store, with its writes listed
 
--- As a store, and besides its writes are listed from the front of a lent array on: `length` says how many they are. Entries after the
--- last keep what they held, and a refusal changes none.
+-- As a store, and besides its writes are listed from the front of a lent array on: `length` says
+-- how many they are. Entries after the last keep what they held, and a refusal changes none.
 unfoldable pub withWrites : List Write → List ℕ → Outcome → Outcome
 unfolding doneNumbers noted
 withWrites ws list o =
     cond (eqb (o .numbers .number) 0)
-    (outcome (doneNumbers (length ws) (o .numbers .change) 0) (o .lent ++ (sets list 0 (noted ws) ∷ [])))
+    (outcome (doneNumbers (length ws) (o .numbers .change) 0)
+    (o .lent ++ (sets list 0 (noted ws) ∷ [])))
     (outcome (o .numbers) (o .lent ++ (list ∷ [])))
 
 unfoldable pub storeWritesOf : List ℕ → List ℕ → Given → ℕ → List ℕ → Outcome
 unfolding withWrites storeOf storeWrites descend tableIn headOf keyIn
-storeWritesOf l work given value list = withWrites (writesIn l (keyIn l given) value) list (storeOf l work given value)
+storeWritesOf l work given value list =
+    withWrites (writesIn l (keyIn l given) value) list (storeOf l work given value)
 
 -- mend
 
@@ -129,7 +139,8 @@ unfoldable pub mends : List ℕ → Numbers → Bool
 unfolding isAccepted digits
 mends l m = eqb (m .number) 8 && isAccepted (putTotal l (m .place - 1))
 
--- "G becomes p-1 and the answer is 0; otherwise nothing changes and the check's answer is returned"
+-- "G becomes p-1 and the answer is 0; otherwise nothing changes and the check's answer is
+-- returned"
 unfoldable pub mendBy : Bool → List ℕ → Outcome → Outcome
 unfolding digits doneNumbers
 mendBy true l o = outcome (doneNumbers 0 (pos 0) 0) (putTotal l (o .numbers .place - 1) ∷ o .lent)
@@ -150,10 +161,12 @@ nextIn l key after = firstMeeting (meets after key) (storedKeys l)
 unfoldable pub foundIn : List ℕ → List ℕ → List ℕ → List ℕ → Outcome
 unfolding doneNumbers answer tableIn workAfter
 foundIn l work buffer k =
-    outcome (doneNumbers (length k) (pos 0) (answer (tableIn l) k)) (workAfter l work ∷ sets buffer 0 k ∷ [])
+    outcome (doneNumbers (length k) (pos 0) (answer (tableIn l) k))
+    (workAfter l work ∷ sets buffer 0 k ∷ [])
 
 unfoldable pub nextKeyOf : List ℕ → List ℕ → List ℕ → Bool → List ℕ → Outcome
 unfolding heard first nextKeyOrder workAfter nextIn foundIn orEmpty
 nextKeyOf l work key after buffer =
-    heard (first (nextKeyOrder l work key (length buffer) (nextIn l key after))) (workAfter l work ∷ buffer ∷ [])
+    heard (first (nextKeyOrder l work key (length buffer) (nextIn l key after)))
+    (workAfter l work ∷ buffer ∷ [])
     (foundIn l work buffer (orEmpty (nextIn l key after)))

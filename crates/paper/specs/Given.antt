@@ -1,5 +1,6 @@
--- 01: "Keys are letter numbers (one byte each) or text in UTF-8." A key as a caller gives it, and the key that is meant. The calls that
--- take a key come in two forms, by letters and by text; orders, outcomes and promises speak of both at once by this.
+-- 01: "Keys are letter numbers (one byte each) or text in UTF-8." A key as a caller gives it, and
+-- the key that is meant. The calls that take a key come in two forms, by letters and by text;
+-- orders, outcomes and promises speak of both at once by this.
 use Prim.Native.Nat.{ℕ}
 use mathlib.Core.Option.{Option, some}
 use mathlib.Core.List.{List}
@@ -16,7 +17,8 @@ pub data Given : Type 0 where
 unfoldable pub alphabetIn : Head → List ℕ → List ℕ
 alphabetIn h l = take (h .f) (drop fieldsLen l)
 
--- the key that is meant, with this alphabet: letter numbers mean themselves, and a text may mean none
+-- the key that is meant, with this alphabet: letter numbers mean themselves, and a text may mean
+-- none
 unfoldable pub meantBy : List ℕ → Given → Option (List ℕ)
 unfolding keyOfText letters
 meantBy alphabet (asLetters key) = some key

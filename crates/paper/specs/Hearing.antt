@@ -1,6 +1,7 @@
--- 01, "What the bench may hear": a row of its table is given or not, by itself; "the first that applies is given, in this order"; "A
--- refused call changes nothing in the image or in any other lent buffer but the working numbers"; "Numbers in a refused answer other
--- than number and place are 0"; "A place not named is 0".
+-- 01, "What the bench may hear": a row of its table is given or not, by itself; "the first that
+-- applies is given, in this order"; "A refused call changes nothing in the image or in any other
+-- lent buffer but the working numbers"; "Numbers in a refused answer other than number and place
+-- are 0"; "A place not named is 0".
 use Prim.Native.Nat.{ℕ}
 use mathlib.Core.Bool.{Bool, cond}
 use mathlib.Core.Option.{Option, none, some}
@@ -35,13 +36,15 @@ pub record Numbers : Type 0 where
   pub value : ℕ
 
 unfoldable pub refusedNumbers : Said → Numbers
-refusedNumbers s = record { number = s .number; place = s .place; length = 0; change = pos 0; value = 0 }
+refusedNumbers s =
+    record { number = s .number; place = s .place; length = 0; change = pos 0; value = 0 }
 
 unfoldable pub doneNumbers : ℕ → ℤ → ℕ → Numbers
-doneNumbers length change value = record { number = 0; place = 0; length = length; change = change; value = value }
+doneNumbers length change value =
+    record { number = 0; place = 0; length = length; change = change; value = value }
 
--- what a call leaves: the numbers of its answer, and the last content of every buffer that it was lent to write, in the order of its
--- parameters
+-- what a call leaves: the numbers of its answer, and the last content of every buffer that it was
+-- lent to write, in the order of its parameters
 pub record Outcome : Type 0 where
   pub numbers : Numbers
   pub lent : List (List ℕ)

@@ -1,5 +1,5 @@
--- 01, "The first that applies is given, in this order": the order of each call, as a list of rows. Orders are joined from named parts,
--- so that they read as 01 writes them.
+-- 01, "The first that applies is given, in this order": the order of each call, as a list of rows.
+-- Orders are joined from named parts, so that they read as 01 writes them.
 use Prim.Native.Nat.{ℕ}
 use mathlib.Core.Option.{Option}
 use mathlib.Core.List.{List, [], _∷_, _++_}
@@ -12,7 +12,8 @@ use Rattle.head.specs.Fields.{headOf}
 use Rattle.node.specs.Image.{tableOf}
 use Rattle.paper.specs.Hearing.{Row}
 use Rattle.paper.specs.Given.{Given, asLetters, asText, alphabetIn, meantBy, keyIn}
-use Rattle.paper.specs.Rows.{row1, row2, row3, row4, row5, row6, row6path, row7, row8, row9, row9next, row10, row10text, row11, row12, row13, row14, row15}
+use Rattle.paper.specs.Rows.{row1, row2, row3, row4, row5, row6, row6path, row7, row8, row9}
+use Rattle.paper.specs.Rows.{row9next, row10, row10text, row11, row12, row13, row14, row15}
 
 -- 1 to 4, of a head, its alphabet and the length of the image
 unfoldable pub openingRows : Head → List ℕ → ℕ → List Row
@@ -30,13 +31,15 @@ linkRows h t = row6 h t ∷ row7 h t ∷ row8 h t ∷ []
 -- "check and number of keys: 1 to 8"
 unfoldable pub checkOrder : List ℕ → List ℕ → List Row
 unfolding openingRowsOf linkRows tableOf
-checkOrder l work = openingRowsOf l ++ (row5 (headOf l) (length work) ∷ linkRows (headOf l) (tableOf (headOf l) l))
+checkOrder l work =
+    openingRowsOf l ++ (row5 (headOf l) (length work) ∷ linkRows (headOf l) (tableOf (headOf l) l))
 
 -- 9, 10 for letters
 unfoldable pub lettersRows : Head → List ℕ → List Row
 lettersRows h key = row9 h key ∷ row10 h key ∷ []
 
--- "For text, 10 stands before 9." A text that names no key has no length; 10 is given before it is asked.
+-- "For text, 10 stands before 9." A text that names no key has no length; 10 is given before it is
+-- asked.
 unfoldable pub textRows : Head → Option (List ℕ) → List Row
 unfolding orEmpty
 textRows h named = row10text named ∷ row9 h (orEmpty named) ∷ []
@@ -51,14 +54,17 @@ unfoldable pub keyRows : List ℕ → Given → List Row
 unfolding keyRowsBy alphabetIn headOf
 keyRows l given = keyRowsBy (headOf l) (alphabetIn (headOf l) l) given
 
--- 9, 10 of the key from which the next one is sought. "For next key, 9 means only a key longer than max."
+-- 9, 10 of the key from which the next one is sought. "For next key, 9 means only a key longer
+-- than max."
 unfoldable pub nextRows : Head → List ℕ → List Row
 nextRows h key = row9next h key ∷ row10 h key ∷ []
 
 -- "look up: 1 to 4, 9, 10, then 6"
 unfoldable pub lookUpOrder : List ℕ → Given → List Row
 unfolding openingRowsOf keyRows keyIn tableOf
-lookUpOrder l given = openingRowsOf l ++ (keyRows l given ++ (row6path (headOf l) (tableOf (headOf l) l) (keyIn l given) ∷ []))
+lookUpOrder l given =
+    openingRowsOf l ++ (keyRows l given
+    ++ (row6path (headOf l) (tableOf (headOf l) l) (keyIn l given) ∷ []))
 
 -- 11, 12, 13, with k missing nodes
 unfoldable pub addingRows : Head → ℕ → ℕ → ℕ → List Row
@@ -73,9 +79,11 @@ newOf h l key value = added (missing (descend (tableOf h l) 0 key)) value
 unfoldable pub storeOrder : List ℕ → List ℕ → Given → ℕ → List Row
 unfolding checkOrder keyRows keyIn addingRows newOf
 storeOrder l work given value =
-    checkOrder l work ++ (keyRows l given ++ addingRows (headOf l) value (newOf (headOf l) l (keyIn l given) value) (length l))
+    checkOrder l work ++ (keyRows l given ++ addingRows (headOf l) value
+    (newOf (headOf l) l (keyIn l given) value) (length l))
 
 -- "next key: 1 to 8, 9, 10, 14, 15"
 unfoldable pub nextKeyOrder : List ℕ → List ℕ → List ℕ → ℕ → Option (List ℕ) → List Row
 unfolding checkOrder nextRows
-nextKeyOrder l work key lent found = checkOrder l work ++ (nextRows (headOf l) key ++ (row14 (headOf l) lent ∷ row15 found ∷ []))
+nextKeyOrder l work key lent found =
+    checkOrder l work ++ (nextRows (headOf l) key ++ (row14 (headOf l) lent ∷ row15 found ∷ []))

@@ -1,5 +1,5 @@
--- Next key asked again and again: what is heard of each answer, so that a whole listing by calls can be stated (demand 2, "The listing names
--- each stored key once, in order").
+-- Next key asked again and again: what is heard of each answer, so that a whole listing by calls
+-- can be stated (demand 2, "The listing names each stored key once, in order").
 use Prim.Native.Nat.{ℕ}
 use mathlib.Core.Bool.{true, false, cond}
 use mathlib.Core.Option.{Option, none, some}
@@ -16,10 +16,12 @@ keyLeft [] = []
 keyLeft (work ∷ []) = []
 keyLeft (work ∷ buffer ∷ rest) = buffer
 
--- the key that an answer of next key gives: as many letters as it says, from the front of the buffer
+-- the key that an answer of next key gives: as many letters as it says, from the front of the
+-- buffer
 unfoldable pub keyHeard : Outcome → Option (List ℕ)
 unfolding keyLeft
-keyHeard o = cond (eqb (o .numbers .number) 0) (some (take (o .numbers .length) (keyLeft (o .lent)))) none
+keyHeard o =
+    cond (eqb (o .numbers .number) 0) (some (take (o .numbers .length) (keyLeft (o .lent)))) none
 
 -- the keys heard when one asks for the key after k, then for the key after that one, and so on
 unfoldable pub askedAfter : List ℕ → List ℕ → List ℕ → ℕ → List ℕ → List (List ℕ)
@@ -29,4 +31,5 @@ askedAfter l work buffer times k = inTurn (λ j. keyHeard (nextKeyOf l work j tr
 -- the keys heard when one asks for the first key at or after the empty one, then on from there
 unfoldable pub askedForAll : List ℕ → List ℕ → List ℕ → ℕ → List (List ℕ)
 unfolding withKey keyHeard nextKeyOf askedAfter
-askedForAll l work buffer times = withKey (keyHeard (nextKeyOf l work [] false buffer)) (λ k. k ∷ askedAfter l work buffer times k)
+askedForAll l work buffer times = withKey (keyHeard (nextKeyOf l work [] false buffer))
+    (λ k. k ∷ askedAfter l work buffer times k)

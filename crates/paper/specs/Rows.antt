@@ -1,5 +1,5 @@
--- 01, "What the bench may hear": the table, a definition for each row. Each says, of what it speaks of alone, when it is given and at
--- which place.
+-- 01, "What the bench may hear": the table, a definition for each row. Each says, of what it
+-- speaks of alone, when it is given and at which place.
 use Prim.Native.Nat.{ℕ, zero, suc, _+_, _-_, _*_, _^_}
 use mathlib.Core.Bool.{Bool, true, false, not, _&&_, _||_, cond}
 use mathlib.Core.Option.{Option, none, some}
@@ -24,10 +24,13 @@ unfoldable pub row2 : Head → Row
 unfolding rowWhen permitted
 row2 h = rowWhen 2 0 (not (permitted h))
 
--- F above 0, the F bytes all inside the image (for make: the alphabet given), and not N different well-formed characters
+-- F above 0, the F bytes all inside the image (for make: the alphabet given), and not N different
+-- well-formed characters
 unfoldable pub row3 : Head → List ℕ → Row
 unfolding rowWhen goodAlphabet
-row3 h alphabet = rowWhen 3 0 (ltb 0 (h .f) && eqb (length alphabet) (h .f) && not (goodAlphabet (h .n) alphabet))
+row3 h alphabet =
+    rowWhen 3 0 (ltb 0 (h .f) && eqb (length alphabet) (h .f)
+    && not (goodAlphabet (h .n) alphabet))
 
 -- U exceeds the image's length
 unfoldable pub row4 : Head → ℕ → Row
@@ -39,7 +42,8 @@ unfoldable pub row5 : Head → ℕ → Row
 unfolding rowWhen
 row5 h lent = rowWhen 5 0 (ltb lent (h .g + 1))
 
--- "every link that isn't empty is at most G and greater than the address of the node it stands in": link c of node q breaks that
+-- "every link that isn't empty is at most G and greater than the address of the node it stands
+-- in": link c of node q breaks that
 unfoldable pub badLink : ℕ → ℕ → ℕ → Bool
 badLink g q zero = false
 badLink g q (suc c) = not (leb (suc c) g && ltb q (suc c))
@@ -71,7 +75,8 @@ unfolding timesIn
 times t n x zero = 0
 times t n x (suc k) = times t n x k + timesIn t x k n
 
--- an address stands in two links or more; place the lowest such address. An address above G is row 6's.
+-- an address stands in two links or more; place the lowest such address. An address above G is row
+-- 6's.
 unfoldable pub row7 : Head → Table → Row
 unfolding rowWhenLowest times
 row7 h t = rowWhenLowest 7 (λ x. leb 2 (times t (h .n) x (h .g + 1))) 1 (h .g)
@@ -135,8 +140,8 @@ unfoldable pub row15 : Option (List ℕ) → Row
 unfolding rowWhen isNone
 row15 found = rowWhen 15 0 (isNone found)
 
--- "In a lookup, 6 speaks only of the links on the key's path; the first refusal met on the way down is the answer, and its place is the
--- node that holds that link."
+-- "In a lookup, 6 speaks only of the links on the key's path; the first refusal met on the way
+-- down is the answer, and its place is the node that holds that link."
 unfoldable pub row6At : Option ℕ → Row
 row6At none = none
 row6At (some q) = some (record { number = 6; place = q })

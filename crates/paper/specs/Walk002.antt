@@ -1,7 +1,8 @@
--- TRIEFF 0.6.0 (source document 002), "Querying the document": its sample algorithm, transcribed line by line and apart from our own
--- walk, for demand 2. It knows no table and no refusal: it reads fields at computed places of the document, and answers 0 for whatever is
--- not there. Where 002 writes s.indexOf(..) for a character, the allowed characters are meant; its -1, "not found", is here [N], which the
--- same test turns away.
+-- TRIEFF 0.6.0 (source document 002), "Querying the document": its sample algorithm, transcribed
+-- line by line and apart from our own walk, for demand 2. It knows no table and no refusal: it
+-- reads fields at computed places of the document, and answers 0 for whatever is not there. Where
+-- 002 writes s.indexOf(..) for a character, the allowed characters are meant; its -1, "not found",
+-- is here [N], which the same test turns away.
 use Prim.Native.Nat.{ℕ, zero, suc, _+_, _*_}
 use mathlib.Core.Bool.{_||_, cond}
 use mathlib.Core.Option.{Option, none, some}
@@ -34,20 +35,24 @@ unlessEmpty (suc c) on = on (suc c)
 unfoldable pub queryFrom : Head → List ℕ → ℕ → List ℕ → ℕ
 unfolding dataRead linkRead unlessEmpty
 queryFrom h l address [] = dataRead h l address
-queryFrom h l address (x ∷ xs) = cond (leb (h .n) x) 0 (unlessEmpty (linkRead h l address x) (λ c. queryFrom h l c xs))
+queryFrom h l address (x ∷ xs) =
+    cond (leb (h .n) x) 0 (unlessEmpty (linkRead h l address x) (λ c. queryFrom h l c xs))
 
 -- if (query.length < [min] || query.length > [max]) { return 0; //doesn't exist }
 unfoldable pub query002 : List ℕ → List ℕ → ℕ
 unfolding queryFrom headOf
 query002 l query =
-    cond (ltb (length query) (headOf l .min) || ltb (headOf l .max) (length query)) 0 (queryFrom (headOf l) l 0 query)
+    cond (ltb (length query) (headOf l .min) || ltb (headOf l .max) (length query)) 0
+    (queryFrom (headOf l) l 0 query)
 
 -- s.indexOf(qTemp.charAt(f)): the place of a character among the allowed ones, and [N] for -1
 unfoldable pub indexOf : Head → List ℕ → ℕ → ℕ
 unfolding letterOf
-indexOf h allowedChars c = cond (ltb (letterOf allowedChars c) (length allowedChars)) (letterOf allowedChars c) (h .n)
+indexOf h allowedChars c =
+    cond (ltb (letterOf allowedChars c) (length allowedChars)) (letterOf allowedChars c) (h .n)
 
--- for (int f = 0; f < s.length; f++) { query[f] = s.indexOf(qTemp.charAt(f)); }; bytes that are no text are not stored
+-- for (int f = 0; f < s.length; f++) { query[f] = s.indexOf(qTemp.charAt(f)); }; bytes that are no
+-- text are not stored
 unfoldable pub queryChars : List ℕ → Option (List ℕ) → ℕ
 unfolding query002 indexOf letters alphabetIn
 queryChars l none = 0

@@ -1,10 +1,11 @@
-// What the bench may hear: document 01's refusals with their numbers, and the answer of each call. The rows, their orders and every
-// call's outcome stand in specs/.
+// What the bench may hear: document 01's refusals with their numbers, and the answer of each call.
+// The rows, their orders and every call's outcome stand in specs/.
 ghost use mathlib.Core.Path.{_≡_};
 ghost use Rattle.paper.specs.Answers.{saidOf};
 ghost use Rattle.paper.specs.Rows.{badLink};
 
-// One variant for each number of 01's table from 1 on, and for those of 02 that have landed. Those whose place is a node or an address carry it.
+// One variant for each number of 01's table from 1 on, and for those of 02 that have landed. Those
+// whose place is a node or an address carry it.
 pub enum Refusal {
     ImageLength,
     HeadField,
@@ -73,7 +74,8 @@ impl Refusal {
     }
 }
 
-// 01's first link rule, for the check and for the path of a lookup: does link c of node q break it, where the greatest address is g?
+// 01's first link rule, for the check and for the path of a lookup: does link c of node q break
+// it, where the greatest address is g?
 pub fn bad_link(g: u32, q: u32, c: u32) -> bool
     ensures { λ r. ⌜ r ≡ badLink g q c ⌝ }
 {
@@ -122,7 +124,8 @@ pub enum Noted {
     Refused(Refusal),
 }
 
-// The answer of next key: the length of the key found, whose letters are in the buffer, and its value.
+// The answer of next key: the length of the key found, whose letters are in the buffer, and its
+// value.
 pub enum Found {
     Key { length: u32, value: u64 },
     Refused(Refusal),

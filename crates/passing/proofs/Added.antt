@@ -1,5 +1,5 @@
--- The new nodes of a store lie on the key's path. A new path links each node to the next by the key's letters, so the key passes all of
--- them; and what led to the empty link still leads there.
+-- The new nodes of a store lie on the key's path. A new path links each node to the next by the
+-- key's letters, so the key passes all of them; and what led to the empty link still leads there.
 use Prim.Native.Nat.{ℕ, suc, _+_, _≤_, _<_}
 use native.Mathlib.Decide.{ℕ-discrete}
 use native.Mathlib.Omega.{arith}
@@ -21,23 +21,29 @@ use Rattle.passing.proofs.Passing.{passes-here, passes-link, passes-pre
 put-passes : (t : Table) (p v q r : ℕ) (k : List ℕ) → passes (put t p v) q r k ≡ passes t q r k
 unfolding passes put
 put-passes t p v q r [] = refl
-put-passes t p v q r (x ∷ k) = λ i. eqb r q || follow (t .child r x) false (λ c. put-passes t p v q c k i)
+put-passes t p v q r (x ∷ k) =
+    λ i. eqb r q || follow (t .child r x) false (λ c. put-passes t p v q c k i)
 
 -- what is passed from a node on is passed by whoever comes to that node
-passes-from : (t : Table) (q p : ℕ) {r : ℕ} (k m : List ℕ) → descend t p k ≡ complete r → passes t q r m ≡ true
+passes-from : (t : Table) (q p : ℕ) {r : ℕ} (k m : List ℕ) → descend t p k ≡ complete r
+    → passes t q r m ≡ true
     → passes t q p (k ++ m) ≡ true
 passes-from t q p {r} k m e f =
     let s = passes-prefix t q r m f in
-    let whole : k ++ m ≡ (k ++ s .path) ++ s .rest = ap (k ++_) (s .key) ∙ sym (append-assoc k (s .path) (s .rest)) in
-    ap (passes t q p) whole ∙ prefix-passes t q p (k ++ s .path) (s .rest) (descend-append t p k (s .path) e ∙ s .reaches)
+    let whole : k ++ m ≡ (k ++ s .path) ++ s .rest =
+    ap (k ++_) (s .key) ∙ sym (append-assoc k (s .path) (s .rest)) in
+    ap (passes t q p) whole ∙ prefix-passes t q p (k ++ s .path) (s .rest)
+    (descend-append t p k (s .path) e ∙ s .reaches)
 
 -- one letter on, to a link's node that is not beyond the one sought
-passes-step : (t : Table) (q p x c : ℕ) (xs : List ℕ) → t .child p x ≡ c → p < c → c ≤ q → passes t q p (x ∷ xs) ≡ passes t q c xs
+passes-step : (t : Table) (q p x c : ℕ) (xs : List ℕ) → t .child p x ≡ c → p < c → c ≤ q
+    → passes t q p (x ∷ xs) ≡ passes t q c xs
 passes-step t q p x c xs e h low =
     passes-link t q p x xs (omega arith) (λ z. omega arith) ∙ ap (λ (d : ℕ). passes t q d xs) e
 
 -- the letters of a new path pass each of its nodes
-path-passes : (t : Table) (q x : ℕ) (xs : List ℕ) (c node : ℕ) → q < c → c ≤ node → node ≤ c + length xs
+path-passes : (t : Table) (q x : ℕ) (xs : List ℕ) (c node : ℕ) → q < c → c ≤ node
+    → node ≤ c + length xs
     → passes (growPath t q x xs c) node q (x ∷ xs) ≡ true
 unfolding growPath
 path-passes t q x [] c node h low high =
@@ -48,24 +54,30 @@ path-passes t q x [] c node h low high =
     ∙ passes-here s node []
 path-passes t q x (y ∷ ys) c node h low high =
     passes-step s node q x c (y ∷ ys) (growPath-child t q x (y ∷ ys) c h) h low
-    ∙ go (ℕ-discrete c node) (λ b. path-passes (grow t q x c) c y ys (suc c) node (omega arith) b (omega arith))
+    ∙ go (ℕ-discrete c node) (λ b. path-passes (grow t q x c) c y ys (suc c) node (omega arith) b
+    (omega arith))
   where
     s : Table
     s = growPath t q x (y ∷ ys) c
 
-    go : Dec (c ≡ node) → (suc c ≤ node → passes s node c (y ∷ ys) ≡ true) → passes s node c (y ∷ ys) ≡ true
-    go (yes same) below = ap (λ (d : ℕ). passes s node d (y ∷ ys)) same ∙ passes-here s node (y ∷ ys)
+    go : Dec (c ≡ node) → (suc c ≤ node → passes s node c (y ∷ ys) ≡ true)
+        → passes s node c (y ∷ ys) ≡ true
+    go (yes same) below =
+        ap (λ (d : ℕ). passes s node d (y ∷ ys)) same ∙ passes-here s node (y ∷ ys)
     go (no other) below = below (omega arith)
 
 -- a complete walk stays as it is
-path-descend : {t : Table} {g n q x : ℕ} (xs k : List ℕ) {r : ℕ} → Room t g n q x xs → descend t 0 k ≡ complete r
+path-descend : {t : Table} {g n q x : ℕ} (xs k : List ℕ) {r : ℕ} → Room t g n q x xs
+    → descend t 0 k ≡ complete r
     → descend (growPath t q x xs (suc g)) 0 k ≡ complete r
 unfolding growPath
 path-descend {t} {g} {n} {q} {x} [] k b e = grow-descend t q x (suc g) 0 k (b .empty) e
-path-descend {t} {g} {n} {q} {x} (y ∷ ys) k b e = path-descend ys k (room-next b) (grow-descend t q x (suc g) 0 k (b .empty) e)
+path-descend {t} {g} {n} {q} {x} (y ∷ ys) k b e =
+    path-descend ys k (room-next b) (grow-descend t q x (suc g) 0 k (b .empty) e)
 
 module _ {t : Table} {g n : ℕ} (l : Linked t g n) (k : List ℕ) (letters : LettersBelow n k) where
-  new-passes : {s : Table} {g′ v : ℕ} → Store t g k v s g′ → (q : ℕ) → g < q → q ≤ g′ → passes s q 0 k ≡ true
+  new-passes : {s : Table} {g′ v : ℕ} → Store t g k v s g′ → (q : ℕ) → g < q → q ≤ g′
+      → passes s q 0 k ≡ true
   new-passes (over e) q low high = absurd (omega arith)
   new-passes (unchanged e) q low high = absurd (omega arith)
   new-passes (longer {q = p} {x} {xs} {v} e) q low high =
@@ -78,5 +90,6 @@ module _ {t : Table} {g n : ℕ} (l : Linked t g n) (k : List ℕ) (letters : Le
       (path-passes t p x xs (suc g) q (omega (arith, b .node)) (omega arith) (omega arith))
 
   -- the key passes every node that its store adds
-  pub stored-new-passes : (v q : ℕ) → g < q → q ≤ g + added (missing (descend t 0 k)) v → passes (stored t g k v) q 0 k ≡ true
+  pub stored-new-passes : (v q : ℕ) → g < q → q ≤ g + added (missing (descend t 0 k)) v
+      → passes (stored t g k v) q 0 k ≡ true
   stored-new-passes v q low high = new-passes (store t g k v) q low high

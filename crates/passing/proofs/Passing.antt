@@ -1,5 +1,6 @@
--- Which keys pass a node. A key passes a node if a part at its front walks there, so what is known of walks is known of passing: a node
--- has one key, and below its own links no key comes to it again.
+-- Which keys pass a node. A key passes a node if a part at its front walks there, so what is known
+-- of walks is known of passing: a node has one key, and below its own links no key comes to it
+-- again.
 use Prim.Native.Nat.{ℕ, _<_, _≤_}
 use native.Mathlib.Omega.{arith}
 use native.Mathlib.Decide.{ℕ-discrete}
@@ -11,7 +12,8 @@ use lib.ListN.{length, length-append}
 use borrow.Author.Tests.{eq-eqb, ne-eqb}
 use Rattle.trie.specs.Table.{Table, complete, follow, descend}
 use Rattle.trie.specs.Rules.{Within, Once}
-use Rattle.trie.proofs.Walk.{follow-empty, follow-on, Walk, end, on, walk, descend-nil, descend-on, descend-append, one-key}
+use Rattle.trie.proofs.Walk.{follow-empty, follow-on, Walk, end, on, walk, descend-nil, descend-on}
+use Rattle.trie.proofs.Walk.{descend-append, one-key}
 use Rattle.passing.specs.Passing.{passes}
 
 module _ (t : Table) (q : ℕ) where
@@ -26,15 +28,20 @@ module _ (t : Table) (q : ℕ) where
   unfolding passes
   passes-nil p other = ne-eqb p q other
 
-  pub passes-cons : (p x : ℕ) (k : List ℕ) → p ≢ q → passes t q p (x ∷ k) ≡ follow (t .child p x) false (λ c. passes t q c k)
+  pub passes-cons : (p x : ℕ) (k : List ℕ) → p ≢ q → passes t q p (x ∷ k)
+      ≡ follow (t .child p x) false (λ c. passes t q c k)
   unfolding passes
   passes-cons p x k other = rw (ne-eqb p q other)
 
-  pub passes-empty : (p x : ℕ) (k : List ℕ) → p ≢ q → t .child p x ≡ 0 → passes t q p (x ∷ k) ≡ false
-  passes-empty p x k other e = passes-cons p x k other ∙ follow-empty (t .child p x) false (λ c. passes t q c k) e
+  pub passes-empty : (p x : ℕ) (k : List ℕ) → p ≢ q → t .child p x ≡ 0 → passes t q p (x ∷ k)
+      ≡ false
+  passes-empty p x k other e =
+      passes-cons p x k other ∙ follow-empty (t .child p x) false (λ c. passes t q c k) e
 
-  pub passes-link : (p x : ℕ) (k : List ℕ) → p ≢ q → t .child p x ≢ 0 → passes t q p (x ∷ k) ≡ passes t q (t .child p x) k
-  passes-link p x k other full = passes-cons p x k other ∙ follow-on (t .child p x) false (λ c. passes t q c k) full
+  pub passes-link : (p x : ℕ) (k : List ℕ) → p ≢ q → t .child p x ≢ 0 → passes t q p (x ∷ k)
+      ≡ passes t q (t .child p x) k
+  passes-link p x k other full =
+      passes-cons p x k other ∙ follow-on (t .child p x) false (λ c. passes t q c k) full
 
   -- the part of a key that walks from p to q, and what follows it
   pub record Passed (p : ℕ) (k : List ℕ) : Type 0 where
@@ -44,7 +51,8 @@ module _ (t : Table) (q : ℕ) where
     pub reaches : descend t p path ≡ complete q
 
   here : (p : ℕ) (k : List ℕ) → p ≡ q → Passed p k
-  here p k e = record { path = []; rest = k; key = refl; reaches = descend-nil t p ∙ ap complete e }
+  here p k e =
+      record { path = []; rest = k; key = refl; reaches = descend-nil t p ∙ ap complete e }
 
   through : (p x : ℕ) (k : List ℕ) → t .child p x ≢ 0 → Passed (t .child p x) k → Passed p (x ∷ k)
   through p x k full f =
@@ -61,23 +69,29 @@ module _ (t : Table) (q : ℕ) where
       go : Dec (p ≡ q) → Passed p []
       go (yes same) = here p [] same
       go (no other) = absurd (true≢false (sym e ∙ passes-nil p other))
-  passes-prefix p (x ∷ k) e = go (ℕ-discrete p q) (ℕ-discrete (t .child p x) 0) (λ c. passes-prefix c k)
+  passes-prefix p (x ∷ k) e =
+      go (ℕ-discrete p q) (ℕ-discrete (t .child p x) 0) (λ c. passes-prefix c k)
     where
-      go : Dec (p ≡ q) → Dec (t .child p x ≡ 0) → ((c : ℕ) → passes t q c k ≡ true → Passed c k) → Passed p (x ∷ k)
+      go : Dec (p ≡ q) → Dec (t .child p x ≡ 0) → ((c : ℕ) → passes t q c k ≡ true → Passed c k)
+          → Passed p (x ∷ k)
       go (yes same) b below = here p (x ∷ k) same
       go (no other) (yes z) below = absurd (true≢false (sym e ∙ passes-empty p x k other z))
-      go (no other) (no full) below = through p x k full (below (t .child p x) (sym (passes-link p x k other full) ∙ e))
+      go (no other) (no full) below =
+          through p x k full (below (t .child p x) (sym (passes-link p x k other full) ∙ e))
 
   -- and the other way
-  along : {p : ℕ} {m : List ℕ} → Walk t p m (complete q) → (r : List ℕ) → passes t q p (m ++ r) ≡ true
+  along : {p : ℕ} {m : List ℕ} → Walk t p m (complete q) → (r : List ℕ) → passes t q p (m ++ r)
+      ≡ true
   along end r = passes-here r
   along (on {q = p} {x} {xs} full w) r = go (ℕ-discrete p q) (along w r)
     where
-      go : Dec (p ≡ q) → passes t q (t .child p x) (xs ++ r) ≡ true → passes t q p (x ∷ (xs ++ r)) ≡ true
+      go : Dec (p ≡ q) → passes t q (t .child p x) (xs ++ r) ≡ true → passes t q p (x ∷ (xs ++ r))
+          ≡ true
       go (yes e) below = rw e (passes-here (x ∷ (xs ++ r)))
       go (no other) below = passes-link p x (xs ++ r) other full ∙ below
 
-  pub prefix-passes : (p : ℕ) (m r : List ℕ) → descend t p m ≡ complete q → passes t q p (m ++ r) ≡ true
+  pub prefix-passes : (p : ℕ) (m r : List ℕ) → descend t p m ≡ complete q → passes t q p (m ++ r)
+      ≡ true
   prefix-passes p m r e = along (walk t p m e) r
 
 -- where a test holds only for what cannot be
@@ -86,9 +100,11 @@ refuted true h = absurd (h refl)
 refuted false h = refl
 
 -- a node that a key reaches, and the nodes of its links
-pub child-reached : (t : Table) (k : List ℕ) (x : ℕ) {p : ℕ} → descend t 0 k ≡ complete p → t .child p x ≢ 0
+pub child-reached : (t : Table) (k : List ℕ) (x : ℕ) {p : ℕ} → descend t 0 k ≡ complete p
+    → t .child p x ≢ 0
     → descend t 0 (k ++ (x ∷ [])) ≡ complete (t .child p x)
-child-reached t k x {p} e full = descend-append t 0 k (x ∷ []) e ∙ descend-on t p x [] full ∙ descend-nil t (t .child p x)
+child-reached t k x {p} e full =
+    descend-append t 0 k (x ∷ []) e ∙ descend-on t p x [] full ∙ descend-nil t (t .child p x)
 
 -- a key that passes a node goes on from that node's own key
 pub passes-extends : (t : Table) (k : List ℕ) {p : ℕ} → Once t → descend t 0 k ≡ complete p
@@ -98,25 +114,30 @@ passes-extends t k {p} once e j f =
     (s .rest, s .key ∙ ap (_++ s .rest) (one-key t (s .path) k once (s .reaches) e))
 
 -- no key comes back to a node
-pub never-again : (t : Table) (k : List ℕ) (x : ℕ) {p : ℕ} → Once t → descend t 0 k ≡ complete p → t .child p x ≢ 0
+pub never-again : (t : Table) (k : List ℕ) (x : ℕ) {p : ℕ} → Once t → descend t 0 k ≡ complete p
+    → t .child p x ≢ 0
     → (j : List ℕ) → passes t p (t .child p x) j ≡ false
 never-again t k x {p} once e full j = refuted _ (λ f. apart (passes-prefix t p (t .child p x) j f))
   where
     apart : Passed t p (t .child p x) j → ⊥
     apart s =
         let m : List ℕ = s .path in
-        let again : descend t 0 (k ++ (x ∷ m)) ≡ complete p = descend-append t 0 k (x ∷ m) e ∙ descend-on t p x m full ∙ s .reaches in
+        let again : descend t 0 (k ++ (x ∷ m)) ≡ complete p =
+        descend-append t 0 k (x ∷ m) e ∙ descend-on t p x m full ∙ s .reaches in
         omega (arith, ap length (one-key t k (k ++ (x ∷ m)) once e again), length-append k (x ∷ m))
 
 -- nor to one outside the table
-pub passes-within : (t : Table) (g q p : ℕ) (k : List ℕ) → Within t g → p ≤ g → g < q → passes t q p k ≡ false
+pub passes-within : (t : Table) (g q p : ℕ) (k : List ℕ) → Within t g → p ≤ g → g < q
+    → passes t q p k ≡ false
 passes-within t g q p [] within low high = passes-nil t q p (λ e. omega arith)
 passes-within t g q p (x ∷ k) within low high =
-    go (ℕ-discrete (t .child p x) 0) (passes-within t g q (t .child p x) k within (within p x) high)
+    go (ℕ-discrete (t .child p x) 0)
+    (passes-within t g q (t .child p x) k within (within p x) high)
   where
     other : p ≢ q
     other e = omega arith
 
-    go : Dec (t .child p x ≡ 0) → passes t q (t .child p x) k ≡ false → passes t q p (x ∷ k) ≡ false
+    go : Dec (t .child p x ≡ 0) → passes t q (t .child p x) k ≡ false → passes t q p (x ∷ k)
+        ≡ false
     go (yes e) below = passes-empty t q p x k other e
     go (no full) below = passes-link t q p x k other full ∙ below

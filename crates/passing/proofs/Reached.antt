@@ -1,5 +1,6 @@
--- The count of a node that a key reaches. The keys that pass it are that key followed by each key at or under the node: both lists stand
--- in order and hold the same keys. So a node outside the table, or deeper than a key may be, counts none.
+-- The count of a node that a key reaches. The keys that pass it are that key followed by each key
+-- at or under the node: both lists stand in order and hold the same keys. So a node outside the
+-- table, or deeper than a key may be, counts none.
 use Prim.Native.Nat.{ℕ, zero, suc, _+_, _-_, _<_, _≤_}
 use native.Mathlib.Omega.{arith}
 use mathlib.Core.Bool.{true}
@@ -24,7 +25,8 @@ before-path (x ∷ k) a b = before-cons x (k ++ a) (k ++ b) ∙ before-path k a 
 path-ascending : (k : List ℕ) (l : List (List ℕ)) → Ascending l → Ascending (map (k ++_) l)
 path-ascending k [] up = tt
 path-ascending k (a ∷ l) up = (
-  λ m b. let (r, hr, e) = Memᴰ·of-map (k ++_) l b in ap (before (k ++ a)) (sym e) ∙ before-path k a r ∙ up .0 r hr,
+  λ m b. let (r, hr, e) =
+      Memᴰ·of-map (k ++_) l b in ap (before (k ++ a)) (sym e) ∙ before-path k a r ∙ up .0 r hr,
   path-ascending k l (up .1),
 )
 
@@ -41,7 +43,8 @@ module _ {t : Table} {g n : ℕ} (linked : Linked t g n) (least most : ℕ) wher
   onward k {p} e r a =
       let f = under-listed t n least most 0 (k ++ r) a in
       let size : length (k ++ r) ≡ length k + length r = length-append k r in
-      let ends : descend t p r ≡ complete (f .node) = sym (descend-append t 0 k r e) ∙ f .reaches in
+      let ends : descend t p r ≡ complete (f .node) =
+      sym (descend-append t 0 k r e) ∙ f .reaches in
       keysUnder-holds
       t
       n
@@ -49,8 +52,11 @@ module _ {t : Table} {g n : ℕ} (linked : Linked t g n) (least most : ℕ) wher
       (least - length k)
       (most - length k)
       p
-      r
-      (omega (arith, f .long), omega (arith, f .deep), λ z. f .full (sym (ap (valueAt t) ends) ∙ z))
+      r (
+        omega (arith, f .long),
+        omega (arith, f .deep),
+        λ z. f .full (sym (ap (valueAt t) ends) ∙ z),
+      )
 
   -- and the other way
   behind : (k : List ℕ) {p : ℕ} → descend t 0 k ≡ complete p → length k ≤ most → (r : List ℕ)
@@ -60,7 +66,8 @@ module _ {t : Table} {g n : ℕ} (linked : Linked t g n) (least most : ℕ) wher
   behind k {p} e deep r a =
       let f = under-listed t n (least - length k) (most - length k) p r a in
       let size : length (k ++ r) ≡ length k + length r = length-append k r in
-      let ends : descend t 0 (k ++ r) ≡ complete (f .node) = descend-append t 0 k r e ∙ f .reaches in
+      let ends : descend t 0 (k ++ r) ≡ complete (f .node) =
+      descend-append t 0 k r e ∙ f .reaches in
       keysUnder-holds
       t
       n
@@ -68,18 +75,24 @@ module _ {t : Table} {g n : ℕ} (linked : Linked t g n) (least most : ℕ) wher
       least
       most
       0
-      (k ++ r)
-      (omega (arith, f .long), omega (arith, f .deep), λ z. f .full (sym (ap (valueAt t) ends) ∙ z))
+      (k ++ r) (
+        omega (arith, f .long),
+        omega (arith, f .deep),
+        λ z. f .full (sym (ap (valueAt t) ends) ∙ z),
+      )
 
   -- the keys that pass a node: its own key, followed by what stands at or under it
   pub passing-keys : (k : List ℕ) {p : ℕ} → descend t 0 k ≡ complete p → length k ≤ most
-      → filter (passes t p 0) (listing t n least most) ≡ map (k ++_) (keysUnder t n (least - length k) (most - length k) p)
+      → filter (passes t p 0) (listing t n least most) ≡ map (k ++_)
+      (keysUnder t n (least - length k) (most - length k) p)
   passing-keys k {p} e deep =
       same-keys
       (filter (passes t p 0) (listing t n least most))
       (map (k ++_) (rests k p))
-      (filter-ascending (passes t p 0) (listing t n least most) (keysUnder-ascending t n least most 0))
-      (path-ascending k (rests k p) (keysUnder-ascending t n (least - length k) (most - length k) p))
+      (filter-ascending (passes t p 0) (listing t n least most)
+      (keysUnder-ascending t n least most 0))
+      (path-ascending k (rests k p)
+      (keysUnder-ascending t n (least - length k) (most - length k) p))
       to
       from
     where
@@ -95,7 +108,8 @@ module _ {t : Table} {g n : ℕ} (linked : Linked t g n) (least most : ℕ) wher
       from j a =
           let (r, hr, f) = Memᴰ·of-map (k ++_) (rests k p) a in
           let met : passes t p 0 (k ++ r) ≡ true = prefix-passes t p 0 k r e in
-          Memᴰ·cast (sym f) (filter-holds (passes t p 0) (listing t n least most) (k ++ r) .1 (behind k e deep r hr, met))
+          Memᴰ·cast (sym f) (filter-holds (passes t p 0) (listing t n least most) (k ++ r) .1
+          (behind k e deep r hr, met))
 
   pub count-reached : (k : List ℕ) {p : ℕ} → descend t 0 k ≡ complete p → length k ≤ most
       → countAt t n least most p ≡ length (keysUnder t n (least - length k) (most - length k) p)
@@ -104,23 +118,28 @@ module _ {t : Table} {g n : ℕ} (linked : Linked t g n) (least most : ℕ) wher
       ap length (passing-keys k e deep) ∙ length-map (rests k p) (k ++_)
 
   -- a node deeper than a key may be
-  pub count-deep : (k : List ℕ) {p : ℕ} → descend t 0 k ≡ complete p → most < length k → countAt t n least most p ≡ 0
+  pub count-deep : (k : List ℕ) {p : ℕ} → descend t 0 k ≡ complete p → most < length k
+      → countAt t n least most p ≡ 0
   unfolding countAt
-  count-deep k {p} e deep = ap length (filter-none (passes t p 0) (listing t n least most) (λ j a. refuted _ (out j a)))
+  count-deep k {p} e deep =
+      ap length (filter-none (passes t p 0) (listing t n least most) (λ j a. refuted _ (out j a)))
     where
       out : (j : List ℕ) → List·Memᴰ j (listing t n least most) → ¬ (passes t p 0 j ≡ true)
       out j a h =
           let (r, f) = passes-extends t k (linked .once) e j h in
           omega (arith, under-listed t n least most 0 j a .deep, ap length f, length-append k r)
 
-pub count-few : (t : Table) (n least most q : ℕ) → countAt t n least most q ≤ length (listing t n least most)
+pub count-few : (t : Table) (n least most q : ℕ) → countAt t n least most q
+    ≤ length (listing t n least most)
 unfolding countAt
 count-few t n least most q = filter-length (passes t q 0) (listing t n least most)
 
-pub count-outside : (t : Table) (g n least most q : ℕ) → Within t g → g < q → countAt t n least most q ≡ 0
+pub count-outside : (t : Table) (g n least most q : ℕ) → Within t g → g < q
+    → countAt t n least most q ≡ 0
 unfolding countAt
 count-outside t g n least most q within out =
-    ap length (filter-none (passes t q 0) (listing t n least most) (λ j a. passes-within t g q 0 j within (omega arith) out))
+    ap length (filter-none (passes t q 0) (listing t n least most)
+    (λ j a. passes-within t g q 0 j within (omega arith) out))
 
 -- ---- one number for each node
 
@@ -133,10 +152,13 @@ pub each-at : (f : ℕ → ℕ) (a k i : ℕ) → i < k → getD (oneForEach f a
 unfolding oneForEach
 each-at f a zero i h = absurd (omega arith)
 each-at f a (suc k) zero h = let e : a ≡ a + 0 = omega arith in ap f e
-each-at f a (suc k) (suc i) h = let e : suc a + i ≡ a + suc i = omega arith in each-at f (suc a) k i (omega arith) ∙ ap f e
+each-at f a (suc k) (suc i) h =
+    let e : suc a + i ≡ a + suc i = omega arith in each-at f (suc a) k i (omega arith) ∙ ap f e
 
-pub each-same : (f h : ℕ → ℕ) (a k : ℕ) → ((i : ℕ) → a ≤ i → i < a + k → f i ≡ h i) → oneForEach f a k ≡ oneForEach h a k
+pub each-same : (f h : ℕ → ℕ) (a k : ℕ) → ((i : ℕ) → a ≤ i → i < a + k → f i ≡ h i)
+    → oneForEach f a k ≡ oneForEach h a k
 unfolding oneForEach
 each-same f h a zero same = refl
 each-same f h a (suc k) same =
-    ap₂ _∷_ (same a (omega arith) (omega arith)) (each-same f h (suc a) k (λ i low high. same i (omega arith) (omega arith)))
+    ap₂ _∷_ (same a (omega arith) (omega arith))
+    (each-same f h (suc a) k (λ i low high. same i (omega arith) (omega arith)))

@@ -1,5 +1,6 @@
--- What the nodes at or under a node add to a count, letter by letter as `Beyond` takes the keys. The sums are the counts: a key passes the
--- node that it is counted at, or it passes that node below one link; and below its own links no key comes to a node again.
+-- What the nodes at or under a node add to a count, letter by letter as `Beyond` takes the keys.
+-- The sums are the counts: a key passes the node that it is counted at, or it passes that node
+-- below one link; and below its own links no key comes to a node again.
 use Prim.Native.Nat.{ℕ, zero, suc, pred, _+_, _-_, _<_, _≤_}
 use native.Mathlib.Omega.{arith}
 use native.Mathlib.Decide.{ℕ-discrete}
@@ -21,7 +22,8 @@ use Rattle.trie.proofs.Beyond.{under-split}
 use Rattle.trie.proofs.Filter.{filter-append, filter-map, filter-none, filter-every}
 use Rattle.passing.specs.Passing.{passes, countAt}
 use Rattle.passing.specs.Weights.{sumFrom, weightAt, weightFrom}
-use Rattle.passing.proofs.Passing.{passes-here, passes-nil, passes-link, never-again, child-reached}
+use Rattle.passing.proofs.Passing.{passes-here, passes-nil, passes-link, never-again}
+use Rattle.passing.proofs.Passing.{child-reached}
 
 no-length : (l : List (List ℕ)) → length l ≡ 0 → l ≡ []
 no-length [] z = refl
@@ -38,7 +40,13 @@ unfolding sumFrom byLetter
 sum-none keys f h x zero e = refl
 sum-none keys f h x (suc m) e =
     let size : length (keys x) + length (byLetter keys (suc x) m) ≡ 0 =
-    omega (arith, length-map (keys x) (x ∷_), length-append (map (x ∷_) (keys x)) (byLetter keys (suc x) m), ap length e) in
+    omega (
+      arith,
+      length-map (keys x) (x ∷_),
+      length-append (map (x ∷_) (keys x))
+          (byLetter keys (suc x) m),
+      ap length e,
+    ) in
     let rest = sum-none keys f h (suc x) m (no-length (byLetter keys (suc x) m) (omega arith)) in
     omega (arith, h x (no-length (keys x) (omega arith)), rest)
 
@@ -48,7 +56,8 @@ module _ (t : Table) (n : ℕ) where
   adds short left q p i = follow (t .child p i) 0 (λ c. weightAt t n (pred short) left q c)
 
   pub weight-split : (short left q p : ℕ)
-      → weightAt t n short left q p ≡ cond (eqb p q) (length (keysUnder t n short left p)) 0 + weightFrom t n short left q p 0
+      → weightAt t n short left q p ≡ cond (eqb p q) (length (keysUnder t n short left p)) 0
+      + weightFrom t n short left q p 0
   unfolding weightAt weightFrom
   weight-split short zero q p = omega arith
   weight-split short (suc left) q p = rw (sub-zero n)
@@ -65,7 +74,8 @@ module _ (t : Table) (n : ℕ) where
   weight-shallow short q p x = refl
 
   weight-letter : (short left q p x : ℕ) → x < n
-      → weightFrom t n short (suc left) q p x ≡ adds short left q p x + weightFrom t n short (suc left) q p (suc x)
+      → weightFrom t n short (suc left) q p x ≡ adds short left q p x + weightFrom t n short
+      (suc left) q p (suc x)
   unfolding weightFrom sumFrom
   weight-letter short left q p x h = let e : n - x ≡ suc (n - suc x) = omega arith in rw e
 
@@ -75,18 +85,30 @@ module _ (t : Table) (n : ℕ) where
   unfolding weightFrom
   weight-empty short zero q p x h e = refl
   weight-empty short (suc left) q p x h e =
-      omega (arith, weight-letter short left q p x h, follow-empty (t .child p x) 0 (λ c. weightAt t n (pred short) left q c) e)
+      omega (
+        arith,
+        weight-letter short left q p x h,
+        follow-empty (t .child p x) 0
+            (λ c. weightAt t n (pred short) left q c) e,
+      )
 
   -- any other adds what its node adds
   pub weight-link : (short left q p x : ℕ) → x < n → 0 < left → t .child p x ≢ 0
       → weightFrom t n short left q p x
-      ≡ weightAt t n (pred short) (pred left) q (t .child p x) + weightFrom t n short left q p (suc x)
+      ≡ weightAt t n (pred short) (pred left) q (t .child p x) + weightFrom t n short left q p
+      (suc x)
   weight-link short zero q p x h room full = absurd (omega arith)
   weight-link short (suc left) q p x h room full =
-      omega (arith, weight-letter short left q p x h, follow-on (t .child p x) 0 (λ c. weightAt t n (pred short) left q c) full)
+      omega (
+        arith,
+        weight-letter short left q p x h,
+        follow-on (t .child p x) 0
+            (λ c. weightAt t n (pred short) left q c) full,
+      )
 
   -- a link that no key comes by adds nothing
-  link-blank : (short left q c : ℕ) → ((p : ℕ) → keysUnder t n short left p ≡ [] → weightAt t n short left q p ≡ 0)
+  link-blank : (short left q c : ℕ)
+      → ((p : ℕ) → keysUnder t n short left p ≡ [] → weightAt t n short left q p ≡ 0)
       → follow c [] (λ p. keysUnder t n short left p) ≡ []
       → follow c 0 (λ p. weightAt t n short left q p) ≡ 0
   unfolding follow
@@ -95,7 +117,8 @@ module _ (t : Table) (n : ℕ) where
 
   -- where nothing lies below a node, no node there adds anything
   below-blank : (short left q p : ℕ)
-      → ((c : ℕ) → keysUnder t n (pred short) (pred left) c ≡ [] → weightAt t n (pred short) (pred left) q c ≡ 0)
+      → ((c : ℕ) → keysUnder t n (pred short) (pred left) c ≡ [] → weightAt t n (pred short)
+      (pred left) q c ≡ 0)
       → keysFrom t n short left p 0 ≡ []
       → weightFrom t n short left q p 0 ≡ 0
   unfolding keysFrom weightFrom
@@ -109,10 +132,13 @@ module _ (t : Table) (n : ℕ) where
       (n - 0)
       e
 
-  all-blank : (short left q p : ℕ) → keysUnder t n short left p ≡ [] → weightFrom t n short left q p 0 ≡ 0 → weightAt t n short left q p ≡ 0
-  all-blank short left q p e below = weight-split short left q p ∙ rw (e, below, cond-same (eqb p q))
+  all-blank : (short left q p : ℕ) → keysUnder t n short left p ≡ []
+      → weightFrom t n short left q p 0 ≡ 0 → weightAt t n short left q p ≡ 0
+  all-blank short left q p e below =
+      weight-split short left q p ∙ rw (e, below, cond-same (eqb p q))
 
-  none-below : (short left p : ℕ) → keysUnder t n short left p ≡ [] → keysFrom t n short left p 0 ≡ []
+  none-below : (short left p : ℕ) → keysUnder t n short left p ≡ [] → keysFrom t n short left p 0
+      ≡ []
   none-below short left p e =
       no-length
       (keysFrom t n short left p 0)
@@ -122,7 +148,8 @@ module _ (t : Table) (n : ℕ) where
         length-append (ownKey t short p) (keysFrom t n short left p 0),
       ))
 
-  weight-blank : (short left q p : ℕ) → keysUnder t n short left p ≡ [] → weightAt t n short left q p ≡ 0
+  weight-blank : (short left q p : ℕ) → keysUnder t n short left p ≡ []
+      → weightAt t n short left q p ≡ 0
   weight-blank short zero q p e = all-blank short 0 q p e (weight-shallow short q p 0)
   weight-blank short (suc left) q p e =
       all-blank
@@ -131,10 +158,13 @@ module _ (t : Table) (n : ℕ) where
       q
       p
       e
-      (below-blank short (suc left) q p (λ c. weight-blank (pred short) left q c) (none-below short (suc left) p e))
+      (below-blank short (suc left) q p (λ c. weight-blank (pred short) left q c)
+      (none-below short (suc left) p e))
 
-  pub weight-no-keys : (short left p : ℕ) → ((x : ℕ) → keysFrom t n short left p x ≡ []) → (q : ℕ) → weightFrom t n short left q p 0 ≡ 0
-  weight-no-keys short left p none q = below-blank short left q p (λ c. weight-blank (pred short) (pred left) q c) (none 0)
+  pub weight-no-keys : (short left p : ℕ) → ((x : ℕ) → keysFrom t n short left p x ≡ []) → (q : ℕ)
+      → weightFrom t n short left q p 0 ≡ 0
+  weight-no-keys short left p none q =
+      below-blank short left q p (λ c. weight-blank (pred short) (pred left) q c) (none 0)
 
 -- ---- the sums are the counts
 
@@ -156,13 +186,15 @@ sum-filter test keys f h x (suc m) =
 module _ (t : Table) (n : ℕ) (once : Once t) (q : ℕ) where
   -- what is to be shown of node p
   abbrev Weighed : ℕ → ℕ → ℕ → Type 0
-  Weighed short left p = weightAt t n short left q p ≡ length (filter (passes t q p) (keysUnder t n short left p))
+  Weighed short left p =
+      weightAt t n short left q p ≡ length (filter (passes t q p) (keysUnder t n short left p))
 
   -- one link, where a test asks of the keys by its letter what its node asks of what follows
   link-weighed : (test : List ℕ → Bool) (short left i c : ℕ)
       → (c ≢ 0 → Weighed short left c)
       → (c ≢ 0 → (k : List ℕ) → test (i ∷ k) ≡ passes t q c k)
-      → follow c 0 (λ p. weightAt t n short left q p) ≡ length (filter test (map (i ∷_) (follow c [] (λ p. keysUnder t n short left p))))
+      → follow c 0 (λ p. weightAt t n short left q p)
+      ≡ length (filter test (map (i ∷_) (follow c [] (λ p. keysUnder t n short left p))))
   unfolding follow filter
   link-weighed test short left i zero below asks = refl
   link-weighed test short left i (suc c) below asks =
@@ -183,7 +215,8 @@ module _ (t : Table) (n : ℕ) (once : Once t) (q : ℕ) where
       test
       (under t n short left p)
       (adds t n short left q p)
-      (λ i. link-weighed test (pred short) left i (t .child p i) (λ full. below i full (omega arith)) (asks i))
+      (λ i. link-weighed test (pred short) left i (t .child p i)
+      (λ full. below i full (omega arith)) (asks i))
       0
       (n - 0)
 
@@ -201,24 +234,34 @@ module _ (t : Table) (n : ℕ) (once : Once t) (q : ℕ) where
 
       go : Dec (p ≡ q) → Weighed short left p
       go (yes same) =
-          let every : filter (passes t q p) (keysUnder t n short left p) ≡ keysUnder t n short left p =
-          filter-every _ _ (λ j a. subst (λ (z : ℕ). passes t q z j ≡ true) (sym same) (passes-here t q j)) in
-          let again : (x : ℕ) → t .child p x ≢ 0 → (j : List ℕ) → false ≡ passes t q (t .child p x) j =
-          λ x full j. sym (subst (λ (z : ℕ). passes t z (t .child p x) j ≡ false) same (never-again t k x once e full j)) in
+          let every : filter (passes t q p) (keysUnder t n short left p)
+          ≡ keysUnder t n short left p =
+          filter-every _ _ (λ j a. subst (λ (z : ℕ). passes t q z j ≡ true) (sym same)
+          (passes-here t q j)) in
+          let again : (x : ℕ) → t .child p x ≢ 0 → (j : List ℕ)
+          → false ≡ passes t q (t .child p x) j =
+          λ x full j. sym (subst (λ (z : ℕ). passes t z (t .child p x) j ≡ false) same
+          (never-again t k x once e full j)) in
           let nothing : weightFrom t n short left q p 0 ≡ 0 =
-          weighed-below (λ j. false) short left p below again ∙ ap length (filter-none (λ j. false) from (λ j a. refl)) in
-          let met : cond (eqb p q) (length (keysUnder t n short left p)) 0 ≡ length (keysUnder t n short left p) = rw (eq-eqb p q same) in
+          weighed-below (λ j. false) short left p below again
+          ∙ ap length (filter-none (λ j. false) from (λ j a. refl)) in
+          let met : cond (eqb p q) (length (keysUnder t n short left p)) 0
+          ≡ length (keysUnder t n short left p) = rw (eq-eqb p q same) in
           omega (arith, weight-split t n short left q p, nothing, met, ap length every)
       go (no other) =
-          let unmet : cond (eqb p q) (length (keysUnder t n short left p)) 0 ≡ 0 = rw (ne-eqb p q other) in
+          let unmet : cond (eqb p q) (length (keysUnder t n short left p)) 0 ≡ 0 =
+          rw (ne-eqb p q other) in
           let out : filter (passes t q p) own ≡ [] =
-          filter-none (passes t q p) own (λ j a. ap (passes t q p) (own-cases t short p a .0) ∙ passes-nil t q p other) in
+          filter-none (passes t q p) own (λ j a. ap (passes t q p) (own-cases t short p a .0)
+          ∙ passes-nil t q p other) in
           omega (
             arith,
             weight-split t n short left q p,
             unmet,
-            weighed-below (passes t q p) short left p below (λ x full j. passes-link t q p x j other full),
-            ap (λ (l : List (List ℕ)). length (filter (passes t q p) l)) (under-split t n short left p),
+            weighed-below (passes t q p) short left p below
+                (λ x full j. passes-link t q p x j other full),
+            ap (λ (l : List (List ℕ)). length (filter (passes t q p) l))
+                (under-split t n short left p),
             ap length (filter-append (passes t q p) own from),
             length-append (filter (passes t q p) own) (filter (passes t q p) from),
             ap length out,
@@ -233,8 +276,11 @@ module _ (t : Table) (n : ℕ) (once : Once t) (q : ℕ) where
       p
       k
       e
-      (λ x full room. weighed (pred short) left (t .child p x) (k ++ (x ∷ [])) (child-reached t k x e full))
+      (λ x full room. weighed (pred short) left (t .child p x) (k ++ (x ∷ []))
+      (child-reached t k x e full))
 
-pub weight-count : {t : Table} {g n : ℕ} → Linked t g n → (least most q : ℕ) → weightAt t n least most q 0 ≡ countAt t n least most q
+pub weight-count : {t : Table} {g n : ℕ} → Linked t g n → (least most q : ℕ)
+    → weightAt t n least most q 0 ≡ countAt t n least most q
 unfolding countAt
-weight-count {t} {g} {n} linked least most q = weighed t n (linked .once) q least most 0 [] (descend-nil t 0)
+weight-count {t} {g} {n} linked least most q =
+    weighed t n (linked .once) q least most 0 [] (descend-nil t 0)

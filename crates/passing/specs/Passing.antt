@@ -1,5 +1,6 @@
--- 02, Ask 7: "a lent list of counts, one for each node: how many stored keys lie at or under it", and "the key at position i", on tables. A key
--- lies at or under a node if its walk from the root passes that node.
+-- 02, Ask 7: "a lent list of counts, one for each node: how many stored keys lie at or under it",
+-- and "the key at position i", on tables. A key lies at or under a node if its walk from the root
+-- passes that node.
 use Prim.Native.Nat.{ℕ, zero, suc}
 use mathlib.Core.Bool.{Bool, false, _||_}
 use mathlib.Core.Option.{Option, none, some}
@@ -9,13 +10,15 @@ use lib.ListN.{length}
 use Rattle.trie.specs.Table.{Table, follow}
 use Rattle.trie.specs.Keys.{listing, before, filter}
 
--- does the walk of a key from node p pass node q? It passes the nodes at its beginning and at its end too.
+-- does the walk of a key from node p pass node q? It passes the nodes at its beginning and at its
+-- end too.
 unfoldable pub passes : Table → ℕ → ℕ → List ℕ → Bool
 unfolding follow
 passes t q p [] = eqb p q
 passes t q p (x ∷ xs) = eqb p q || follow (t .child p x) false (λ c. passes t q c xs)
 
--- "how many stored keys lie at or under it", for keys of least to most letters in a table with n letters
+-- "how many stored keys lie at or under it", for keys of least to most letters in a table with n
+-- letters
 unfoldable pub countAt : Table → ℕ → ℕ → ℕ → ℕ → ℕ
 unfolding filter passes
 countAt t n least most q = length (filter (passes t q 0) (listing t n least most))

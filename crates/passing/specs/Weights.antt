@@ -1,5 +1,6 @@
--- The counts as a walk through the tree adds them up: each node met adds the keys at or under it to its own count. What is still to come below a
--- node from a letter on is stated by itself, as `Beyond.keysFrom` states the keys. (That the sums are the counts is a law: `weight-count`.)
+-- The counts as a walk through the tree adds them up: each node met adds the keys at or under it
+-- to its own count. What is still to come below a node from a letter on is stated by itself, as
+-- `Beyond.keysFrom` states the keys. (That the sums are the counts is a law: `weight-count`.)
 use Prim.Native.Nat.{ℕ, zero, suc, pred, _+_, _-_}
 use mathlib.Core.Bool.{cond}
 use lib.Dec.{eqb}
@@ -24,4 +25,5 @@ weightAt t n short (suc left) q p =
 unfoldable pub weightFrom : Table → ℕ → ℕ → ℕ → ℕ → ℕ → ℕ → ℕ
 unfolding weightAt follow sumFrom
 weightFrom t n short zero q p x = 0
-weightFrom t n short (suc left) q p x = sumFrom (λ i. follow (t .child p i) 0 (λ c. weightAt t n (pred short) left q c)) x (n - x)
+weightFrom t n short (suc left) q p x =
+    sumFrom (λ i. follow (t .child p i) 0 (λ c. weightAt t n (pred short) left q c)) x (n - x)

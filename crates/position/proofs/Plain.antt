@@ -1,5 +1,6 @@
--- A call that takes counts, held against the call without them. The check is lent the shorter of the two lists, so it passes where the
--- plain check passes and the counts are long enough; then it clears the same working numbers, and the rows that follow are the same.
+-- A call that takes counts, held against the call without them. The check is lent the shorter of
+-- the two lists, so it passes where the plain check passes and the counts are long enough; then it
+-- clears the same working numbers, and the rows that follow are the same.
 use Prim.Native.Nat.{ℕ, _+_, _≤_, _<_, min}
 use mathlib.Core.Path.{_≡_, refl, sym, _∙_, ap}
 use mathlib.Core.Logic.{_↔_, _≢_}
@@ -18,15 +19,19 @@ use Rattle.trie.specs.Table.{answer}
 use Rattle.head.specs.declared.Head.{Head}
 use Rattle.head.specs.Fields.{headOf}
 use Rattle.alphabet.specs.Letters.{among}
-use Rattle.paper.specs.Hearing.{Said, Row, Numbers, Outcome, rowWhen, first, heard, outcome, refusedNumbers, doneNumbers}
+use Rattle.paper.specs.Hearing.{Said, Row, Numbers, Outcome, rowWhen, first, heard, outcome}
+use Rattle.paper.specs.Hearing.{refusedNumbers, doneNumbers}
 use Rattle.paper.specs.Rows.{row5}
 use Rattle.paper.specs.Given.{Given, alphabetIn, keyIn}
 use Rattle.paper.specs.Orders.{openingRowsOf, checkOrder, keyRows, newOf, storeOrder}
 use Rattle.paper.specs.Calls.{tableIn, clearedBy, workAfter, storedImage, storeOf}
 use Rattle.paper.specs.Accepted.{Accepted}
-use Rattle.paper.proofs.Hearing.{first-nil, no-row, second-part, passed-row, passed-parts, heard-done, kept-lent}
-use Rattle.paper.proofs.Numbers.{AllSay, end, _then_, given-says, lowest-says, parts-say, first-says, none-heard}
-use Rattle.paper.proofs.CheckCall.{accepted-opens, checked, check-accepts, accepted-checks, checking-says, checkNumbers}
+use Rattle.paper.proofs.Hearing.{first-nil, no-row, second-part, passed-row, passed-parts}
+use Rattle.paper.proofs.Hearing.{heard-done, kept-lent}
+use Rattle.paper.proofs.Numbers.{AllSay, end, _then_, given-says, lowest-says, parts-say}
+use Rattle.paper.proofs.Numbers.{first-says, none-heard}
+use Rattle.paper.proofs.CheckCall.{accepted-opens, checked, check-accepts, accepted-checks}
+use Rattle.paper.proofs.CheckCall.{checking-says, checkNumbers}
 use Rattle.paper.proofs.Keying.{given-says-key}
 use Rattle.paper.proofs.StoreCall.{valued, valued-says}
 use Rattle.position.specs.Counts.{countIn, row25, row5again}
@@ -35,21 +40,25 @@ use Rattle.position.specs.Calls.{workLeft, worked, storeCountsOf}
 
 -- ---- the list that the check is lent
 
-usable-length : (work counts : List ℕ) → length (usable work counts) ≡ min (length counts) (length work)
+usable-length : (work counts : List ℕ) → length (usable work counts) ≡ min (length counts)
+    (length work)
 unfolding usable
 usable-length work counts = length-take (length counts) work
 
 pub both-lent : (l work counts : List ℕ)
-    → (headOf l .g + 1 ≤ length (usable work counts)) ↔ ((headOf l .g + 1 ≤ length work) × (headOf l .g + 1 ≤ length counts))
+    → (headOf l .g + 1 ≤ length (usable work counts))
+    ↔ ((headOf l .g + 1 ≤ length work) × (headOf l .g + 1 ≤ length counts))
 both-lent l work counts =
     let e = usable-length work counts in
     (λ b. (omega arith, omega arith), λ b. omega arith)
 
 -- "5, in its old place, also if the list is shorter than G+1"
 pub five-either : (h : Head) (work counts : List ℕ)
-    → row5 h (length (usable work counts)) ≡ rowWhen 5 0 (ltb (length work) (h .g + 1) || ltb (length counts) (h .g + 1))
+    → row5 h (length (usable work counts)) ≡ rowWhen 5 0
+    (ltb (length work) (h .g + 1) || ltb (length counts) (h .g + 1))
 unfolding row5
-five-either h work counts = ap (rowWhen 5 0) (go (decLt (length work) (h .g + 1)) (decLt (length counts) (h .g + 1)))
+five-either h work counts =
+    ap (rowWhen 5 0) (go (decLt (length work) (h .g + 1)) (decLt (length counts) (h .g + 1)))
   where
     lent : ℕ
     lent = length (usable work counts)
@@ -59,13 +68,22 @@ five-either h work counts = ap (rowWhen 5 0) (go (decLt (length work) (h .g + 1)
 
     go : Dec (length work < h .g + 1) → Dec (length counts < h .g + 1)
         → ltb lent (h .g + 1) ≡ (ltb (length work) (h .g + 1) || ltb (length counts) (h .g + 1))
-    go (yes a) b = lt-ltb lent (h .g + 1) (omega (arith, e)) ∙ sym (rw (lt-ltb (length work) (h .g + 1) a))
+    go (yes a) b =
+        lt-ltb lent (h .g + 1) (omega (arith, e)) ∙ sym (rw (lt-ltb (length work) (h .g + 1) a))
     go (no a) (yes b) =
         lt-ltb lent (h .g + 1) (omega (arith, e))
-        ∙ sym (rw (le-ltb (length work) (h .g + 1) (omega arith), lt-ltb (length counts) (h .g + 1) b))
+        ∙ sym (rw (
+          le-ltb (length work) (h .g + 1) (omega arith),
+          lt-ltb (length counts)
+              (h .g + 1) b,
+        ))
     go (no a) (no b) =
         le-ltb lent (h .g + 1) (omega (arith, e))
-        ∙ sym (rw (le-ltb (length work) (h .g + 1) (omega arith), le-ltb (length counts) (h .g + 1) (omega arith)))
+        ∙ sym (rw (
+          le-ltb (length work) (h .g + 1) (omega arith),
+          le-ltb (length counts) (h .g + 1)
+              (omega arith),
+        ))
 
 -- ---- the working numbers that are left
 
@@ -80,8 +98,10 @@ cleared l work a b =
     ∙ first-nil)
 
 -- the rest of a front part, and what stands behind that part
-rest-joined : (n m : ℕ) (l : List ℕ) → n ≤ length (take m l) → drop n (take m l) ++ drop m l ≡ drop n l
-rest-joined n m l b = sym (drop-append-le n (take m l) (drop m l) b) ∙ ap (drop n) (take-append-drop m l)
+rest-joined : (n m : ℕ) (l : List ℕ) → n ≤ length (take m l) → drop n (take m l) ++ drop m l
+    ≡ drop n l
+rest-joined n m l b =
+    sym (drop-append-le n (take m l) (drop m l) b) ∙ ap (drop n) (take-append-drop m l)
 
 pub work-left : (l work counts : List ℕ) → first (checkOrder l (usable work counts)) ≡ none
     → (workLeft l work counts ≡ workAfter l work)
@@ -98,23 +118,27 @@ work-left l work counts e =
     ∙ ap (λ (w : List ℕ). zeros ++ w) (rest-joined m (length counts) work lent) in
     (left ∙ sym (cleared l work a (both-lent l work counts .0 lent .0)), left)
 
--- "If the call stops at 5, where its order first names it, or before that, all keep what they held."
+-- "If the call stops at 5, where its order first names it, or before that, all keep what they
+-- held."
 pub work-kept : (l work counts : List ℕ) {s : Said}
     → first (openingRowsOf l ++ (row5 (headOf l) (length (usable work counts)) ∷ [])) ≡ some s
     → workLeft l work counts ≡ work
 unfolding workLeft usable workAfter clearedBy
 work-kept l work counts e =
-    ap (λ (r : Row). clearedBy r (headOf l .g + 1) (usable work counts) ++ drop (length counts) work) e
+    ap (λ (r : Row). clearedBy r (headOf l .g + 1) (usable work counts)
+    ++ drop (length counts) work) e
     ∙ take-append-drop (length counts) work
 
 -- ---- the rows of a store with counts
 
 pub says-only-25 : (l counts : List ℕ) → AllSay (25 ∷ []) (row25 l counts ∷ [])
 unfolding row25 among
-says-only-25 l counts = lowest-says 25 (λ q. not (eqb (getD counts q 0) (countIn l q))) 0 (headOf l .g + 1) refl then end
+says-only-25 l counts = lowest-says 25 (λ q. not (eqb (getD counts q 0) (countIn l q))) 0
+    (headOf l .g + 1) refl then end
 
 -- the check's numbers, and 25
-pub counts-say : (l work counts : List ℕ) → AllSay (checkNumbers ++ (25 ∷ [])) (checkCountsOrder l work counts)
+pub counts-say : (l work counts : List ℕ) → AllSay (checkNumbers ++ (25 ∷ []))
+    (checkCountsOrder l work counts)
 unfolding checkCountsOrder countsOrder
 counts-say l work counts = parts-say (checking-says l (usable work counts)) (says-only-25 l counts)
 
@@ -126,10 +150,12 @@ pub record CountsChecked (l work counts : List ℕ) : Type 0 where
   pub listed : headOf l .g + 1 ≤ length counts
   pub same : row25 l counts ≡ none
 
-pub counts-checked : (l work counts : List ℕ) → first (checkCountsOrder l work counts) ≡ none → CountsChecked l work counts
+pub counts-checked : (l work counts : List ℕ) → first (checkCountsOrder l work counts) ≡ none
+    → CountsChecked l work counts
 unfolding checkCountsOrder countsOrder
 counts-checked l work counts e =
-    let (passes, rest) = passed-parts (checkOrder l (usable work counts)) (row25 l counts ∷ []) e in
+    let (passes, rest) =
+    passed-parts (checkOrder l (usable work counts)) (row25 l counts ∷ []) e in
     let both = both-lent l work counts .0 (checked l (usable work counts) passes .lent) in
     record {
       passes = passes;
@@ -165,7 +191,8 @@ module _ (l work : List ℕ) (given : Given) (value : ℕ) (counts : List ℕ) w
   unfolding storeCountsOrder
   store-order e =
       let last : List Row = row5again (headOf l) new (length counts) ∷ [] in
-      let after25 = passed-parts (checkCountsOrder l work counts) (keyRows l given ++ (valued l key value ++ last)) e in
+      let after25 = passed-parts (checkCountsOrder l work counts)
+      (keyRows l given ++ (valued l key value ++ last)) e in
       let after10 = passed-parts (keyRows l given) (valued l key value ++ last) (after25 .1) in
       let after13 = passed-parts (valued l key value) last (after10 .1) in
       record {
@@ -193,7 +220,8 @@ module _ (l work : List ℕ) (given : Given) (value : ℕ) (counts : List ℕ) w
   unfolding storeOrder
   plain-passes p =
       let c = p .counts-passed in
-      second-part (checkOrder l work) (keyRows l given ++ valued l key value) (accepted-checks l work (c .accepted) (c .lent))
+      second-part (checkOrder l work) (keyRows l given ++ valued l key value)
+      (accepted-checks l work (c .accepted) (c .lent))
       ∙ second-part (keyRows l given) (valued l key value) (p .keys)
       ∙ p .values
 
@@ -215,10 +243,12 @@ module _ (l work : List ℕ) (given : Given) (value : ℕ) (counts : List ℕ) w
         heard-done _ _ _ e
             ∙ ap (λ (w : List ℕ). outcome told (image ∷ w ∷ worked image counts ∷ []))
             (work-left l work counts (p .counts-passed .passes) .0)
-            ∙ ap (λ (o : Outcome). outcome (o .numbers) (image ∷ workAfter l work ∷ worked image counts ∷ [])) (sym plain),
+            ∙ ap (λ (o : Outcome). outcome (o .numbers)
+            (image ∷ workAfter l work ∷ worked image counts ∷ [])) (sym plain),
       )
 
-  -- "A refused call changes nothing in the image or in any other lent buffer but the working numbers"
+  -- "A refused call changes nothing in the image or in any other lent buffer but the working
+  -- numbers"
   pub store-counts-kept : storeCountsOf l work given value counts .numbers .number ≢ 0
       → (storeCountsOf l work given value counts .lent ≡ l ∷ workLeft l work counts ∷ counts ∷ [])
       × (storeCountsOf l work given value counts .numbers .change ≡ pos 0)
@@ -233,8 +263,10 @@ module _ (l work : List ℕ) (given : Given) (value : ℕ) (counts : List ℕ) w
 
       done : Outcome
       done =
-          outcome told (storedImage l key value ∷ workLeft l work counts ∷ worked (storedImage l key value) counts ∷ [])
+          outcome told (storedImage l key value ∷ workLeft l work counts
+          ∷ worked (storedImage l key value) counts ∷ [])
 
-      no-change : (r : Row) → heard r kept done .numbers .number ≢ 0 → heard r kept done .numbers .change ≡ pos 0
+      no-change : (r : Row) → heard r kept done .numbers .number ≢ 0
+          → heard r kept done .numbers .change ≡ pos 0
       no-change none f = absurd (f refl)
       no-change (some s) f = refl

@@ -1,5 +1,6 @@
--- 02, Ask 7, on the counts alone: when 25 is given and where, that the counts worked out are right, and for which images and lists the call
--- that works them out and the check with counts are done. Each goes down the rows: the check's part is 01's theorem on `Accepted`.
+-- 02, Ask 7, on the counts alone: when 25 is given and where, that the counts worked out are
+-- right, and for which images and lists the call that works them out and the check with counts are
+-- done. Each goes down the rows: the check's part is 01's theorem on `Accepted`.
 use Prim.Native.Nat.{ℕ, zero, suc, _+_, _≤_, _<_}
 use mathlib.Core.Path.{_≡_, refl, sym, _∙_, ap}
 use mathlib.Core.Logic.{_↔_, _≢_}
@@ -41,8 +42,10 @@ lowest-found p a (suc k) h = go (p a) refl (lowest-found p (suc a) k)
   where
     go : (b : Bool) → p a ≡ b
         → (lowest p (suc a) k < suc a + k
-        → (p (lowest p (suc a) k) ≡ true) × ((y : ℕ) → suc a ≤ y → y < lowest p (suc a) k → p y ≡ false))
-        → (p (lowest p a (suc k)) ≡ true) × ((y : ℕ) → a ≤ y → y < lowest p a (suc k) → p y ≡ false)
+        → (p (lowest p (suc a) k) ≡ true)
+        × ((y : ℕ) → suc a ≤ y → y < lowest p (suc a) k → p y ≡ false))
+        → (p (lowest p a (suc k)) ≡ true)
+        × ((y : ℕ) → a ≤ y → y < lowest p a (suc k) → p y ≡ false)
     go true e below =
         let here : lowest p a (suc k) ≡ a = rw e in
         (ap p here ∙ e, λ y low high. absurd (omega arith))
@@ -62,13 +65,15 @@ module _ (l counts : List ℕ) where
   abbrev differs : ℕ → Bool
   differs q = not (eqb (getD counts q 0) (countIn l q))
 
-  pub none-25 : (row25 l counts ≡ none) ↔ ((q : ℕ) → q ≤ headOf l .g → getD counts q 0 ≡ countIn l q)
+  pub none-25 : (row25 l counts ≡ none)
+      ↔ ((q : ℕ) → q ≤ headOf l .g → getD counts q 0 ≡ countIn l q)
   unfolding row25
   none-25 = (
     λ e q b.
         let same = passed-lowest 25 differs 0 (headOf l .g + 1) e q (omega arith) (omega arith) in
         eqb-true (getD counts q 0) (countIn l q) (not-false _ same),
-    λ f. lowest-passed 25 differs 0 (headOf l .g + 1) (λ q _ b. untrue (eq-eqb (getD counts q 0) (countIn l q) (f q (omega arith)))),
+    λ f. lowest-passed 25 differs 0 (headOf l .g + 1)
+        (λ q _ b. untrue (eq-eqb (getD counts q 0) (countIn l q) (f q (omega arith)))),
   )
 
   -- "25, counts differ, ... place the lowest such node"
@@ -97,7 +102,8 @@ module _ (l counts : List ℕ) where
             sym number,
             omega arith,
             eqb-false (getD counts (s .place) 0) (countIn l (s .place)) (not-true _ wrong),
-            λ q b. eqb-true (getD counts q 0) (countIn l q) (not-false _ (found .1 q (omega arith) (omega arith))),
+            λ q b. eqb-true (getD counts q 0) (countIn l q)
+                (not-false _ (found .1 q (omega arith) (omega arith))),
           )
       go false f m = let z : _≡_ {A = ℕ} 0 1 = cc in absurd (omega arith)
 
@@ -110,7 +116,8 @@ counts-length l = each-length (countIn l) 0 (headOf l .g + 1)
 -- what stands behind a run of stores
 sets-past : (vs l : List ℕ) (i q : ℕ) → i + length vs ≤ q → getD (sets l i vs) q 0 ≡ getD l q 0
 sets-past [] l i q h = refl
-sets-past (a ∷ vs) l i q h = sets-past vs (set l i a) (suc i) q (omega arith) ∙ getD-set-other l i q a 0 (omega arith)
+sets-past (a ∷ vs) l i q h =
+    sets-past vs (set l i a) (suc i) q (omega arith) ∙ getD-set-other l i q a 0 (omega arith)
 
 module _ (l counts : List ℕ) where
   pub worked-length : length (worked l counts) ≡ length counts
@@ -122,7 +129,8 @@ module _ (l counts : List ℕ) where
   unfolding worked
   worked-rest q b = sets-past (countsIn l) counts 0 q (omega (arith, counts-length l))
 
-  pub worked-at : headOf l .g + 1 ≤ length counts → (q : ℕ) → q ≤ headOf l .g → getD (worked l counts) q 0 ≡ countIn l q
+  pub worked-at : headOf l .g + 1 ≤ length counts → (q : ℕ) → q ≤ headOf l .g
+      → getD (worked l counts) q 0 ≡ countIn l q
   unfolding worked countsIn
   worked-at long q b =
       let e = counts-length l in
@@ -147,11 +155,14 @@ module _ (l counts : List ℕ) where
 
 module _ (l work counts : List ℕ) where
   -- where the lists are long enough, an accepted image passes the check
-  pub works-out : Accepted l → headOf l .g + 1 ≤ length work → headOf l .g + 1 ≤ length counts → first (countsOrder l work counts) ≡ none
+  pub works-out : Accepted l → headOf l .g + 1 ≤ length work → headOf l .g + 1 ≤ length counts
+      → first (countsOrder l work counts) ≡ none
   unfolding countsOrder
-  works-out a lent long = accepted-checks l (usable work counts) a (both-lent l work counts .1 (lent, long))
+  works-out a lent long =
+      accepted-checks l (usable work counts) a (both-lent l work counts .1 (lent, long))
 
-  pub counts-passed : countsOf l work counts .numbers .number ≡ 0 → first (countsOrder l work counts) ≡ none
+  pub counts-passed : countsOf l work counts .numbers .number ≡ 0
+      → first (countsOrder l work counts) ≡ none
   unfolding countsOf countsOrder among
   counts-passed z = none-heard _ _ (first-says (checking-says l (usable work counts))) refl z
 
@@ -163,30 +174,37 @@ module _ (l work counts : List ℕ) where
         let e = counts-passed z in
         let both = both-lent l work counts .0 (checked l (usable work counts) e .lent) in
         (both .0, both .1, check-accepts l (usable work counts) e),
-    λ s. ap (λ (o : Outcome). o .numbers .number) (heard-done _ _ _ (works-out (s .2) (s .0) (s .1))),
+    λ s. ap (λ (o : Outcome). o .numbers .number)
+        (heard-done _ _ _ (works-out (s .2) (s .0) (s .1))),
   )
 
   pub counts-leaves : countsOf l work counts .numbers .number ≡ 0
-      → countsOf l work counts ≡ outcome (doneNumbers 0 (pos 0) 0) (workAfter l work ∷ worked l counts ∷ [])
+      → countsOf l work counts ≡ outcome (doneNumbers 0 (pos 0) 0)
+      (workAfter l work ∷ worked l counts ∷ [])
   unfolding countsOf countsOrder
   counts-leaves z =
       let e = counts-passed z in
       heard-done _ _ _ e
-      ∙ ap (λ (w : List ℕ). outcome (doneNumbers 0 (pos 0) 0) (w ∷ worked l counts ∷ [])) (work-left l work counts e .0)
+      ∙ ap (λ (w : List ℕ). outcome (doneNumbers 0 (pos 0) 0) (w ∷ worked l counts ∷ []))
+      (work-left l work counts e .0)
 
-  pub counts-kept : countsOf l work counts .numbers .number ≢ 0 → countsOf l work counts .lent ≡ workLeft l work counts ∷ counts ∷ []
+  pub counts-kept : countsOf l work counts .numbers .number ≢ 0 → countsOf l work counts .lent
+      ≡ workLeft l work counts ∷ counts ∷ []
   unfolding countsOf doneNumbers
-  counts-kept z = kept-lent (first (countsOrder l work counts)) (workLeft l work counts ∷ counts ∷ []) _ refl z
+  counts-kept z =
+      kept-lent (first (countsOrder l work counts)) (workLeft l work counts ∷ counts ∷ []) _ refl z
 
   -- with right counts, 25 is passed too
-  pub checks-counts : Accepted l → headOf l .g + 1 ≤ length work → RightCounts l counts → first (checkCountsOrder l work counts) ≡ none
+  pub checks-counts : Accepted l → headOf l .g + 1 ≤ length work → RightCounts l counts
+      → first (checkCountsOrder l work counts) ≡ none
   unfolding checkCountsOrder
   checks-counts a lent r =
       second-part (countsOrder l work counts) (row25 l counts ∷ []) (works-out a lent (r .long))
       ∙ first-none (row25 l counts) [] (none-25 l counts .1 (r .each))
       ∙ first-nil
 
-  pub check-counts-passed : checkCountsOf l work counts .numbers .number ≡ 0 → first (checkCountsOrder l work counts) ≡ none
+  pub check-counts-passed : checkCountsOf l work counts .numbers .number ≡ 0
+      → first (checkCountsOrder l work counts) ≡ none
   unfolding checkCountsOf among
   check-counts-passed z = none-heard _ _ (first-says (counts-say l work counts)) refl z
 
@@ -197,7 +215,8 @@ module _ (l work counts : List ℕ) where
     λ z.
         let c = counts-checked l work counts (check-counts-passed z) in
         (c .lent, c .accepted, record { long = c .listed; each = none-25 l counts .0 (c .same) }),
-    λ s. ap (λ (o : Outcome). o .numbers .number) (heard-done _ _ _ (checks-counts (s .1) (s .0) (s .2))),
+    λ s. ap (λ (o : Outcome). o .numbers .number)
+        (heard-done _ _ _ (checks-counts (s .1) (s .0) (s .2))),
   )
 
   -- done or refused, the working numbers alone are left changed
@@ -205,7 +224,8 @@ module _ (l work counts : List ℕ) where
   unfolding checkCountsOf heard
   check-counts-kept = go (first (checkCountsOrder l work counts))
     where
-      go : (r : Row) → heard r (workLeft l work counts ∷ []) (outcome (doneNumbers 0 (pos 0) 0) (workLeft l work counts ∷ [])) .lent
+      go : (r : Row) → heard r (workLeft l work counts ∷ [])
+          (outcome (doneNumbers 0 (pos 0) 0) (workLeft l work counts ∷ [])) .lent
           ≡ workLeft l work counts ∷ []
       go none = refl
       go (some s) = refl

@@ -1,6 +1,8 @@
--- 02, Ask 7, on stores: a store with counts is done exactly where the plain store is, the counts are right and they are long enough for the
--- new nodes; the counts it leaves are right again and changed on the key's path alone; and for which reasons it is refused. With right
--- counts its order is the plain store's but for the second 5, and what a store does to the counts is the law on tables (`Shifted`).
+-- 02, Ask 7, on stores: a store with counts is done exactly where the plain store is, the counts
+-- are right and they are long enough for the new nodes; the counts it leaves are right again and
+-- changed on the key's path alone; and for which reasons it is refused. With right counts its
+-- order is the plain store's but for the second 5, and what a store does to the counts is the law
+-- on tables (`Shifted`).
 use Prim.Native.Nat.{ℕ, _+_, _≤_, _<_}
 use mathlib.Core.Path.{_≡_, refl, sym, _∙_, ap, ap₂, subst}
 use mathlib.Core.Logic.{_↔_, _≢_}
@@ -22,40 +24,48 @@ use Rattle.alphabet.specs.Letters.{among, orEmpty}
 use Rattle.passing.specs.Passing.{passes, countAt}
 use Rattle.passing.proofs.Shifted.{stored-counts-off}
 use Rattle.passing.proofs.Added.{stored-new-passes}
-use Rattle.paper.specs.Hearing.{Said, Row, Numbers, Outcome, rowWhen, first, heard, outcome, refusedNumbers, doneNumbers}
+use Rattle.paper.specs.Hearing.{Said, Row, Numbers, Outcome, rowWhen, first, heard, outcome}
+use Rattle.paper.specs.Hearing.{refusedNumbers, doneNumbers}
 use Rattle.paper.specs.Rows.{row5}
 use Rattle.paper.specs.Given.{Given, alphabetIn, meantIn, keyIn}
 use Rattle.paper.specs.Orders.{openingRowsOf, linkRows, checkOrder, keyRows, newOf, storeOrder}
 use Rattle.paper.specs.Calls.{tableIn, workAfter, storedImage, storeOf}
 use Rattle.paper.specs.Accepted.{Accepted}
 use Rattle.paper.specs.Granted.{Granted}
-use Rattle.paper.proofs.Hearing.{was-false, first-nil, first-some, first-none, yes-row, no-row, first-part, second-part, silent-end}
+use Rattle.paper.proofs.Hearing.{was-false, first-nil, first-some, first-none, yes-row, no-row}
+use Rattle.paper.proofs.Hearing.{first-part, second-part, silent-end}
 use Rattle.paper.proofs.Hearing.{heard-refused, heard-done}
-use Rattle.paper.proofs.Numbers.{Says, silent, saying, AllSay, end, _then_, given-says, parts-say, first-says, one-of}
+use Rattle.paper.proofs.Numbers.{Says, silent, saying, AllSay, end, _then_, given-says, parts-say}
+use Rattle.paper.proofs.Numbers.{first-says, one-of}
 use Rattle.paper.proofs.Keying.{given-says-key}
 use Rattle.paper.proofs.CheckCall.{accepted-opens, accepted-linked}
-use Rattle.paper.proofs.StoreCall.{stored-head, stored-table, accepted-again, valued, valued-says, order-passed}
+use Rattle.paper.proofs.StoreCall.{stored-head, stored-table, accepted-again, valued, valued-says}
+use Rattle.paper.proofs.StoreCall.{order-passed}
 use Rattle.paper.proofs.StoreCall.{store-passed, store-granted, store-means, store-done-exactly}
 use Rattle.position.specs.Counts.{countIn, row25, row5again, RightCounts}
 use Rattle.position.specs.Orders.{usable, countsOrder, checkCountsOrder, storeCountsOrder}
 use Rattle.position.specs.Calls.{workLeft, worked, checkCountsOf, storeCountsOf}
-use Rattle.position.proofs.Plain.{both-lent, five-either, says-only-25, store-order, store-counts-passed, store-counts-plain}
+use Rattle.position.proofs.Plain.{both-lent, five-either, says-only-25, store-order}
+use Rattle.position.proofs.Plain.{store-counts-passed, store-counts-plain}
 use Rattle.position.proofs.Right.{none-25, says-25, worked-at, worked-rest, worked-right}
 use Rattle.position.proofs.Right.{works-out, checks-counts, check-counts-exactly}
 
 -- ---- what is heard, by its number
 
 -- a number that no row says is not heard
-not-heard : {numbers : List ℕ} {r : Row} (kept : List (List ℕ)) (done : Outcome) (n : ℕ) → Says numbers r → among n numbers ≡ false
+not-heard : {numbers : List ℕ} {r : Row} (kept : List (List ℕ)) (done : Outcome) (n : ℕ)
+    → Says numbers r → among n numbers ≡ false
     → n ≢ 0
     → done .numbers .number ≡ 0
     → heard r kept done .numbers .number ≢ n
 unfolding heard refusedNumbers
 not-heard kept done n silent z some-number e f = some-number (sym f ∙ e)
-not-heard {numbers} kept done n (saying p) z some-number e f = true≢false (sym p ∙ ap (λ (m : ℕ). among m numbers) f ∙ z)
+not-heard {numbers} kept done n (saying p) z some-number e f =
+    true≢false (sym p ∙ ap (λ (m : ℕ). among m numbers) f ∙ z)
 
 -- the numbers of an answer do not ask what is kept
-same-numbers : (r : Row) (kept kept′ : List (List ℕ)) (done done′ : Outcome) → done .numbers ≡ done′ .numbers
+same-numbers : (r : Row) (kept kept′ : List (List ℕ)) (done done′ : Outcome) → done .numbers
+    ≡ done′ .numbers
     → heard r kept done .numbers ≡ heard r kept′ done′ .numbers
 unfolding heard
 same-numbers none kept kept′ done done′ e = e
@@ -66,7 +76,8 @@ abbrev pub acceptedCountsNumbers : List ℕ
 acceptedCountsNumbers = 5 ∷ 25 ∷ 9 ∷ 10 ∷ 11 ∷ 12 ∷ 13 ∷ []
 
 -- 5 named again says no other number
-five-again : (n : ℕ) → among n (5 ∷ 25 ∷ 9 ∷ 10 ∷ 11 ∷ 12 ∷ 13 ∷ 5 ∷ []) ≡ true → among n acceptedCountsNumbers ≡ true
+five-again : (n : ℕ) → among n (5 ∷ 25 ∷ 9 ∷ 10 ∷ 11 ∷ 12 ∷ 13 ∷ 5 ∷ []) ≡ true
+    → among n acceptedCountsNumbers ≡ true
 unfolding among
 five-again n h = go (eqb n 5) refl
   where
@@ -75,14 +86,16 @@ five-again n h = go (eqb n 5) refl
     go false e = rw e (rw e at h)
 
 -- where the counts are long enough, 5 is of the working numbers alone
-same-check : (l work counts : List ℕ) → headOf l .g + 1 ≤ length counts → countsOrder l work counts ≡ checkOrder l work
+same-check : (l work counts : List ℕ) → headOf l .g + 1 ≤ length counts → countsOrder l work counts
+    ≡ checkOrder l work
 unfolding countsOrder checkOrder row5
 same-check l work counts long =
     let h : Head = headOf l in
     let same : row5 h (length (usable work counts)) ≡ row5 h (length work) =
     five-either h work counts
     ∙ ap (rowWhen 5 0)
-    (ap (ltb (length work) (h .g + 1) ||_) (le-ltb (length counts) (h .g + 1) long) ∙ or-false (ltb (length work) (h .g + 1))) in
+    (ap (ltb (length work) (h .g + 1) ||_) (le-ltb (length counts) (h .g + 1) long)
+    ∙ or-false (ltb (length work) (h .g + 1))) in
     ap (λ (r : Row). openingRowsOf l ++ (r ∷ linkRows h (tableOf h l))) same
 
 module _ (l work : List ℕ) (given : Given) (value : ℕ) (counts : List ℕ) where
@@ -102,52 +115,67 @@ module _ (l work : List ℕ) (given : Given) (value : ℕ) (counts : List ℕ) w
   -- ---- where it is done
 
   -- with right counts that are long enough, a plain store that is done is done with counts
-  module _ (right : RightCounts l counts) (done : storeOf l work given value .numbers .number ≡ 0) where
-    left-5 : first (storeCountsOrder l work given value counts) ≡ first (row5again (headOf l) new (length counts) ∷ [])
-    unfolding storeCountsOrder
-    left-5 =
-        let (_, keys, values) = order-passed l work given value (store-passed l work given value done) in
-        let granted = store-granted l work given value done in
-        let lent = store-done-exactly l work given value .0 done .0 in
-        second-part (checkCountsOrder l work counts) rest (checks-counts l work counts (granted .accepted) lent right)
-        ∙ second-part (keyRows l given) (valued l key value ++ (row5again (headOf l) new (length counts) ∷ [])) keys
-        ∙ second-part (valued l key value) (row5again (headOf l) new (length counts) ∷ []) values
+  module _ (right : RightCounts l counts) (done : storeOf l work given value .numbers .number ≡ 0)
+    where
+      left-5 : first (storeCountsOrder l work given value counts)
+          ≡ first (row5again (headOf l) new (length counts) ∷ [])
+      unfolding storeCountsOrder
+      left-5 =
+          let (_, keys, values) =
+          order-passed l work given value (store-passed l work given value done) in
+          let granted = store-granted l work given value done in
+          let lent = store-done-exactly l work given value .0 done .0 in
+          second-part (checkCountsOrder l work counts) rest
+          (checks-counts l work counts (granted .accepted) lent right)
+          ∙ second-part (keyRows l given)
+          (valued l key value ++ (row5again (headOf l) new (length counts) ∷ [])) keys
+          ∙ second-part (valued l key value) (row5again (headOf l) new (length counts) ∷ []) values
 
-    done-too : headOf l .g + new + 1 ≤ length counts → storeCountsOf l work given value counts .numbers .number ≡ 0
-    unfolding storeCountsOf row5again doneNumbers
-    done-too long =
-        ap (λ (o : Outcome). o .numbers .number)
-        (heard-done _ _ _ (left-5 ∙ no-row 5 0 [] (le-ltb (length counts) (headOf l .g + new + 1) long) ∙ first-nil))
+      done-too : headOf l .g + new + 1 ≤ length counts
+          → storeCountsOf l work given value counts .numbers .number ≡ 0
+      unfolding storeCountsOf row5again doneNumbers
+      done-too long =
+          ap (λ (o : Outcome). o .numbers .number)
+          (heard-done _ _ _ (left-5 ∙ no-row 5 0 []
+          (le-ltb (length counts) (headOf l .g + new + 1) long) ∙ first-nil))
 
-    -- "5 again, after 13, if the list is shorter than G+k+1"
-    short-5 : length counts < headOf l .g + new + 1 → storeCountsOf l work given value counts .numbers .number ≡ 5
-    unfolding storeCountsOf row5again refusedNumbers
-    short-5 short =
-        ap (λ (o : Outcome). o .numbers .number)
-        (heard-refused _ _ _ (left-5 ∙ yes-row 5 0 [] (lt-ltb (length counts) (headOf l .g + new + 1) short)))
+      -- "5 again, after 13, if the list is shorter than G+k+1"
+      short-5 : length counts < headOf l .g + new + 1
+          → storeCountsOf l work given value counts .numbers .number ≡ 5
+      unfolding storeCountsOf row5again refusedNumbers
+      short-5 short =
+          ap (λ (o : Outcome). o .numbers .number)
+          (heard-refused _ _ _ (left-5 ∙ yes-row 5 0 []
+          (lt-ltb (length counts) (headOf l .g + new + 1) short)))
 
-    pub store-counts-5 : (storeCountsOf l work given value counts .numbers .number ≡ 5) ↔ (length counts < headOf l .g + new + 1)
-    store-counts-5 = (λ z. go z (decLt (length counts) (headOf l .g + new + 1)), short-5)
-      where
-        go : storeCountsOf l work given value counts .numbers .number ≡ 5 → Dec (length counts < headOf l .g + new + 1)
-            → length counts < headOf l .g + new + 1
-        go z (yes b) = b
-        go z (no b) = absurd (omega (arith, z, done-too (omega arith)))
+      pub store-counts-5 : (storeCountsOf l work given value counts .numbers .number ≡ 5)
+          ↔ (length counts < headOf l .g + new + 1)
+      store-counts-5 = (λ z. go z (decLt (length counts) (headOf l .g + new + 1)), short-5)
+        where
+          go : storeCountsOf l work given value counts .numbers .number ≡ 5
+              → Dec (length counts < headOf l .g + new + 1)
+              → length counts < headOf l .g + new + 1
+          go z (yes b) = b
+          go z (no b) = absurd (omega (arith, z, done-too (omega arith)))
 
   -- what a store that is done tells
-  long-enough : storeCountsOf l work given value counts .numbers .number ≡ 0 → headOf l .g + new + 1 ≤ length counts
+  long-enough : storeCountsOf l work given value counts .numbers .number ≡ 0 → headOf l .g + new
+      + 1 ≤ length counts
   unfolding row5again
   long-enough z =
-      let p = store-order l work given value counts (store-counts-passed l work given value counts z) in
+      let p = store-order l work given value counts
+      (store-counts-passed l work given value counts z) in
       ltb-false (length counts) (headOf l .g + new + 1) (was-false 5 0 _ (p .again))
 
   were-right : storeCountsOf l work given value counts .numbers .number ≡ 0 → RightCounts l counts
   were-right z =
-      let c = store-order l work given value counts (store-counts-passed l work given value counts z) .counts-passed in
+      let c = store-order l work given value counts
+      (store-counts-passed l work given value counts z) .counts-passed in
       record { long = c .listed; each = none-25 l counts .0 (c .same) }
 
   is-granted : storeCountsOf l work given value counts .numbers .number ≡ 0 → Granted l key value
-  is-granted z = store-granted l work given value (store-counts-plain l work given value counts z .0)
+  is-granted z =
+      store-granted l work given value (store-counts-plain l work given value counts z .0)
 
   pub store-counts-done-exactly : (storeCountsOf l work given value counts .numbers .number ≡ 0)
       ↔ ((headOf l .g + 1 ≤ length work)
@@ -171,7 +199,8 @@ module _ (l work : List ℕ) (given : Given) (value : ℕ) (counts : List ℕ) w
         let (lent, right, k, meant, granted, long) = s in
         let same : k ≡ key = sym (ap orEmpty meant) in
         let fits : headOf l .g + new + 1 ≤ length counts =
-        subst (λ (j : List ℕ). headOf l .g + newOf (headOf l) l j value + 1 ≤ length counts) same long in
+        subst (λ (j : List ℕ). headOf l .g + newOf (headOf l) l j value + 1 ≤ length counts) same
+        long in
         done-too right (store-done-exactly l work given value .1 (lent, k, meant, granted)) fits,
   )
 
@@ -191,7 +220,8 @@ module _ (l work : List ℕ) (given : Given) (value : ℕ) (counts : List ℕ) w
     pub store-counts-again : (work₂ : List ℕ) → headOf image .g + 1 ≤ length work₂
         → checkCountsOf image work₂ (worked image counts) .numbers .number ≡ 0
     store-counts-again work₂ lent =
-        check-counts-exactly image work₂ (worked image counts) .1 (lent, accepted-again (is-granted z), store-counts-right)
+        check-counts-exactly image work₂ (worked image counts) .1
+        (lent, accepted-again (is-granted z), store-counts-right)
 
     -- off the key's path a node of before counts what it counted
     count-stays : (q : ℕ) → passes (tableIn image) q 0 key ≡ false → countIn image q ≡ countIn l q
@@ -199,13 +229,16 @@ module _ (l work : List ℕ) (given : Given) (value : ℕ) (counts : List ℕ) w
     count-stays q off =
         let s = is-granted z in
         let t = stored-table s in
-        let (low, high) = between-true (length key) (headOf l .min) (headOf l .max) (s .fit .allowed) in
+        let (low, high) =
+        between-true (length key) (headOf l .min) (headOf l .max) (s .fit .allowed) in
         ap₂ (λ (h : Head) (t : Table). countAt t (h .n) (h .min) (h .max) q) (stored-head s) t
-        ∙ stored-counts-off (accepted-linked (s .accepted)) key (s .fit .below) value (headOf l .min) (headOf l .max) low high q
+        ∙ stored-counts-off (accepted-linked (s .accepted)) key (s .fit .below) value
+        (headOf l .min) (headOf l .max) low high q
         (subst (λ (t : Table). passes t q 0 key ≡ false) t off)
 
     -- and a new node is on it
-    new-on-path : (q : ℕ) → headOf l .g < q → q ≤ headOf l .g + new → passes (tableIn image) q 0 key ≡ true
+    new-on-path : (q : ℕ) → headOf l .g < q → q ≤ headOf l .g + new
+        → passes (tableIn image) q 0 key ≡ true
     unfolding newOf tableIn
     new-on-path q low high =
         let s = is-granted z in
@@ -213,12 +246,15 @@ module _ (l work : List ℕ) (given : Given) (value : ℕ) (counts : List ℕ) w
         ∙ stored-new-passes (accepted-linked (s .accepted)) key (s .fit .below) value q low high
 
     -- "A store changes counts only on the key's path and at the new nodes"
-    pub store-counts-path : (q : ℕ) → passes (tableIn image) q 0 key ≡ false → getD (worked image counts) q 0 ≡ getD counts q 0
+    pub store-counts-path : (q : ℕ) → passes (tableIn image) q 0 key ≡ false
+        → getD (worked image counts) q 0 ≡ getD counts q 0
     store-counts-path q off = go (decLe q (headOf l .g)) (decLe q (headOf l .g + new))
       where
-        go : Dec (q ≤ headOf l .g) → Dec (q ≤ headOf l .g + new) → getD (worked image counts) q 0 ≡ getD counts q 0
+        go : Dec (q ≤ headOf l .g) → Dec (q ≤ headOf l .g + new) → getD (worked image counts) q 0
+            ≡ getD counts q 0
         go (yes old) b =
-            worked-at image counts lasts q (omega (arith, new-total)) ∙ count-stays q off ∙ sym (were-right z .each q old)
+            worked-at image counts lasts q (omega (arith, new-total)) ∙ count-stays q off
+            ∙ sym (were-right z .each q old)
         go (no later) (yes b) = absurd (true≢false (sym (new-on-path q (omega arith) b) ∙ off))
         go (no later) (no past) = worked-rest image counts q (omega (arith, new-total))
 
@@ -228,60 +264,75 @@ module _ (l work : List ℕ) (given : Given) (value : ℕ) (counts : List ℕ) w
   five = row5 (headOf l) (length (usable work counts))
 
   -- in an accepted image 5 is asked, then 25, then the rest
-  accepted-order : Accepted l → first (storeCountsOrder l work given value counts) ≡ first (five ∷ row25 l counts ∷ rest)
+  accepted-order : Accepted l → first (storeCountsOrder l work given value counts)
+      ≡ first (five ∷ row25 l counts ∷ rest)
   unfolding storeCountsOrder checkCountsOrder countsOrder checkOrder row5
   accepted-order a = go (decLe (headOf l .g + 1) (length (usable work counts)))
     where
       go : Dec (headOf l .g + 1 ≤ length (usable work counts))
-          → first (storeCountsOrder l work given value counts) ≡ first (five ∷ row25 l counts ∷ rest)
+          → first (storeCountsOrder l work given value counts)
+          ≡ first (five ∷ row25 l counts ∷ rest)
       go (yes b) =
           let both = both-lent l work counts .0 b in
           ap first (append-assoc (countsOrder l work counts) (row25 l counts ∷ []) rest)
-          ∙ second-part (countsOrder l work counts) (row25 l counts ∷ rest) (works-out l work counts a (both .0) (both .1))
-          ∙ sym (no-row 5 0 (row25 l counts ∷ rest) (le-ltb (length (usable work counts)) (headOf l .g + 1) b))
+          ∙ second-part (countsOrder l work counts) (row25 l counts ∷ rest)
+          (works-out l work counts a (both .0) (both .1))
+          ∙ sym (no-row 5 0 (row25 l counts ∷ rest)
+          (le-ltb (length (usable work counts)) (headOf l .g + 1) b))
       go (no b) =
           let few : ltb (length (usable work counts)) (headOf l .g + 1) ≡ true =
           lt-ltb (length (usable work counts)) (headOf l .g + 1) (omega arith) in
           first-part (checkCountsOrder l work counts) rest
-          (first-part (countsOrder l work counts) (row25 l counts ∷ []) (second-part (openingRowsOf l) _ (accepted-opens a) ∙ yes-row 5 0 _ few))
+          (first-part (countsOrder l work counts) (row25 l counts ∷ [])
+          (second-part (openingRowsOf l) _ (accepted-opens a) ∙ yes-row 5 0 _ few))
           ∙ sym (yes-row 5 0 (row25 l counts ∷ rest) few)
 
   rest-says : AllSay (9 ∷ 10 ∷ 11 ∷ 12 ∷ 13 ∷ 5 ∷ []) rest
   unfolding keyRows row5again among
   rest-says =
       parts-say (given-says-key (headOf l) (alphabetIn (headOf l) l) given)
-      (parts-say (valued-says l key value) (given-says 5 0 (ltb (length counts) (headOf l .g + new + 1)) refl then end))
+      (parts-say (valued-says l key value)
+      (given-says 5 0 (ltb (length counts) (headOf l .g + new + 1)) refl then end))
 
-  pub store-counts-refuses : {s : Said} → Accepted l → first (storeCountsOrder l work given value counts) ≡ some s
+  pub store-counts-refuses : {s : Said} → Accepted l
+      → first (storeCountsOrder l work given value counts) ≡ some s
       → among (s .number) acceptedCountsNumbers ≡ true
   unfolding row5 among
   store-counts-refuses {s} a e =
-      let five-says : AllSay (5 ∷ []) (five ∷ []) = given-says 5 0 (ltb (length (usable work counts)) (headOf l .g + 1)) refl then end in
+      let five-says : AllSay (5 ∷ []) (five ∷ []) =
+      given-says 5 0 (ltb (length (usable work counts)) (headOf l .g + 1)) refl then end in
       five-again (s .number)
-      (one-of (first-says (parts-say five-says (parts-say (says-only-25 l counts) rest-says))) (sym (accepted-order a) ∙ e))
+      (one-of (first-says (parts-say five-says (parts-say (says-only-25 l counts) rest-says)))
+      (sym (accepted-order a) ∙ e))
 
-  module _ (a : Accepted l) (lent : headOf l .g + 1 ≤ length work) (long : headOf l .g + 1 ≤ length counts) where
+  module _ (a : Accepted l) (lent : headOf l .g + 1 ≤ length work)
+      (long : headOf l .g + 1 ≤ length counts) where
     left-25 : first (storeCountsOrder l work given value counts) ≡ first (row25 l counts ∷ rest)
     unfolding row5
     left-25 =
         accepted-order a
         ∙ no-row 5 0 (row25 l counts ∷ rest)
-        (le-ltb (length (usable work counts)) (headOf l .g + 1) (both-lent l work counts .1 (lent, long)))
+        (le-ltb (length (usable work counts)) (headOf l .g + 1)
+        (both-lent l work counts .1 (lent, long)))
 
-    pub store-counts-25 : (storeCountsOf l work given value counts .numbers .number ≡ 25) ↔ (¬ RightCounts l counts)
+    pub store-counts-25 : (storeCountsOf l work given value counts .numbers .number ≡ 25)
+        ↔ (¬ RightCounts l counts)
     unfolding storeCountsOf among refusedNumbers doneNumbers
     store-counts-25 = (
       λ z r.
           let past : first (storeCountsOrder l work given value counts) ≡ first rest =
           left-25 ∙ first-none (row25 l counts) rest (none-25 l counts .1 (r .each)) in
-          not-heard _ _ 25 (subst (Says (9 ∷ 10 ∷ 11 ∷ 12 ∷ 13 ∷ 5 ∷ [])) (sym past) (first-says rest-says)) refl (omega arith) refl z,
+          not-heard _ _ 25 (subst (Says (9 ∷ 10 ∷ 11 ∷ 12 ∷ 13 ∷ 5 ∷ [])) (sym past)
+          (first-says rest-says)) refl (omega arith) refl z,
       λ wrong. go wrong (row25 l counts) refl,
     )
       where
-        go : ¬ RightCounts l counts → (r : Row) → row25 l counts ≡ r → storeCountsOf l work given value counts .numbers .number ≡ 25
+        go : ¬ RightCounts l counts → (r : Row) → row25 l counts ≡ r
+            → storeCountsOf l work given value counts .numbers .number ≡ 25
         go wrong none e = absurd (wrong (record { long = long; each = none-25 l counts .0 e }))
         go wrong (some s) e =
-            ap (λ (o : Outcome). o .numbers .number) (heard-refused _ _ _ (left-25 ∙ first-some (row25 l counts) rest e))
+            ap (λ (o : Outcome). o .numbers .number)
+            (heard-refused _ _ _ (left-25 ∙ first-some (row25 l counts) rest e))
             ∙ says-25 l counts e .0
 
   -- ---- the same numbers as the plain store
@@ -291,7 +342,8 @@ module _ (l work : List ℕ) (given : Given) (value : ℕ) (counts : List ℕ) w
       → first (storeCountsOrder l work given value counts) ≡ first (storeOrder l work given value)
   unfolding storeCountsOrder checkCountsOrder storeOrder row5again
   same-order right long =
-      ap (λ (c : List Row). first ((c ++ (row25 l counts ∷ [])) ++ rest)) (same-check l work counts (right .long)) ∙ go (first c) refl
+      ap (λ (c : List Row). first ((c ++ (row25 l counts ∷ [])) ++ rest))
+      (same-check l work counts (right .long)) ∙ go (first c) refl
     where
       c : List Row
       c = checkOrder l work
@@ -308,21 +360,25 @@ module _ (l work : List ℕ) (given : Given) (value : ℕ) (counts : List ℕ) w
       silent-5 : first last ≡ none
       silent-5 = no-row 5 0 [] (le-ltb (length counts) (headOf l .g + new + 1) long) ∙ first-nil
 
-      go : (r : Row) → first c ≡ r → first ((c ++ (row25 l counts ∷ [])) ++ rest) ≡ first (c ++ plain)
+      go : (r : Row) → first c ≡ r → first ((c ++ (row25 l counts ∷ [])) ++ rest)
+          ≡ first (c ++ plain)
       go none e =
           second-part (c ++ (row25 l counts ∷ [])) rest
-          (second-part c (row25 l counts ∷ []) e ∙ first-none (row25 l counts) [] silent-25 ∙ first-nil)
+          (second-part c (row25 l counts ∷ []) e ∙ first-none (row25 l counts) [] silent-25
+          ∙ first-nil)
           ∙ ap first (sym (append-assoc (keyRows l given) (valued l key value) last))
           ∙ silent-end plain last silent-5
           ∙ sym (second-part c plain e)
-      go (some s) e = first-part (c ++ (row25 l counts ∷ [])) rest (first-part c (row25 l counts ∷ []) e) ∙ sym (first-part c plain e)
+      go (some s) e = first-part (c ++ (row25 l counts ∷ [])) rest
+          (first-part c (row25 l counts ∷ []) e) ∙ sym (first-part c plain e)
 
   pub store-counts-same : RightCounts l counts → headOf l .g + new + 1 ≤ length counts
       → storeCountsOf l work given value counts .numbers ≡ storeOf l work given value .numbers
   unfolding storeCountsOf storeOf
   store-counts-same right long =
       let told : Numbers = doneNumbers 0 (changeOf (answer (tableIn l) key) value) 0 in
-      let with-counts : List (List ℕ) = image ∷ workLeft l work counts ∷ worked image counts ∷ [] in
+      let with-counts : List (List ℕ) =
+      image ∷ workLeft l work counts ∷ worked image counts ∷ [] in
       let without : List (List ℕ) = image ∷ workAfter l work ∷ [] in
       let kept : List (List ℕ) = l ∷ workLeft l work counts ∷ counts ∷ [] in
       ap (λ (r : Row). heard r kept (outcome told with-counts) .numbers) (same-order right long)

@@ -1,5 +1,6 @@
--- Calls of Ask 7 on 01's small file, as one table of calls and what each must leave: N = 3, A = 1, D = 1, letters ABC, min 1, max 3. After P3 the keys
--- are B and BA, and the counts 2, 2, 1. The lent buffers hold rubbish (AA in key buffers, 7 in working numbers, 9 in counts).
+-- Calls of Ask 7 on 01's small file, as one table of calls and what each must leave: N = 3, A = 1,
+-- D = 1, letters ABC, min 1, max 3. After P3 the keys are B and BA, and the counts 2, 2, 1. The
+-- lent buffers hold rubbish (AA in key buffers, 7 in working numbers, 9 in counts).
 use Prim.Native.Nat.{ℕ}
 use mathlib.Core.List.{List, [], _∷_}
 use lib.IntN.{ℤ, pos, negsuc}
@@ -17,7 +18,8 @@ body3 = 0 ∷ 1 ∷ 0 ∷ 0 ∷ 2 ∷ 0 ∷ 0 ∷ 5 ∷ 0 ∷ 0 ∷ 0 ∷ 9 ∷ 
 
 abbrev body7 : List ℕ
 body7 =
-    0 ∷ 1 ∷ 3 ∷ 0 ∷ 2 ∷ 0 ∷ 0 ∷ 5 ∷ 0 ∷ 0 ∷ 0 ∷ 9 ∷ 0 ∷ 0 ∷ 4 ∷ 0 ∷ 0 ∷ 0 ∷ 5 ∷ 0 ∷ 0 ∷ 0 ∷ 0 ∷ 1 ∷ []
+    0 ∷ 1 ∷ 3 ∷ 0 ∷ 2 ∷ 0 ∷ 0 ∷ 5 ∷ 0 ∷ 0 ∷ 0 ∷ 9 ∷ 0 ∷ 0 ∷ 4 ∷ 0 ∷ 0 ∷ 0 ∷ 5 ∷ 0 ∷ 0 ∷ 0 ∷ 0 ∷ 1
+    ∷ []
 
 -- data at depths 0 and 4, which no key of 1 to 3 letters has
 abbrev bodyHidden : List ℕ
@@ -62,60 +64,139 @@ abbrev storesAll : List ℕ → Outcome
 storesAll counts = storeCountsOf (file 2 body3 12) work (asLetters (2 ∷ 2 ∷ 2 ∷ [])) 1 counts
 
 abbrev at : Given → ℕ → Case
-at given position = record { call = positionOf file3 work right given; leaves = done 0 (pos 0) position (cleared ∷ []) }
+at given position =
+    record {
+      call = positionOf file3 work right given;
+      leaves =
+          done 0 (pos 0) position (cleared ∷ []);
+    }
 
 abbrev noPosition : Given → ℕ → Case
-noPosition given number = record { call = positionOf file3 work right given; leaves = refused number 0 (cleared ∷ []) }
+noPosition given number =
+    record { call = positionOf file3 work right given; leaves = refused number 0 (cleared ∷ []) }
 
 abbrev pub cases : List Case
 cases =
     -- the counts worked out; 5 for either list, and the check's answers; never 25
-    record { call = countsOf file3 work (9 ∷ 9 ∷ 9 ∷ 9 ∷ []); leaves = done 0 (pos 0) 0 (cleared ∷ right ∷ []) }
-    ∷ record { call = countsOf file3 work (9 ∷ 9 ∷ []); leaves = refused 5 0 (work ∷ (9 ∷ 9 ∷ []) ∷ []) }
-    ∷ record { call = countsOf file3 (7 ∷ 7 ∷ []) (9 ∷ 9 ∷ 9 ∷ []); leaves = refused 5 0 ((7 ∷ 7 ∷ []) ∷ (9 ∷ 9 ∷ 9 ∷ []) ∷ []) }
+    record {
+      call = countsOf file3 work (9 ∷ 9 ∷ 9 ∷ 9 ∷ []);
+      leaves =
+          done 0 (pos 0) 0 (cleared ∷ right ∷ []);
+    }
+    ∷ record {
+      call = countsOf file3 work (9 ∷ 9 ∷ []);
+      leaves =
+          refused 5 0 (work ∷ (9 ∷ 9 ∷ []) ∷ []);
+    }
+    ∷ record {
+      call = countsOf file3 (7 ∷ 7 ∷ []) (9 ∷ 9 ∷ 9 ∷ []);
+      leaves =
+          refused 5 0 ((7 ∷ 7 ∷ []) ∷ (9 ∷ 9 ∷ 9 ∷ []) ∷ []);
+    }
     ∷ record {
       call = countsOf (file 1 (0 ∷ 2 ∷ 0 ∷ 0 ∷ 0 ∷ 0 ∷ 0 ∷ 0 ∷ []) 0) work (9 ∷ 9 ∷ 9 ∷ []);
       leaves = refused 6 0 (cleared2 ∷ (9 ∷ 9 ∷ 9 ∷ []) ∷ []);
     }
     -- data at other depths than min..max is not counted, and no key passes the nodes below it
-    ∷ record { call = countsOf hidden work5 (9 ∷ 9 ∷ 9 ∷ 9 ∷ 9 ∷ []); leaves = done 0 (pos 0) 0 (cleared5 ∷ (1 ∷ 1 ∷ 1 ∷ 0 ∷ 0 ∷ []) ∷ []) }
+    ∷ record {
+      call = countsOf hidden work5 (9 ∷ 9 ∷ 9 ∷ 9 ∷ 9 ∷ []);
+      leaves =
+          done 0 (pos 0) 0 (cleared5 ∷ (1 ∷ 1 ∷ 1 ∷ 0 ∷ 0 ∷ []) ∷ []);
+    }
     -- the check with counts: the lowest node that differs, after the check's answers
     ∷ record { call = checkCountsOf file3 work right; leaves = done 0 (pos 0) 0 (cleared ∷ []) }
-    ∷ record { call = checkCountsOf file3 work (2 ∷ 2 ∷ 2 ∷ []); leaves = refused 25 2 (cleared ∷ []) }
-    ∷ record { call = checkCountsOf file3 work (3 ∷ 2 ∷ 2 ∷ []); leaves = refused 25 0 (cleared ∷ []) }
-    ∷ record { call = checkCountsOf hidden work5 (1 ∷ 1 ∷ 1 ∷ 0 ∷ 1 ∷ []); leaves = refused 25 4 (cleared5 ∷ []) }
-    ∷ record { call = checkCountsOf (file 1 (0 ∷ 1 ∷ 1 ∷ 0 ∷ 0 ∷ 0 ∷ 0 ∷ 0 ∷ []) 0) work (9 ∷ 9 ∷ []); leaves = refused 7 1 (cleared2 ∷ []) }
+    ∷ record {
+      call = checkCountsOf file3 work (2 ∷ 2 ∷ 2 ∷ []);
+      leaves =
+          refused 25 2 (cleared ∷ []);
+    }
+    ∷ record {
+      call = checkCountsOf file3 work (3 ∷ 2 ∷ 2 ∷ []);
+      leaves =
+          refused 25 0 (cleared ∷ []);
+    }
+    ∷ record {
+      call = checkCountsOf hidden work5 (1 ∷ 1 ∷ 1 ∷ 0 ∷ 1 ∷ []);
+      leaves =
+          refused 25 4 (cleared5 ∷ []);
+    }
+    ∷ record {
+      call = checkCountsOf (file 1 (0 ∷ 1 ∷ 1 ∷ 0 ∷ 0 ∷ 0 ∷ 0 ∷ 0 ∷ []) 0) work
+          (9 ∷ 9 ∷ []);
+      leaves = refused 7 1 (cleared2 ∷ []);
+    }
     ∷ record { call = checkCountsOf file3 work (2 ∷ 2 ∷ []); leaves = refused 5 0 (work ∷ []) }
     -- a store: a new key, a new value over an old one, a delete, and a delete of what is not there
     ∷ record {
       call = storeCountsOf (file 2 body2 17) work (asLetters (1 ∷ [])) 5 (1 ∷ 1 ∷ 1 ∷ 9 ∷ []);
       leaves = done 0 (pos 1) 0 (file3 ∷ cleared ∷ right ∷ []);
     }
-    ∷ record { call = storeCountsOf file3 work (asText (0x42 ∷ [])) 5 right; leaves = done 0 (pos 0) 0 (file3 ∷ cleared ∷ right ∷ []) }
+    ∷ record {
+      call = storeCountsOf file3 work (asText (0x42 ∷ [])) 5 right;
+      leaves =
+          done 0 (pos 0) 0 (file3 ∷ cleared ∷ right ∷ []);
+    }
     ∷ record {
       call = storeCountsOf file3 work (asText (0x42 ∷ [])) 0 right;
       leaves = done 0 (negsuc 0) 0 (file 2 body2 17 ∷ cleared ∷ (1 ∷ 1 ∷ 1 ∷ 9 ∷ []) ∷ []);
     }
-    ∷ record { call = storeCountsOf file3 work (asLetters (0 ∷ 1 ∷ [])) 0 right; leaves = done 0 (pos 0) 0 (file3 ∷ cleared ∷ right ∷ []) }
-    -- new nodes have the count 1, whatever the list held there; 5 again where it has no number for the last of them
+    ∷ record {
+      call = storeCountsOf file3 work (asLetters (0 ∷ 1 ∷ [])) 0 right;
+      leaves =
+          done 0 (pos 0) 0 (file3 ∷ cleared ∷ right ∷ []);
+    }
+    -- new nodes have the count 1, whatever the list held there; 5 again where it has no number for
+    -- the last of them
     ∷ record {
       call = storesAll (2 ∷ 2 ∷ 1 ∷ 9 ∷ 8 ∷ 7 ∷ 6 ∷ []);
       leaves = done 0 (pos 1) 0 (file 5 body7 0 ∷ cleared ∷ (3 ∷ 2 ∷ 1 ∷ 1 ∷ 1 ∷ 1 ∷ 6 ∷ []) ∷ []);
     }
-    ∷ record { call = storesAll (2 ∷ 2 ∷ 1 ∷ 9 ∷ 8 ∷ []); leaves = refused 5 0 (file 2 body3 12 ∷ cleared ∷ (2 ∷ 2 ∷ 1 ∷ 9 ∷ 8 ∷ []) ∷ []) }
+    ∷ record {
+      call = storesAll (2 ∷ 2 ∷ 1 ∷ 9 ∷ 8 ∷ []);
+      leaves =
+          refused 5 0 (file 2 body3 12 ∷ cleared ∷ (2 ∷ 2 ∷ 1 ∷ 9 ∷ 8 ∷ []) ∷ []);
+    }
     -- 13 before that 5; 25 before 9 and 10
     ∷ record {
       call = storeCountsOf (file 2 body3 11) work (asLetters (2 ∷ 2 ∷ 2 ∷ [])) 1 right;
       leaves = refused 13 0 (file 2 body3 11 ∷ cleared ∷ right ∷ []);
     }
-    ∷ record { call = storeCountsOf file3 work (asLetters []) 1 (2 ∷ 1 ∷ 1 ∷ []); leaves = refused 25 1 (file3 ∷ cleared ∷ (2 ∷ 1 ∷ 1 ∷ []) ∷ []) }
-    ∷ record { call = storeCountsOf file3 work (asLetters []) 1 right; leaves = refused 9 0 (file3 ∷ cleared ∷ right ∷ []) }
+    ∷ record {
+      call = storeCountsOf file3 work (asLetters []) 1 (2 ∷ 1 ∷ 1 ∷ []);
+      leaves =
+          refused 25 1 (file3 ∷ cleared ∷ (2 ∷ 1 ∷ 1 ∷ []) ∷ []);
+    }
+    ∷ record {
+      call = storeCountsOf file3 work (asLetters []) 1 right;
+      leaves =
+          refused 9 0 (file3 ∷ cleared ∷ right ∷ []);
+    }
     -- the key at a position, from 0; 14 before 15
-    ∷ record { call = keyAtOf file3 work right 0 buffer; leaves = done 1 (pos 0) 5 (cleared ∷ (1 ∷ 0xAA ∷ 0xAA ∷ 0xAA ∷ []) ∷ []) }
-    ∷ record { call = keyAtOf file3 work right 1 buffer; leaves = done 2 (pos 0) 9 (cleared ∷ (1 ∷ 0 ∷ 0xAA ∷ 0xAA ∷ []) ∷ []) }
-    ∷ record { call = keyAtOf file3 work right 2 buffer; leaves = refused 15 0 (cleared ∷ buffer ∷ []) }
-    ∷ record { call = keyAtOf file3 work right 2 (0xAA ∷ 0xAA ∷ []); leaves = refused 14 0 (cleared ∷ (0xAA ∷ 0xAA ∷ []) ∷ []) }
-    ∷ record { call = keyAtOf file3 work (2 ∷ 2 ∷ 0 ∷ []) 2 []; leaves = refused 25 2 (cleared ∷ [] ∷ []) }
+    ∷ record {
+      call = keyAtOf file3 work right 0 buffer;
+      leaves =
+          done 1 (pos 0) 5 (cleared ∷ (1 ∷ 0xAA ∷ 0xAA ∷ 0xAA ∷ []) ∷ []);
+    }
+    ∷ record {
+      call = keyAtOf file3 work right 1 buffer;
+      leaves =
+          done 2 (pos 0) 9 (cleared ∷ (1 ∷ 0 ∷ 0xAA ∷ 0xAA ∷ []) ∷ []);
+    }
+    ∷ record {
+      call = keyAtOf file3 work right 2 buffer;
+      leaves =
+          refused 15 0 (cleared ∷ buffer ∷ []);
+    }
+    ∷ record {
+      call = keyAtOf file3 work right 2 (0xAA ∷ 0xAA ∷ []);
+      leaves =
+          refused 14 0 (cleared ∷ (0xAA ∷ 0xAA ∷ []) ∷ []);
+    }
+    ∷ record {
+      call = keyAtOf file3 work (2 ∷ 2 ∷ 0 ∷ []) 2 [];
+      leaves =
+          refused 25 2 (cleared ∷ [] ∷ []);
+    }
     -- the position of a key
     ∷ at (asLetters (1 ∷ [])) 0
     ∷ at (asLetters (1 ∷ 0 ∷ [])) 1

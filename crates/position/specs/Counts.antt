@@ -1,5 +1,5 @@
--- 02, Ask 7: "Keep beside the image a lent list of counts, one for each node: how many stored keys lie at or under it." The counts of an image,
--- and what is said of a list that differs from them.
+-- 02, Ask 7: "Keep beside the image a lent list of counts, one for each node: how many stored keys
+-- lie at or under it." The counts of an image, and what is said of a list that differs from them.
 use Prim.Native.Nat.{ℕ, _+_, _≤_}
 use mathlib.Core.Path.{_≡_}
 use mathlib.Core.Bool.{not}
@@ -26,14 +26,16 @@ countsIn l = oneForEach (countIn l) 0 (headOf l .g + 1)
 -- "25, counts differ, ... place the lowest such node"
 unfoldable pub row25 : List ℕ → List ℕ → Row
 unfolding rowWhenLowest countIn headOf
-row25 l counts = rowWhenLowest 25 (λ q. not (eqb (getD counts q 0) (countIn l q))) 0 (headOf l .g + 1)
+row25 l counts =
+    rowWhenLowest 25 (λ q. not (eqb (getD counts q 0) (countIn l q))) 0 (headOf l .g + 1)
 
 -- "for a store 5 again, after 13, if the list is shorter than G+k+1"
 unfoldable pub row5again : Head → ℕ → ℕ → Row
 unfolding rowWhen
 row5again h k lent = rowWhen 5 0 (ltb lent (h .g + k + 1))
 
--- a list of counts that is right for an image: long enough, and its first G+1 are the image's counts
+-- a list of counts that is right for an image: long enough, and its first G+1 are the image's
+-- counts
 pub record RightCounts (l counts : List ℕ) : Type 0 where
   pub long : headOf l .g + 1 ≤ length counts
   pub each : (q : ℕ) → q ≤ headOf l .g → getD counts q 0 ≡ countIn l q

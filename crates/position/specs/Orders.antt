@@ -1,4 +1,5 @@
--- 02, Ask 7: the order of refusals of each call that takes counts, joined from the parts of 01's orders.
+-- 02, Ask 7: the order of refusals of each call that takes counts, joined from the parts of 01's
+-- orders.
 use Prim.Native.Nat.{ℕ}
 use mathlib.Core.Bool.{cond}
 use mathlib.Core.Option.{Option, none, some}
@@ -15,7 +16,8 @@ use Rattle.paper.specs.Orders.{checkOrder, keyRows, addingRows, newOf}
 use Rattle.paper.specs.Calls.{tableIn, storedKeys}
 use Rattle.position.specs.Counts.{row25, row5again}
 
--- "5, in its old place, also if the list is shorter than G+1": the check is lent as many working numbers as there are counts, or fewer
+-- "5, in its old place, also if the list is shorter than G+1": the check is lent as many working
+-- numbers as there are counts, or fewer
 unfoldable pub usable : List ℕ → List ℕ → List ℕ
 usable work counts = take (length counts) work
 
@@ -42,9 +44,11 @@ storeCountsOrder l work given value counts =
 unfoldable pub keyAtOrder : List ℕ → List ℕ → List ℕ → ℕ → ℕ → List Row
 unfolding checkCountsOrder row14 row15 keyAt storedKeys
 keyAtOrder l work counts position lent =
-    checkCountsOrder l work counts ++ (row14 (headOf l) lent ∷ row15 (keyAt (storedKeys l) position) ∷ [])
+    checkCountsOrder l work counts
+    ++ (row14 (headOf l) lent ∷ row15 (keyAt (storedKeys l) position) ∷ [])
 
--- a key whose length has passed 9, where it is stored: "A stored key is one with length in min..max whose data is not 0"
+-- a key whose length has passed 9, where it is stored: "A stored key is one with length in
+-- min..max whose data is not 0"
 unfoldable pub ifStored : List ℕ → List ℕ → Option (List ℕ)
 unfolding answer tableIn
 ifStored l key = cond (eqb (answer (tableIn l) key) 0) none (some key)
@@ -52,4 +56,5 @@ ifStored l key = cond (eqb (answer (tableIn l) key) 0) none (some key)
 -- "15 for ... a key not stored"
 unfoldable pub positionOrder : List ℕ → List ℕ → List ℕ → Given → List Row
 unfolding checkCountsOrder keyRows keyIn row15 ifStored
-positionOrder l work counts given = checkCountsOrder l work counts ++ (keyRows l given ++ (row15 (ifStored l (keyIn l given)) ∷ []))
+positionOrder l work counts given = checkCountsOrder l work counts
+    ++ (keyRows l given ++ (row15 (ifStored l (keyIn l given)) ∷ []))

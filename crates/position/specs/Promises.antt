@@ -1,4 +1,5 @@
--- The promise of each call that takes counts, in one definition, as `paper/specs/Promises` has for the others.
+-- The promise of each call that takes counts, in one definition, as `paper/specs/Promises` has for
+-- the others.
 use Prim.Native.Nat.{ℕ}
 use mathlib.Core.Path.{_≡_}
 use mathlib.Core.List.{List, [], _∷_}
@@ -12,12 +13,14 @@ WorksOut l work counts m work′ counts′ = outcome m (work′ ∷ counts′ �
 abbrev pub ChecksCounts : List ℕ → List ℕ → List ℕ → Numbers → List ℕ → Type 0
 ChecksCounts l work counts m work′ = outcome m (work′ ∷ []) ≡ checkCountsOf l work counts
 
-abbrev pub StoresCounts : List ℕ → List ℕ → Given → ℕ → List ℕ → Numbers → List ℕ → List ℕ → List ℕ → Type 0
+abbrev pub StoresCounts : List ℕ → List ℕ → Given → ℕ → List ℕ → Numbers → List ℕ → List ℕ → List ℕ
+    → Type 0
 StoresCounts l work given value counts m l′ work′ counts′ =
     outcome m (l′ ∷ work′ ∷ counts′ ∷ []) ≡ storeCountsOf l work given value counts
 
 abbrev pub GivesKey : List ℕ → List ℕ → List ℕ → ℕ → List ℕ → Numbers → List ℕ → List ℕ → Type 0
-GivesKey l work counts position buffer m work′ buffer′ = outcome m (work′ ∷ buffer′ ∷ []) ≡ keyAtOf l work counts position buffer
+GivesKey l work counts position buffer m work′ buffer′ =
+    outcome m (work′ ∷ buffer′ ∷ []) ≡ keyAtOf l work counts position buffer
 
 abbrev pub GivesPosition : List ℕ → List ℕ → List ℕ → Given → Numbers → List ℕ → Type 0
 GivesPosition l work counts given m work′ = outcome m (work′ ∷ []) ≡ positionOf l work counts given

@@ -1,5 +1,6 @@
--- 02, Ask 7, "the first stored key moved on by i steps of next key": the key that one hears who asks next key for the first stored key and
--- then i times for the key after the one heard last. No word of counts.
+-- 02, Ask 7, "the first stored key moved on by i steps of next key": the key that one hears who
+-- asks next key for the first stored key and then i times for the key after the one heard last. No
+-- word of counts.
 use Prim.Native.Nat.{ℕ, zero, suc}
 use mathlib.Core.Bool.{true, false}
 use mathlib.Core.Option.{Option, none, some}

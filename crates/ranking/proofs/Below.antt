@@ -1,5 +1,6 @@
--- The counts below a node that letters lead to: one letter more leads to a child, and the count of a node that a key reaches is the number
--- of the keys at or under it (`count-reached`). So right counts are the children's.
+-- The counts below a node that letters lead to: one letter more leads to a child, and the count of
+-- a node that a key reaches is the number of the keys at or under it (`count-reached`). So right
+-- counts are the children's.
 use Prim.Native.Nat.{ℕ, suc, _+_, _-_, _^_, _≤_, _<_}
 use native.Mathlib.Omega.{arith}
 use mathlib.Core.List.{List, [], _∷_, _++_}
@@ -27,7 +28,8 @@ use Rattle.ranking.proofs.ByLetter.{by-child}
 abbrev pub held : Head → List ℕ → ℕ → ℕ → List (List ℕ)
 held h l p depth = keysUnder (tableOf h l) (h .n) (h .min - depth) (h .max - depth) p
 
--- what an accepted image with right counts gives a way through it, by a head in hand that is the image's own
+-- what an accepted image with right counts gives a way through it, by a head in hand that is the
+-- image's own
 pub record Counted (h : Head) (l counts : List ℕ) : Type 0 where
   pub opened : Open h l
   pub linked : Linked (tableOf h l) (h .g) (h .n)
@@ -35,9 +37,11 @@ pub record Counted (h : Head) (l counts : List ℕ) : Type 0 where
   pub table : tableIn l ≡ tableOf h l
   pub few : length (listing (tableOf h l) (h .n) (h .min) (h .max)) < 2 ^ 32
   pub long : h .g + 1 ≤ length counts
-  pub each : (q : ℕ) → q ≤ h .g → getD counts q 0 ≡ countAt (tableOf h l) (h .n) (h .min) (h .max) q
+  pub each : (q : ℕ) → q ≤ h .g → getD counts q 0 ≡ countAt (tableOf h l) (h .n) (h .min)
+      (h .max) q
 
-pub counted : {h : Head} {l counts : List ℕ} → Accepted l → h ≡ headOf l → RightCounts l counts → Counted h l counts
+pub counted : {h : Head} {l counts : List ℕ} → Accepted l → h ≡ headOf l → RightCounts l counts
+    → Counted h l counts
 unfolding tableIn storedKeys countIn
 counted {h} {l} {counts} a e right =
     subst
@@ -55,7 +59,8 @@ counted {h} {l} {counts} a e right =
 
 module _ {h : Head} {l counts : List ℕ} (w : Counted h l counts) where
   -- one letter more
-  pub one-more : (k : List ℕ) {p : ℕ} (i : ℕ) {c : ℕ} → descend (tableOf h l) 0 k ≡ complete p → c ≡ tableOf h l .child p i → c ≢ 0
+  pub one-more : (k : List ℕ) {p : ℕ} (i : ℕ) {c : ℕ} → descend (tableOf h l) 0 k ≡ complete p
+      → c ≡ tableOf h l .child p i → c ≢ 0
       → descend (tableOf h l) 0 (k ++ (i ∷ [])) ≡ complete c
   one-more k {p} i e link full =
       descend-append (tableOf h l) 0 k (i ∷ []) e
@@ -66,14 +71,20 @@ module _ {h : Head} {l counts : List ℕ} (w : Counted h l counts) where
   pub within : (k : List ℕ) {p : ℕ} → descend (tableOf h l) 0 k ≡ complete p → p ≤ h .g
   within k e = complete-within (tableOf h l) (h .g) k (w .linked .within) e
 
-  pub below : (k : List ℕ) {p : ℕ} (depth : ℕ) → descend (tableOf h l) 0 k ≡ complete p → length k ≡ depth → depth < h .max
+  pub below : (k : List ℕ) {p : ℕ} (depth : ℕ) → descend (tableOf h l) 0 k ≡ complete p
+      → length k ≡ depth → depth < h .max
       → ChildCounts h l p depth counts
   below k {p} depth e deep room i full =
       let c = tableOf h l .child p i in
-      let reached : descend (tableOf h l) 0 (k ++ (i ∷ [])) ≡ complete c = one-more k i e refl full in
+      let reached : descend (tableOf h l) 0 (k ++ (i ∷ [])) ≡ complete c =
+      one-more k i e refl full in
       let size : length (k ++ (i ∷ [])) ≡ suc depth = omega (arith, length-append k (i ∷ [])) in
       let inside : c ≤ h .g = within (k ++ (i ∷ [])) reached in
       let all : countAt (tableOf h l) (h .n) (h .min) (h .max) c
       ≡ length (keysUnder (tableOf h l) (h .n) (h .min - suc depth) (h .max - suc depth) c) =
-      rw size at (count-reached (w .linked) (h .min) (h .max) (k ++ (i ∷ [])) reached (omega (arith, size))) in
-      (omega (arith, w .long, inside), w .each c inside ∙ all ∙ ap length (sym (by-child h l p depth i full)))
+      rw size at (count-reached (w .linked) (h .min) (h .max) (k ++ (i ∷ [])) reached
+      (omega (arith, size))) in (
+        omega (arith, w .long, inside),
+        w .each c inside ∙ all
+            ∙ ap length (sym (by-child h l p depth i full)),
+      )

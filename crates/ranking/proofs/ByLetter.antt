@@ -1,5 +1,6 @@
--- The keys below a node by letter: those from a letter on are those by that letter, then those from the next on. So a position lies by the
--- letter behind which it no longer reaches, and before a key stand all those by a lower letter.
+-- The keys below a node by letter: those from a letter on are those by that letter, then those
+-- from the next on. So a position lies by the letter behind which it no longer reaches, and before
+-- a key stand all those by a lower letter.
 use Prim.Native.Nat.{ℕ, zero, suc, pred, _+_, _-_, _≤_, _<_}
 use native.Mathlib.Omega.{arith}
 use native.Mathlib.Decide.{ℕ-discrete}
@@ -17,7 +18,8 @@ use Rattle.node.specs.Image.{tableOf}
 use Rattle.depths.proofs.Links.{from}
 use Rattle.passing.specs.Passing.{keyAt, rankIn}
 use Rattle.passing.specs.Weights.{sumFrom}
-use Rattle.passing.proofs.Ranks.{at-left, at-right, at-map, rank-few, rank-append, rank-lower, rank-same, rank-higher}
+use Rattle.passing.proofs.Ranks.{at-left, at-right, at-map, rank-few, rank-append, rank-lower}
+use Rattle.passing.proofs.Ranks.{rank-same, rank-higher}
 use Rattle.ranking.specs.declared.Branch.{Branch}
 use Rattle.ranking.specs.Ranking.{underLetter, ChildCounts, underLower, Branches}
 
@@ -34,24 +36,28 @@ module _ (h : Head) (l : List ℕ) (p depth : ℕ) where
   by-none i e = follow-empty (tableOf h l .child p i) [] _ e
 
   pub by-child : (i : ℕ) → tableOf h l .child p i ≢ 0
-      → underLetter h l p depth i ≡ keysUnder (tableOf h l) (h .n) (h .min - suc depth) (h .max - suc depth) (tableOf h l .child p i)
+      → underLetter h l p depth i ≡ keysUnder (tableOf h l) (h .n) (h .min - suc depth)
+      (h .max - suc depth) (tableOf h l .child p i)
   by-child i full = follow-on (tableOf h l .child p i) [] _ full
 
   -- the count of a child that is linked
-  pub below-link : (counts : List ℕ) (i : ℕ) {c : ℕ} → ChildCounts h l p depth counts → c ≡ tableOf h l .child p i → c ≢ 0
+  pub below-link : (counts : List ℕ) (i : ℕ) {c : ℕ} → ChildCounts h l p depth counts
+      → c ≡ tableOf h l .child p i → c ≢ 0
       → (c < length counts) × (getD counts c 0 ≡ sizes i)
   below-link counts i below e full = rw e (below i (λ z. full (e ∙ z)))
 
   pub past-letters : (i : ℕ) → h .n ≤ i → onward i ≡ []
   past-letters i b = from-none (tableOf h l) (h .n) (h .min - depth) (h .max - depth) p i b
 
-  -- A position below the node, where letter i is reached: from there on the same key lies at `left`.
+  -- A position below the node, where letter i is reached: from there on the same key lies at
+  -- `left`.
   pub record Turning (position left i : ℕ) : Type 0 where
     pub inside : position < length (onward 0) → left < length (onward i)
     pub same : position < length (onward 0) → keyAt (onward 0) position ≡ keyAt (onward i) left
 
   module _ (deep : depth < h .max) where
-    pub by-letter : (i : ℕ) → i < h .n → onward i ≡ map (i ∷_) (underLetter h l p depth i) ++ onward (suc i)
+    pub by-letter : (i : ℕ) → i < h .n → onward i ≡ map (i ∷_) (underLetter h l p depth i)
+        ++ onward (suc i)
     by-letter i b = go (ℕ-discrete (tableOf h l .child p i) 0)
       where
         m : h .max - depth ≡ suc (h .max - suc depth)
@@ -60,42 +66,55 @@ module _ (h : Head) (l : List ℕ) (p depth : ℕ) where
         s : pred (h .min - depth) ≡ h .min - suc depth
         s = omega arith
 
-        go : Dec (tableOf h l .child p i ≡ 0) → onward i ≡ map (i ∷_) (underLetter h l p depth i) ++ onward (suc i)
+        go : Dec (tableOf h l .child p i ≡ 0) → onward i ≡ map (i ∷_) (underLetter h l p depth i)
+            ++ onward (suc i)
         go (yes e) =
             from-empty (tableOf h l) (h .n) (h .min - depth) (h .max - depth) p i b e
             ∙ ap (λ (keys : List (List ℕ)). map (i ∷_) keys ++ onward (suc i)) (sym (by-none i e))
         go (no full) =
             rw m
-            (from-on (tableOf h l) (h .n) (h .min - depth) (h .max - suc depth) p i b refl full ∙ rw (s, by-child i full))
+            (from-on (tableOf h l) (h .n) (h .min - depth) (h .max - suc depth) p i b refl full
+            ∙ rw (s, by-child i full))
 
     -- ---- the letter by which a position lies
 
     pub turning-start : (position : ℕ) → Turning position position 0
     turning-start position = record { inside = λ b. b; same = λ b. refl }
 
-    sized : (i under : ℕ) → under ≡ length (underLetter h l p depth i) → length (map (i ∷_) (underLetter h l p depth i)) ≡ under
+    sized : (i under : ℕ) → under ≡ length (underLetter h l p depth i)
+        → length (map (i ∷_) (underLetter h l p depth i)) ≡ under
     sized i under e = length-map (underLetter h l p depth i) (i ∷_) ∙ sym e
 
     module _ {position left i : ℕ} (t : Turning position left i) where
       -- by an empty link there is nothing
-      pub turning-empty : {c : ℕ} → i < h .n → c ≡ tableOf h l .child p i → c ≡ 0 → Turning position left (i + 1)
+      pub turning-empty : {c : ℕ} → i < h .n → c ≡ tableOf h l .child p i → c ≡ 0
+          → Turning position left (i + 1)
       turning-empty low e empty =
           let over : onward i ≡ onward (i + 1) =
-          rw (add-one i) (from-empty (tableOf h l) (h .n) (h .min - depth) (h .max - depth) p i low (sym e ∙ empty)) in
+          rw (add-one i) (from-empty (tableOf h l) (h .n) (h .min - depth) (h .max - depth) p i low
+          (sym e ∙ empty)) in
           record {
             inside = λ b. omega (arith, t .inside b, ap length over);
             same = λ b. t .same b ∙ ap (λ (keys : List (List ℕ)). keyAt keys left) over;
           }
 
       -- the position lies behind all that come by this letter
-      pub turning-past : (under : ℕ) → i < h .n → under ≡ length (underLetter h l p depth i) → under ≤ left
+      pub turning-past : (under : ℕ) → i < h .n → under ≡ length (underLetter h l p depth i)
+          → under ≤ left
           → Turning position (left - under) (i + 1)
       turning-past under low e past =
           let here = map (i ∷_) (underLetter h l p depth i) in
           let so = sized i under e in
           let by : onward i ≡ here ++ onward (i + 1) = rw (add-one i) (by-letter i low) in
           record {
-            inside = λ b. omega (arith, t .inside b, ap length by, length-append here (onward (i + 1)), so);
+            inside = λ b. omega (
+              arith,
+              t .inside b,
+              ap length by,
+              length-append here
+                  (onward (i + 1)),
+              so,
+            );
             same = λ b.
                 t .same b
                 ∙ ap (λ (keys : List (List ℕ)). keyAt keys left) by
@@ -104,7 +123,8 @@ module _ (h : Head) (l : List ℕ) (p depth : ℕ) where
           }
 
       -- it lies by this letter
-      pub turning-here : (under : ℕ) {c : ℕ} → i < h .n → under ≡ length (underLetter h l p depth i) → left < under
+      pub turning-here : (under : ℕ) {c : ℕ} → i < h .n
+          → under ≡ length (underLetter h l p depth i) → left < under
           → c ≡ tableOf h l .child p i → c ≢ 0
           → Branches h l p depth position (record { letter = i; child = c; left = left })
       turning-here under low e before link full b =
@@ -128,15 +148,19 @@ module _ (h : Head) (l : List ℕ) (p depth : ℕ) where
     -- ---- the keys before a key, by its first letter
 
     -- from a later letter on there are none
-    rank-past : (x : ℕ) (k : List ℕ) (m i : ℕ) → i + m ≡ h .n → x < i → rankIn (onward i) (x ∷ k) ≡ 0
-    rank-past x k zero i e b = omega (arith, rank-few (onward i) (x ∷ k), ap length (past-letters i (omega arith)))
+    rank-past : (x : ℕ) (k : List ℕ) (m i : ℕ) → i + m ≡ h .n → x < i → rankIn (onward i) (x ∷ k)
+        ≡ 0
+    rank-past x k zero i e b =
+        omega (arith, rank-few (onward i) (x ∷ k), ap length (past-letters i (omega arith)))
     rank-past x k (suc m) i e b =
         let here = map (i ∷_) (underLetter h l p depth i) in
         ap (λ (keys : List (List ℕ)). rankIn keys (x ∷ k)) (by-letter i (omega arith))
         ∙ rank-append here (onward (suc i)) (x ∷ k)
-        ∙ ap₂ _+_ (rank-higher i x (underLetter h l p depth i) k b) (rank-past x k m (suc i) (omega arith) (omega arith))
+        ∙ ap₂ _+_ (rank-higher i x (underLetter h l p depth i) k b)
+        (rank-past x k m (suc i) (omega arith) (omega arith))
 
-    -- from an earlier one on: all by the letters between, and those before the rest of the key by its own letter
+    -- from an earlier one on: all by the letters between, and those before the rest of the key by
+    -- its own letter
     rank-through : (x : ℕ) (k : List ℕ) → x < h .n → (d i : ℕ) → i + d ≡ x
         → rankIn (onward i) (x ∷ k) ≡ sumFrom sizes i d + rankIn (underLetter h l p depth x) k
     unfolding sumFrom
@@ -146,7 +170,8 @@ module _ (h : Head) (l : List ℕ) (p depth : ℕ) where
         rw same
         (ap (λ (keys : List (List ℕ)). rankIn keys (x ∷ k)) (by-letter x low)
         ∙ rank-append here (onward (suc x)) (x ∷ k)
-        ∙ ap₂ _+_ (rank-same x (underLetter h l p depth x) k) (rank-past x k (h .n - suc x) (suc x) (omega arith) (omega arith))
+        ∙ ap₂ _+_ (rank-same x (underLetter h l p depth x) k)
+        (rank-past x k (h .n - suc x) (suc x) (omega arith) (omega arith))
         ∙ omega arith)
     rank-through x k low (suc d) i e =
         let here = map (i ∷_) (underLetter h l p depth i) in
@@ -157,7 +182,8 @@ module _ (h : Head) (l : List ℕ) (p depth : ℕ) where
         ∙ omega (arith, rest, first)
 
     pub rank-letters : (x : ℕ) (k : List ℕ) → x < h .n
-        → rankIn (onward 0) (x ∷ k) ≡ underLower h l p depth x + rankIn (underLetter h l p depth x) k
+        → rankIn (onward 0) (x ∷ k) ≡ underLower h l p depth x + rankIn (underLetter h l p depth x)
+        k
     unfolding underLower
     rank-letters x k low = rank-through x k low x 0 (omega arith)
 
@@ -179,7 +205,8 @@ module _ (h : Head) (l : List ℕ) (p depth : ℕ) where
   unfolding sumFrom
   rest-more x i b = let e : x - i ≡ suc (x - suc i) = omega arith in rw (add-one i, e)
 
-  pub rest-empty : (x i : ℕ) {c : ℕ} → i < x → c ≡ tableOf h l .child p i → c ≡ 0 → rest x i ≡ rest x (i + 1)
+  pub rest-empty : (x i : ℕ) {c : ℕ} → i < x → c ≡ tableOf h l .child p i → c ≡ 0
+      → rest x i ≡ rest x (i + 1)
   rest-empty x i b e empty = omega (arith, rest-more x i b, ap length (by-none i (sym e ∙ empty)))
 
   pub rest-counted : (x i under : ℕ) → i < x → under ≡ sizes i → rest x i ≡ under + rest x (i + 1)

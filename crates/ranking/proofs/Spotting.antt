@@ -1,5 +1,6 @@
--- The way to the key at a position: the letters taken lead to a node, and under it lies the rest of the key, at the position that is left.
--- A letter more, and the rest is the shorter; at the node whose own key it is nothing is left.
+-- The way to the key at a position: the letters taken lead to a node, and under it lies the rest
+-- of the key, at the position that is left. A letter more, and the rest is the shorter; at the
+-- node whose own key it is nothing is left.
 use Prim.Native.Nat.{ℕ, suc, _+_, _-_, _≤_, _<_}
 use native.Mathlib.Omega.{arith}
 use native.Mathlib.Decide.{decLt}
@@ -26,21 +27,25 @@ use Rattle.ranking.specs.Ranking.{Spotted, underLetter, ChildCounts, Bra
 use Rattle.ranking.proofs.ByLetter.{onward, by-child}
 use Rattle.ranking.proofs.Below.{Counted, held, within, one-more, below}
 
-pub record Spotting (h : Head) (l : List ℕ) (position : ℕ) (path₀ path : List ℕ) (node depth left : ℕ) : Type 0 where
+pub record Spotting (h : Head) (l : List ℕ) (position : ℕ) (path₀ path : List ℕ)
+    (node depth left : ℕ) : Type 0 where
   pub reaches : descend (tableOf h l) 0 (take depth path) ≡ complete node
   pub deep : depth ≤ h .max
   pub kept : length path ≡ length path₀
   pub inside : left < length (held h l node depth)
   pub there : (k : List ℕ) → keyAt (held h l node depth) left ≡ some k
-      → keyAt (listing (tableOf h l) (h .n) (h .min) (h .max)) position ≡ some (take depth path ++ k)
+      → keyAt (listing (tableOf h l) (h .n) (h .min) (h .max)) position
+      ≡ some (take depth path ++ k)
 
 -- behind a node's own key, which was at another position or is none
 pub record Beneath (h : Head) (l : List ℕ) (node depth left behind : ℕ) : Type 0 where
   pub inside : behind < length (onward h l node depth 0)
   pub same : keyAt (held h l node depth) left ≡ keyAt (onward h l node depth 0) behind
 
-module _ {h : Head} {l counts : List ℕ} (w : Counted h l counts) {position : ℕ} {path₀ : List ℕ} (room : h .max ≤ length path₀) where
-  pub spotting-start : position < length (storedKeys l) → Spotting h l position path₀ path₀ 0 0 position
+module _ {h : Head} {l counts : List ℕ} (w : Counted h l counts) {position : ℕ} {path₀ : List ℕ}
+    (room : h .max ≤ length path₀) where
+  pub spotting-start : position < length (storedKeys l)
+      → Spotting h l position path₀ path₀ 0 0 position
   spotting-start b =
       let least : h .min - 0 ≡ h .min = omega arith in
       let most : h .max - 0 ≡ h .max = omega arith in
@@ -52,19 +57,22 @@ module _ {h : Head} {l counts : List ℕ} (w : Counted h l counts) {position : �
         there = λ k e. rw (least, most) at e;
       }
 
-  module _ {path : List ℕ} {node depth left : ℕ} (s : Spotting h l position path₀ path node depth left) where
+  module _ {path : List ℕ} {node depth left : ℕ}
+      (s : Spotting h l position path₀ path node depth left) where
     pub spotting-within : node ≤ h .g
     spotting-within = within w (take depth path) (s .reaches)
 
     so-many : length (take depth path) ≡ depth
     so-many = length-take-le depth path (omega (arith, s .deep, s .kept))
 
-    split : held h l node depth ≡ ownKey (tableOf h l) (h .min - depth) node ++ onward h l node depth 0
+    split : held h l node depth ≡ ownKey (tableOf h l) (h .min - depth) node
+        ++ onward h l node depth 0
     split = under-split (tableOf h l) (h .n) (h .min - depth) (h .max - depth) node
 
     module _ {v : ℕ} (own : v ≡ ownValue h (tableOf h l) node depth) where
       -- the node's own key
-      pub spotting-end : v ≢ 0 → left ≡ 0 → Spotted l position (record { length = depth; value = v }) path
+      pub spotting-end : v ≢ 0 → left ≡ 0
+          → Spotted l position (record { length = depth; value = v }) path
       unfolding keyAt
       spotting-end full first =
           let there : ownValue h (tableOf h l) node depth ≢ 0 = λ z. full (own ∙ z) in
@@ -81,7 +89,8 @@ module _ {h : Head} {l counts : List ℕ} (w : Counted h l counts) {position : �
             value =
                 own
                 ∙ own-data h (tableOf h l) node depth (own-long h (tableOf h l) node depth there)
-                ∙ sym (ap (λ t. answer t (take depth path)) (w .table) ∙ answer-complete (tableOf h l) (take depth path) (s .reaches));
+                ∙ sym (ap (λ t. answer t (take depth path)) (w .table) ∙ answer-complete
+                (tableOf h l) (take depth path) (s .reaches));
             letters = ap (λ (m : ℕ). take m path) so-many;
           }
 
@@ -101,8 +110,13 @@ module _ {h : Head} {l counts : List ℕ} (w : Counted h l counts) {position : �
       pub beneath-none : v ≡ 0 → Beneath h l node depth left left
       beneath-none empty =
           let all : held h l node depth ≡ onward h l node depth 0 =
-          split ∙ ap (_++ onward h l node depth 0) (own-empty h (tableOf h l) node depth (sym own ∙ empty)) in
-          record { inside = omega (arith, s .inside, ap length all); same = ap (λ (keys : List (List ℕ)). keyAt keys left) all }
+          split ∙ ap (_++ onward h l node depth 0)
+          (own-empty h (tableOf h l) node depth (sym own ∙ empty)) in
+          record {
+            inside = omega (arith, s .inside, ap length all);
+            same =
+                ap (λ (keys : List (List ℕ)). keyAt keys left) all;
+          }
 
     -- such a key needs a letter more
     module _ {behind : ℕ} (b : Beneath h l node depth left behind) where
@@ -113,7 +127,8 @@ module _ {h : Head} {l counts : List ℕ} (w : Counted h l counts) {position : �
           go (yes low) = low
           go (no high) =
               let none-left : h .max - depth ≡ 0 = omega arith in
-              let empty : onward h l node depth 0 ≡ [] = rw none-left (from-shallow (tableOf h l) (h .n) (h .min - depth) node 0) in
+              let empty : onward h l node depth 0 ≡ [] =
+              rw none-left (from-shallow (tableOf h l) (h .n) (h .min - depth) node 0) in
               absurd (omega (arith, b .inside, ap length empty))
 
       pub spotting-below : ChildCounts h l node depth counts
@@ -124,14 +139,17 @@ module _ {h : Head} {l counts : List ℕ} (w : Counted h l counts) {position : �
 
       -- and lies under the child that was found for it
       pub spotting-on : {r : Branch} → Branches h l node depth behind r
-          → Spotting h l position path₀ (set path depth (r .letter)) (r .child) (depth + 1) (r .left)
+          → Spotting h l position path₀ (set path depth (r .letter)) (r .child) (depth + 1)
+          (r .left)
       spotting-on {r} branches =
           let u = branches (b .inside) in
-          let longer : take (suc depth) (set path depth (r .letter)) ≡ take depth path ++ (r .letter ∷ []) =
+          let longer : take (suc depth) (set path depth (r .letter)) ≡ take depth path
+          ++ (r .letter ∷ []) =
           take-suc-set path depth (r .letter) spotting-room in
           let full : tableOf h l .child node (r .letter) ≢ 0 = λ z. u .linked (u .child ∙ z) in
           let same : held h l (r .child) (suc depth) ≡ underLetter h l node depth (r .letter) =
-          ap (λ (c : ℕ). held h l c (suc depth)) (u .child) ∙ sym (by-child h l node depth (r .letter) full) in
+          ap (λ (c : ℕ). held h l c (suc depth)) (u .child)
+          ∙ sym (by-child h l node depth (r .letter) full) in
           rw (add-one depth)
           (record {
             reaches =
@@ -141,6 +159,9 @@ module _ {h : Head} {l counts : List ℕ} (w : Counted h l counts) {position : �
             kept = length-set path depth (r .letter) ∙ s .kept;
             inside = omega (arith, u .inside, ap length same);
             there = λ k e.
-                s .there (r .letter ∷ k) (b .same ∙ u .there k (ap (λ (keys : List (List ℕ)). keyAt keys (r .left)) (sym same) ∙ e))
-                ∙ ap (λ (m : List ℕ). some m) (sym (ap (_++ k) longer ∙ append-assoc (take depth path) (r .letter ∷ []) k));
+                s .there (r .letter ∷ k)
+                (b .same ∙ u .there k (ap (λ (keys : List (List ℕ)). keyAt keys (r .left))
+                (sym same) ∙ e))
+                ∙ ap (λ (m : List ℕ). some m)
+                (sym (ap (_++ k) longer ∙ append-assoc (take depth path) (r .letter ∷ []) k));
           })

@@ -1,5 +1,5 @@
--- 02, Ask 7: "From it answer the key at position i ... and the position of a stored key." What the way by counts tells, and what it goes by at each
--- node.
+-- 02, Ask 7: "From it answer the key at position i ... and the position of a stored key." What the
+-- way by counts tells, and what it goes by at each node.
 use Prim.Native.Nat.{ℕ, suc, _+_, _-_, _^_, _<_}
 use mathlib.Core.Path.{_≡_}
 use mathlib.Core.Bool.{cond}
@@ -31,12 +31,14 @@ pub record Spotted (l : List ℕ) (position : ℕ) (r : Spot) (path : List ℕ) 
 -- a key's position, where it is stored
 unfoldable pub rankedOf : List ℕ → List ℕ → Ranked
 unfolding answer tableIn rankIn storedKeys
-rankedOf l key = cond (eqb (answer (tableIn l) key) 0) Ranked.Missing (Ranked.At (rankIn (storedKeys l) key))
+rankedOf l key =
+    cond (eqb (answer (tableIn l) key) 0) Ranked.Missing (Ranked.At (rankIn (storedKeys l) key))
 
 -- the keys at or under the child of node p at a depth, by letter i; none by an empty link
 abbrev pub underLetter : Head → List ℕ → ℕ → ℕ → ℕ → List (List ℕ)
 underLetter h l p depth i =
-    follow (tableOf h l .child p i) [] (λ c. keysUnder (tableOf h l) (h .n) (h .min - suc depth) (h .max - suc depth) c)
+    follow (tableOf h l .child p i) []
+    (λ c. keysUnder (tableOf h l) (h .n) (h .min - suc depth) (h .max - suc depth) c)
 
 -- the children of node p at a depth: each has in the list the number of the keys at or under it
 abbrev pub ChildCounts : Head → List ℕ → ℕ → ℕ → List ℕ → Type 0
@@ -61,8 +63,10 @@ pub record Under (h : Head) (l : List ℕ) (p depth position : ℕ) (r : Branch)
   pub linked : r .child ≢ 0
   pub inside : r .left < length (underLetter h l p depth (r .letter))
   pub there : (k : List ℕ) → keyAt (underLetter h l p depth (r .letter)) (r .left) ≡ some k
-      → keyAt (keysFrom (tableOf h l) (h .n) (h .min - depth) (h .max - depth) p 0) position ≡ some (r .letter ∷ k)
+      → keyAt (keysFrom (tableOf h l) (h .n) (h .min - depth) (h .max - depth) p 0) position
+      ≡ some (r .letter ∷ k)
 
 abbrev pub Branches : Head → List ℕ → ℕ → ℕ → ℕ → Branch → Type 0
 Branches h l p depth position r =
-    position < length (keysFrom (tableOf h l) (h .n) (h .min - depth) (h .max - depth) p 0) → Under h l p depth position r
+    position < length (keysFrom (tableOf h l) (h .n) (h .min - depth) (h .max - depth) p 0)
+    → Under h l p depth position r

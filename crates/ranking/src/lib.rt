@@ -1,5 +1,6 @@
-// The way through an image by its counts: the key at a position, and the position of a key. The image has been checked and the counts have been
-// compared. At each node the links are looked at from the first letter on, and none is followed but the one that leads on.
+// The way through an image by its counts: the key at a position, and the position of a key. The
+// image has been checked and the counts have been compared. At each node the links are looked at
+// from the first letter on, and none is followed but the one that leads on.
 ghost use mathlib.Core.Path.{_≡_};
 ghost use mathlib.Core.Bool.{true};
 ghost use Prim.Native.Nat.{_+_, _≤_, _<_};
@@ -11,7 +12,8 @@ ghost use Rattle.paper.specs.Accepted.{Accepted};
 ghost use Rattle.paper.specs.Calls.{storedKeys};
 ghost use Rattle.position.specs.Counts.{RightCounts};
 ghost use Rattle.key.specs.Hand.{Ready, lettersOf};
-ghost use Rattle.ranking.specs.Ranking.{Spotted, rankedOf, ChildCounts, Branches, underLower, RankFits};
+ghost use Rattle.ranking.specs.Ranking.{Spotted, rankedOf, ChildCounts, Branches};
+ghost use Rattle.ranking.specs.Ranking.{underLower, RankFits};
 use head::Head;
 use key::Key;
 
@@ -27,7 +29,8 @@ pub enum Ranked {
     Missing,
 }
 
-// The child under which a position lies: its letter, its address, and the position among the keys at or under it.
+// The child under which a position lies: its letter, its address, and the position among the keys
+// at or under it.
 pub struct Branch {
     pub letter: u8,
     pub child: u32,
@@ -36,7 +39,8 @@ pub struct Branch {
 
 // The stored key at a position below the number of stored keys.
 pub fn key_at(image: &[u8], h: Head, counts: &[u32], position: u32, path: &mut [u8]) -> Spot
-    requires { ⌜ Accepted (now image) ⌝ ∗ ⌜ h ≡ headOf (now image) ⌝ ∗ ⌜ RightCounts (now image) (now counts) ⌝ }
+    requires { ⌜ Accepted (now image) ⌝ ∗ ⌜ h ≡ headOf (now image) ⌝
+        ∗ ⌜ RightCounts (now image) (now counts) ⌝ }
     requires { ⌜ position < length (storedKeys (now image)) ⌝ ∗ ⌜ h .max ≤ length (now path) ⌝ }
     ensures { λ r. ⌜ Spotted (now (image .entry)) position r (now (path .exit)) ⌝ }
 {
@@ -63,7 +67,8 @@ pub fn key_at(image: &[u8], h: Head, counts: &[u32], position: u32, path: &mut [
     }
 }
 
-// The child of a node at a depth under which the position lies among the keys below the node, its own left out.
+// The child of a node at a depth under which the position lies among the keys below the node, its
+// own left out.
 fn branch_at(
     image: &[u8],
     h: Head,
@@ -100,10 +105,12 @@ fn branch_at(
     }
 }
 
-// The position of a key whose length is allowed: how many stored keys come before it. On the way down each node's own key comes before, and so
-// does every key at or under a child with a lower letter.
+// The position of a key whose length is allowed: how many stored keys come before it. On the way
+// down each node's own key comes before, and so does every key at or under a child with a lower
+// letter.
 pub fn rank(image: &[u8], h: Head, counts: &[u32], key: Key) -> Ranked
-    requires { ⌜ Accepted (now image) ⌝ ∗ ⌜ h ≡ headOf (now image) ⌝ ∗ ⌜ RightCounts (now image) (now counts) ⌝ }
+    requires { ⌜ Accepted (now image) ⌝ ∗ ⌜ h ≡ headOf (now image) ⌝
+        ∗ ⌜ RightCounts (now image) (now counts) ⌝ }
     requires { ⌜ Ready h key ⌝ ∗ ⌜ between (length (lettersOf key)) (h .min) (h .max) ≡ true ⌝ }
     ensures { λ r. ⌜ r ≡ rankedOf (now (image .entry)) (lettersOf key) ⌝ }
 {
@@ -132,7 +139,8 @@ pub fn rank(image: &[u8], h: Head, counts: &[u32], key: Key) -> Ranked
     Ranked::At(before)
 }
 
-// The keys at or under the children of a node at a depth whose letters are below one, added to those passed before.
+// The keys at or under the children of a node at a depth whose letters are below one, added to
+// those passed before.
 fn passed(
     image: &[u8],
     h: Head,
@@ -143,7 +151,8 @@ fn passed(
     letter: u32,
     before: u32,
 ) -> u32
-    requires { ⌜ Open h (now image) ⌝ ∗ ⌜ Masks h mask ⌝ ∗ ⌜ node ≤ h .g ⌝ ∗ ⌜ depth < h .max ⌝ ∗ ⌜ letter ≤ h .n ⌝ }
+    requires { ⌜ Open h (now image) ⌝ ∗ ⌜ Masks h mask ⌝ ∗ ⌜ node ≤ h .g ⌝ ∗ ⌜ depth < h .max ⌝
+        ∗ ⌜ letter ≤ h .n ⌝ }
     requires { ⌜ ChildCounts h (now image) node depth (now counts) ⌝ }
     requires { ⌜ RankFits h (now image) node depth letter before ⌝ }
     ensures { λ r. ⌜ r ≡ before + underLower h (now (image .entry)) node depth letter ⌝ }

@@ -1,16 +1,19 @@
--- One run from P1's fresh image, computed: what was stored last is in front of the plain list, a refused store is not in it, mending leaves
--- both as they are, a store with counts is a store, and the changes sum up to the two keys that are left.
+-- One run from P1's fresh image, computed: what was stored last is in front of the plain list, a
+-- refused store is not in it, mending leaves both as they are, a store with counts is a store, and
+-- the changes sum up to the two keys that are left.
 use Prim.Native.Nat.{ℕ}
 use mathlib.Core.Path.{_≡_, refl}
 use mathlib.Core.List.{List, [], _∷_, map}
 use lib.IntN.{pos}
 use lib.ListN.{replicate}
 use Rattle.trie.specs.Keys.{keysUnder}
-use Rattle.paper.specs.Rows.{row1, row2, row3, row4, row6, row7, row8, row9, row10, row10text, row11, row12, row13, row6path}
+use Rattle.paper.specs.Rows.{row1, row2, row3, row4, row6, row7, row8, row9, row10, row10text}
+use Rattle.paper.specs.Rows.{row11, row12, row13, row6path}
 use Rattle.paper.specs.Given.{asLetters, asText}
 use Rattle.paper.specs.Calls.{freshHead, freshImage, lookUpOf}
 use Rattle.paper.specs.Cases.{file}
-use Rattle.runs.specs.Runs.{Entry, lastOf, Call, lookUp, store, storeWrites, mend, storeCounts, keyAt, Run, ran, startOf}
+use Rattle.runs.specs.Runs.{Entry, lastOf, Call, lookUp, store, storeWrites, mend}
+use Rattle.runs.specs.Runs.{storeCounts, keyAt, Run, ran, startOf}
 
 abbrev alphabet : List ℕ
 alphabet = 0x41 ∷ 0x42 ∷ 0x43 ∷ []
@@ -27,9 +30,10 @@ counts = 3 ∷ 1 ∷ 0 ∷ 2 ∷ 1 ∷ []
 abbrev entry : List ℕ → ℕ → Entry
 entry k v = record { key = k; value = v }
 
--- BA = 9, B = 5, BA = 256, C = 7 by text, D = 1 by text, B = 6 by text, BA = 0, and two look ups on the way; then listed CA = 3, C = 8 by
--- text and D = 1 by text, and two mendings, one lent a working number too few; then with counts C = 0 by text, B = 1 with the
--- same list, which is no longer right, and the key at position 1
+-- BA = 9, B = 5, BA = 256, C = 7 by text, D = 1 by text, B = 6 by text, BA = 0, and two look ups
+-- on the way; then listed CA = 3, C = 8 by text and D = 1 by text, and two mendings, one lent a
+-- working number too few; then with counts C = 0 by text, B = 1 with the same list, which is no
+-- longer right, and the key at position 1
 abbrev calls : List Call
 calls =
     store work (asLetters (1 ∷ 0 ∷ [])) 9
@@ -57,7 +61,8 @@ end = ran (startOf (freshImage (freshHead 3 1 1 alphabet 1 3) alphabet (replicat
 abbrev expected : Run
 expected =
     record {
-      image = file 4 (0 ∷ 1 ∷ 3 ∷ 0 ∷ 2 ∷ 0 ∷ 0 ∷ 6 ∷ 0 ∷ 0 ∷ 0 ∷ 0 ∷ 4 ∷ 0 ∷ 0 ∷ 0 ∷ 0 ∷ 0 ∷ 0 ∷ 3 ∷ []) 9;
+      image = file 4 (0 ∷ 1 ∷ 3 ∷ 0 ∷ 2 ∷ 0 ∷ 0 ∷ 6 ∷ 0 ∷ 0 ∷ 0 ∷ 0 ∷ 4 ∷ 0 ∷ 0 ∷ 0 ∷ 0 ∷ 0 ∷ 0 ∷ 3
+          ∷ []) 9;
       plain =
           entry (2 ∷ []) 0
           ∷ entry (2 ∷ []) 8
@@ -76,7 +81,9 @@ abbrev keys : List (List ℕ)
 keys = (1 ∷ 0 ∷ []) ∷ (1 ∷ []) ∷ (2 ∷ []) ∷ (2 ∷ 0 ∷ []) ∷ (0 ∷ []) ∷ []
 
 pub computed : (end ≡ expected)
-    × (map (λ (k : List ℕ). lookUpOf (end .image) (asLetters k) .numbers .value) keys ≡ 0 ∷ 6 ∷ 0 ∷ 3 ∷ 0 ∷ [])
+    × (map (λ (k : List ℕ). lookUpOf (end .image) (asLetters k) .numbers .value) keys ≡ 0 ∷ 6 ∷ 0
+    ∷ 3 ∷ 0 ∷ [])
     × (map (lastOf (end .plain)) keys ≡ 0 ∷ 6 ∷ 0 ∷ 3 ∷ 0 ∷ [])
-unfolding keysUnder row1 row2 row3 row4 row6 row7 row8 row9 row10 row10text row11 row12 row13 row6path freshHead freshImage lastOf ran startOf
+unfolding keysUnder row1 row2 row3 row4 row6 row7 row8 row9 row10 row10text row11 row12 row13
+    row6path freshHead freshImage lastOf ran startOf
 computed = (refl, refl, refl)

@@ -1,6 +1,7 @@
--- Demand 3, "A run of calls from a fresh image answers as a plain list of last values", and 01's sum of the changes. One invariant says
--- both: it holds of a fresh image, every call keeps it, and what is asked of a run is read off it. Every beginning of a run is a run, so
--- that a call in the middle is answered by the same laws.
+-- Demand 3, "A run of calls from a fresh image answers as a plain list of last values", and 01's
+-- sum of the changes. One invariant says both: it holds of a fresh image, every call keeps it, and
+-- what is asked of a run is read off it. Every beginning of a run is a run, so that a call in the
+-- middle is answered by the same laws.
 use Prim.Native.Nat.{ℕ, _+_, _-_, _≤_}
 use mathlib.Core.Path.{_≡_, refl, sym, _∙_, ap, ap₂, subst}
 use mathlib.Core.Bool.{Bool, true, false, true≢false, _&&_}
@@ -22,22 +23,31 @@ use Rattle.head.specs.Fields.{headOf, putTotal}
 use Rattle.alphabet.specs.Letters.{orEmpty}
 use Rattle.node.specs.Writes.{Write}
 use Rattle.node.proofs.Heads.{withTotal}
-use Rattle.paper.specs.Hearing.{Row, Numbers, Outcome, outcome, first, heard, refusedNumbers, doneNumbers}
+use Rattle.paper.specs.Hearing.{Row, Numbers, Outcome, outcome, first, heard, refusedNumbers}
+use Rattle.paper.specs.Hearing.{doneNumbers}
 use Rattle.paper.specs.Given.{Given, alphabetIn, meantBy, meantIn, keyIn}
-use Rattle.paper.specs.Orders.{newOf, checkOrder, keyRowsBy, keyRows, lookUpOrder, storeOrder, nextKeyOrder}
-use Rattle.paper.specs.Calls.{tableIn, workAfter, freshHead, freshImage, makeOf, storedKeys, countOf, telling, lookUpOf, writesIn, storedImage, storeOf, withWrites, checkOf, isAccepted, mends, nextIn}
+use Rattle.paper.specs.Orders.{newOf, checkOrder, keyRowsBy, keyRows, lookUpOrder, storeOrder}
+use Rattle.paper.specs.Orders.{nextKeyOrder}
+use Rattle.paper.specs.Calls.{tableIn, workAfter, freshHead, freshImage, makeOf, storedKeys}
+use Rattle.paper.specs.Calls.{countOf, telling, lookUpOf, writesIn, storedImage, storeOf}
+use Rattle.paper.specs.Calls.{withWrites, checkOf, isAccepted, mends, nextIn}
 use Rattle.paper.specs.Accepted.{Accepted}
 use Rattle.paper.specs.Granted.{Fit, Granted}
 use Rattle.paper.proofs.Hearing.{heard-done, heard-alike}
 use Rattle.paper.proofs.CheckCall.{accepted-opens, accepted-checks, check-exactly, accepted-linked}
 use Rattle.paper.proofs.LookUpCall.{given-fit}
-use Rattle.paper.proofs.StoreCall.{accepted-again, stored-head, stored-alphabet, stored-table, stored-change, looks-up-accepted, keying-total, granted, store-granted, store-leaves, store-passed}
+use Rattle.paper.proofs.StoreCall.{accepted-again, stored-head, stored-alphabet, stored-table}
+use Rattle.paper.proofs.StoreCall.{stored-change, looks-up-accepted, keying-total, granted}
+use Rattle.paper.proofs.StoreCall.{store-granted, store-leaves, store-passed}
 use Rattle.paper.proofs.MendCall.{mend-kept, eight}
-use Rattle.paper.proofs.MakeCall.{Made, make-done, fresh-head, fresh-alphabet, fresh-accepted, fresh-answers, fresh-keys}
+use Rattle.paper.proofs.MakeCall.{Made, make-done, fresh-head, fresh-alphabet, fresh-accepted}
+use Rattle.paper.proofs.MakeCall.{fresh-answers, fresh-keys}
 use Rattle.position.specs.Calls.{worked, storeCountsOf}
 use Rattle.position.specs.Orders.{countsOrder, checkCountsOrder, keyAtOrder, positionOrder}
 use Rattle.position.proofs.Plain.{store-counts-plain, store-counts-kept}
-use Rattle.runs.specs.Runs.{sameKey, lastOf, Call, check, count, lookUp, store, storeWrites, mend, nextKey, counts, checkCounts, storeCounts, keyAt, position, firstLeft, plainBy, Run, after, ran, startOf, ranFrom}
+use Rattle.runs.specs.Runs.{sameKey, lastOf, Call, check, count, lookUp, store, storeWrites}
+use Rattle.runs.specs.Runs.{mend, nextKey, counts, checkCounts, storeCounts, keyAt, position}
+use Rattle.runs.specs.Runs.{firstLeft, plainBy, Run, after, ran, startOf, ranFrom}
 
 -- ---- the plain list
 
@@ -70,7 +80,8 @@ pub record Holds (h : Head) (alphabet : List ℕ) (r : Run) : Type 0 where
 only-total : (h : Head) {k : Head} {g : ℕ} → k ≡ withTotal h g → k ≡ withTotal h (k .g)
 only-total h {k} {g} e = e ∙ ap (withTotal h) (sym (ap (λ (j : Head). j .g) e))
 
-start : {h : Head} {alphabet image : List ℕ} → Made h alphabet image → Holds h alphabet (startOf (freshImage h alphabet image))
+start : {h : Head} {alphabet image : List ℕ} → Made h alphabet image
+    → Holds h alphabet (startOf (freshImage h alphabet image))
 unfolding startOf lastOf
 start {h} {alphabet} {image} m =
     record {
@@ -83,23 +94,30 @@ start {h} {alphabet} {image} m =
 
 -- ---- a store
 
--- how a store ends, listed or not, with counts or without: granted and done, or refused with the image as it was
+-- how a store ends, listed or not, with counts or without: granted and done, or refused with the
+-- image as it was
 data Ended (l key : List ℕ) (value : ℕ) : Outcome → Type 0 where
   was-done : (writes : ℕ) {others : List (List ℕ)} → Granted l key value
-      → Ended l key value (outcome (doneNumbers writes (changeOf (answer (tableIn l) key) value) 0) (storedImage l key value ∷ others))
-  was-refused : (n : Numbers) {others : List (List ℕ)} → n .number ≢ 0 → n .change ≡ pos 0 → Ended l key value (outcome n (l ∷ others))
+      → Ended l key value (outcome (doneNumbers writes (changeOf (answer (tableIn l) key) value) 0)
+      (storedImage l key value ∷ others))
+  was-refused : (n : Numbers) {others : List (List ℕ)} → n .number ≢ 0 → n .change ≡ pos 0
+      → Ended l key value (outcome n (l ∷ others))
 
-ended : (l work : List ℕ) (given : Given) (value : ℕ) → Ended l (keyIn l given) value (storeOf l work given value)
+ended : (l work : List ℕ) (given : Given) (value : ℕ) → Ended l (keyIn l given) value
+    (storeOf l work given value)
 unfolding storeOf heard refusedNumbers
 ended l work given value = go (first (storeOrder l work given value)) refl
   where
-    go : (row : Row) → first (storeOrder l work given value) ≡ row → Ended l (keyIn l given) value (storeOf l work given value)
+    go : (row : Row) → first (storeOrder l work given value) ≡ row → Ended l (keyIn l given) value
+        (storeOf l work given value)
     go none e = rw e (was-done 0 (granted l work given value e))
     go (some s) e =
-        rw e (was-refused (refusedNumbers s) (λ z. Option·some-ne-none s (sym e ∙ store-passed l work given value (rw e z))) refl)
+        rw e (was-refused (refusedNumbers s)
+        (λ z. Option·some-ne-none s (sym e ∙ store-passed l work given value (rw e z))) refl)
 
 -- the list of its writes is one buffer more, and changes neither the number nor the change
-ended-listed : {l key : List ℕ} {value : ℕ} (ws : List Write) (list : List ℕ) {o : Outcome} → Ended l key value o
+ended-listed : {l key : List ℕ} {value : ℕ} (ws : List Write) (list : List ℕ) {o : Outcome}
+    → Ended l key value o
     → Ended l key value (withWrites ws list o)
 unfolding withWrites doneNumbers refusedNumbers
 ended-listed ws list (was-done n s) = was-done (length ws) s
@@ -114,16 +132,20 @@ ended-counts l work given value tally = go (ℕ-discrete (o .numbers .number) 0)
     o = storeCountsOf l work given value tally
 
     left : List (List ℕ)
-    left = storedImage l (keyIn l given) value ∷ workAfter l work ∷ worked (storedImage l (keyIn l given) value) tally ∷ []
+    left = storedImage l (keyIn l given) value ∷ workAfter l work
+        ∷ worked (storedImage l (keyIn l given) value) tally ∷ []
 
     go : Dec (o .numbers .number ≡ 0) → Ended l (keyIn l given) value o
     go (yes z) =
         let p = store-counts-plain l work given value tally z in
-        let same = p .1 ∙ ap (λ (a : Outcome). outcome (a .numbers) left) (store-leaves l work given value (p .0)) in
-        subst (Ended l (keyIn l given) value) (sym same) (was-done 0 (store-granted l work given value (p .0)))
+        let same = p .1 ∙ ap (λ (a : Outcome). outcome (a .numbers) left)
+        (store-leaves l work given value (p .0)) in
+        subst (Ended l (keyIn l given) value) (sym same)
+        (was-done 0 (store-granted l work given value (p .0)))
     go (no z) =
         let k = store-counts-kept l work given value tally z in
-        subst (Ended l (keyIn l given) value) (ap (outcome (o .numbers)) (sym (k .0))) (was-refused (o .numbers) z (k .1))
+        subst (Ended l (keyIn l given) value) (ap (outcome (o .numbers)) (sym (k .0)))
+        (was-refused (o .numbers) z (k .1))
 
 -- where a run stands after a store that left this outcome
 abbrev storedRun : Run → List ℕ → ℕ → Outcome → Run
@@ -136,7 +158,8 @@ storedRun r key value o =
 
 module _ {h : Head} {alphabet : List ℕ} {r : Run} (i : Holds h alphabet r) where
   -- a call that answers no change and leaves the image
-  unchanged : {change : ℤ} → change ≡ pos 0 → Holds h alphabet (record { image = r .image; plain = r .plain; sum = r .sum +ℤ change })
+  unchanged : {change : ℤ} → change ≡ pos 0
+      → Holds h alphabet (record { image = r .image; plain = r .plain; sum = r .sum +ℤ change })
   unchanged e =
       record {
         accepted = i .accepted;
@@ -147,43 +170,57 @@ module _ {h : Head} {alphabet : List ℕ} {r : Run} (i : Holds h alphabet r) whe
       }
 
   -- the key answers its new value, every other key as before
-  answers-stored : {key : List ℕ} {value : ℕ} → Granted (r .image) key value → (k : List ℕ) → Fit h k
-      → answer (tableIn (storedImage (r .image) key value)) k ≡ lastOf (record { key = key; value = value } ∷ r .plain) k
+  answers-stored : {key : List ℕ} {value : ℕ} → Granted (r .image) key value → (k : List ℕ)
+      → Fit h k
+      → answer (tableIn (storedImage (r .image) key value)) k
+      ≡ lastOf (record { key = key; value = value } ∷ r .plain) k
   unfolding lastOf
-  answers-stored {key} {value} s k f = ap (λ (t : Table). answer t k) (stored-table s) ∙ go (sameKey key k) refl
+  answers-stored {key} {value} s k f =
+      ap (λ (t : Table). answer t k) (stored-table s) ∙ go (sameKey key k) refl
     where
       t : Table
       t = stored (tableIn (r .image)) (headOf (r .image) .g) key value
 
-      go : (b : Bool) → sameKey key k ≡ b → answer t k ≡ lastOf (record { key = key; value = value } ∷ r .plain) k
-      go true e = rw (e, ← same-key key k e) (stored-answer (accepted-linked (s .accepted)) key (s .fit .below) value)
+      go : (b : Bool) → sameKey key k ≡ b
+          → answer t k ≡ lastOf (record { key = key; value = value } ∷ r .plain) k
+      go true e =
+          rw (e, ← same-key key k e)
+          (stored-answer (accepted-linked (s .accepted)) key (s .fit .below) value)
       go false e =
-          let other : k ≢ key = λ q. true≢false (sym (same-itself key) ∙ ap (sameKey key) (sym q) ∙ e) in
-          rw e (stored-answer-other (accepted-linked (s .accepted)) key (s .fit .below) value k other ∙ i .answers k f)
+          let other : k ≢ key =
+          λ q. true≢false (sym (same-itself key) ∙ ap (sameKey key) (sym q) ∙ e) in
+          rw e (stored-answer-other (accepted-linked (s .accepted)) key (s .fit .below) value k
+          other ∙ i .answers k f)
 
   -- however a store ended
-  step-store : {key : List ℕ} {value : ℕ} {o : Outcome} → Ended (r .image) key value o → Holds h alphabet (storedRun r key value o)
+  step-store : {key : List ℕ} {value : ℕ} {o : Outcome} → Ended (r .image) key value o
+      → Holds h alphabet (storedRun r key value o)
   unfolding firstLeft plainBy doneNumbers refusedNumbers
   step-store {key} {value} (was-done n s) =
       let g : ℕ = headOf (r .image) .g + newOf (headOf (r .image)) (r .image) key value in
       record {
         accepted = accepted-again s;
-        same-head = only-total h {g = g} (stored-head s ∙ ap (λ (k : Head). withTotal k g) (i .same-head));
+        same-head =
+            only-total h {g = g} (stored-head s ∙ ap (λ (k : Head). withTotal k g) (i .same-head));
         same-alphabet = stored-alphabet s ∙ i .same-alphabet;
         answers = answers-stored s;
-        sums = ap (_+ℤ changeOf (answer (tableIn (r .image)) key) value) (i .sums) ∙ sym (stored-change s);
+        sums = ap (_+ℤ changeOf (answer (tableIn (r .image)) key) value) (i .sums)
+            ∙ sym (stored-change s);
       }
   step-store (was-refused n d c) = rw (ne-eqb (n .number) 0 d) (unchanged c)
 
 -- ---- mending
 
--- an accepted image is never mended: an 8 came past 5, and lent enough working numbers its check answers 0
-not-mended : {l : List ℕ} → Accepted l → (work : List ℕ) → mends l (checkOf l work .numbers) ≡ false
+-- an accepted image is never mended: an 8 came past 5, and lent enough working numbers its check
+-- answers 0
+not-mended : {l : List ℕ} → Accepted l → (work : List ℕ) → mends l (checkOf l work .numbers)
+    ≡ false
 unfolding mends
 not-mended {l} a work = go (eqb (checkOf l work .numbers .number) 8) refl
   where
     go : (b : Bool) → eqb (checkOf l work .numbers .number) 8 ≡ b
-        → (eqb (checkOf l work .numbers .number) 8 && isAccepted (putTotal l (checkOf l work .numbers .place - 1))) ≡ false
+        → (eqb (checkOf l work .numbers .number) 8 && isAccepted
+        (putTotal l (checkOf l work .numbers .place - 1))) ≡ false
     go false e = rw e
     go true e =
         let at8 = eqb-true (checkOf l work .numbers .number) 8 e in
@@ -193,7 +230,8 @@ not-mended {l} a work = go (eqb (checkOf l work .numbers .number) 8) refl
 -- ---- every call
 
 -- a call that changes no key answers no change, done or refused
-no-change : (row : Row) (kept : List (List ℕ)) (done : Outcome) → done .numbers .change ≡ pos 0 → heard row kept done .numbers .change ≡ pos 0
+no-change : (row : Row) (kept : List (List ℕ)) (done : Outcome) → done .numbers .change ≡ pos 0
+    → heard row kept done .numbers .change ≡ pos 0
 unfolding heard refusedNumbers
 no-change none kept done e = e
 no-change (some s) kept done e = refl
@@ -206,17 +244,26 @@ module _ {h : Head} {alphabet : List ℕ} where
   step r (lookUp given) i = unchanged i (no-change (first (lookUpOrder (r .image) given)) _ _ refl)
   step r (store work given value) i = step-store i (ended (r .image) work given value)
   step r (storeWrites work given value list) i =
-      step-store i (ended-listed (writesIn (r .image) (keyIn (r .image) given) value) list (ended (r .image) work given value))
+      step-store i (ended-listed (writesIn (r .image) (keyIn (r .image) given) value) list
+      (ended (r .image) work given value))
   step r (mend work) i =
       rw (mend-kept (r .image) work (not-mended (i .accepted) work))
       (unchanged i (no-change (first (checkOrder (r .image) work)) _ _ refl))
   step r (nextKey work key onward buffer) i =
-      unchanged i (no-change (first (nextKeyOrder (r .image) work key (length buffer) (nextIn (r .image) key onward))) _ _ refl)
-  step r (counts work tally) i = unchanged i (no-change (first (countsOrder (r .image) work tally)) _ _ refl)
-  step r (checkCounts work tally) i = unchanged i (no-change (first (checkCountsOrder (r .image) work tally)) _ _ refl)
-  step r (storeCounts work given value tally) i = step-store i (ended-counts (r .image) work given value tally)
-  step r (keyAt work tally at buffer) i = unchanged i (no-change (first (keyAtOrder (r .image) work tally at (length buffer))) _ _ refl)
-  step r (position work tally given) i = unchanged i (no-change (first (positionOrder (r .image) work tally given)) _ _ refl)
+      unchanged i (no-change (first
+      (nextKeyOrder (r .image) work key (length buffer) (nextIn (r .image) key onward)))
+      _ _ refl)
+  step r (counts work tally) i =
+      unchanged i (no-change (first (countsOrder (r .image) work tally)) _ _ refl)
+  step r (checkCounts work tally) i =
+      unchanged i (no-change (first (checkCountsOrder (r .image) work tally)) _ _ refl)
+  step r (storeCounts work given value tally) i =
+      step-store i (ended-counts (r .image) work given value tally)
+  step r (keyAt work tally at buffer) i =
+      unchanged i (no-change (first (keyAtOrder (r .image) work tally at (length buffer)))
+      _ _ refl)
+  step r (position work tally given) i =
+      unchanged i (no-change (first (positionOrder (r .image) work tally given)) _ _ refl)
 
   holds : (r : Run) (cs : List Call) → Holds h alphabet r → Holds h alphabet (ran r cs)
   unfolding ran
@@ -240,44 +287,58 @@ module _ (image : List ℕ) (n a d : ℕ) (alphabet : List ℕ) (least most : �
   r = ranFrom h alphabet image cs
 
   at-end : Holds h alphabet r
-  at-end = holds (startOf (freshImage h alphabet image)) cs (start (make-done image n a d alphabet least most done))
+  at-end = holds (startOf (freshImage h alphabet image)) cs
+      (start (make-done image n a d alphabet least most done))
 
   pub run-accepted : Accepted (r .image)
   run-accepted = at-end .accepted
 
   fit-same : {k : List ℕ} → Fit (headOf (r .image)) k → Fit h k
-  fit-same f = record { allowed = rw (at-end .same-head) at (f .allowed); below = rw (at-end .same-head) at (f .below) }
+  fit-same f = record {
+    allowed = rw (at-end .same-head) at (f .allowed);
+    below =
+        rw (at-end .same-head) at (f .below);
+  }
 
   -- 9 and 10 ask what they asked at the start, and the key that is meant is the same
   keyed-same : (given : Given) → keyRows (r .image) given ≡ keyRowsBy h alphabet given
   unfolding keyRows
   keyed-same given =
-      ap₂ (λ (j : Head) (b : List ℕ). keyRowsBy j b given) (at-end .same-head) (at-end .same-alphabet)
+      ap₂ (λ (j : Head) (b : List ℕ). keyRowsBy j b given) (at-end .same-head)
+      (at-end .same-alphabet)
       ∙ keying-total h (headOf (r .image) .g) alphabet given
 
   meant-same : (given : Given) → keyIn (r .image) given ≡ orEmpty (meantBy alphabet given)
   unfolding keyIn meantIn
   meant-same given = ap (λ (b : List ℕ). orEmpty (meantBy b given)) (at-end .same-alphabet)
 
-  -- "answers as a plain list of last values": 9 or 10 for a key that no image with this head has, the last value for any other
+  -- "answers as a plain list of last values": 9 or 10 for a key that no image with this head has,
+  -- the last value for any other
   pub run-answers : (given : Given) → lookUpOf (r .image) given
-      ≡ heard (first (keyRowsBy h alphabet given)) [] (telling (lastOf (r .plain) (orEmpty (meantBy alphabet given))))
+      ≡ heard (first (keyRowsBy h alphabet given)) []
+      (telling (lastOf (r .plain) (orEmpty (meantBy alphabet given))))
   run-answers given =
       let fit : first (keyRows (r .image) given) ≡ none → Fit h (keyIn (r .image) given) =
       λ e. fit-same (given-fit (r .image) given (accepted-opens run-accepted) e) in
       looks-up-accepted run-accepted given
-      ∙ heard-alike (first (keyRows (r .image) given)) [] (λ e. ap telling (at-end .answers (keyIn (r .image) given) (fit e)))
-      ∙ ap₂ (λ (rows : List Row) (k : List ℕ). heard (first rows) [] (telling (lastOf (r .plain) k))) (keyed-same given) (meant-same given)
+      ∙ heard-alike (first (keyRows (r .image) given)) []
+      (λ e. ap telling (at-end .answers (keyIn (r .image) given) (fit e)))
+      ∙ ap₂ (λ (rows : List Row) (k : List ℕ). heard (first rows) []
+      (telling (lastOf (r .plain) k))) (keyed-same given) (meant-same given)
 
-  -- "The sum of these from a fresh image equals the number of keys stored now", and that is the number that is told
+  -- "The sum of these from a fresh image equals the number of keys stored now", and that is the
+  -- number that is told
   pub run-sums : r .sum ≡ pos (length (storedKeys (r .image)))
   run-sums = at-end .sums
 
   pub run-counts : (work : List ℕ) → headOf (r .image) .g + 1 ≤ length work
-      → (m : ℕ) × (pos m ≡ r .sum) × (countOf (r .image) work ≡ outcome (doneNumbers 0 (pos 0) m) (workAfter (r .image) work ∷ []))
+      → (m : ℕ) × (pos m ≡ r .sum)
+      × (countOf (r .image) work ≡ outcome (doneNumbers 0 (pos 0) m)
+      (workAfter (r .image) work ∷ []))
   unfolding countOf
   run-counts work b = (
     length (storedKeys (r .image)),
     sym run-sums,
-    heard-done (first (checkOrder (r .image) work)) _ _ (accepted-checks (r .image) work run-accepted b),
+    heard-done (first (checkOrder (r .image) work)) _ _
+        (accepted-checks (r .image) work run-accepted b),
   )

@@ -1,7 +1,9 @@
--- Demand 3, "A run of calls from a fresh image answers as a plain list of last values"; 01, "The sum of these from a fresh image equals the
--- number of keys stored now". A run is any list of calls on one image, each on what the one before left; the listed stores and mending
--- are 02's, Ask 1, and the calls with counts its Ask 7: each is lent any list of counts, right or not. Beside it goes a plain list: a store
--- that was done adds its key and value in front, and nothing else changes the list.
+-- Demand 3, "A run of calls from a fresh image answers as a plain list of last values"; 01, "The
+-- sum of these from a fresh image equals the number of keys stored now". A run is any list of
+-- calls on one image, each on what the one before left; the listed stores and mending are 02's,
+-- Ask 1, and the calls with counts its Ask 7: each is lent any list of counts, right or not.
+-- Beside it goes a plain list: a store that was done adds its key and value in front, and nothing
+-- else changes the list.
 use Prim.Native.Nat.{ℕ}
 use mathlib.Core.Bool.{Bool, true, false, _&&_, cond}
 use mathlib.Core.List.{List, [], _∷_}
@@ -10,7 +12,8 @@ use lib.IntN.{ℤ, pos, _+ℤ_}
 use Rattle.head.specs.declared.Head.{Head}
 use Rattle.paper.specs.Hearing.{Outcome}
 use Rattle.paper.specs.Given.{Given, keyIn}
-use Rattle.paper.specs.Calls.{freshImage, checkOf, countOf, lookUpOf, storeOf, storeWritesOf, mendOf, nextKeyOf}
+use Rattle.paper.specs.Calls.{freshImage, checkOf, countOf, lookUpOf, storeOf, storeWritesOf}
+use Rattle.paper.specs.Calls.{mendOf, nextKeyOf}
 use Rattle.position.specs.Calls.{countsOf, checkCountsOf, storeCountsOf, keyAtOf, positionOf}
 
 -- ---- the plain list
@@ -33,7 +36,8 @@ lastOf (e ∷ plain) k = cond (sameKey (e .key) k) (e .value) (lastOf plain k)
 
 -- ---- the calls
 
--- a call on an image that is there, with what it is given and lent; `tally` is a lent list of counts
+-- a call on an image that is there, with what it is given and lent; `tally` is a lent list of
+-- counts
 pub data Call : Type 0 where
   check : (work : List ℕ) → Call
   count : (work : List ℕ) → Call
@@ -50,7 +54,8 @@ pub data Call : Type 0 where
 
 -- what it answers and leaves, in this image
 unfoldable pub heardOf : List ℕ → Call → Outcome
-unfolding checkOf countOf lookUpOf storeOf storeWritesOf mendOf nextKeyOf countsOf checkCountsOf storeCountsOf keyAtOf positionOf
+unfolding checkOf countOf lookUpOf storeOf storeWritesOf mendOf nextKeyOf countsOf checkCountsOf
+    storeCountsOf keyAtOf positionOf
 heardOf l (check work) = checkOf l work
 heardOf l (count work) = countOf l work
 heardOf l (lookUp given) = lookUpOf l given
@@ -73,8 +78,10 @@ firstLeft (l ∷ rest) = l
 unfoldable pub imageAfter : List ℕ → Call → List ℕ
 unfolding firstLeft heardOf
 imageAfter l (store work given value) = firstLeft (heardOf l (store work given value) .lent)
-imageAfter l (storeWrites work given value list) = firstLeft (heardOf l (storeWrites work given value list) .lent)
-imageAfter l (storeCounts work given value tally) = firstLeft (heardOf l (storeCounts work given value tally) .lent)
+imageAfter l (storeWrites work given value list) =
+    firstLeft (heardOf l (storeWrites work given value list) .lent)
+imageAfter l (storeCounts work given value tally) =
+    firstLeft (heardOf l (storeCounts work given value tally) .lent)
 imageAfter l (mend work) = firstLeft (heardOf l (mend work) .lent)
 imageAfter l (check work) = l
 imageAfter l (count work) = l
@@ -87,12 +94,14 @@ imageAfter l (position work tally given) = l
 
 -- the plain list after a store that left this outcome: one that answers number 0 is noted
 unfoldable pub plainBy : Outcome → List ℕ → ℕ → List Entry → List Entry
-plainBy o key value plain = cond (eqb (o .numbers .number) 0) (record { key = key; value = value } ∷ plain) plain
+plainBy o key value plain =
+    cond (eqb (o .numbers .number) 0) (record { key = key; value = value } ∷ plain) plain
 
 -- and after any call on this image
 unfoldable pub plainAfter : List ℕ → Call → List Entry → List Entry
 unfolding plainBy heardOf keyIn
-plainAfter l (store work given value) plain = plainBy (heardOf l (store work given value)) (keyIn l given) value plain
+plainAfter l (store work given value) plain =
+    plainBy (heardOf l (store work given value)) (keyIn l given) value plain
 plainAfter l (storeWrites work given value list) plain =
     plainBy (heardOf l (storeWrites work given value list)) (keyIn l given) value plain
 plainAfter l (storeCounts work given value tally) plain =

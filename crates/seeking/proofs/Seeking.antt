@@ -1,5 +1,6 @@
--- The outcome of next key, at each way out. Behind the check its order goes on with 9, 10, 14 and 15. The search tells the first stored key
--- that meets the request, whose letters are then at the front of the path.
+-- The outcome of next key, at each way out. Behind the check its order goes on with 9, 10, 14 and
+-- 15. The search tells the first stored key that meets the request, whose letters are then at the
+-- front of the path.
 use Prim.Native.Nat.{ℕ, _+_, _≤_, _<_}
 use mathlib.Core.Path.{_≡_, refl, sym, _∙_, ap}
 use mathlib.Core.Bool.{Bool, true}
@@ -24,7 +25,8 @@ use Rattle.paper.specs.Orders.{checkOrder, nextRows, nextKeyOrder}
 use Rattle.paper.specs.Calls.{tableIn, storedKeys, nextIn, foundIn, workAfter, nextKeyOf}
 use Rattle.paper.specs.Promises.{Nexts}
 use Rattle.paper.specs.Accepted.{Accepted}
-use Rattle.paper.proofs.Hearing.{first-part, second-part, yes-row, no-row, first-nil, heard-refused, heard-done, told-refused, told-passed}
+use Rattle.paper.proofs.Hearing.{first-part, second-part, yes-row, no-row, first-nil}
+use Rattle.paper.proofs.Hearing.{heard-refused, heard-done, told-refused, told-passed}
 use Rattle.key.specs.declared.Key.{Key}
 use Rattle.key.specs.Hand.{inHand, Holds, lettersOf, Ready}
 use Rattle.key.proofs.Hand.{hand-holds}
@@ -48,31 +50,38 @@ module _ (l work key : List ℕ) (after : Bool) (buffer : List ℕ) where
   abbrev answered : Outcome
   answered = foundIn l work buffer (orEmpty (nextIn l key after))
 
-  asked : nextKeyOf l work key after buffer ≡ heard (first order) (workAfter l work ∷ buffer ∷ []) answered
+  asked : nextKeyOf l work key after buffer ≡ heard (first order) (workAfter l work ∷ buffer ∷ [])
+      answered
   unfolding nextKeyOf nextKeyOrder
   asked = refl
 
   abbrev Leaves : Found → List ℕ → Type 0
   Leaves r buffer′ = Nexts l work key after buffer (foundOf r) (workAfter l work) buffer′
 
-  pub refuses : (why : Refusal) → first order ≡ some (saidOf why) → Leaves (Found.Refused why) buffer
+  pub refuses : (why : Refusal) → first order ≡ some (saidOf why)
+      → Leaves (Found.Refused why) buffer
   unfolding foundOf refusalNumbers
   refuses why e = sym (asked ∙ heard-refused _ _ _ e)
 
   -- behind the check, behind 9 and 10, and behind 14
   module _ (checked : first (checkOrder l work) ≡ none) where
-    unkeyed : {v : Verdict} {why : Refusal} → rowOf v ≡ first (nextRows (headOf l) key) → v ≡ Verdict.Refused why
+    unkeyed : {v : Verdict} {why : Refusal} → rowOf v ≡ first (nextRows (headOf l) key)
+        → v ≡ Verdict.Refused why
         → Leaves (Found.Refused why) buffer
     unkeyed {why = why} told e =
-        refuses why (second-part (checkOrder l work) _ checked ∙ first-part (nextRows (headOf l) key) _ (told-refused told e))
+        refuses why (second-part (checkOrder l work) _ checked
+        ∙ first-part (nextRows (headOf l) key) _ (told-refused told e))
 
     module _ (keyed : first (nextRows (headOf l) key) ≡ none) where
       left : first order ≡ first rest
-      left = second-part (checkOrder l work) _ checked ∙ second-part (nextRows (headOf l) key) _ keyed
+      left =
+          second-part (checkOrder l work) _ checked ∙ second-part (nextRows (headOf l) key) _ keyed
 
       short : length buffer < headOf l .max → Leaves (Found.Refused Refusal.ShortBuffer) buffer
       unfolding row14
-      short b = refuses Refusal.ShortBuffer (left ∙ yes-row 14 0 _ (lt-ltb (length buffer) (headOf l .max) b))
+      short b =
+          refuses Refusal.ShortBuffer
+          (left ∙ yes-row 14 0 _ (lt-ltb (length buffer) (headOf l .max) b))
 
       module _ (room : headOf l .max ≤ length buffer) where
         left-15 : first order ≡ first (row15 (nextIn l key after) ∷ [])
@@ -91,21 +100,25 @@ module _ (l work key : List ℕ) (after : Bool) (buffer : List ℕ) where
               ∙ heard-done _ _ _ (left-15 ∙ no-row 15 0 [] (ap isNone e) ∙ first-nil)
               ∙ ap (λ (f : Option (List ℕ)). foundIn l work buffer (orEmpty f)) e
 
-          found : {n x : ℕ} {buffer′ : List ℕ} → n ≡ length k → x ≡ answer (tableIn l) k → buffer′ ≡ sets buffer 0 k
+          found : {n x : ℕ} {buffer′ : List ℕ} → n ≡ length k → x ≡ answer (tableIn l) k
+              → buffer′ ≡ sets buffer 0 k
               → Leaves (Found.Key n x) buffer′
           unfolding foundOf foundIn
           found count value laid = rw (count, value, laid) (sym done)
 
 -- ---- what the search told
 
-module _ {h : Head} {l : List ℕ} {o : Option (List ℕ)} {r : Search} {path nodes : List ℕ} (t : SearchTells h l o r path nodes)
+module _ {h : Head} {l : List ℕ} {o : Option (List ℕ)} {r : Search} {path nodes : List ℕ}
+    (t : SearchTells h l o r path nodes)
     {n x : ℕ} (f : r ≡ Search.Found n x) where
   -- the key found, whose letters are the first n of the path
-  key-found : (k : List ℕ) × (o ≡ some k) × (n ≡ length k) × (x ≡ answer (tableOf h l) k) × (take n path ≡ k)
+  key-found : (k : List ℕ) × (o ≡ some k) × (n ≡ length k) × (x ≡ answer (tableOf h l) k)
+      × (take n path ≡ k)
   unfolding searchOf
   key-found =
       let (k, is, count) = was-found h l t f in
-      let told : Search.Found n x ≡ searchOf (tableOf h l) (some k) = sym f ∙ t .answers ∙ ap (searchOf (tableOf h l)) is in
+      let told : Search.Found n x ≡ searchOf (tableOf h l) (some k) =
+      sym f ∙ t .answers ∙ ap (searchOf (tableOf h l)) is in
       (k, is, count, cc, ap (λ (m : ℕ). take m path) count ∙ t .reached k is .letters)
 
   -- is no longer than max, and so stands in the path and has room in a buffer that 14 passed
@@ -158,9 +171,12 @@ module _ {l : List ℕ} {h : Head} (a : Accepted l) (same : h ≡ headOf l) wher
           short = r .2;
         }
 
-module _ {l : List ℕ} {h : Head} {key : List ℕ} {hand : Key} (p : Behind l h key hand) (after : Bool) (buffer : List ℕ) where
-  pub seek-short : length buffer < h .max → Seeks l key after buffer (Found.Refused Refusal.ShortBuffer) buffer
-  seek-short b work checked = short l work key after buffer checked (p .unheard) (rw (p .same) at b)
+module _ {l : List ℕ} {h : Head} {key : List ℕ} {hand : Key} (p : Behind l h key hand)
+    (after : Bool) (buffer : List ℕ) where
+  pub seek-short : length buffer < h .max
+      → Seeks l key after buffer (Found.Refused Refusal.ShortBuffer) buffer
+  seek-short b work checked =
+      short l work key after buffer checked (p .unheard) (rw (p .same) at b)
 
   module _ (room : h .max ≤ length buffer) {r : Search} {path nodes : List ℕ}
       (t : SearchTells h l (nextStored h l after (lettersOf hand)) r path nodes) where
@@ -168,14 +184,17 @@ module _ {l : List ℕ} {h : Head} {key : List ℕ} {hand : Key} (p : Behind l h
     unfolding nextIn storedKeys tableIn
     told-next = rw (p .same, p .letters) at t
 
-    pub seek-missing : r ≡ Search.Missing → Seeks l key after buffer (Found.Refused Refusal.NoKey) buffer
+    pub seek-missing : r ≡ Search.Missing → Seeks l key after buffer (Found.Refused Refusal.NoKey)
+        buffer
     seek-missing f work checked =
         missing l work key after buffer checked (p .unheard) (rw (p .same) at room)
         (was-missing (headOf l) l told-next f)
 
-    pub seek-found : {n x : ℕ} {buffer′ : List ℕ} → r ≡ Search.Found n x → buffer′ ≡ sets buffer 0 (take n path)
+    pub seek-found : {n x : ℕ} {buffer′ : List ℕ} → r ≡ Search.Found n x
+        → buffer′ ≡ sets buffer 0 (take n path)
         → Seeks l key after buffer (Found.Key n x) buffer′
     unfolding tableIn
     seek-found f laid work checked =
         let (k, is, count, value, front) = key-found told-next f in
-        found l work key after buffer checked (p .unheard) (rw (p .same) at room) k is count value (rw front at laid)
+        found l work key after buffer checked (p .unheard) (rw (p .same) at room) k is count value
+        (rw front at laid)

@@ -1,5 +1,6 @@
--- 01, "next key: 1 to 8, 9, 10, 14, 15": the part behind 8. Where the check of an image has passed, what this part answers and leaves in
--- the buffer is what the whole call does, whatever working numbers were lent.
+-- 01, "next key: 1 to 8, 9, 10, 14, 15": the part behind 8. Where the check of an image has
+-- passed, what this part answers and leaves in the buffer is what the whole call does, whatever
+-- working numbers were lent.
 use mathlib.Core.Path.{_≡_}
 use Prim.Native.Nat.{ℕ}
 use mathlib.Core.Bool.{Bool}
@@ -14,4 +15,5 @@ use Rattle.paper.specs.Promises.{Nexts}
 
 abbrev pub Seeks : List ℕ → List ℕ → Bool → List ℕ → Found → List ℕ → Type 0
 Seeks l key after buffer r buffer′ =
-    (work : List ℕ) → first (checkOrder l work) ≡ none → Nexts l work key after buffer (foundOf r) (workAfter l work) buffer′
+    (work : List ℕ) → first (checkOrder l work) ≡ none → Nexts l work key after buffer (foundOf r)
+    (workAfter l work) buffer′

@@ -1,4 +1,5 @@
-// The part of next key behind the check, for an image that has been checked: 9, 10, 14, 15 and the first stored key that meets the request.
+// The part of next key behind the check, for an image that has been checked: 9, 10, 14, 15 and the
+// first stored key that meets the request.
 ghost use mathlib.Core.Path.{_≡_};
 ghost use Rattle.head.specs.Fields.{headOf};
 ghost use Rattle.paper.specs.Accepted.{Accepted};
@@ -10,12 +11,13 @@ use paper::Refusal;
 use paper::Verdict;
 use traversal::Search;
 
-// Refusals: 9 for a key longer than max, 10, 14, 15. The search writes to a path of its own, since a buffer that is refused keeps what it
-// held.
+// Refusals: 9 for a key longer than max, 10, 14, 15. The search writes to a path of its own, since
+// a buffer that is refused keeps what it held.
 pub fn seek(image: &[u8], h: Head, letters: &[u8], after: bool, buffer: &mut [u8]) -> Found
     requires { ⌜ Accepted (now image) ⌝ }
     requires { ⌜ h ≡ headOf (now image) ⌝ }
-    ensures { λ r. ⌜ Seeks (now (image .entry)) (now (letters .entry)) after (now (buffer .entry)) r (now (buffer .exit)) ⌝ }
+    ensures { λ r. ⌜ Seeks (now (image .entry)) (now (letters .entry)) after (now (buffer .entry))
+        r (now (buffer .exit)) ⌝ }
 {
     let key = Key::of(letters);
     let judged = key.judge_next(h);

@@ -1,5 +1,5 @@
--- Images that look the same answer alike, since every outcome is a function of what is seen. Bytes from U on are not seen, and of the
--- first four only the number in them.
+-- Images that look the same answer alike, since every outcome is a function of what is seen. Bytes
+-- from U on are not seen, and of the first four only the number in them.
 use Prim.Native.Nat.{ℕ, _+_, _≤_, _<_}
 use mathlib.Core.Path.{_≡_, sym, ap, ap₂, subst, _∙_}
 use mathlib.Core.Bool.{true, not, cond}
@@ -15,7 +15,8 @@ use Rattle.trie.specs.Keys.{listing, meets, firstMeeting}
 use Rattle.trie.specs.Rules.{LinkRules}
 use Rattle.passing.specs.Passing.{countAt, oneForEach, keyAt, rankIn}
 use Rattle.head.specs.declared.Head.{Head}
-use Rattle.head.specs.Fields.{shortestImage, longestImage, fieldsLen, totalAt, totalLen, headOf, permitted, usedLen}
+use Rattle.head.specs.Fields.{shortestImage, longestImage, fieldsLen, totalAt, totalLen, headOf}
+use Rattle.head.specs.Fields.{permitted, usedLen}
 use Rattle.head.proofs.Fields.{head-same}
 use Rattle.head.proofs.Places.{used-le, place-least}
 use Rattle.alphabet.specs.Letters.{goodAlphabet, orEmpty}
@@ -24,16 +25,21 @@ use Rattle.node.proofs.Tables.{table-bytes}
 use Rattle.paper.specs.Hearing.{Row, Outcome, outcome, doneNumbers, first, heard}
 use Rattle.paper.specs.Given.{Given, alphabetIn, meantBy, meantIn, keyIn}
 use Rattle.paper.specs.Rows.{row5, rowWhenLowest, row6path, row14, row15}
-use Rattle.paper.specs.Orders.{openingRows, openingRowsOf, linkRows, checkOrder, keyRowsBy, keyRows, nextRows, lookUpOrder, nextKeyOrder}
-use Rattle.paper.specs.Calls.{tableIn, clearedBy, workAfter, checkOf, storedKeys, countOf, telling, lookUpOf, nextIn, foundIn, nextKeyOf}
+use Rattle.paper.specs.Orders.{openingRows, openingRowsOf, linkRows, checkOrder, keyRowsBy}
+use Rattle.paper.specs.Orders.{keyRows, nextRows, lookUpOrder, nextKeyOrder}
+use Rattle.paper.specs.Calls.{tableIn, clearedBy, workAfter, checkOf, storedKeys, countOf, telling}
+use Rattle.paper.specs.Calls.{lookUpOf, nextIn, foundIn, nextKeyOf}
 use Rattle.paper.specs.Accepted.{Accepted}
 use Rattle.paper.proofs.Opening.{alphabet-same}
 use Rattle.position.specs.Counts.{countIn, countsIn, row25}
-use Rattle.position.specs.Orders.{usable, countsOrder, checkCountsOrder, keyAtOrder, ifStored, positionOrder}
-use Rattle.position.specs.Calls.{workLeft, worked, countsOf, checkCountsOf, placedKey, keyAtOf, positionOf}
+use Rattle.position.specs.Orders.{usable, countsOrder, checkCountsOrder, keyAtOrder, ifStored}
+use Rattle.position.specs.Orders.{positionOrder}
+use Rattle.position.specs.Calls.{workLeft, worked, countsOf, checkCountsOf, placedKey, keyAtOf}
+use Rattle.position.specs.Calls.{positionOf}
 use Rattle.seen.specs.Seen.{Seen, seenIn, SameAnswers}
 
-seen-eq : (s t : Seen) → s .head ≡ t .head → s .table ≡ t .table → s .alphabet ≡ t .alphabet → s .len ≡ t .len → s ≡ t
+seen-eq : (s t : Seen) → s .head ≡ t .head → s .table ≡ t .table → s .alphabet ≡ t .alphabet
+    → s .len ≡ t .len → s ≡ t
 seen-eq s t h u a n i = record { head = h i; table = u i; alphabet = a i; len = n i }
 
 -- ---- what looks the same
@@ -46,14 +52,18 @@ before-used h = omega (arith, place-least h 0, used-le h 0 (omega arith))
 abbrev pub SameUpTo : ℕ → List ℕ → List ℕ → Type 0
 SameUpTo to a b = (p : ℕ) → totalAt + totalLen ≤ p → p < to → getD a p 0 ≡ getD b p 0
 
-pub same-alphabet : (h : Head) (a b : List ℕ) → length a ≡ length b → SameUpTo (fieldsLen + h .f) a b → alphabetIn h a ≡ alphabetIn h b
-same-alphabet h a b n e = alphabet-same h a b n (λ i c. e (fieldsLen + i) (omega arith) (omega arith))
+pub same-alphabet : (h : Head) (a b : List ℕ) → length a ≡ length b
+    → SameUpTo (fieldsLen + h .f) a b → alphabetIn h a ≡ alphabetIn h b
+same-alphabet h a b n e =
+    alphabet-same h a b n (λ i c. e (fieldsLen + i) (omega arith) (omega arith))
 
 -- of 1 to 4 the nodes' bytes are no part
-pub opens-same : (a b : List ℕ) → headOf a ≡ headOf b → length a ≡ length b → SameUpTo (fieldsLen + headOf b .f) a b → openingRowsOf a ≡ openingRowsOf b
+pub opens-same : (a b : List ℕ) → headOf a ≡ headOf b → length a ≡ length b
+    → SameUpTo (fieldsLen + headOf b .f) a b → openingRowsOf a ≡ openingRowsOf b
 unfolding openingRowsOf
 opens-same a b heads n e =
-    ap (λ (k : Head). openingRows k (alphabetIn k a) (length a)) heads ∙ ap₂ (openingRows (headOf b)) (same-alphabet (headOf b) a b n e) n
+    ap (λ (k : Head). openingRows k (alphabetIn k a) (length a)) heads
+    ∙ ap₂ (openingRows (headOf b)) (same-alphabet (headOf b) a b n e) n
 
 -- where the heads are equal and the bytes after G, as far as is used
 pub seen-same : (a b : List ℕ) → headOf a ≡ headOf b → length a ≡ length b
@@ -63,14 +73,17 @@ seen-same a b heads n e =
     let h : Head = headOf b in
     seen-eq (seenIn a) (seenIn b) heads
     (ap (λ (k : Head). tableOf k a) heads ∙ table-bytes h a b (λ p c d. e p (omega arith) d))
-    (ap (λ (k : Head). alphabetIn k a) heads ∙ same-alphabet h a b n (λ p c d. e p c (omega (arith, before-used h))))
+    (ap (λ (k : Head). alphabetIn k a) heads ∙ same-alphabet h a b n
+    (λ p c d. e p c (omega (arith, before-used h))))
     n
 
 -- where all bytes are equal, as far as is used
-pub seen-below : (a b : List ℕ) → length a ≡ length b → ((p : ℕ) → p < usedLen (headOf b) → getD a p 0 ≡ getD b p 0)
+pub seen-below : (a b : List ℕ) → length a ≡ length b
+    → ((p : ℕ) → p < usedLen (headOf b) → getD a p 0 ≡ getD b p 0)
     → seenIn a ≡ seenIn b
 seen-below a b n e =
-    seen-same a b (head-same a b (λ k c. e k (omega (arith, before-used (headOf b))))) n (λ p _ c. e p c)
+    seen-same a b (head-same a b (λ k c. e k (omega (arith, before-used (headOf b))))) n
+    (λ p _ c. e p c)
 
 -- ---- it answers alike
 
@@ -82,7 +95,8 @@ abbrev checks : Seen → List ℕ → List Row
 checks s work = opens s ++ (row5 (s .head) (length work) ∷ linkRows (s .head) (s .table))
 
 abbrev clears : Seen → List ℕ → List ℕ
-clears s work = clearedBy (first (opens s ++ (row5 (s .head) (length work) ∷ []))) (s .head .g + 1) work
+clears s work =
+    clearedBy (first (opens s ++ (row5 (s .head) (length work) ∷ []))) (s .head .g + 1) work
 
 abbrev lists : Seen → List (List ℕ)
 lists s = listing (s .table) (s .head .n) (s .head .min) (s .head .max)
@@ -92,12 +106,15 @@ means s given = orEmpty (meantBy (s .alphabet) given)
 
 abbrev looks : Seen → Given → Outcome
 looks s given =
-    heard (first (opens s ++ (keyRowsBy (s .head) (s .alphabet) given ++ (row6path (s .head) (s .table) (means s given) ∷ [])))) []
+    heard (first (opens s ++
+    (keyRowsBy (s .head) (s .alphabet) given
+    ++ (row6path (s .head) (s .table) (means s given) ∷ [])))) []
     (telling (answer (s .table) (means s given)))
 
 abbrev nexts : Seen → List ℕ → List ℕ → List ℕ → Option (List ℕ) → Outcome
 nexts s work key buffer found =
-    heard (first (checks s work ++ (nextRows (s .head) key ++ (row14 (s .head) (length buffer) ∷ row15 found ∷ []))))
+    heard (first (checks s work
+    ++ (nextRows (s .head) key ++ (row14 (s .head) (length buffer) ∷ row15 found ∷ []))))
     (clears s work ∷ buffer ∷ [])
     (outcome (doneNumbers (length (orEmpty found)) (pos 0) (answer (s .table) (orEmpty found)))
     (clears s work ∷ sets buffer 0 (orEmpty found) ∷ []))
@@ -127,11 +144,13 @@ works s work counts =
 
 abbrev holds : Seen → List ℕ → List ℕ → Outcome
 holds s work counts =
-    heard (first (compares s work counts)) (leaves s work counts ∷ []) (outcome (doneNumbers 0 (pos 0) 0) (leaves s work counts ∷ []))
+    heard (first (compares s work counts)) (leaves s work counts ∷ [])
+    (outcome (doneNumbers 0 (pos 0) 0) (leaves s work counts ∷ []))
 
 abbrev places : Seen → List ℕ → List ℕ → List ℕ → Option (List ℕ) → Outcome
 places s work counts buffer found =
-    heard (first (compares s work counts ++ (row14 (s .head) (length buffer) ∷ row15 found ∷ []))) (leaves s work counts ∷ buffer ∷ [])
+    heard (first (compares s work counts ++ (row14 (s .head) (length buffer) ∷ row15 found ∷ [])))
+    (leaves s work counts ∷ buffer ∷ [])
     (outcome (doneNumbers (length (orEmpty found)) (pos 0) (answer (s .table) (orEmpty found)))
     (leaves s work counts ∷ sets buffer 0 (orEmpty found) ∷ []))
 
@@ -140,23 +159,32 @@ has s key = cond (eqb (answer (s .table) key) 0) none (some key)
 
 abbrev ranks : Seen → List ℕ → List ℕ → Given → Outcome
 ranks s work counts given =
-    heard (first (compares s work counts ++ (keyRowsBy (s .head) (s .alphabet) given ++ (row15 (has s (means s given)) ∷ []))))
+    heard (first (compares s work counts
+    ++ (keyRowsBy (s .head) (s .alphabet) given ++ (row15 (has s (means s given)) ∷ []))))
     (leaves s work counts ∷ [])
-    (outcome (doneNumbers 0 (pos 0) (rankIn (lists s) (means s given))) (leaves s work counts ∷ []))
+    (outcome (doneNumbers 0 (pos 0) (rankIn (lists s) (means s given)))
+    (leaves s work counts ∷ []))
 
 module _ {a b : List ℕ} (e : seenIn a ≡ seenIn b) where
   pub same-answers : SameAnswers a b
-  unfolding openingRowsOf checkOrder keyRows meantIn keyIn lookUpOrder nextKeyOrder tableIn workAfter checkOf storedKeys countOf lookUpOf nextIn foundIn nextKeyOf countIn countsIn row25 usable countsOrder checkCountsOrder keyAtOrder ifStored positionOrder workLeft worked countsOf checkCountsOf placedKey keyAtOf positionOf
+  unfolding openingRowsOf checkOrder keyRows meantIn keyIn lookUpOrder nextKeyOrder tableIn
+      workAfter checkOf storedKeys countOf lookUpOf nextIn foundIn nextKeyOf countIn countsIn row25
+      usable countsOrder checkCountsOrder keyAtOrder ifStored positionOrder workLeft worked
+      countsOf checkCountsOf placedKey keyAtOf positionOf
   same-answers =
       record {
-        checks = λ work. ap (λ (s : Seen). heard (first (checks s work)) (clears s work ∷ []) (outcome (doneNumbers 0 (pos 0) 0) (clears s work ∷ []))) e;
-        counts = λ work. ap (λ (s : Seen). heard (first (checks s work)) (clears s work ∷ []) (outcome (doneNumbers 0 (pos 0) (length (lists s))) (clears s work ∷ []))) e;
+        checks = λ work. ap (λ (s : Seen). heard (first (checks s work)) (clears s work ∷ [])
+            (outcome (doneNumbers 0 (pos 0) 0) (clears s work ∷ []))) e;
+        counts = λ work. ap (λ (s : Seen). heard (first (checks s work)) (clears s work ∷ [])
+            (outcome (doneNumbers 0 (pos 0) (length (lists s))) (clears s work ∷ []))) e;
         looks = λ given. ap (λ (s : Seen). looks s given) e;
-        nexts = λ work key after buffer. ap (λ (s : Seen). nexts s work key buffer (firstMeeting (meets after key) (lists s))) e;
+        nexts = λ work key after buffer. ap
+            (λ (s : Seen). nexts s work key buffer (firstMeeting (meets after key) (lists s))) e;
         lists = ap lists e;
         workedOut = λ work counts. ap (λ (s : Seen). works s work counts) e;
         checksCounts = λ work counts. ap (λ (s : Seen). holds s work counts) e;
-        keysAt = λ work counts position buffer. ap (λ (s : Seen). places s work counts buffer (keyAt (lists s) position)) e;
+        keysAt = λ work counts position buffer. ap
+            (λ (s : Seen). places s work counts buffer (keyAt (lists s) position)) e;
         positions = λ work counts given. ap (λ (s : Seen). ranks s work counts given) e;
         weighed = ap weighs e;
       }
@@ -169,7 +197,9 @@ module _ {a b : List ℕ} (e : seenIn a ≡ seenIn b) where
         long-enough = subst (λ (s : Seen). shortestImage ≤ s .len) back (x .long-enough);
         short-enough = subst (λ (s : Seen). s .len ≤ longestImage) back (x .short-enough);
         head-permitted = subst (λ (s : Seen). permitted (s .head) ≡ true) back (x .head-permitted);
-        alphabet-good = subst (λ (s : Seen). 0 < s .head .f → goodAlphabet (s .head .n) (s .alphabet) ≡ true) back (x .alphabet-good);
+        alphabet-good =
+            subst (λ (s : Seen). 0 < s .head .f → goodAlphabet (s .head .n) (s .alphabet) ≡ true)
+            back (x .alphabet-good);
         room = subst (λ (s : Seen). usedLen (s .head) ≤ s .len) back (x .room);
         links = subst (λ (s : Seen). LinkRules (s .table) (s .head .g)) back (x .links);
       }

@@ -1,5 +1,6 @@
-// The stores. None has a `requires`: any bytes, key, text or value may be handed over. Each promises one line, that the numbers of its answer
-// and every lent buffer's last content are the outcome that document 01 states (crate `paper`).
+// The stores. None has a `requires`: any bytes, key, text or value may be handed over. Each
+// promises one line, that the numbers of its answer and every lent buffer's last content are the
+// outcome that document 01 states (crate `paper`).
 ghost use Rattle.paper.specs.Answers.{storedOf, notedOf};
 ghost use Rattle.paper.specs.Given.{asLetters, asText};
 ghost use Rattle.paper.specs.Promises.{Stores, StoresWrites};
@@ -8,10 +9,12 @@ use paper::Noted;
 use paper::Stored;
 use paper::Verdict;
 
-// Stores a value under a key given by its letters, 0 to delete it; the answer is the change in the number of stored keys. Refusals: 1 to 8,
-// 9, 10, 11, 12, 13.
+// Stores a value under a key given by its letters, 0 to delete it; the answer is the change in the
+// number of stored keys. Refusals: 1 to 8, 9, 10, 11, 12, 13.
 pub fn store(image: &mut [u8], work: &mut [u32], letters: &[u8], value: u32) -> Stored
-    ensures { λ r. ⌜ Stores (now (image .entry)) (now (work .entry)) (asLetters (now (letters .entry))) value (storedOf r) (now (image .exit)) (now (work .exit)) ⌝ }
+    ensures { λ r. ⌜ Stores (now (image .entry)) (now (work .entry))
+        (asLetters (now (letters .entry))) value (storedOf r) (now (image .exit))
+        (now (work .exit)) ⌝ }
 {
     let asked = asking::ask(image, work, letters);
     let verdict = asked.verdict;
@@ -24,7 +27,8 @@ pub fn store(image: &mut [u8], work: &mut [u32], letters: &[u8], value: u32) -> 
 
 // The same for a key given by its text. Refusals: 1 to 8, 10, 9, 11, 12, 13.
 pub fn store_text(image: &mut [u8], work: &mut [u32], text: &[u8], value: u32) -> Stored
-    ensures { λ r. ⌜ Stores (now (image .entry)) (now (work .entry)) (asText (now (text .entry))) value (storedOf r) (now (image .exit)) (now (work .exit)) ⌝ }
+    ensures { λ r. ⌜ Stores (now (image .entry)) (now (work .entry)) (asText (now (text .entry)))
+        value (storedOf r) (now (image .exit)) (now (work .exit)) ⌝ }
 {
     let named = asking::ask_text(image, work, text);
     let verdict = named.verdict;
@@ -35,8 +39,8 @@ pub fn store_text(image: &mut [u8], work: &mut [u32], text: &[u8], value: u32) -
     }
 }
 
-// As store, and besides lists what it wrote: a place and a length for each write in order. The bytes of a write are those of the image
-// after the call. Refusals: as store.
+// As store, and besides lists what it wrote: a place and a length for each write in order. The
+// bytes of a write are those of the image after the call. Refusals: as store.
 pub fn store_writes(
     image: &mut [u8],
     work: &mut [u32],
@@ -44,7 +48,9 @@ pub fn store_writes(
     value: u32,
     writes: &mut [u32; Head::NOTED_MOST as usize],
 ) -> Noted
-    ensures { λ r. ⌜ StoresWrites (now (image .entry)) (now (work .entry)) (asLetters (now (letters .entry))) value (now (writes .entry)) (notedOf r) (now (image .exit)) (now (work .exit)) (now (writes .exit)) ⌝ }
+    ensures { λ r. ⌜ StoresWrites (now (image .entry)) (now (work .entry))
+        (asLetters (now (letters .entry))) value (now (writes .entry)) (notedOf r)
+        (now (image .exit)) (now (work .exit)) (now (writes .exit)) ⌝ }
 {
     let asked = asking::ask(image, work, letters);
     let verdict = asked.verdict;
@@ -63,7 +69,9 @@ pub fn store_text_writes(
     value: u32,
     writes: &mut [u32; Head::NOTED_MOST as usize],
 ) -> Noted
-    ensures { λ r. ⌜ StoresWrites (now (image .entry)) (now (work .entry)) (asText (now (text .entry))) value (now (writes .entry)) (notedOf r) (now (image .exit)) (now (work .exit)) (now (writes .exit)) ⌝ }
+    ensures { λ r. ⌜ StoresWrites (now (image .entry)) (now (work .entry))
+        (asText (now (text .entry))) value (now (writes .entry)) (notedOf r) (now (image .exit))
+        (now (work .exit)) (now (writes .exit)) ⌝ }
 {
     let named = asking::ask_text(image, work, text);
     let verdict = named.verdict;

@@ -1,5 +1,5 @@
--- What 11, 12 and 13 say of a store behind 10, at each way out of judging them, and what is heard and left where one of them is given or
--- none is.
+-- What 11, 12 and 13 say of a store behind 10, at each way out of judging them, and what is heard
+-- and left where one of them is given or none is.
 use Prim.Native.Nat.{ℕ, zero, suc, _+_, _-_, _*_, _^_, _≤_, _<_}
 use mathlib.Core.Path.{_≡_, refl, sym, _∙_}
 use mathlib.Core.Logic.{_≢_}
@@ -25,7 +25,8 @@ use Rattle.paper.specs.Hearing.{Row, outcome, first}
 use Rattle.paper.specs.Answers.{saidOf, rowOf, refusalNumbers, storedOf}
 use Rattle.paper.specs.Rows.{row11, row12, row13}
 use Rattle.paper.specs.Orders.{addingRows}
-use Rattle.paper.proofs.Hearing.{yes-row, first-none, first-nil, passed-row, heard-refused, heard-done}
+use Rattle.paper.proofs.Hearing.{yes-row, first-none, first-nil, passed-row, heard-refused}
+use Rattle.paper.proofs.Hearing.{heard-done}
 use Rattle.paper.proofs.StoreCall.{none-11, none-12, none-13}
 use Rattle.storing.specs.StoreStage.{storeAt, stoppedAt, Unrefused, Space, Builds}
 use Rattle.storing.proofs.Building.{space}
@@ -63,7 +64,8 @@ module _ (h : Head) (value len : ℕ) where
   abbrev Judged : ℕ → Verdict → Type 0
   Judged new v = rowOf v ≡ first (addingRows h value new len)
 
-  pub judged-11 : (new : ℕ) {most : ℕ} → most + 1 ≡ 256 ^ h .d → most < value → Judged new (Verdict.Refused Refusal.ValueTooGreat)
+  pub judged-11 : (new : ℕ) {most : ℕ} → most + 1 ≡ 256 ^ h .d → most < value
+      → Judged new (Verdict.Refused Refusal.ValueTooGreat)
   unfolding rowOf addingRows row11
   judged-11 new m b = sym (yes-row 11 0 _ (lt-ltb (256 ^ h .d - 1) value (omega arith)))
 
@@ -87,7 +89,9 @@ module _ (h : Head) (value len : ℕ) where
         → Judged new (Verdict.Refused Refusal.NoAddress)
     unfolding rowOf row12
     judged-12 zero z m b = absurd (z refl)
-    judged-12 (suc k) z m b = sym (left-12 (suc k) ∙ yes-row 12 0 _ (some-new k _ ∙ lt-ltb (256 ^ h .a - 1) (h .g + suc k) (omega arith)))
+    judged-12 (suc k) z m b =
+        sym (left-12 (suc k) ∙ yes-row 12 0 _
+        (some-new k _ ∙ lt-ltb (256 ^ h .a - 1) (h .g + suc k) (omega arith)))
 
     module _ (new : ℕ) (few : h .g + new < 256 ^ h .a) where
       left-13 : first (addingRows h value new len) ≡ first (row13 h new len ∷ [])
@@ -95,16 +99,20 @@ module _ (h : Head) (value len : ℕ) where
 
       pub judged-passed : usedLen (withTotal h (h .g + new)) ≤ len → Judged new Verdict.Passed
       unfolding rowOf
-      judged-passed b = sym (left-13 ∙ first-none _ _ (none-13 h new len .1 (λ _. rw (used-more h new) at b)) ∙ first-nil)
+      judged-passed b =
+          sym (left-13 ∙ first-none _ _ (none-13 h new len .1 (λ _. rw (used-more h new) at b))
+          ∙ first-nil)
 
-    pub judged-13 : (new : ℕ) → new ≢ 0 → h .g + new < 256 ^ h .a → len < usedLen (withTotal h (h .g + new))
+    pub judged-13 : (new : ℕ) → new ≢ 0 → h .g + new < 256 ^ h .a
+        → len < usedLen (withTotal h (h .g + new))
         → Judged new (Verdict.Refused Refusal.NoRoom)
     unfolding rowOf row13
     judged-13 zero z few b = absurd (z refl)
     judged-13 (suc k) z few b =
         sym
         (left-13 (suc k) few
-        ∙ yes-row 13 0 _ (some-new k _ ∙ lt-ltb len (usedLen h + suc k * nodeWidth h) (rw (used-more h (suc k)) at b)))
+        ∙ yes-row 13 0 _ (some-new k _ ∙ lt-ltb len (usedLen h + suc k * nodeWidth h)
+        (rw (used-more h (suc k)) at b)))
 
   -- what an order that passed tells
   pub record Passed (new : ℕ) : Type 0 where
@@ -134,32 +142,40 @@ module _ (h : Head) (l : List ℕ) where
   abbrev rows : Descent → ℕ → List Row
   rows d value = addingRows h value (added (missing d) value) (length l)
 
-  pub refuses : (d : Descent) (value : ℕ) (why : Refusal) → first (rows d value) ≡ some (saidOf why) → Leaves d value (Stored.Refused why) l
+  pub refuses : (d : Descent) (value : ℕ) (why : Refusal) → first (rows d value)
+      ≡ some (saidOf why) → Leaves d value (Stored.Refused why) l
   unfolding storeAt storedOf refusalNumbers
   refuses d value why e = sym (heard-refused _ _ _ e)
 
-  pub done : (d : Descent) (value : ℕ) → first (rows d value) ≡ none → {c : ℤ} {l′ : List ℕ} → c ≡ changeOf (valueAt (tableOf h l) d) value
+  pub done : (d : Descent) (value : ℕ) → first (rows d value) ≡ none → {c : ℤ} {l′ : List ℕ}
+      → c ≡ changeOf (valueAt (tableOf h l) d) value
       → l′ ≡ carriedOut l (storeWrites h d value) → Leaves d value (Stored.Change c) l′
   unfolding storeAt storedOf
   done d value e c w = rw (c, w) (sym (heard-done _ _ _ e))
 
 -- ---- a walk that stopped at node q, with these letters left
 
-module _ (h : Head) (l : List ℕ) (q : ℕ) {left : List ℕ} (x : ℕ) (xs : List ℕ) (e : left ≡ x ∷ xs) where
-  pub none-built : (value : ℕ) → value ≡ 0 → l ≡ carriedOut l (storeWrites h (stoppedAt q left) value)
-  unfolding stoppedAt storeWrites carriedOut
-  none-built value z = rw (z, e) refl
+module _ (h : Head) (l : List ℕ) (q : ℕ) {left : List ℕ} (x : ℕ) (xs : List ℕ) (e : left ≡ x ∷ xs)
+  where
+    pub none-built : (value : ℕ) → value ≡ 0
+        → l ≡ carriedOut l (storeWrites h (stoppedAt q left) value)
+    unfolding stoppedAt storeWrites carriedOut
+    none-built value z = rw (z, e) refl
 
-  -- addresses and room for all that is missing
-  pub path-space : (value : ℕ) → value ≢ 0 → Unrefused h (length l) (stoppedAt q left) value → Space h l (h .g + length left)
-  unfolding stoppedAt missing added
-  path-space zero z a = absurd (z refl)
-  path-space (suc v) z a =
-      let p = passed h (suc v) (length l) (suc (length xs)) (rw e at a) in
-      rw e (space (p .addresses (omega arith)) (rw (used-more h (suc (length xs))) (p .room (omega arith))))
+    -- addresses and room for all that is missing
+    pub path-space : (value : ℕ) → value ≢ 0 → Unrefused h (length l) (stoppedAt q left) value
+        → Space h l (h .g + length left)
+    unfolding stoppedAt missing added
+    path-space zero z a = absurd (z refl)
+    path-space (suc v) z a =
+        let p = passed h (suc v) (length l) (suc (length xs)) (rw e at a) in
+        rw e (space (p .addresses (omega arith))
+        (rw (used-more h (suc (length xs))) (p .room (omega arith))))
 
-  pub path-built : (value : ℕ) → value ≢ 0 → {total : ℕ} {l′ : List ℕ} → total ≡ h .g + length left → Builds h l q left total value l′
-      → l′ ≡ carriedOut l (storeWrites h (stoppedAt q left) value)
-  unfolding stoppedAt storeWrites
-  path-built zero z all w = absurd (z refl)
-  path-built (suc v) z all w = w x xs e ∙ rw (all, e) refl
+    pub path-built : (value : ℕ) → value ≢ 0 → {total : ℕ} {l′ : List ℕ} → total ≡ h .g
+        + length left
+        → Builds h l q left total value l′
+        → l′ ≡ carriedOut l (storeWrites h (stoppedAt q left) value)
+    unfolding stoppedAt storeWrites
+    path-built zero z all w = absurd (z refl)
+    path-built (suc v) z all w = w x xs e ∙ rw (all, e) refl

@@ -1,4 +1,5 @@
--- The writes of a new path, as they are done: what is still to be laid leaves what all of it would have left.
+-- The writes of a new path, as they are done: what is still to be laid leaves what all of it would
+-- have left.
 use Prim.Native.Nat.{ℕ, suc, _+_, _-_, _^_, _≤_, _<_}
 use mathlib.Core.Path.{_≡_, refl, sym, _∙_, ap}
 use mathlib.Core.List.{List, [], _∷_}
@@ -14,18 +15,21 @@ use Rattle.node.proofs.StoreOnTable.{length-carried, carried-append}
 use Rattle.storing.specs.StoreStage.{Space, Builds}
 
 -- what 12 and 13 leave
-pub space : {h : Head} {l : List ℕ} {total : ℕ} → total < 256 ^ h .a → usedLen (withTotal h total) ≤ length l → Space h l total
+pub space : {h : Head} {l : List ℕ} {total : ℕ} → total < 256 ^ h .a → usedLen (withTotal h total)
+    ≤ length l → Space h l total
 unfolding usedLen nodePlace nodeWidth
 space few room = record { addresses = few; room = room }
 
 -- ---- the new nodes
 
 -- The nodes for the letters before this depth are laid, from image l₀ on.
-pub record Laying (h : Head) (k : List ℕ) (from value : ℕ) (l₀ l : List ℕ) (depth node : ℕ) : Type 0 where
+pub record Laying (h : Head) (k : List ℕ) (from value : ℕ) (l₀ l : List ℕ) (depth node : ℕ) : Type
+    0 where
   pub deep : depth ≤ length k
   pub count : node + (length k - depth) ≡ h .g + suc (length k - from)
   pub long : length l ≡ length l₀
-  pub rest : carriedOut l (newNodes h node (drop depth k) value) ≡ carriedOut l₀ (newNodes h (suc (h .g)) (drop from k) value)
+  pub rest : carriedOut l (newNodes h node (drop depth k) value) ≡ carriedOut l₀
+      (newNodes h (suc (h .g)) (drop from k) value)
 
 module _ {h : Head} {k : List ℕ} {from value : ℕ} {l₀ : List ℕ} where
   pub laying-start : from ≤ length k → Laying h k from value l₀ l₀ from (h .g + 1)
@@ -45,11 +49,18 @@ module _ {h : Head} {k : List ℕ} {from value : ℕ} {l₀ : List ℕ} where
     -- there is room for the next
     pub laying-room : Space h l₀ (h .g + suc (length k - from)) → nodePlace h (node + 1) ≤ length l
     laying-room s =
-        omega (arith, w .long, s .room, place-le h (node + 1) (h .g + suc (length k - from) + 1) (omega (arith, laying-most)))
+        omega (
+          arith,
+          w .long,
+          s .room,
+          place-le h (node + 1) (h .g + suc (length k - from) + 1)
+              (omega (arith, laying-most)),
+        )
 
     module _ {l′ : List ℕ} where
       pub laying-on : {y : ℕ} → depth < length k → drop depth k ≡ y ∷ drop (suc depth) k
-          → l′ ≡ carriedOut l (pathWrite h node y (node + 1) ∷ []) → Laying h k from value l₀ l′ (depth + 1) (node + 1)
+          → l′ ≡ carriedOut l (pathWrite h node y (node + 1) ∷ []) → Laying h k from value l₀ l′
+          (depth + 1) (node + 1)
       unfolding carriedOut newNodes
       laying-on {y} b more e =
           let d : depth + 1 ≡ suc depth = omega arith in
@@ -60,7 +71,8 @@ module _ {h : Head} {k : List ℕ} {from value : ℕ} {l₀ : List ℕ} where
             long = ap length e ∙ length-carried l (pathWrite h node y (node + 1) ∷ []) ∙ w .long;
             rest =
                 rw (e, d, n)
-                (ap (λ (ys : List ℕ). carriedOut l (newNodes h node ys value)) (sym more) ∙ w .rest);
+                (ap (λ (ys : List ℕ). carriedOut l (newNodes h node ys value)) (sym more)
+                ∙ w .rest);
           }
 
       pub laying-end : length k ≤ depth → l′ ≡ carriedOut l (lastWrite h node value ∷ [])
@@ -68,11 +80,13 @@ module _ {h : Head} {k : List ℕ} {from value : ℕ} {l₀ : List ℕ} where
       unfolding carriedOut newNodes
       laying-end b e =
           let d : depth ≡ length k = omega (arith, w .deep) in
-          e ∙ ap (λ (ys : List ℕ). carriedOut l (newNodes h node ys value)) (sym (ap (λ (m : ℕ). drop m k) d ∙ drop-length k)) ∙ w .rest
+          e ∙ ap (λ (ys : List ℕ). carriedOut l (newNodes h node ys value))
+          (sym (ap (λ (m : ℕ). drop m k) d ∙ drop-length k)) ∙ w .rest
 
 -- ---- and the two writes behind them
 
-pub built : (h : Head) (q x total value : ℕ) (ys l : List ℕ) {left l₁ l₂ l₃ : List ℕ} → left ≡ x ∷ ys
+pub built : (h : Head) (q x total value : ℕ) (ys l : List ℕ) {left l₁ l₂ l₃ : List ℕ}
+    → left ≡ x ∷ ys
     → l₁ ≡ carriedOut l (newNodes h (suc (h .g)) ys value) → l₂ ≡ putTotal l₁ total
     → l₃ ≡ carriedOut l₂ (linkWrite h q x (h .g + 1) ∷ []) → Builds h l q left total value l₃
 unfolding carriedOut totalWrite
@@ -83,4 +97,5 @@ built h q x total value ys l e nodes g link y zs f =
     let b : ys ≡ zs = cc in
     link
     ∙ rw (g, nodes, n, a, b)
-    (sym (carried-append l (newNodes h (suc (h .g)) zs value) (totalWrite total ∷ linkWrite h q y (suc (h .g)) ∷ [])))
+    (sym (carried-append l (newNodes h (suc (h .g)) zs value)
+    (totalWrite total ∷ linkWrite h q y (suc (h .g)) ∷ [])))

@@ -1,5 +1,6 @@
--- The outcome of the whole part that follows 10. The end of the key's walk tells what there is to write; an accepted image has no bad link,
--- so that this end is the key's descent, and the head in hand is the image's own.
+-- The outcome of the whole part that follows 10. The end of the key's walk tells what there is to
+-- write; an accepted image has no bad link, so that this end is the key's descent, and the head in
+-- hand is the image's own.
 use Prim.Native.Nat.{ℕ, zero, suc, _-_, _≤_, _<_}
 use mathlib.Core.Path.{_≡_, refl, sym, _∙_, ap}
 use mathlib.Core.Logic.{_≢_}
@@ -46,28 +47,36 @@ module _ (k : List ℕ) (value : ℕ) {o : Walked} where
   unfolding endOf missing
   count-over e = rw e (sym (none-added value))
 
-  pub count-path : value ≢ 0 → {p : Position} → o ≡ Walked.Stopped p → (x : ℕ) (xs : List ℕ) → drop (p .depth) k ≡ x ∷ xs
+  pub count-path : value ≢ 0 → {p : Position} → o ≡ Walked.Stopped p → (x : ℕ) (xs : List ℕ)
+      → drop (p .depth) k ≡ x ∷ xs
       → length k - p .depth ≡ added (missing (endOf k o)) value
   unfolding endOf stoppedAt missing
   count-path z {p} e x xs left =
-      sym (length-drop (p .depth) k) ∙ ap length left ∙ rw (e, left) (sym (all-added (suc (length xs)) value z))
+      sym (length-drop (p .depth) k) ∙ ap length left ∙ rw (e, left)
+      (sym (all-added (suc (length xs)) value z))
 
 module _ (h : Head) (l k : List ℕ) (value : ℕ) {o : Walked} where
   -- what is written
-  pub writes-over : {q : ℕ} → o ≡ Walked.Complete q → {c : ℤ} {l′ : List ℕ} → l′ ≡ carriedOut l (dataWrite h q value ∷ [])
+  pub writes-over : {q : ℕ} → o ≡ Walked.Complete q → {c : ℤ} {l′ : List ℕ}
+      → l′ ≡ carriedOut l (dataWrite h q value ∷ [])
       → c ≡ changeOf (tableOf h l .value q) value
-      → (l′ ≡ carriedOut l (storeWrites h (endOf k o) value)) × (c ≡ changeOf (valueAt (tableOf h l) (endOf k o)) value)
+      → (l′ ≡ carriedOut l (storeWrites h (endOf k o) value))
+      × (c ≡ changeOf (valueAt (tableOf h l) (endOf k o)) value)
   unfolding endOf storeWrites valueAt
   writes-over e w c = rw e (w, c)
 
-  pub writes-path : {p : Position} → o ≡ Walked.Stopped p → (x : ℕ) (xs : List ℕ) → drop (p .depth) k ≡ x ∷ xs → {c : ℤ} {l′ : List ℕ}
-      → l′ ≡ carriedOut l (storeWrites h (stoppedAt (p .node) (drop (p .depth) k)) value) → c ≡ changeOf 0 value
-      → (l′ ≡ carriedOut l (storeWrites h (endOf k o) value)) × (c ≡ changeOf (valueAt (tableOf h l) (endOf k o)) value)
+  pub writes-path : {p : Position} → o ≡ Walked.Stopped p → (x : ℕ) (xs : List ℕ)
+      → drop (p .depth) k ≡ x ∷ xs → {c : ℤ} {l′ : List ℕ}
+      → l′ ≡ carriedOut l (storeWrites h (stoppedAt (p .node) (drop (p .depth) k)) value)
+      → c ≡ changeOf 0 value
+      → (l′ ≡ carriedOut l (storeWrites h (endOf k o) value))
+      × (c ≡ changeOf (valueAt (tableOf h l) (endOf k o)) value)
   unfolding endOf stoppedAt valueAt
   writes-path e x xs left w c = rw (e, left) (rw left at w, c)
 
 -- what is allowed where the walk stopped
-pub allowed-path : (h : Head) (len : ℕ) (k : List ℕ) (value : ℕ) {o : Walked} {p : Position} → o ≡ Walked.Stopped p
+pub allowed-path : (h : Head) (len : ℕ) (k : List ℕ) (value : ℕ) {o : Walked} {p : Position}
+    → o ≡ Walked.Stopped p
     → Unrefused h len (endOf k o) value
     → Unrefused h len (stoppedAt (p .node) (drop (p .depth) k)) value
 unfolding endOf
@@ -76,13 +85,20 @@ allowed-path h len k value e a = rw e at a
 -- ---- the walk's end is the key's descent
 
 -- a walk stops before the key's end
-stops-before : (key : Key) → length (key .letters) ≡ mostLetters → key .len ≤ mostLetters → {g : ℕ} {t : Table} {p : Position} → Halted g t (lettersOf key) p
+stops-before : (key : Key) → length (key .letters) ≡ mostLetters → key .len ≤ mostLetters
+    → {g : ℕ} {t : Table} {p : Position} → Halted g t (lettersOf key) p
     → p .depth < key .len
 stops-before key whole short {p = p} s =
-    omega (arith, length-drop (p .depth) (lettersOf key), ap length (s .left), letters-count key whole short)
+    omega (
+      arith,
+      length-drop (p .depth) (lettersOf key),
+      ap length (s .left),
+      letters-count key whole short,
+    )
 
 module _ {l : List ℕ} {h : Head} (a : Accepted l) (same : h ≡ headOf l) where
-  never-bad : (k : List ℕ) {o : Walked} → o ≡ walkedFrom (h .g) (tableOf h l) atRoot k → {q : ℕ} → o ≡ Walked.Bad q → ⊥
+  never-bad : (k : List ℕ) {o : Walked} → o ≡ walkedFrom (h .g) (tableOf h l) atRoot k → {q : ℕ}
+      → o ≡ Walked.Bad q → ⊥
   unfolding tableIn
   never-bad k walked {q} e =
       let f : none ≡ some q = sym (unfaulted a 0 k) ∙ rw same at (walked-bad _ _ k walked e) in
@@ -91,16 +107,19 @@ module _ {l : List ℕ} {h : Head} (a : Accepted l) (same : h ≡ headOf l) wher
 
   pub ends : (key : Key) → length (key .letters) ≡ mostLetters → key .len ≤ mostLetters
       → (o : Walked) → o ≡ walkedFrom (h .g) (tableOf h l) atRoot (lettersOf key) → Ends h key o
-  ends key whole short (Walked.Complete q) walked = walked-complete _ _ (lettersOf key) walked refl .within
+  ends key whole short (Walked.Complete q) walked =
+      walked-complete _ _ (lettersOf key) walked refl .within
   ends key whole short (Walked.Stopped p) walked =
       let s = walked-stopped _ _ (lettersOf key) walked refl in
       record { node = s .within; depth = stops-before key whole short s }
   ends key whole short (Walked.Bad q) walked = never-bad (lettersOf key) walked refl
 
-  end-descends : (k : List ℕ) (o : Walked) → o ≡ walkedFrom (h .g) (tableOf h l) atRoot k → endOf k o ≡ descend (tableOf h l) 0 k
+  end-descends : (k : List ℕ) (o : Walked) → o ≡ walkedFrom (h .g) (tableOf h l) atRoot k
+      → endOf k o ≡ descend (tableOf h l) 0 k
   unfolding endOf stoppedAt
   end-descends k (Walked.Complete q) walked = sym (walked-complete _ _ k walked refl .descent)
-  end-descends k (Walked.Stopped p) walked = let s = walked-stopped _ _ k walked refl in rw (s .left) (sym (s .descent))
+  end-descends k (Walked.Stopped p) walked =
+      let s = walked-stopped _ _ k walked refl in rw (s .left) (sym (s .descent))
   end-descends k (Walked.Bad q) walked = absurd (never-bad k walked refl)
 
   module _ (k : List ℕ) {o : Walked} (walked : o ≡ walkedFrom (h .g) (tableOf h l) atRoot k) where
@@ -108,5 +127,6 @@ module _ {l : List ℕ} {h : Head} (a : Accepted l) (same : h ≡ headOf l) wher
     unfolding tableIn
     in-hand = rw same at (end-descends k o walked)
 
-    pub stores : (value : ℕ) (r : Stored) {l′ : List ℕ} → Leaves h l (endOf k o) value r l′ → StoresIn l k value r l′
+    pub stores : (value : ℕ) (r : Stored) {l′ : List ℕ} → Leaves h l (endOf k o) value r l′
+        → StoresIn l k value r l′
     stores value r e = rw (in-hand, same) at e

@@ -1,5 +1,6 @@
--- 01, "store: 1 to 8, 9, 10, 11, 12, 13": the part behind 10. Where an image has been checked and a key has passed 9 and 10, what this part
--- answers and leaves in the image is what the whole call does, whatever working numbers were lent.
+-- 01, "store: 1 to 8, 9, 10, 11, 12, 13": the part behind 10. Where an image has been checked and
+-- a key has passed 9 and 10, what this part answers and leaves in the image is what the whole call
+-- does, whatever working numbers were lent.
 use Prim.Native.Nat.{ℕ, suc, _+_, _^_, _≤_, _<_}
 use mathlib.Core.Path.{_≡_}
 use mathlib.Core.Option.{none}
@@ -22,14 +23,17 @@ use Rattle.walk.specs.declared.Walked.{Walked}
 
 -- the outcome of 11, 12, 13 and of the writes, where the key's walk ended so
 unfoldable pub storeAt : Head → List ℕ → Descent → ℕ → Outcome
-unfolding heard first addingRows added missing doneNumbers changeOf valueAt tableOf carriedOut storeWrites
+unfolding heard first addingRows added missing doneNumbers changeOf valueAt tableOf carriedOut
+    storeWrites
 storeAt h l d value =
     heard (first (addingRows h value (added (missing d) value) (length l))) (l ∷ [])
-    (outcome (doneNumbers 0 (changeOf (valueAt (tableOf h l) d) value) 0) (carriedOut l (storeWrites h d value) ∷ []))
+    (outcome (doneNumbers 0 (changeOf (valueAt (tableOf h l) d) value) 0)
+    (carriedOut l (storeWrites h d value) ∷ []))
 
 -- the walk is the key's own
 abbrev pub StoresIn : List ℕ → List ℕ → ℕ → Stored → List ℕ → Type 0
-StoresIn l key value r l′ = outcome (storedOf r) (l′ ∷ []) ≡ storeAt (headOf l) l (descend (tableIn l) 0 key) value
+StoresIn l key value r l′ =
+    outcome (storedOf r) (l′ ∷ []) ≡ storeAt (headOf l) l (descend (tableIn l) 0 key) value
 
 -- ---- the parts of it
 
@@ -68,4 +72,5 @@ pub record Space (h : Head) (l : List ℕ) (total : ℕ) : Type 0 where
 abbrev pub Builds : Head → List ℕ → ℕ → List ℕ → ℕ → ℕ → List ℕ → Type 0
 Builds h l q left total value l′ =
     (x : ℕ) (xs : List ℕ) → left ≡ x ∷ xs
-    → l′ ≡ carriedOut l (newNodes h (suc (h .g)) xs value ++ (totalWrite total ∷ linkWrite h q x (suc (h .g)) ∷ []))
+    → l′ ≡ carriedOut l (newNodes h (suc (h .g)) xs value
+    ++ (totalWrite total ∷ linkWrite h q x (suc (h .g)) ∷ []))

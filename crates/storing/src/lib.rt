@@ -1,5 +1,6 @@
-// What a store judges once the key has passed 9 and 10, and what it writes, as two stages: 11, 12 and 13; then the new nodes by rising address,
-// the node total and the link to the first of them, or the data field alone. The image has been checked.
+// What a store judges once the key has passed 9 and 10, and what it writes, as two stages: 11, 12
+// and 13; then the new nodes by rising address, the node total and the link to the first of them,
+// or the data field alone. The image has been checked.
 ghost use mathlib.Core.Path.{_≡_};
 ghost use Prim.Native.Nat.{suc, _+_, _-_, _≤_, _<_, _^_};
 ghost use mathlib.Core.Bool.{true};
@@ -15,7 +16,8 @@ ghost use Rattle.paper.specs.Answers.{rowOf, storedOf};
 ghost use Rattle.paper.specs.Orders.{addingRows};
 ghost use Rattle.paper.specs.Accepted.{Accepted};
 ghost use Rattle.key.specs.Hand.{Ready, lettersOf};
-ghost use Rattle.storing.specs.StoreStage.{storeAt, StoresIn, Stop, stoppedAt, endOf, Ends, Unrefused, Space, Builds};
+ghost use Rattle.storing.specs.StoreStage.{storeAt, StoresIn, Stop, stoppedAt, endOf, Ends};
+ghost use Rattle.storing.specs.StoreStage.{Unrefused, Space, Builds};
 use head::Head;
 use key::Key;
 use paper::Refusal;
@@ -24,7 +26,8 @@ use paper::Verdict;
 use walk::Position;
 use walk::Walked;
 
-// Stores a value under a key, 0 to delete it. Refusals: 11, 12, 13. An image that has been checked has no bad link.
+// Stores a value under a key, 0 to delete it. Refusals: 11, 12, 13. An image that has been checked
+// has no bad link.
 pub fn store(image: &mut [u8], h: Head, key: Key, value: u64) -> Stored
     requires { ⌜ Accepted (now image) ⌝ ∗ ⌜ h ≡ headOf (now image) ⌝ ∗ ⌜ Ready h key ⌝ }
     ensures { λ r. ⌜ StoresIn (now (image .entry)) (lettersOf key) value r (now (image .exit)) ⌝ }
@@ -36,7 +39,8 @@ pub fn store(image: &mut [u8], h: Head, key: Key, value: u64) -> Stored
 // 11, 12, 13 and the writes, given how the key's walk ended.
 pub fn store_at(image: &mut [u8], h: Head, key: Key, walked: Walked, value: u64) -> Stored
     requires { ⌜ Open h (now image) ⌝ ∗ ⌜ Ready h key ⌝ ∗ ⌜ Ends h key walked ⌝ }
-    ensures { λ r. ⌜ outcome (storedOf r) (now (image .exit) ∷ []) ≡ storeAt h (now (image .entry)) (endOf (lettersOf key) walked) value ⌝ }
+    ensures { λ r. ⌜ outcome (storedOf r) (now (image .exit) ∷ []) ≡ storeAt h (now (image .entry))
+        (endOf (lettersOf key) walked) value ⌝ }
 {
     let verdict = judge(h, image.len(), new_count(h, key, walked, value), value);
     match verdict {
@@ -48,7 +52,8 @@ pub fn store_at(image: &mut [u8], h: Head, key: Key, walked: Walked, value: u64)
 // How many nodes a store adds: one for each letter left where the walk stopped, and none for 0.
 pub fn new_count(h: Head, key: Key, walked: Walked, value: u64) -> usize
     requires { ⌜ Ready h key ⌝ ∗ ⌜ Ends h key walked ⌝ }
-    ensures { λ r. ⌜ r ≡ added (missing (endOf (lettersOf key) walked)) value ⌝ ∗ ⌜ r ≤ mostLetters ⌝ }
+    ensures { λ r. ⌜ r ≡ added (missing (endOf (lettersOf key) walked)) value ⌝
+        ∗ ⌜ r ≤ mostLetters ⌝ }
 {
     if value == 0 {
         return 0;
@@ -60,8 +65,8 @@ pub fn new_count(h: Head, key: Key, walked: Walked, value: u64) -> usize
     }
 }
 
-// 11, 12, 13 of a store that adds so many nodes to an image of a length. 12 and 13 ask for the addresses and the room of all of them, in 64
-// bits.
+// 11, 12, 13 of a store that adds so many nodes to an image of a length. 12 and 13 ask for the
+// addresses and the room of all of them, in 64 bits.
 pub fn judge(h: Head, len: usize, new: usize, value: u64) -> Verdict
     requires { ⌜ permitted h ≡ true ⌝ ∗ ⌜ new ≤ mostLetters ⌝ }
     ensures { λ r. ⌜ rowOf r ≡ first (addingRows h value new len) ⌝ }
@@ -91,11 +96,15 @@ pub fn judge(h: Head, len: usize, new: usize, value: u64) -> Verdict
     Verdict::Passed
 }
 
-// The writes of a store that 11, 12 and 13 have passed, given how the key's walk ended, and the change in the number of stored keys.
+// The writes of a store that 11, 12 and 13 have passed, given how the key's walk ended, and the
+// change in the number of stored keys.
 pub fn write_at(image: &mut [u8], h: Head, key: Key, walked: Walked, value: u64) -> i32
-    requires { ⌜ Open h (now image) ⌝ ∗ ⌜ Ready h key ⌝ ∗ ⌜ Ends h key walked ⌝ ∗ ⌜ Unrefused h (length (now image)) (endOf (lettersOf key) walked) value ⌝ }
-    ensures { λ _. ⌜ now (image .exit) ≡ carriedOut (now (image .entry)) (storeWrites h (endOf (lettersOf key) walked) value) ⌝ }
-    ensures { λ r. ⌜ r ≡ changeOf (valueAt (tableOf h (now (image .entry))) (endOf (lettersOf key) walked)) value ⌝ }
+    requires { ⌜ Open h (now image) ⌝ ∗ ⌜ Ready h key ⌝ ∗ ⌜ Ends h key walked ⌝
+        ∗ ⌜ Unrefused h (length (now image)) (endOf (lettersOf key) walked) value ⌝ }
+    ensures { λ _. ⌜ now (image .exit) ≡ carriedOut (now (image .entry))
+        (storeWrites h (endOf (lettersOf key) walked) value) ⌝ }
+    ensures { λ r. ⌜ r ≡ changeOf
+        (valueAt (tableOf h (now (image .entry))) (endOf (lettersOf key) walked)) value ⌝ }
 {
     match walked {
         Walked::Complete(node) => replace(image, h, node, value),
@@ -107,7 +116,8 @@ pub fn write_at(image: &mut [u8], h: Head, key: Key, walked: Walked, value: u64)
 // The path is complete: the data field of the key's own node, alone.
 fn replace(image: &mut [u8], h: Head, node: u32, value: u64) -> i32
     requires { ⌜ Open h (now image) ⌝ ∗ ⌜ node ≤ h .g ⌝ ∗ ⌜ value < 256 ^ h .d ⌝ }
-    ensures { λ _. ⌜ now (image .exit) ≡ carriedOut (now (image .entry)) (dataWrite h node value ∷ []) ⌝ }
+    ensures { λ _. ⌜ now (image .exit) ≡ carriedOut (now (image .entry))
+        (dataWrite h node value ∷ []) ⌝ }
     ensures { λ r. ⌜ r ≡ changeOf (tableOf h (now (image .entry)) .value node) value ⌝ }
 {
     let old = node::data(image, h, node);
@@ -133,8 +143,11 @@ fn change(old: u64, new: u64) -> i32
 
 // The path stops: a node is missing for each letter left, and none is built for 0.
 fn extend(image: &mut [u8], h: Head, key: Key, at: Position, value: u64) -> i32
-    requires { ⌜ Open h (now image) ⌝ ∗ ⌜ Ready h key ⌝ ∗ ⌜ Stop h key at ⌝ ∗ ⌜ Unrefused h (length (now image)) (stoppedAt (at .node) (drop (at .depth) (lettersOf key))) value ⌝ }
-    ensures { λ _. ⌜ now (image .exit) ≡ carriedOut (now (image .entry)) (storeWrites h (stoppedAt (at .node) (drop (at .depth) (lettersOf key))) value) ⌝ }
+    requires { ⌜ Open h (now image) ⌝ ∗ ⌜ Ready h key ⌝ ∗ ⌜ Stop h key at ⌝
+        ∗ ⌜ Unrefused h (length (now image))
+        (stoppedAt (at .node) (drop (at .depth) (lettersOf key))) value ⌝ }
+    ensures { λ _. ⌜ now (image .exit) ≡ carriedOut (now (image .entry))
+        (storeWrites h (stoppedAt (at .node) (drop (at .depth) (lettersOf key))) value) ⌝ }
     ensures { λ r. ⌜ r ≡ changeOf 0 value ⌝ }
 {
     if value != 0 {
@@ -150,10 +163,13 @@ fn extend(image: &mut [u8], h: Head, key: Key, at: Position, value: u64) -> i32
     change(0, value)
 }
 
-// The writes of a new path, in their order: the new nodes, then the node total, then the link that the walk found empty.
+// The writes of a new path, in their order: the new nodes, then the node total, then the link that
+// the walk found empty.
 fn build(image: &mut [u8], h: Head, key: Key, at: Position, total: u32, value: u64)
-    requires { ⌜ Open h (now image) ⌝ ∗ ⌜ Ready h key ⌝ ∗ ⌜ Stop h key at ⌝ ∗ ⌜ total ≡ h .g + (key .len - at .depth) ⌝ ∗ ⌜ Space h (now image) total ⌝ }
-    ensures { λ _. ⌜ Builds h (now (image .entry)) (at .node) (drop (at .depth) (lettersOf key)) total value (now (image .exit)) ⌝ }
+    requires { ⌜ Open h (now image) ⌝ ∗ ⌜ Ready h key ⌝ ∗ ⌜ Stop h key at ⌝
+        ∗ ⌜ total ≡ h .g + (key .len - at .depth) ⌝ ∗ ⌜ Space h (now image) total ⌝ }
+    ensures { λ _. ⌜ Builds h (now (image .entry)) (at .node) (drop (at .depth) (lettersOf key))
+        total value (now (image .exit)) ⌝ }
 {
     let depth = at.depth;
     let letters = key.letters;
@@ -162,10 +178,13 @@ fn build(image: &mut [u8], h: Head, key: Key, at: Position, total: u32, value: u
     node::set_link(image, h, at.node, letters[depth] as u32, h.g + 1);
 }
 
-// A new node for the stop, and one for each letter from a depth on, by rising address: each links to the next, the last holds the value.
+// A new node for the stop, and one for each letter from a depth on, by rising address: each links
+// to the next, the last holds the value.
 fn new_nodes(image: &mut [u8], h: Head, key: Key, from: usize, value: u64)
-    requires { ⌜ permitted h ≡ true ⌝ ∗ ⌜ Ready h key ⌝ ∗ ⌜ from ≤ key .len ⌝ ∗ ⌜ Space h (now image) (h .g + suc (key .len - from)) ⌝ }
-    ensures { λ _. ⌜ now (image .exit) ≡ carriedOut (now (image .entry)) (newNodes h (suc (h .g)) (drop from (lettersOf key)) value) ⌝ }
+    requires { ⌜ permitted h ≡ true ⌝ ∗ ⌜ Ready h key ⌝ ∗ ⌜ from ≤ key .len ⌝
+        ∗ ⌜ Space h (now image) (h .g + suc (key .len - from)) ⌝ }
+    ensures { λ _. ⌜ now (image .exit) ≡ carriedOut (now (image .entry))
+        (newNodes h (suc (h .g)) (drop from (lettersOf key)) value) ⌝ }
 {
     let letters = key.letters;
     let mut depth = from;

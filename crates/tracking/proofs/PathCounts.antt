@@ -1,5 +1,6 @@
--- The counts after a store. Where a node is on the key's path its count changes as the number of stored keys does, elsewhere it stays; a new
--- node counted none before. So the list with zeros for the new nodes and the change along the path holds the counts worked out afresh.
+-- The counts after a store. Where a node is on the key's path its count changes as the number of
+-- stored keys does, elsewhere it stays; a new node counted none before. So the list with zeros for
+-- the new nodes and the change along the path holds the counts worked out afresh.
 use Prim.Native.Nat.{ℕ, zero, suc, _+_, _^_, _≤_, _<_}
 use mathlib.Core.Path.{_≡_, refl, sym, _∙_, ap, ap₂}
 use mathlib.Core.Logic.{_≢_, _⊎_, inl, inr}
@@ -62,11 +63,13 @@ module _ {t : Table} {k : List ℕ} {c : ℤ} {list : List ℕ} where
   room-fewer e r = rw e at r
 
   module _ {list′ : List ℕ} where
-    pub shifted-more : c ≡ pos 1 → Shifted t k 1 0 list list′ → Shifted t k (gainOf c) (lossOf c) list list′
+    pub shifted-more : c ≡ pos 1 → Shifted t k 1 0 list list′
+        → Shifted t k (gainOf c) (lossOf c) list list′
     unfolding gainOf lossOf
     shifted-more e s = rw e s
 
-    pub shifted-fewer : c ≡ negsuc 0 → Shifted t k 0 1 list list′ → Shifted t k (gainOf c) (lossOf c) list list′
+    pub shifted-fewer : c ≡ negsuc 0 → Shifted t k 0 1 list list′
+        → Shifted t k (gainOf c) (lossOf c) list list′
     unfolding gainOf lossOf
     shifted-fewer e s = rw e s
 
@@ -83,14 +86,18 @@ loss-none (pos n) a = refl
 loss-none (negsuc zero) a = absurd (a refl)
 loss-none (negsuc (suc n)) a = refl
 
-pub shifted-none : (t : Table) (k : List ℕ) (c : ℤ) (list : List ℕ) → c ≢ pos 1 → c ≢ negsuc 0 → Shifted t k (gainOf c) (lossOf c) list list
-shifted-none t k c list a b = record { long = refl; each = λ q. rw (gain-none c a, loss-none c b) refl }
+pub shifted-none : (t : Table) (k : List ℕ) (c : ℤ) (list : List ℕ) → c ≢ pos 1 → c ≢ negsuc 0
+    → Shifted t k (gainOf c) (lossOf c) list list
+shifted-none t k c list a b =
+    record { long = refl; each = λ q. rw (gain-none c a, loss-none c b) refl }
 
 pub some-more : {c : ℤ} → c ≡ pos 1 → c ≢ pos 0
-some-more e z = let f : _≡_ {A = ℤ} (pos 1) (pos 0) = sym e ∙ z in let g : _≡_ {A = ℕ} 1 0 = cc in omega arith
+some-more e z =
+    let f : _≡_ {A = ℤ} (pos 1) (pos 0) = sym e ∙ z in let g : _≡_ {A = ℕ} 1 0 = cc in omega arith
 
 pub some-fewer : {c : ℤ} → c ≡ negsuc 0 → c ≢ pos 0
-some-fewer e z = let f : _≡_ {A = ℤ} (negsuc 0) (pos 0) = sym e ∙ z in let g : _≡_ {A = ℕ} 1 0 = cc in omega arith
+some-fewer e z = let f : _≡_ {A = ℤ} (negsuc 0) (pos 0) = sym e ∙ z in let g : _≡_ {A = ℕ} 1 0 =
+    cc in omega arith
 
 -- ---- the key's node
 
@@ -103,7 +110,8 @@ answering t k full = go (descend t 0 k) refl
     go (stopped q x xs) e = absurd (full (answer-stopped t k e))
 
 -- a store that changes the number of keys leaves the key its node, or gives it one
-whole-after : {t s : Table} {g h v : ℕ} {k : List ℕ} → Store t g k v s h → answer s k ≡ v → changeOf (answer t k) v ≢ pos 0 → Whole s k
+whole-after : {t s : Table} {g h v : ℕ} {k : List ℕ} → Store t g k v s h → answer s k ≡ v
+    → changeOf (answer t k) v ≢ pos 0 → Whole s k
 unfolding changeOf
 whole-after {t} {k = k} (over {q} {v} e) a c = (q, put-descend t q v 0 k ∙ e)
 whole-after {t} {k = k} (unchanged e) a c = absurd (c (rw (answer-stopped t k e) refl))
@@ -124,40 +132,53 @@ module _ {l k : List ℕ} {value : ℕ} (s : Granted l k value) where
   pub whole : change ≢ pos 0 → Whole (tableIn after) k
   whole c =
       rw (stored-table s)
-      (whole-after (store (tableIn l) (headOf l .g) k value) (stored-answer (accepted-linked (s .accepted)) k (s .fit .below) value) c)
+      (whole-after (store (tableIn l) (headOf l .g) k value)
+      (stored-answer (accepted-linked (s .accepted)) k (s .fit .below) value) c)
 
   -- the table after it
   abbrev grown : Table
   grown = stored (tableIn l) (headOf l .g) k value
 
-  count-after : (q : ℕ) → countIn after q ≡ countAt grown (headOf l .n) (headOf l .min) (headOf l .max) q
+  count-after : (q : ℕ) → countIn after q ≡ countAt grown (headOf l .n) (headOf l .min)
+      (headOf l .max) q
   unfolding countIn
-  count-after q = ap₂ (λ (h : Head) (t : Table). countAt t (h .n) (h .min) (h .max) q) (stored-head s) (stored-table s)
+  count-after q = ap₂ (λ (h : Head) (t : Table). countAt t (h .n) (h .min) (h .max) q)
+      (stored-head s) (stored-table s)
 
   on-after : (q : ℕ) → on q ≡ passes grown q 0 k
   on-after q = ap (λ (t : Table). passes t q 0 k) (stored-table s)
 
-  moved : (q : ℕ) → countIn after q + cond (on q) (one (answer (tableIn l) k)) 0 ≡ countIn l q + cond (on q) (one value) 0
+  moved : (q : ℕ) → countIn after q + cond (on q) (one (answer (tableIn l) k)) 0 ≡ countIn l q
+      + cond (on q) (one value) 0
   unfolding countIn
   moved q =
       let h : Head = headOf l in
       let b = between-true (length k) (h .min) (h .max) (s .fit .allowed) in
-      ap₂ (λ (n : ℕ) (b : Bool). n + cond b (one (answer (tableIn l) k)) 0) (count-after q) (on-after q)
-      ∙ stored-counts (accepted-linked (s .accepted)) k (s .fit .below) value (h .min) (h .max) (b .0) (b .1) q
+      ap₂ (λ (n : ℕ) (b : Bool). n + cond b (one (answer (tableIn l) k)) 0) (count-after q)
+      (on-after q)
+      ∙ stored-counts (accepted-linked (s .accepted)) k (s .fit .below) value (h .min) (h .max)
+      (b .0) (b .1) q
       ∙ ap (λ (b : Bool). countIn l q + cond b (one value) 0) (sym (on-after q))
 
   -- as the change says
-  shifts : (q : ℕ) → countIn after q + cond (on q) (lossOf change) 0 ≡ countIn l q + cond (on q) (gainOf change) 0
+  shifts : (q : ℕ) → countIn after q + cond (on q) (lossOf change) 0 ≡ countIn l q + cond (on q)
+      (gainOf change) 0
   shifts q = go (on q) (moved q)
     where
-      go : (b : Bool) → countIn after q + cond b (one (answer (tableIn l) k)) 0 ≡ countIn l q + cond b (one value) 0
+      go : (b : Bool) → countIn after q + cond b (one (answer (tableIn l) k)) 0 ≡ countIn l q
+          + cond b (one value) 0
           → countIn after q + cond b (lossOf change) 0 ≡ countIn l q + cond b (gainOf change) 0
       go true e = omega (arith, one-change (answer (tableIn l) k) value)
       go false e = e
 
   few : {m : List ℕ} → Accepted m → (q : ℕ) → countIn m q < 2 ^ 32
   unfolding countIn storedKeys
-  few {m} a q = omega (arith, count-few (tableIn m) (headOf m .n) (headOf m .min) (headOf m .max) q, counted-fits a)
+  few {m} a q =
+      omega (
+        arith,
+        count-few (tableIn m) (headOf m .n) (headOf m .min) (headOf m .max) q,
+        counted-fits a,
+      )
 
   -- G after it
   abbrev last : ℕ
@@ -169,7 +190,8 @@ module _ {l k : List ℕ} {value : ℕ} (s : Granted l k value) where
   -- the key passes no node behind it
   off : (q : ℕ) → last < q → on q ≡ false
   off q b =
-      passes-within (tableIn after) (headOf after .g) q 0 k (accepted-linked (accepted-again s) .within) (omega arith)
+      passes-within (tableIn after) (headOf after .g) q 0 k
+      (accepted-linked (accepted-again s) .within) (omega arith)
       (omega (arith, last-same))
 
   passed-within : (q : ℕ) → on q ≡ true → q ≤ last
@@ -180,7 +202,8 @@ module _ {l k : List ℕ} {value : ℕ} (s : Granted l k value) where
       go (no b) = absurd (true≢false (sym met ∙ off q (omega arith)))
 
   -- `start` is the list with zeros for the new nodes
-  module _ {counts start : List ℕ} (r : RightCounts l counts) (z : Cleared (headOf l .g + 1) (last + 1) counts start) where
+  module _ {counts start : List ℕ} (r : RightCounts l counts)
+      (z : Cleared (headOf l .g + 1) (last + 1) counts start) where
     started : (q : ℕ) → q ≤ last → getD start q 0 ≡ countIn l q
     unfolding countIn
     started q b = go (decLe q (headOf l .g))
@@ -190,25 +213,30 @@ module _ {l k : List ℕ} {value : ℕ} (s : Granted l k value) where
         go (no high) =
             let h : Head = headOf l in
             z .within q (omega arith) (omega arith)
-            ∙ sym (count-outside (tableIn l) (h .g) (h .n) (h .min) (h .max) q (accepted-linked (s .accepted) .within) (omega arith))
+            ∙ sym (count-outside (tableIn l) (h .g) (h .n) (h .min) (h .max) q
+            (accepted-linked (s .accepted) .within) (omega arith))
 
     pub room : CountsFit (tableIn after) k (gainOf change) (lossOf change) start
     room =
         record {
           over = λ q met. wide q met (one-way change);
-          under = λ q met. let e = rw met at (shifts q) in omega (arith, started q (passed-within q met));
+          under = λ q met. let e = rw met at (shifts q) in
+              omega (arith, started q (passed-within q met));
         }
       where
-        wide : (q : ℕ) → on q ≡ true → (gainOf change ≡ 0) ⊎ ((gainOf change ≡ 1) × (lossOf change ≡ 0)) → getD start q 0 + gainOf change < 2 ^ 32
+        wide : (q : ℕ) → on q ≡ true → (gainOf change ≡ 0)
+            ⊎ ((gainOf change ≡ 1) × (lossOf change ≡ 0)) → getD start q 0 + gainOf change < 2 ^ 32
         wide q met (inl none) = omega (arith, started q (passed-within q met), few (s .accepted) q)
         wide q met (inr (one, none)) =
             let e = rw met at (shifts q) in
             omega (arith, started q (passed-within q met), few (accepted-again s) q)
 
-    pub kept : {list : List ℕ} → last + 1 ≤ length counts → Shifted (tableIn after) k (gainOf change) (lossOf change) start list
+    pub kept : {list : List ℕ} → last + 1 ≤ length counts → Shifted (tableIn after) k
+        (gainOf change) (lossOf change) start list
         → list ≡ worked after counts
     kept {list} long w =
-        ext-getD 0 list (worked after counts) (w .long ∙ z .long ∙ sym (worked-length after counts)) (λ q _. go q (decLe q last))
+        ext-getD 0 list (worked after counts)
+        (w .long ∙ z .long ∙ sym (worked-length after counts)) (λ q _. go q (decLe q last))
       where
         go : (q : ℕ) → Dec (q ≤ last) → getD list q 0 ≡ getD (worked after counts) q 0
         go q (yes b) =
@@ -221,4 +249,9 @@ module _ {l k : List ℕ} {value : ℕ} (s : Granted l k value) where
             )
         go q (no b) =
             let e = rw (off q (omega arith)) at (w .each q) in
-            omega (arith, z .behind q (omega arith), worked-rest after counts q (omega (arith, last-same)))
+            omega (
+              arith,
+              z .behind q (omega arith),
+              worked-rest after counts q
+                  (omega (arith, last-same)),
+            )

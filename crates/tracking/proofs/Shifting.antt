@@ -1,5 +1,6 @@
--- Going down a key's path: what has been added to each count and what the nodes ahead are still to receive make up what the whole path
--- receives. A key never comes back to a node, so each is counted once.
+-- Going down a key's path: what has been added to each count and what the nodes ahead are still to
+-- receive make up what the whole path receives. A key never comes back to a node, so each is
+-- counted once.
 use Prim.Native.Nat.{ℕ, suc, _+_, _-_, _^_, _≤_, _<_}
 use mathlib.Core.Path.{_≡_, refl, sym, _∙_, ap, subst}
 use mathlib.Core.Logic.{_≢_}
@@ -13,15 +14,23 @@ use Rattle.trie.specs.Table.{Table, complete, stopped, descend}
 use Rattle.trie.specs.Rules.{LinkRules}
 use Rattle.trie.proofs.Walk.{descend-nil, descend-empty, descend-append, complete-within}
 use Rattle.passing.specs.Passing.{passes}
-use Rattle.passing.proofs.Passing.{passes-here, passes-nil, passes-link, prefix-passes, child-reached, never-again}
+use Rattle.passing.proofs.Passing.{passes-here, passes-nil, passes-link, prefix-passes}
+use Rattle.passing.proofs.Passing.{child-reached, never-again}
 use Rattle.tracking.specs.Tracking.{Whole, CountsFit, Shifted, Cleared}
 
 -- ---- numbers set to 0
 
 pub cleared-start : {from : ℕ} {list₀ : List ℕ} → Cleared from from list₀ list₀
-cleared-start = record { long = refl; within = λ q a b. absurd (omega arith); before = λ q a. refl; behind = λ q a. refl }
+cleared-start = record {
+  long = refl;
+  within = λ q a b. absurd (omega arith);
+  before =
+      λ q a. refl;
+  behind = λ q a. refl;
+}
 
-pub cleared-on : {from i : ℕ} {list₀ list : List ℕ} → from ≤ i → i < length list → Cleared from i list₀ list
+pub cleared-on : {from i : ℕ} {list₀ list : List ℕ} → from ≤ i → i < length list
+    → Cleared from i list₀ list
     → Cleared from (i + 1) list₀ (set list i 0)
 cleared-on {from} {i} {list₀} {list} low room c =
     record {
@@ -38,25 +47,30 @@ cleared-on {from} {i} {list₀} {list} low room c =
 -- ---- the path
 
 -- The nodes before p, to which the first letters lead, have received theirs.
-pub record Going (t : Table) (k : List ℕ) (gain loss : ℕ) (list₀ list : List ℕ) (depth p : ℕ) : Type 0 where
+pub record Going (t : Table) (k : List ℕ) (gain loss : ℕ) (list₀ list : List ℕ) (depth p : ℕ)
+    : Type 0 where
   pub deep : depth ≤ length k
   pub came : descend t 0 (take depth k) ≡ complete p
   pub long : length list ≡ length list₀
-  pub each : (q : ℕ) → getD list q 0 + cond (passes t q 0 k) loss 0 + cond (passes t q p (drop depth k)) gain 0
+  pub each : (q : ℕ) → getD list q 0 + cond (passes t q 0 k) loss 0
+      + cond (passes t q p (drop depth k)) gain 0
       ≡ getD list₀ q 0 + cond (passes t q 0 k) gain 0 + cond (passes t q p (drop depth k)) loss 0
 
 module _ {t : Table} {k : List ℕ} {gain loss : ℕ} {list₀ : List ℕ} where
   pub going-start : Going t k gain loss list₀ list₀ 0 0
-  going-start = record { deep = omega arith; came = descend-nil t 0; long = refl; each = λ q. omega arith }
+  going-start =
+      record { deep = omega arith; came = descend-nil t 0; long = refl; each = λ q. omega arith }
 
-  module _ {g : ℕ} (rules : LinkRules t g) (room : CountsFit t k gain loss list₀) {list : List ℕ} {depth p : ℕ}
+  module _ {g : ℕ} (rules : LinkRules t g) (room : CountsFit t k gain loss list₀) {list : List ℕ}
+      {depth p : ℕ}
       (w : Going t k gain loss list₀ list depth p) where
     pub going-within : p ≤ g
     going-within = complete-within t g (take depth k) (rules .within) (w .came)
 
     -- the key passes p, and p has what it had
     met : passes t p 0 k ≡ true
-    met = subst (λ (j : List ℕ). passes t p 0 j ≡ true) (take-append-drop depth k) (prefix-passes t p 0 (take depth k) (drop depth k) (w .came))
+    met = subst (λ (j : List ℕ). passes t p 0 j ≡ true) (take-append-drop depth k)
+        (prefix-passes t p 0 (take depth k) (drop depth k) (w .came))
 
     same : getD list p 0 ≡ getD list₀ p 0
     same = let e = rw (met, passes-here t p (drop depth k)) at (w .each p) in omega arith
@@ -70,27 +84,33 @@ module _ {t : Table} {k : List ℕ} {gain loss : ℕ} {list₀ : List ℕ} where
     -- p receives its own; `b` tells whether the nodes behind it hold q
     module _ (inside : p < length list) where
       received : (b : Bool) → b ≡ false
-          → getD (set list p (getD list p 0 + gain - loss)) p 0 + cond (passes t p 0 k) loss 0 + cond b gain 0
+          → getD (set list p (getD list p 0 + gain - loss)) p 0 + cond (passes t p 0 k) loss 0
+          + cond b gain 0
           ≡ getD list₀ p 0 + cond (passes t p 0 k) gain 0 + cond b loss 0
       received b e =
-          rw (e, met, getD-set-same list p (getD list p 0 + gain - loss) 0 inside) (omega (arith, same, going-under))
+          rw (e, met, getD-set-same list p (getD list p 0 + gain - loss) 0 inside)
+          (omega (arith, same, going-under))
 
       after : (b : Bool) (q : ℕ) → (p ≡ q → b ≡ false) → (p ≢ q → passes t q p (drop depth k) ≡ b)
-          → getD (set list p (getD list p 0 + gain - loss)) q 0 + cond (passes t q 0 k) loss 0 + cond b gain 0
+          → getD (set list p (getD list p 0 + gain - loss)) q 0 + cond (passes t q 0 k) loss 0
+          + cond b gain 0
           ≡ getD list₀ q 0 + cond (passes t q 0 k) gain 0 + cond b loss 0
       after b q own other = go (ℕ-discrete p q)
         where
           go : Dec (p ≡ q)
-              → getD (set list p (getD list p 0 + gain - loss)) q 0 + cond (passes t q 0 k) loss 0 + cond b gain 0
+              → getD (set list p (getD list p 0 + gain - loss)) q 0 + cond (passes t q 0 k) loss 0
+              + cond b gain 0
               ≡ getD list₀ q 0 + cond (passes t q 0 k) gain 0 + cond b loss 0
           go (yes e) =
               subst
-              (λ (q : ℕ). getD (set list p (getD list p 0 + gain - loss)) q 0 + cond (passes t q 0 k) loss 0 + cond b gain 0
+              (λ (q : ℕ). getD (set list p (getD list p 0 + gain - loss)) q 0
+              + cond (passes t q 0 k) loss 0 + cond b gain 0
               ≡ getD list₀ q 0 + cond (passes t q 0 k) gain 0 + cond b loss 0)
               e
               (received b (own e))
           go (no f) =
-              rw (getD-set-other list p q (getD list p 0 + gain - loss) 0 (λ e. f (sym e))) (rw (other f) at (w .each q))
+              rw (getD-set-other list p q (getD list p 0 + gain - loss) 0 (λ e. f (sym e)))
+              (rw (other f) at (w .each q))
 
       module _ {list′ : List ℕ} (e : list′ ≡ set list p (getD list p 0 + gain - loss)) where
         same-length : length list′ ≡ length list₀
@@ -100,13 +120,19 @@ module _ {t : Table} {k : List ℕ} {gain loss : ℕ} {list₀ : List ℕ} where
         going-end b =
             record {
               long = same-length;
-              each = λ q. rw e (omega (arith, after false q (λ _. refl) (λ f. rw nothing (passes-nil t q p f))));
+              each = λ q. rw e (omega (
+                arith,
+                after false q (λ _. refl)
+                    (λ f. rw nothing (passes-nil t q p f)),
+              ));
             }
           where
             nothing : drop depth k ≡ []
-            nothing = let d : depth ≡ length k = omega (arith, w .deep) in ap (λ (m : ℕ). drop m k) d ∙ drop-length k
+            nothing = let d : depth ≡ length k = omega (arith, w .deep) in
+                ap (λ (m : ℕ). drop m k) d ∙ drop-length k
 
-        module _ (whole : Whole t k) (x : ℕ) (below : depth < length k) (left : drop depth k ≡ x ∷ drop (suc depth) k) where
+        module _ (whole : Whole t k) (x : ℕ) (below : depth < length k)
+            (left : drop depth k ≡ x ∷ drop (suc depth) k) where
           full : t .child p x ≢ 0
           full z =
               let on : descend t p (x ∷ drop (suc depth) k) ≡ complete (whole .0) =
@@ -114,13 +140,15 @@ module _ {t : Table} {k : List ℕ} {gain loss : ℕ} {list₀ : List ℕ} where
               ∙ sym (descend-append t 0 (take depth k) (drop depth k) (w .came))
               ∙ ap (descend t 0) (take-append-drop depth k)
               ∙ whole .1 in
-              let clash : stopped p x (drop (suc depth) k) ≡ complete (whole .0) = sym (descend-empty t p x (drop (suc depth) k) z) ∙ on in
+              let clash : stopped p x (drop (suc depth) k) ≡ complete (whole .0) =
+              sym (descend-empty t p x (drop (suc depth) k) z) ∙ on in
               let z : _≡_ {A = ℕ} 0 1 = cc in
               omega arith
 
           letter : getD k depth 0 ≡ x
           letter =
-              let both : _≡_ {A = List ℕ} (getD k depth 0 ∷ drop (suc depth) k) (x ∷ drop (suc depth) k) = sym (drop-cons k depth 0 below) ∙ left in
+              let both : _≡_ {A = List ℕ} (getD k depth 0 ∷ drop (suc depth) k)
+              (x ∷ drop (suc depth) k) = sym (drop-cons k depth 0 below) ∙ left in
               cc
 
           pub going-on : {c : ℕ} → c ≡ t .child p x → Going t k gain loss list₀ list′ (depth + 1) c
@@ -136,7 +164,9 @@ module _ {t : Table} {k : List ℕ} {gain loss : ℕ} {list₀ : List ℕ} where
                 each = λ q.
                     rw e
                     (after (passes t q (t .child p x) (drop (suc depth) k)) q
-                    (λ f. subst (λ (q : ℕ). passes t q (t .child p x) (drop (suc depth) k) ≡ false) f
-                    (never-again t (take depth k) x (rules .once) (w .came) full (drop (suc depth) k)))
+                    (λ f. subst (λ (q : ℕ). passes t q (t .child p x) (drop (suc depth) k) ≡ false)
+                    f
+                    (never-again t (take depth k) x (rules .once) (w .came) full
+                    (drop (suc depth) k)))
                     (λ f. rw left (passes-link t q p x (drop (suc depth) k) f full)));
               })

@@ -1,5 +1,6 @@
--- 02, Ask 7: "A store changes counts only on the key's path and at the new nodes; the result equals the counts worked out afresh." The part of a
--- store with counts that follows 10: what it answers and leaves in image and counts is what the whole call does.
+-- 02, Ask 7: "A store changes counts only on the key's path and at the new nodes; the result
+-- equals the counts worked out afresh." The part of a store with counts that follows 10: what it
+-- answers and leaves in image and counts is what the whole call does.
 use Prim.Native.Nat.{ℕ, zero, suc, _+_, _^_, _≤_, _<_}
 use mathlib.Core.Path.{_≡_}
 use mathlib.Core.Bool.{true, cond}
@@ -25,13 +26,16 @@ addingCountsRows l key value counts =
     ++ (row5again (headOf l) (newOf (headOf l) l key value) (length counts) ∷ [])
 
 unfoldable pub storeCounted : List ℕ → List ℕ → ℕ → List ℕ → Outcome
-unfolding heard first addingRows newOf row5again doneNumbers changeOf answer tableIn storedImage worked
+unfolding heard first addingRows newOf row5again doneNumbers changeOf answer tableIn storedImage
+    worked
 storeCounted l key value counts =
     heard (first (addingCountsRows l key value counts)) (l ∷ counts ∷ [])
-    (outcome (doneNumbers 0 (changeOf (answer (tableIn l) key) value) 0) (storedImage l key value ∷ worked (storedImage l key value) counts ∷ []))
+    (outcome (doneNumbers 0 (changeOf (answer (tableIn l) key) value) 0)
+    (storedImage l key value ∷ worked (storedImage l key value) counts ∷ []))
 
 abbrev pub StoresCounted : List ℕ → List ℕ → ℕ → List ℕ → Stored → List ℕ → List ℕ → Type 0
-StoresCounted l key value counts r l′ counts′ = outcome (storedOf r) (l′ ∷ counts′ ∷ []) ≡ storeCounted l key value counts
+StoresCounted l key value counts r l′ counts′ =
+    outcome (storedOf r) (l′ ∷ counts′ ∷ []) ≡ storeCounted l key value counts
 
 -- ---- the parts of it
 
@@ -39,7 +43,8 @@ StoresCounted l key value counts r l′ counts′ = outcome (storedOf r) (l′ �
 abbrev pub Whole : Table → List ℕ → Type 0
 Whole t k = (r : ℕ) × (descend t 0 k ≡ complete r)
 
--- what the change in the number of stored keys adds to a count on the key's path, and takes from it
+-- what the change in the number of stored keys adds to a count on the key's path, and takes from
+-- it
 unfoldable pub gainOf : ℤ → ℕ
 gainOf (pos zero) = 0
 gainOf (pos (suc zero)) = 1
@@ -59,7 +64,8 @@ pub record CountsFit (t : Table) (k : List ℕ) (gain loss : ℕ) (list : List �
 -- and they have been; the other numbers are what they were
 pub record Shifted (t : Table) (k : List ℕ) (gain loss : ℕ) (list list′ : List ℕ) : Type 0 where
   pub long : length list′ ≡ length list
-  pub each : (q : ℕ) → getD list′ q 0 + cond (passes t q 0 k) loss 0 ≡ getD list q 0 + cond (passes t q 0 k) gain 0
+  pub each : (q : ℕ) → getD list′ q 0 + cond (passes t q 0 k) loss 0 ≡ getD list q 0
+      + cond (passes t q 0 k) gain 0
 
 -- the numbers from one place up to another are 0; the other numbers are what they were
 pub record Cleared (from to : ℕ) (list list′ : List ℕ) : Type 0 where

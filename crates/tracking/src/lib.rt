@@ -1,5 +1,6 @@
-// A store with counts once the key has passed 9 and 10: 11, 12, 13, then 5 again where the list has no number for a new node; then the writes,
-// and the counts of the nodes on the key's path. The image has been checked and the counts have been compared.
+// A store with counts once the key has passed 9 and 10: 11, 12, 13, then 5 again where the list
+// has no number for a new node; then the writes, and the counts of the nodes on the key's path.
+// The image has been checked and the counts have been compared.
 ghost use mathlib.Core.Path.{_≡_};
 ghost use mathlib.Core.Logic.{_≢_};
 ghost use mathlib.Core.Bool.{true};
@@ -13,18 +14,22 @@ ghost use Rattle.node.specs.Image.{Open, tableOf};
 ghost use Rattle.paper.specs.Accepted.{Accepted};
 ghost use Rattle.position.specs.Counts.{RightCounts};
 ghost use Rattle.key.specs.Hand.{Ready, lettersOf};
-ghost use Rattle.tracking.specs.Tracking.{StoresCounted, Whole, gainOf, lossOf, CountsFit, Shifted, Cleared};
+ghost use Rattle.tracking.specs.Tracking.{StoresCounted, Whole, gainOf, lossOf, CountsFit};
+ghost use Rattle.tracking.specs.Tracking.{Shifted, Cleared};
 use head::Head;
 use key::Key;
 use paper::Refusal;
 use paper::Stored;
 use paper::Verdict;
 
-// Stores a value under a key, 0 to delete it, and keeps the counts right. Refusals: 11, 12, 13, 5; they leave image and counts as they were.
+// Stores a value under a key, 0 to delete it, and keeps the counts right. Refusals: 11, 12, 13, 5;
+// they leave image and counts as they were.
 pub fn store_counted(image: &mut [u8], h: Head, key: Key, value: u64, counts: &mut [u32]) -> Stored
     requires { ⌜ Accepted (now image) ⌝ ∗ ⌜ h ≡ headOf (now image) ⌝ ∗ ⌜ Ready h key ⌝ }
-    requires { ⌜ between (length (lettersOf key)) (h .min) (h .max) ≡ true ⌝ ∗ ⌜ RightCounts (now image) (now counts) ⌝ }
-    ensures { λ r. ⌜ StoresCounted (now (image .entry)) (lettersOf key) value (now (counts .entry)) r (now (image .exit)) (now (counts .exit)) ⌝ }
+    requires { ⌜ between (length (lettersOf key)) (h .min) (h .max) ≡ true ⌝
+        ∗ ⌜ RightCounts (now image) (now counts) ⌝ }
+    ensures { λ r. ⌜ StoresCounted (now (image .entry)) (lettersOf key) value (now (counts .entry))
+        r (now (image .exit)) (now (counts .exit)) ⌝ }
 {
     let walked = walk::walk(image, h, key);
     let new = storing::new_count(h, key, walked, value);
@@ -54,7 +59,8 @@ pub fn store_counted(image: &mut [u8], h: Head, key: Key, value: u64, counts: &m
     }
 }
 
-// Sets the numbers from one place up to another to 0: the list held anything for nodes that were not there.
+// Sets the numbers from one place up to another to 0: the list held anything for nodes that were
+// not there.
 fn clear(counts: &mut [u32], from: usize, to: usize)
     requires { ⌜ from ≤ to ⌝ ∗ ⌜ to ≤ length (now counts) ⌝ }
     ensures { λ _. ⌜ Cleared from to (now (counts .entry)) (now (counts .exit)) ⌝ }
@@ -68,10 +74,13 @@ fn clear(counts: &mut [u32], from: usize, to: usize)
 
 // Carries the change in the number of stored keys to the counts of the nodes on the key's path.
 fn carry(image: &[u8], h: Head, key: Key, change: i32, counts: &mut [u32])
-    requires { ⌜ Open h (now image) ⌝ ∗ ⌜ Ready h key ⌝ ∗ ⌜ LinkRules (tableOf h (now image)) (h .g) ⌝ ∗ ⌜ h .g < length (now counts) ⌝ }
+    requires { ⌜ Open h (now image) ⌝ ∗ ⌜ Ready h key ⌝
+        ∗ ⌜ LinkRules (tableOf h (now image)) (h .g) ⌝ ∗ ⌜ h .g < length (now counts) ⌝ }
     requires { ⌜ (change ≢ pos 0 → Whole (tableOf h (now image)) (lettersOf key)) ⌝ }
-    requires { ⌜ CountsFit (tableOf h (now image)) (lettersOf key) (gainOf change) (lossOf change) (now counts) ⌝ }
-    ensures { λ _. ⌜ Shifted (tableOf h (now (image .entry))) (lettersOf key) (gainOf change) (lossOf change) (now (counts .entry)) (now (counts .exit)) ⌝ }
+    requires { ⌜ CountsFit (tableOf h (now image)) (lettersOf key) (gainOf change) (lossOf change)
+        (now counts) ⌝ }
+    ensures { λ _. ⌜ Shifted (tableOf h (now (image .entry))) (lettersOf key) (gainOf change)
+        (lossOf change) (now (counts .entry)) (now (counts .exit)) ⌝ }
 {
     if change == 1 {
         shift(image, h, key, 1, 0, counts);
@@ -83,11 +92,15 @@ fn carry(image: &[u8], h: Head, key: Key, change: i32, counts: &mut [u32])
     }
 }
 
-// Adds to the count of each node on the key's path, the root and the key's own node included, and takes from it.
+// Adds to the count of each node on the key's path, the root and the key's own node included, and
+// takes from it.
 fn shift(image: &[u8], h: Head, key: Key, gain: u32, loss: u32, counts: &mut [u32])
-    requires { ⌜ Open h (now image) ⌝ ∗ ⌜ Ready h key ⌝ ∗ ⌜ LinkRules (tableOf h (now image)) (h .g) ⌝ ∗ ⌜ h .g < length (now counts) ⌝ }
-    requires { ⌜ Whole (tableOf h (now image)) (lettersOf key) ⌝ ∗ ⌜ CountsFit (tableOf h (now image)) (lettersOf key) gain loss (now counts) ⌝ }
-    ensures { λ _. ⌜ Shifted (tableOf h (now (image .entry))) (lettersOf key) gain loss (now (counts .entry)) (now (counts .exit)) ⌝ }
+    requires { ⌜ Open h (now image) ⌝ ∗ ⌜ Ready h key ⌝
+        ∗ ⌜ LinkRules (tableOf h (now image)) (h .g) ⌝ ∗ ⌜ h .g < length (now counts) ⌝ }
+    requires { ⌜ Whole (tableOf h (now image)) (lettersOf key) ⌝
+        ∗ ⌜ CountsFit (tableOf h (now image)) (lettersOf key) gain loss (now counts) ⌝ }
+    ensures { λ _. ⌜ Shifted (tableOf h (now (image .entry))) (lettersOf key) gain loss
+        (now (counts .entry)) (now (counts .exit)) ⌝ }
 {
     let mask = node::mask(h);
     let letters = key.letters;
@@ -104,8 +117,10 @@ fn shift(image: &[u8], h: Head, key: Key, gain: u32, loss: u32, counts: &mut [u3
 
 // Adds to the count of one node, and takes from it.
 fn bump(counts: &mut [u32], node: u32, gain: u32, loss: u32)
-    requires { ⌜ node < length (now counts) ⌝ ∗ ⌜ getD (now counts) node 0 + gain < 2 ^ 32 ⌝ ∗ ⌜ loss ≤ getD (now counts) node 0 + gain ⌝ }
-    ensures { λ _. ⌜ now (counts .exit) ≡ set (now (counts .entry)) node (getD (now (counts .entry)) node 0 + gain - loss) ⌝ }
+    requires { ⌜ node < length (now counts) ⌝ ∗ ⌜ getD (now counts) node 0 + gain < 2 ^ 32 ⌝
+        ∗ ⌜ loss ≤ getD (now counts) node 0 + gain ⌝ }
+    ensures { λ _. ⌜ now (counts .exit) ≡ set (now (counts .entry)) node
+        (getD (now (counts .entry)) node 0 + gain - loss) ⌝ }
 {
     let i = node as usize;
     counts[i] = counts[i] + gain - loss;

@@ -1,4 +1,5 @@
--- A key followed letter by letter: the path so far is the key's beginning, and at the letter where it ends the key ends or the link is empty.
+-- A key followed letter by letter: the path so far is the key's beginning, and at the letter where
+-- it ends the key ends or the link is empty.
 use Prim.Native.Nat.{ℕ, _+_, _<_, _≤_}
 use native.Mathlib.Numerals.{add-one}
 use native.Mathlib.Omega.{arith}
@@ -24,9 +25,11 @@ pub record Following (h : Head) (l k path₀ nodes₀ path nodes : List ℕ) (q 
   pub ends : length nodes ≡ length nodes₀
 
 -- at the root, once it is noted as the first node
-pub following-start : (h : Head) (l k path nodes : List ℕ) → PathRoom h path nodes → Following h l k path (set nodes 0 0) path (set nodes 0 0) 0 0
+pub following-start : (h : Head) (l k path nodes : List ℕ) → PathRoom h path nodes
+    → Following h l k path (set nodes 0 0) path (set nodes 0 0) 0 0
 following-start h l k path nodes room =
-    let root : getD (set nodes 0 0) 0 0 ≡ 0 = getD-set-same nodes 0 0 0 (omega (arith, room .ends)) in
+    let root : getD (set nodes 0 0) 0 0 ≡ 0 =
+    getD-set-same nodes 0 0 0 (omega (arith, room .ends)) in
     record {
       room = room-kept room refl (length-set nodes 0 0);
       short = omega arith;
@@ -37,9 +40,16 @@ following-start h l k path nodes room =
       ends = refl;
     }
 
-module _ {h : Head} {l k path₀ nodes₀ path nodes : List ℕ} {q depth : ℕ} (f : Following h l k path₀ nodes₀ path nodes q depth) where
+module _ {h : Head} {l k path₀ nodes₀ path nodes : List ℕ} {q depth : ℕ}
+    (f : Following h l k path₀ nodes₀ path nodes q depth) where
   pub following-end : length k ≤ depth → Followed h l k path nodes depth
-  following-end b = record { short = f .short; letters = f .same; along = f .along; stops = λ low. absurd (omega arith) }
+  following-end b = record {
+    short = f .short;
+    letters = f .same;
+    along = f .along;
+    stops =
+        λ low. absurd (omega arith);
+  }
 
   -- x is the letter at hand, and c its link
   module _ {x c : ℕ} (letter : getD k depth 0 ≡ x) (link : c ≡ tableOf h l .child q x) where
@@ -48,7 +58,13 @@ module _ {h : Head} {l k path₀ nodes₀ path nodes : List ℕ} {q depth : ℕ}
 
     pub following-stop : c ≡ 0 → Followed h l k path nodes depth
     following-stop empty =
-        record { short = f .short; letters = f .same; along = f .along; stops = λ low. rw letter (sym met ∙ empty) }
+        record {
+          short = f .short;
+          letters = f .same;
+          along = f .along;
+          stops =
+              λ low. rw letter (sym met ∙ empty);
+        }
 
     pub following-on : depth < length k → length k ≤ h .max → LettersBelow (h .n) k → c ≢ 0
         → Following h l k path₀ nodes₀ (set path depth x) (set nodes (depth + 1) c) c (depth + 1)
@@ -64,7 +80,8 @@ module _ {h : Head} {l k path₀ nodes₀ path nodes : List ℕ} {q depth : ℕ}
               ∙ ap (_++ (x ∷ [])) (f .same)
               ∙ ap (λ (y : ℕ). take depth k ++ (y ∷ [])) (sym letter)
               ∙ sym (take-suc k depth 0 low));
-          along = along-more h l (f .along) (omega (arith, r .letters)) (omega (arith, r .ends)) b met full;
+          along = along-more h l (f .along) (omega (arith, r .letters)) (omega (arith, r .ends)) b
+              met full;
           node = sym (getD-set-same nodes (depth + 1) c 0 (omega (arith, r .ends)));
           letters = length-set path depth x ∙ f .letters;
           ends = length-set nodes (depth + 1) c ∙ f .ends;

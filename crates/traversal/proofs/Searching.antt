@@ -1,5 +1,6 @@
--- The search below a node, letter by letter, and the climb along a path. What is still to be searched begins with the keys below the
--- node at hand: where there is one it is the key sought, and where there is none they drop out of what is left.
+-- The search below a node, letter by letter, and the climb along a path. What is still to be
+-- searched begins with the keys below the node at hand: where there is one it is the key sought,
+-- and where there is none they drop out of what is left.
 use Prim.Native.Nat.{ℕ, suc, _+_, _-_, _<_, _≤_}
 use native.Mathlib.Numerals.{add-one}
 use native.Mathlib.Omega.{arith}
@@ -18,9 +19,11 @@ use Rattle.head.specs.declared.Head.{Head}
 use Rattle.node.specs.Image.{tableOf}
 use Rattle.traversal.specs.declared.Search.{Search}
 use Rattle.depths.specs.Depths.{ownValue, KeysBelow}
-use Rattle.traversal.specs.Search.{ahead, PathRoom, Along, PathKept, Reached, searchOf, SearchTells}
+use Rattle.traversal.specs.Search.{ahead, PathRoom, Along, PathKept, Reached, searchOf}
+use Rattle.traversal.specs.Search.{SearchTells}
 use Rattle.depths.proofs.Links.{own-data, own-long, own-empty, own-full, from, from-link}
-use Rattle.traversal.proofs.Paths.{room-kept, kept-all, kept-set, kept-below, kept-end, along-kept, along-more}
+use Rattle.traversal.proofs.Paths.{room-kept, kept-all, kept-set, kept-below, kept-end}
+use Rattle.traversal.proofs.Paths.{along-kept, along-more}
 
 -- ---- the first of a list of keys
 
@@ -41,7 +44,8 @@ first-none a e = ap firstOf e
 -- ---- what is told
 
 -- what an answer says of the key that was sought
-pub was-missing : (h : Head) (l : List ℕ) {s : Option (List ℕ)} {r : Search} {path nodes : List ℕ} → SearchTells h l s r path nodes
+pub was-missing : (h : Head) (l : List ℕ) {s : Option (List ℕ)} {r : Search} {path nodes : List ℕ}
+    → SearchTells h l s r path nodes
     → r ≡ Search.Missing → s ≡ none
 unfolding searchOf
 was-missing h l {s} {r} told e = go s (sym e ∙ told .answers)
@@ -50,25 +54,32 @@ was-missing h l {s} {r} told e = go s (sym e ∙ told .answers)
     go none f = refl
     go (some k) f = let z : _≡_ {A = ℕ} 0 1 = cc in absurd (omega arith)
 
-pub was-found : (h : Head) (l : List ℕ) {s : Option (List ℕ)} {r : Search} {path nodes : List ℕ} {n v : ℕ} → SearchTells h l s r path nodes
+pub was-found : (h : Head) (l : List ℕ) {s : Option (List ℕ)} {r : Search} {path nodes : List ℕ}
+    {n v : ℕ} → SearchTells h l s r path nodes
     → r ≡ Search.Found n v → (k : List ℕ) × (s ≡ some k) × (n ≡ length k)
 unfolding searchOf
 was-found h l {s} {r} {n = n} {v} told e = go s (sym e ∙ told .answers)
   where
-    go : (s : Option (List ℕ)) → Search.Found n v ≡ searchOf (tableOf h l) s → (k : List ℕ) × (s ≡ some k) × (n ≡ length k)
+    go : (s : Option (List ℕ)) → Search.Found n v ≡ searchOf (tableOf h l) s → (k : List ℕ)
+        × (s ≡ some k) × (n ≡ length k)
     go none f = let z : _≡_ {A = ℕ} 0 1 = cc in absurd (omega arith)
     go (some k) f = (k, refl, cc)
 
 module _ (h : Head) (l : List ℕ) where
-  pub told-same : {s s′ : Option (List ℕ)} {r : Search} {path nodes : List ℕ} → s ≡ s′ → SearchTells h l s′ r path nodes → SearchTells h l s r path nodes
-  told-same {r = r} {path} {nodes} e t = subst (λ (s : Option (List ℕ)). SearchTells h l s r path nodes) (sym e) t
+  pub told-same : {s s′ : Option (List ℕ)} {r : Search} {path nodes : List ℕ} → s ≡ s′
+      → SearchTells h l s′ r path nodes → SearchTells h l s r path nodes
+  told-same {r = r} {path} {nodes} e t =
+      subst (λ (s : Option (List ℕ)). SearchTells h l s r path nodes) (sym e) t
 
-  pub told-none : {s : Option (List ℕ)} {path nodes : List ℕ} → s ≡ none → SearchTells h l s Search.Missing path nodes
+  pub told-none : {s : Option (List ℕ)} {path nodes : List ℕ} → s ≡ none
+      → SearchTells h l s Search.Missing path nodes
   unfolding searchOf
-  told-none e = record { answers = rw e; reached = λ k f. absurd (Option·some-ne-none k (sym f ∙ e)) }
+  told-none e =
+      record { answers = rw e; reached = λ k f. absurd (Option·some-ne-none k (sym f ∙ e)) }
 
   -- the key whose letters are the path's first, where its node has data and it is long enough
-  pub told-here : {s : Option (List ℕ)} {path nodes : List ℕ} {depth v : ℕ} → depth ≤ h .max → PathRoom h path nodes → Along h l depth path nodes
+  pub told-here : {s : Option (List ℕ)} {path nodes : List ℕ} {depth v : ℕ} → depth ≤ h .max
+      → PathRoom h path nodes → Along h l depth path nodes
       → v ≡ ownValue h (tableOf h l) (getD nodes depth 0) depth → v ≢ 0
       → s ≡ some (take depth path)
       → SearchTells h l s (Search.Found depth v) path nodes
@@ -77,7 +88,8 @@ module _ (h : Head) (l : List ℕ) where
       told-same first
       (record {
         answers = λ j. Search.Found (size j) (value j);
-        reached = λ k f. subst (λ (k : List ℕ). Reached h l k path nodes) (Option·some-injective (take depth path) k f) reached;
+        reached = λ k f. subst (λ (k : List ℕ). Reached h l k path nodes)
+            (Option·some-injective (take depth path) k f) reached;
       })
     where
       size : depth ≡ length (take depth path)
@@ -94,35 +106,45 @@ module _ (h : Head) (l : List ℕ) where
       value : v ≡ answer (tableOf h l) (take depth path)
       value =
           e
-          ∙ own-data h (tableOf h l) (getD nodes depth 0) depth (own-long h (tableOf h l) (getD nodes depth 0) depth (λ z. full (e ∙ z)))
+          ∙ own-data h (tableOf h l) (getD nodes depth 0) depth
+          (own-long h (tableOf h l) (getD nodes depth 0) depth (λ z. full (e ∙ z)))
           ∙ sym (answer-complete (tableOf h l) (take depth path) (along .ends depth (omega arith)))
 
   -- ---- the keys ahead
 
-  pub ahead-no-keys : (path : List ℕ) (depth q i : ℕ) {r : Bool} → KeysBelow h (tableOf h l) q depth r → r ≡ true
+  pub ahead-no-keys : (path : List ℕ) (depth q i : ℕ) {r : Bool}
+      → KeysBelow h (tableOf h l) q depth r → r ≡ true
       → firstOf (ahead h l path depth q i) ≡ none
   unfolding ahead
   ahead-no-keys path depth q i b e = first-none _ (ap (map (take depth path ++_)) (b .nothing e i))
 
-  pub ahead-past : (path : List ℕ) (depth q i : ℕ) → h .n ≤ i → firstOf (ahead h l path depth q i) ≡ none
+  pub ahead-past : (path : List ℕ) (depth q i : ℕ) → h .n ≤ i → firstOf (ahead h l path depth q i)
+      ≡ none
   unfolding ahead
   ahead-past path depth q i b =
-      first-none _ (ap (map (take depth path ++_)) (from-none (tableOf h l) (h .n) (h .min - depth) (h .max - depth) q i b))
+      first-none _ (ap (map (take depth path ++_))
+      (from-none (tableOf h l) (h .n) (h .min - depth) (h .max - depth) q i b))
 
-  ahead-kept : {path nodes path₁ nodes₁ : List ℕ} (depth q i : ℕ) → PathKept depth path nodes path₁ nodes₁
+  ahead-kept : {path nodes path₁ nodes₁ : List ℕ} (depth q i : ℕ)
+      → PathKept depth path nodes path₁ nodes₁
       → ahead h l path₁ depth q i ≡ ahead h l path depth q i
   unfolding ahead
-  ahead-kept depth q i kept = ap (λ (k : List ℕ). map (k ++_) (from h (tableOf h l) q depth i)) (kept .letters)
+  ahead-kept depth q i kept =
+      ap (λ (k : List ℕ). map (k ++_) (from h (tableOf h l) q depth i)) (kept .letters)
 
-  pub ahead-empty : (path : List ℕ) (depth q i : ℕ) {c : ℕ} → i < h .n → c ≡ tableOf h l .child q i → c ≡ 0
+  pub ahead-empty : (path : List ℕ) (depth q i : ℕ) {c : ℕ} → i < h .n → c ≡ tableOf h l .child q i
+      → c ≡ 0
       → ahead h l path depth q i ≡ ahead h l path depth q (i + 1)
   unfolding ahead
   ahead-empty path depth q i b e empty =
       rw add-one
-      (ap (map (take depth path ++_)) (from-empty (tableOf h l) (h .n) (h .min - depth) (h .max - depth) q i b (sym e ∙ empty)))
+      (ap (map (take depth path ++_))
+      (from-empty (tableOf h l) (h .n) (h .min - depth) (h .max - depth) q i b
+      (sym e ∙ empty)))
 
   -- by a link: the child's own key, where it has one
-  ahead-own : (path : List ℕ) (depth q i : ℕ) {c v : ℕ} → depth < h .max → i < h .n → c ≡ tableOf h l .child q i → c ≢ 0
+  ahead-own : (path : List ℕ) (depth q i : ℕ) {c v : ℕ} → depth < h .max → i < h .n
+      → c ≡ tableOf h l .child q i → c ≢ 0
       → v ≡ ownValue h (tableOf h l) c (depth + 1) → v ≢ 0
       → firstOf (ahead h l path depth q i) ≡ some (take depth path ++ (i ∷ []))
   unfolding ahead firstOf
@@ -133,16 +155,19 @@ module _ (h : Head) (l : List ℕ) where
       )
 
   -- and else the keys below the child, before those by later letters
-  ahead-link : (path path′ : List ℕ) (depth q i : ℕ) {c v : ℕ} → depth < h .max → i < h .n → c ≡ tableOf h l .child q i → c ≢ 0
+  ahead-link : (path path′ : List ℕ) (depth q i : ℕ) {c v : ℕ} → depth < h .max → i < h .n
+      → c ≡ tableOf h l .child q i → c ≢ 0
       → v ≡ ownValue h (tableOf h l) c (depth + 1) → v ≡ 0
       → take (depth + 1) path′ ≡ take depth path ++ (i ∷ [])
-      → ahead h l path depth q i ≡ ahead h l path′ (depth + 1) c 0 ++ ahead h l path depth q (i + 1)
+      → ahead h l path depth q i ≡ ahead h l path′ (depth + 1) c 0 ++ ahead h l path depth q
+      (i + 1)
   unfolding ahead
   ahead-link path path′ depth q i {c} deep b e full own no-value longer =
       rw (add-one i)
       (ap (map (take depth path ++_)) link
       ∙ map-append (take depth path ++_) (map (i ∷_) rest) (from h t q depth (suc i))
-      ∙ ap (_++ map (take depth path ++_) (from h t q depth (suc i))) (map-map (take depth path ++_) (i ∷_) rest ∙ joined))
+      ∙ ap (_++ map (take depth path ++_) (from h t q depth (suc i)))
+      (map-map (take depth path ++_) (i ∷_) rest ∙ joined))
     where
       t : Table
       t = tableOf h l
@@ -155,14 +180,16 @@ module _ (h : Head) (l : List ℕ) where
           from-link h t q depth i deep b (sym e) full
           ∙ rw (← add-one depth, own-empty h t c (depth + 1) (sym own ∙ no-value))
 
-      joined : map (λ (k : List ℕ). take depth path ++ (i ∷ k)) rest ≡ map (take (depth + 1) path′ ++_) rest
+      joined : map (λ (k : List ℕ). take depth path ++ (i ∷ k)) rest
+          ≡ map (take (depth + 1) path′ ++_) rest
       joined = rw longer (simp append-assoc)
 
 -- ---- from letter to letter
 
--- Below node q at a depth, the letters from `first` on are passed up to i: what is sought is what comes first of the rest. The path is
--- still that of q.
-pub record Passing (h : Head) (l path₀ nodes₀ : List ℕ) (depth q first : ℕ) (path nodes : List ℕ) (i : ℕ) : Type 0 where
+-- Below node q at a depth, the letters from `first` on are passed up to i: what is sought is what
+-- comes first of the rest. The path is still that of q.
+pub record Passing (h : Head) (l path₀ nodes₀ : List ℕ) (depth q first : ℕ) (path nodes : List ℕ)
+    (i : ℕ) : Type 0 where
   pub deep : depth < h .max
   pub room : PathRoom h path nodes
   pub along : Along h l depth path nodes
@@ -173,13 +200,15 @@ pub record Passing (h : Head) (l path₀ nodes₀ : List ℕ) (depth q first : �
   pub passed : firstOf (ahead h l path₀ depth q first) ≡ firstOf (ahead h l path depth q i)
 
 -- letter i is linked to node c
-pub record Onto (h : Head) (l path₀ nodes₀ : List ℕ) (depth q first : ℕ) (path nodes : List ℕ) (i c : ℕ) : Type 0 where
+pub record Onto (h : Head) (l path₀ nodes₀ : List ℕ) (depth q first : ℕ) (path nodes : List ℕ)
+    (i c : ℕ) : Type 0 where
   pub passing : Passing h l path₀ nodes₀ depth q first path nodes i
   pub low : i < h .n
   pub link : c ≡ tableOf h l .child q i
   pub full : c ≢ 0
 
-pub passing-start : {h : Head} {l path nodes : List ℕ} {depth q : ℕ} (first : ℕ) → depth < h .max → PathRoom h path nodes → Along h l depth path nodes
+pub passing-start : {h : Head} {l path nodes : List ℕ} {depth q : ℕ} (first : ℕ) → depth < h .max
+    → PathRoom h path nodes → Along h l depth path nodes
     → q ≡ getD nodes depth 0
     → Passing h l path nodes depth q first path nodes first
 passing-start {path = path} {nodes} {depth} first deep room along node =
@@ -196,7 +225,8 @@ passing-start {path = path} {nodes} {depth} first deep room along node =
 
 module _ {h : Head} {l path₀ nodes₀ : List ℕ} {depth q first : ℕ} {path nodes : List ℕ} {i : ℕ}
     (p : Passing h l path₀ nodes₀ depth q first path nodes i) where
-  pub passing-empty : {c : ℕ} → i < h .n → c ≡ tableOf h l .child q i → c ≡ 0 → Passing h l path₀ nodes₀ depth q first path nodes (i + 1)
+  pub passing-empty : {c : ℕ} → i < h .n → c ≡ tableOf h l .child q i → c ≡ 0
+      → Passing h l path₀ nodes₀ depth q first path nodes (i + 1)
   passing-empty b e empty =
       record {
         deep = p .deep;
@@ -215,47 +245,59 @@ module _ {h : Head} {l path₀ nodes₀ : List ℕ} {depth q first : ℕ} {path 
 module _ {h : Head} {l path₀ nodes₀ : List ℕ} {depth q first : ℕ} {path nodes : List ℕ} {i c : ℕ}
     (o : Onto h l path₀ nodes₀ depth q first path nodes i c) where
   longer : take (depth + 1) (set path depth i) ≡ take depth path ++ (i ∷ [])
-  longer = rw (add-one depth) (take-suc-set path depth i (omega (arith, o .passing .room .letters, o .passing .deep)))
+  longer = rw (add-one depth)
+      (take-suc-set path depth i (omega (arith, o .passing .room .letters, o .passing .deep)))
 
   -- the path and its nodes, a letter further
   pub onto-room : PathRoom h (set path depth i) (set nodes (depth + 1) c)
-  onto-room = room-kept (o .passing .room) (length-set path depth i) (length-set nodes (depth + 1) c)
+  onto-room =
+      room-kept (o .passing .room) (length-set path depth i) (length-set nodes (depth + 1) c)
 
   pub onto-node : c ≡ getD (set nodes (depth + 1) c) (depth + 1) 0
-  onto-node = sym (getD-set-same nodes (depth + 1) c 0 (omega (arith, o .passing .room .ends, o .passing .deep)))
+  onto-node =
+      sym (getD-set-same nodes (depth + 1) c 0
+      (omega (arith, o .passing .room .ends, o .passing .deep)))
 
   pub onto-along : Along h l (depth + 1) (set path depth i) (set nodes (depth + 1) c)
   onto-along =
       let p = o .passing in
-      along-more h l (p .along) (omega (arith, p .room .letters, p .deep)) (omega (arith, p .room .ends, p .deep)) (o .low) (rw (← p .node) (o .link)) (o .full)
+      along-more h l (p .along) (omega (arith, p .room .letters, p .deep))
+      (omega (arith, p .room .ends, p .deep)) (o .low) (rw (← p .node) (o .link)) (o .full)
 
   pub onto-kept : PathKept depth path₀ nodes₀ (set path depth i) (set nodes (depth + 1) c)
   onto-kept = kept-set i c (o .passing .kept)
 
   -- the child's own key is the one sought, where it has one
   pub onto-own : {v : ℕ} → v ≡ ownValue h (tableOf h l) c (depth + 1) → v ≢ 0
-      → SearchTells h l (firstOf (ahead h l path₀ depth q first)) (Search.Found (depth + 1) v) (set path depth i) (set nodes (depth + 1) c)
+      → SearchTells h l (firstOf (ahead h l path₀ depth q first)) (Search.Found (depth + 1) v)
+      (set path depth i) (set nodes (depth + 1) c)
   onto-own {v} e full =
       let p = o .passing in
       told-here h l (omega (arith, p .deep)) onto-room onto-along (rw (← onto-node) e) full
-      (p .passed ∙ ahead-own h l path depth q i (p .deep) (o .low) (o .link) (o .full) e full ∙ ap some (sym longer))
+      (p .passed ∙ ahead-own h l path depth q i (p .deep) (o .low) (o .link) (o .full) e full
+      ∙ ap some (sym longer))
 
   module _ {v : ℕ} (e : v ≡ ownValue h (tableOf h l) c (depth + 1)) (empty : v ≡ 0) where
-    link-split : ahead h l path depth q i ≡ ahead h l (set path depth i) (depth + 1) c 0 ++ ahead h l path depth q (i + 1)
-    link-split = ahead-link h l path (set path depth i) depth q i (o .passing .deep) (o .low) (o .link) (o .full) e empty longer
+    link-split : ahead h l path depth q i ≡ ahead h l (set path depth i) (depth + 1) c 0
+        ++ ahead h l path depth q (i + 1)
+    link-split = ahead-link h l path (set path depth i) depth q i (o .passing .deep) (o .low)
+        (o .link) (o .full) e empty longer
 
     -- else the first below the child, where there is one
     pub onto-found : {r : Search} {path₁ nodes₁ : List ℕ} {n w : ℕ}
-        → SearchTells h l (firstOf (ahead h l (set path depth i) (depth + 1) c 0)) r path₁ nodes₁ → r ≡ Search.Found n w
+        → SearchTells h l (firstOf (ahead h l (set path depth i) (depth + 1) c 0)) r path₁ nodes₁
+        → r ≡ Search.Found n w
         → SearchTells h l (firstOf (ahead h l path₀ depth q first)) r path₁ nodes₁
     onto-found told f =
         let (k, g, _) = was-found h l told f in
         told-same h l (o .passing .passed ∙ ap firstOf link-split ∙ first-front _ _ g ∙ sym g) told
 
     -- and else the letter is passed
-    onto-none : {path₁ nodes₁ : List ℕ} → firstOf (ahead h l (set path depth i) (depth + 1) c 0) ≡ none
+    onto-none : {path₁ nodes₁ : List ℕ} → firstOf (ahead h l (set path depth i) (depth + 1) c 0)
+        ≡ none
         → PathKept (depth + 1) (set path depth i) (set nodes (depth + 1) c) path₁ nodes₁
-        → length path₁ ≡ length (set path depth i) → length nodes₁ ≡ length (set nodes (depth + 1) c)
+        → length path₁ ≡ length (set path depth i) → length nodes₁
+        ≡ length (set nodes (depth + 1) c)
         → Passing h l path₀ nodes₀ depth q first path₁ nodes₁ (i + 1)
     onto-none {path₁} {nodes₁} nothing kept letters ends =
         let p = o .passing in
@@ -278,14 +320,17 @@ module _ {h : Head} {l path₀ nodes₀ : List ℕ} {depth q first : ℕ} {path 
         }
 
     pub onto-missing : {r : Search} {path₁ nodes₁ : List ℕ}
-        → SearchTells h l (firstOf (ahead h l (set path depth i) (depth + 1) c 0)) r path₁ nodes₁ → r ≡ Search.Missing
+        → SearchTells h l (firstOf (ahead h l (set path depth i) (depth + 1) c 0)) r path₁ nodes₁
+        → r ≡ Search.Missing
         → PathKept (depth + 1) (set path depth i) (set nodes (depth + 1) c) path₁ nodes₁
-        → length path₁ ≡ length (set path depth i) → length nodes₁ ≡ length (set nodes (depth + 1) c)
+        → length path₁ ≡ length (set path depth i) → length nodes₁
+        ≡ length (set nodes (depth + 1) c)
         → Passing h l path₀ nodes₀ depth q first path₁ nodes₁ (i + 1)
     onto-missing told f kept letters ends = onto-none (was-missing h l told f) kept letters ends
 
     pub onto-no-keys : {r : Bool} → KeysBelow h (tableOf h l) c (depth + 1) r → r ≡ true
-        → Passing h l path₀ nodes₀ depth q first (set path depth i) (set nodes (depth + 1) c) (i + 1)
+        → Passing h l path₀ nodes₀ depth q first (set path depth i) (set nodes (depth + 1) c)
+        (i + 1)
     onto-no-keys b f =
         onto-none (ahead-no-keys h l (set path depth i) (depth + 1) c 0 b f)
         (kept-all (depth + 1) (set path depth i) (set nodes (depth + 1) c)) refl refl

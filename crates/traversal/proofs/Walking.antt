@@ -1,5 +1,5 @@
--- A walk from key to key through an accepted image, for the crates above: a key that was found has left its path, from which the next search
--- starts.
+-- A walk from key to key through an accepted image, for the crates above: a key that was found has
+-- left its path, from which the next search starts.
 use mathlib.Core.Path.{_≡_}
 use Prim.Native.Nat.{ℕ, _≤_}
 use native.Mathlib.Omega.{arith}
@@ -20,14 +20,16 @@ pub record Met (h : Head) (l path nodes : List ℕ) (n : ℕ) : Type 0 where
   pub deep : n ≤ h .max
   pub along : Along h l n path nodes
 
-pub met : {h : Head} {l : List ℕ} {s : Option (List ℕ)} {r : Search} {path nodes : List ℕ} {n v : ℕ} → SearchTells h l s r path nodes
+pub met : {h : Head} {l : List ℕ} {s : Option (List ℕ)} {r : Search} {path nodes : List ℕ}
+    {n v : ℕ} → SearchTells h l s r path nodes
     → r ≡ Search.Found n v → Met h l path nodes n
 met {h} {l} told e =
     let (k, is, same) = was-found h l told e in
     let reached = told .reached k is in
     record { deep = rw same (reached .short); along = rw same (reached .along) }
 
--- what a walk keeps from key to key: letters and nodes enough for every key, and the last key on the path
+-- what a walk keeps from key to key: letters and nodes enough for every key, and the last key on
+-- the path
 pub record Walking (h : Head) (l path nodes : List ℕ) (n : ℕ) : Type 0 where
   pub letters : length path ≡ mostLetters
   pub ends : length nodes ≡ mostPath
@@ -39,5 +41,7 @@ module _ {h : Head} {l path nodes : List ℕ} (w : Walkable h l) where
 
   -- what the search for the key after the last one asks for
   pub walks-on : {n : ℕ} → Walking h l path nodes n
-      → Open h l × (Within (tableOf h l) (h .g) × ((n ≤ h .max) × (PathRoom h path nodes × Along h l n path nodes)))
-  walks-on k = (w .opened, (w .within, (k .key .deep, (has-room (k .letters) (k .ends), k .key .along))))
+      → Open h l × (Within (tableOf h l) (h .g)
+      × ((n ≤ h .max) × (PathRoom h path nodes × Along h l n path nodes)))
+  walks-on k =
+      (w .opened, (w .within, (k .key .deep, (has-room (k .letters) (k .ends), k .key .along))))

@@ -1,5 +1,6 @@
--- 01, "Walking, storing, listing": "gives the first stored key that meets it". What a search tells of the key that it was to find, and the
--- path that it leaves: the key's letters, and the nodes on its way, the root first.
+-- 01, "Walking, storing, listing": "gives the first stored key that meets it". What a search tells
+-- of the key that it was to find, and the path that it leaves: the key's letters, and the nodes on
+-- its way, the root first.
 use Prim.Native.Nat.{ℕ, suc, _-_, _≤_, _<_}
 use mathlib.Core.Path.{_≡_}
 use mathlib.Core.Bool.{Bool}
@@ -21,7 +22,8 @@ pub record PathRoom (h : Head) (path nodes : List ℕ) : Type 0 where
 -- the first `depth` letters of the path lead from the root to the nodes that stand beside them
 pub record Along (h : Head) (l : List ℕ) (depth : ℕ) (path nodes : List ℕ) : Type 0 where
   pub letters : LettersBelow (h .n) (take depth path)
-  pub ends : (j : ℕ) → j ≤ depth → descend (tableOf h l) 0 (take j path) ≡ complete (getD nodes j 0)
+  pub ends : (j : ℕ) → j ≤ depth → descend (tableOf h l) 0 (take j path)
+      ≡ complete (getD nodes j 0)
 
 -- the path is that of a key
 pub record Reached (h : Head) (l k path nodes : List ℕ) : Type 0 where
@@ -31,7 +33,8 @@ pub record Reached (h : Head) (l k path nodes : List ℕ) : Type 0 where
 
 -- "the first stored key that meets it"
 abbrev pub nextStored : Head → List ℕ → Bool → List ℕ → Option (List ℕ)
-nextStored h l after k = firstMeeting (meets after k) (listing (tableOf h l) (h .n) (h .min) (h .max))
+nextStored h l after k =
+    firstMeeting (meets after k) (listing (tableOf h l) (h .n) (h .min) (h .max))
 
 -- what is answered of a key that there is or is not
 unfoldable pub searchOf : Table → Option (List ℕ) → Search
@@ -39,7 +42,8 @@ unfolding answer
 searchOf t none = Search.Missing
 searchOf t (some k) = Search.Found (length k) (answer t k)
 
-pub record SearchTells (h : Head) (l : List ℕ) (sought : Option (List ℕ)) (r : Search) (path nodes : List ℕ) : Type 0 where
+pub record SearchTells (h : Head) (l : List ℕ) (sought : Option (List ℕ)) (r : Search)
+    (path nodes : List ℕ) : Type 0 where
   pub answers : r ≡ searchOf (tableOf h l) sought
   pub reached : (k : List ℕ) → sought ≡ some k → Reached h l k path nodes
 
@@ -47,9 +51,11 @@ pub record SearchTells (h : Head) (l : List ℕ) (sought : Option (List ℕ)) (r
 
 -- the stored keys below a node at a depth from a letter on, the letters of the path in front
 unfoldable pub ahead : Head → List ℕ → List ℕ → ℕ → ℕ → ℕ → List (List ℕ)
-ahead h l path depth q x = map (take depth path ++_) (keysFrom (tableOf h l) (h .n) (h .min - depth) (h .max - depth) q x)
+ahead h l path depth q x =
+    map (take depth path ++_) (keysFrom (tableOf h l) (h .n) (h .min - depth) (h .max - depth) q x)
 
--- the stored keys still to come when the path's first `depth` letters are walked and the letters below x are done there
+-- the stored keys still to come when the path's first `depth` letters are walked and the letters
+-- below x are done there
 unfoldable pub coming : Head → List ℕ → List ℕ → ℕ → ℕ → List (List ℕ)
 coming h l path depth x = beyond (tableOf h l) (h .n) (h .min) (h .max) 0 (take depth path) x
 

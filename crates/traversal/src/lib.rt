@@ -1,6 +1,7 @@
-// The stored keys of an image in order: the first at or after a key, and the one after that. A caller has checked the image once; from then
-// on every function here walks without a second check. The search remembers the path of the key that it found, letters and nodes, so
-// that the key after it is found from there and a whole listing is one walk through the image.
+// The stored keys of an image in order: the first at or after a key, and the one after that. A
+// caller has checked the image once; from then on every function here walks without a second
+// check. The search remembers the path of the key that it found, letters and nodes, so that the
+// key after it is found from there and a whole listing is one walk through the image.
 ghost use mathlib.Core.Path.{_≡_};
 ghost use mathlib.Core.Bool.{true};
 ghost use mathlib.Core.List.{List};
@@ -11,7 +12,8 @@ ghost use Rattle.trie.specs.Beyond.{firstOf};
 ghost use Rattle.node.specs.Image.{Open, Masks, tableOf};
 ghost use Rattle.key.specs.Hand.{Ready, lettersOf};
 ghost use Rattle.depths.specs.Depths.{ownValue};
-ghost use Rattle.traversal.specs.Search.{ahead, coming, PathRoom, Along, PathKept, Followed, nextStored, SearchTells};
+ghost use Rattle.traversal.specs.Search.{ahead, coming, PathRoom, Along, PathKept, Followed};
+ghost use Rattle.traversal.specs.Search.{nextStored, SearchTells};
 use head::Head;
 use key::Key;
 
@@ -21,8 +23,8 @@ pub enum Search {
     Missing,
 }
 
-// The first stored key at or after the key in hand, or after it. Its letters are at the front of the path then, and the nodes are those
-// on its way from the root on.
+// The first stored key at or after the key in hand, or after it. Its letters are at the front of
+// the path then, and the nodes are those on its way from the root on.
 pub fn next(
     image: &[u8],
     h: Head,
@@ -33,7 +35,9 @@ pub fn next(
 ) -> Search
     requires { ⌜ Open h (now image) ⌝ ∗ ⌜ Within (tableOf h (now image)) (h .g) ⌝ }
     requires { ⌜ Ready h key ⌝ ∗ ⌜ key .len ≤ h .max ⌝ ∗ ⌜ PathRoom h (now path) (now nodes) ⌝ }
-    ensures { λ r. ⌜ SearchTells h (now (image .entry)) (nextStored h (now (image .entry)) after (lettersOf key)) r (now (path .exit)) (now (nodes .exit)) ⌝ }
+    ensures { λ r. ⌜ SearchTells h (now (image .entry))
+        (nextStored h (now (image .entry)) after (lettersOf key)) r (now (path .exit))
+        (now (nodes .exit)) ⌝ }
     ensures { λ r. ⌜ PathRoom h (now (path .exit)) (now (nodes .exit)) ⌝ }
 {
     let mask = node::mask(h);
@@ -62,22 +66,27 @@ pub fn next(
     climb(image, h, mask, depth, 0, path, nodes)
 }
 
-// The first stored key after the one whose letters are the first `len` of the path, with its nodes. Over a whole listing each link is
-// looked at once.
+// The first stored key after the one whose letters are the first `len` of the path, with its
+// nodes. Over a whole listing each link is looked at once.
 pub fn onward(image: &[u8], h: Head, len: usize, path: &mut [u8], nodes: &mut [u32]) -> Search
     requires { ⌜ Open h (now image) ⌝ ∗ ⌜ Within (tableOf h (now image)) (h .g) ⌝ }
-    requires { ⌜ len ≤ h .max ⌝ ∗ ⌜ PathRoom h (now path) (now nodes) ⌝ ∗ ⌜ Along h (now image) len (now path) (now nodes) ⌝ }
-    ensures { λ r. ⌜ SearchTells h (now (image .entry)) (nextStored h (now (image .entry)) true (take len (now (path .entry)))) r (now (path .exit)) (now (nodes .exit)) ⌝ }
+    requires { ⌜ len ≤ h .max ⌝ ∗ ⌜ PathRoom h (now path) (now nodes) ⌝
+        ∗ ⌜ Along h (now image) len (now path) (now nodes) ⌝ }
+    ensures { λ r. ⌜ SearchTells h (now (image .entry))
+        (nextStored h (now (image .entry)) true (take len (now (path .entry)))) r
+        (now (path .exit)) (now (nodes .exit)) ⌝ }
     ensures { λ r. ⌜ PathRoom h (now (path .exit)) (now (nodes .exit)) ⌝ }
 {
     climb(image, h, node::mask(h), len, 0, path, nodes)
 }
 
-// The root's own value, where the empty key is stored, else 0: the front of a listing. `onward` goes on from there with no letters.
+// The root's own value, where the empty key is stored, else 0: the front of a listing. `onward`
+// goes on from there with no letters.
 pub fn start(image: &[u8], h: Head, nodes: &mut [u32]) -> u64
     requires { ⌜ Open h (now image) ⌝ ∗ ⌜ 0 < length (now nodes) ⌝ }
     ensures { λ r. ⌜ r ≡ ownValue h (tableOf h (now (image .entry))) 0 0 ⌝ }
-    ensures { λ r. ⌜ ((path : List ℕ) → Along h (now (image .entry)) 0 path (now (nodes .exit))) ⌝ }
+    ensures { λ r. ⌜ ((path : List ℕ) → Along h (now (image .entry)) 0 path
+        (now (nodes .exit))) ⌝ }
 {
     nodes[0] = 0;
     depths::own_value(image, h, 0, 0)
@@ -85,9 +94,11 @@ pub fn start(image: &[u8], h: Head, nodes: &mut [u32]) -> u64
 
 // Follows a key as far as its links go, and answers how far that is.
 fn along(image: &[u8], h: Head, mask: u32, key: Key, path: &mut [u8], nodes: &mut [u32]) -> usize
-    requires { ⌜ Open h (now image) ⌝ ∗ ⌜ Within (tableOf h (now image)) (h .g) ⌝ ∗ ⌜ Masks h mask ⌝ }
+    requires { ⌜ Open h (now image) ⌝ ∗ ⌜ Within (tableOf h (now image)) (h .g) ⌝
+        ∗ ⌜ Masks h mask ⌝ }
     requires { ⌜ Ready h key ⌝ ∗ ⌜ key .len ≤ h .max ⌝ ∗ ⌜ PathRoom h (now path) (now nodes) ⌝ }
-    ensures { λ r. ⌜ Followed h (now (image .entry)) (lettersOf key) (now (path .exit)) (now (nodes .exit)) r ⌝ }
+    ensures { λ r. ⌜ Followed h (now (image .entry)) (lettersOf key) (now (path .exit))
+        (now (nodes .exit)) r ⌝ }
 {
     let letters = key.letters;
     let len = key.len;
@@ -108,8 +119,9 @@ fn along(image: &[u8], h: Head, mask: u32, key: Key, path: &mut [u8], nodes: &mu
     depth
 }
 
-// The first stored key below the path's end from a letter on or, where there is none, behind the letter taken at each node on the way up.
-// Only a node from whose first letter on is sought can be fruitless: by every other a key led on.
+// The first stored key below the path's end from a letter on or, where there is none, behind the
+// letter taken at each node on the way up. Only a node from whose first letter on is sought can be
+// fruitless: by every other a key led on.
 fn climb(
     image: &[u8],
     h: Head,
@@ -119,10 +131,14 @@ fn climb(
     path: &mut [u8],
     nodes: &mut [u32],
 ) -> Search
-    requires { ⌜ Open h (now image) ⌝ ∗ ⌜ Within (tableOf h (now image)) (h .g) ⌝ ∗ ⌜ Masks h mask ⌝ }
+    requires { ⌜ Open h (now image) ⌝ ∗ ⌜ Within (tableOf h (now image)) (h .g) ⌝
+        ∗ ⌜ Masks h mask ⌝ }
     requires { ⌜ end ≤ h .max ⌝ ∗ ⌜ (0 < first → end < h .max) ⌝ }
-    requires { ⌜ PathRoom h (now path) (now nodes) ⌝ ∗ ⌜ Along h (now image) end (now path) (now nodes) ⌝ }
-    ensures { λ r. ⌜ SearchTells h (now (image .entry)) (firstOf (coming h (now (image .entry)) (now (path .entry)) end first)) r (now (path .exit)) (now (nodes .exit)) ⌝ }
+    requires { ⌜ PathRoom h (now path) (now nodes) ⌝
+        ∗ ⌜ Along h (now image) end (now path) (now nodes) ⌝ }
+    ensures { λ r. ⌜ SearchTells h (now (image .entry))
+        (firstOf (coming h (now (image .entry)) (now (path .entry)) end first)) r
+        (now (path .exit)) (now (nodes .exit)) ⌝ }
 {
     let mut depth = end;
     let mut from = first;
@@ -146,8 +162,8 @@ fn climb(
     }
 }
 
-// The first stored key below a node at a depth whose next letter is `from` or a later one. It calls itself on each child; the depth left to
-// max falls.
+// The first stored key below a node at a depth whose next letter is `from` or a later one. It
+// calls itself on each child; the depth left to max falls.
 fn below(
     image: &[u8],
     h: Head,
@@ -158,11 +174,16 @@ fn below(
     path: &mut [u8],
     nodes: &mut [u32],
 ) -> Search
-    requires { ⌜ Open h (now image) ⌝ ∗ ⌜ Within (tableOf h (now image)) (h .g) ⌝ ∗ ⌜ Masks h mask ⌝ }
+    requires { ⌜ Open h (now image) ⌝ ∗ ⌜ Within (tableOf h (now image)) (h .g) ⌝
+        ∗ ⌜ Masks h mask ⌝ }
     requires { ⌜ depth < h .max ⌝ ∗ ⌜ PathRoom h (now path) (now nodes) ⌝ }
-    requires { ⌜ Along h (now image) depth (now path) (now nodes) ⌝ ∗ ⌜ node ≡ getD (now nodes) depth 0 ⌝ }
-    ensures { λ r. ⌜ SearchTells h (now (image .entry)) (firstOf (ahead h (now (image .entry)) (now (path .entry)) depth node from)) r (now (path .exit)) (now (nodes .exit)) ⌝ }
-    ensures { λ r. ⌜ PathKept depth (now (path .entry)) (now (nodes .entry)) (now (path .exit)) (now (nodes .exit)) ⌝ }
+    requires { ⌜ Along h (now image) depth (now path) (now nodes) ⌝
+        ∗ ⌜ node ≡ getD (now nodes) depth 0 ⌝ }
+    ensures { λ r. ⌜ SearchTells h (now (image .entry))
+        (firstOf (ahead h (now (image .entry)) (now (path .entry)) depth node from)) r
+        (now (path .exit)) (now (nodes .exit)) ⌝ }
+    ensures { λ r. ⌜ PathKept depth (now (path .entry)) (now (nodes .entry)) (now (path .exit))
+        (now (nodes .exit)) ⌝ }
 {
     for i in from..h.n {
         let c = node::link(image, h, mask, node, i);

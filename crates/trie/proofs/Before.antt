@@ -1,5 +1,5 @@
--- 01's order of keys is strict and total. Keys that begin alike are ordered by what follows, others by their first letter
--- (`before-cases`): each law is that fact followed letter by letter.
+-- 01's order of keys is strict and total. Keys that begin alike are ordered by what follows,
+-- others by their first letter (`before-cases`): each law is that fact followed letter by letter.
 use Prim.Native.Nat.{ℕ, _<_, _≤_}
 use native.Mathlib.Omega.{arith}
 use mathlib.Core.Bool.{Bool, true, false, not, true≢false}
@@ -7,7 +7,8 @@ use mathlib.Core.List.{List, [], _∷_, _++_}
 use mathlib.Core.Logic.{_↔_, _≢_, _⊎_, inl, inr}
 use mathlib.Core.Path.{_≡_, refl, sym, _∙_, ap, ap₂}
 use lib.Dec.{eqb}
-use borrow.Author.Tests.{eqb-true, eqb-false, ltb-true, ltb-false, lt-ltb, eq-eqb, ne-eqb, not-true}
+use borrow.Author.Tests.{eqb-true, eqb-false, ltb-true, ltb-false, lt-ltb, eq-eqb, ne-eqb}
+use borrow.Author.Tests.{not-true}
 use Rattle.trie.specs.Keys.{before, meets}
 
 -- keys that begin with one letter are ordered by what follows it
@@ -20,7 +21,8 @@ unfolding before
 before-lower x y k m h = let ne : x ≡ y → ⊥ = λ e. omega arith in rw (ne-eqb x y ne) (lt-ltb x y h)
 
 -- what decides between two keys that both have a letter
-pub before-cases : (x y : ℕ) (k m : List ℕ) → before (x ∷ k) (y ∷ m) ≡ true → (x < y) ⊎ ((x ≡ y) × (before k m ≡ true))
+pub before-cases : (x y : ℕ) (k m : List ℕ) → before (x ∷ k) (y ∷ m) ≡ true
+    → (x < y) ⊎ ((x ≡ y) × (before k m ≡ true))
 unfolding before
 before-cases x y k m h = go (eqb x y) refl
   where
@@ -43,7 +45,8 @@ before-trans [] (y ∷ m) [] h g = absurd (true≢false (sym g))
 before-trans [] (y ∷ m) (z ∷ l) h g = refl
 before-trans (x ∷ k) [] l h g = absurd (true≢false (sym h))
 before-trans (x ∷ k) (y ∷ m) [] h g = absurd (true≢false (sym g))
-before-trans (x ∷ k) (y ∷ m) (z ∷ l) h g = go (before-trans k m l) (before-cases x y k m h) (before-cases y z m l g)
+before-trans (x ∷ k) (y ∷ m) (z ∷ l) h g =
+    go (before-trans k m l) (before-cases x y k m h) (before-cases y z m l g)
   where
     go : (before k m ≡ true → before m l ≡ true → before k l ≡ true)
         → (x < y) ⊎ ((x ≡ y) × (before k m ≡ true))
@@ -68,7 +71,8 @@ before-total [] (y ∷ m) h g = absurd (true≢false h)
 before-total (x ∷ k) [] h g = absurd (true≢false g)
 before-total (x ∷ k) (y ∷ m) h g = go (before-total k m) (eqb x y) refl
   where
-    go : (before k m ≡ false → before m k ≡ false → k ≡ m) → (b : Bool) → eqb x y ≡ b → x ∷ k ≡ y ∷ m
+    go : (before k m ≡ false → before m k ≡ false → k ≡ m) → (b : Bool) → eqb x y ≡ b
+        → x ∷ k ≡ y ∷ m
     go on true e =
         let same : x ≡ y = eqb-true x y e in
         ap₂ _∷_ same (on (rw e at h) (rw (eq-eqb y x (sym same)) at g))
@@ -85,32 +89,43 @@ before-extension [] x m = refl
 before-extension (y ∷ k) x m = before-cons y k (k ++ x ∷ m) ∙ before-extension k x m
 
 -- "after" a key is "at or after" it, and not that key
-pub meets-after : (given k : List ℕ) → (meets true given k ≡ true) ↔ ((meets false given k ≡ true) × (k ≢ given))
+pub meets-after : (given k : List ℕ) → (meets true given k ≡ true)
+    ↔ ((meets false given k ≡ true) × (k ≢ given))
 unfolding meets
-meets-after given k = (λ h. (rw (before-asym given k h), λ e. before-apart given k h (sym e)), λ h. go (h .0) (h .1) (before given k) refl)
+meets-after given k = (
+  λ h. (rw (before-asym given k h), λ e. before-apart given k h (sym e)),
+  λ h. go (h .0) (h .1)
+      (before given k) refl,
+)
   where
-    go : not (before k given) ≡ true → k ≢ given → (b : Bool) → before given k ≡ b → before given k ≡ true
+    go : not (before k given) ≡ true → k ≢ given → (b : Bool) → before given k ≡ b → before given k
+        ≡ true
     go at-or-after other true e = e
-    go at-or-after other false e = absurd (other (before-total k given (not-true (before k given) at-or-after) e))
+    go at-or-after other false e =
+        absurd (other (before-total k given (not-true (before k given) at-or-after) e))
 
--- What decides a request at a key's first letter, "after" and "at or after" alike: the empty key comes before, a lower letter too, the
--- same letter leaves it to what follows, and a higher one comes after.
+-- What decides a request at a key's first letter, "after" and "at or after" alike: the empty key
+-- comes before, a lower letter too, the same letter leaves it to what follows, and a higher one
+-- comes after.
 pub meets-empty : (after : Bool) (y : ℕ) (k : List ℕ) → meets after (y ∷ k) [] ≡ false
 unfolding meets before
 meets-empty true y k = refl
 meets-empty false y k = refl
 
-pub meets-lower : (after : Bool) (x y : ℕ) (k m : List ℕ) → x < y → meets after (y ∷ k) (x ∷ m) ≡ false
+pub meets-lower : (after : Bool) (x y : ℕ) (k m : List ℕ) → x < y → meets after (y ∷ k) (x ∷ m)
+    ≡ false
 unfolding meets
 meets-lower true x y k m h = before-asym (x ∷ m) (y ∷ k) (before-lower x y m k h)
 meets-lower false x y k m h = ap not (before-lower x y m k h)
 
-pub meets-cons : (after : Bool) (y : ℕ) (k m : List ℕ) → meets after (y ∷ k) (y ∷ m) ≡ meets after k m
+pub meets-cons : (after : Bool) (y : ℕ) (k m : List ℕ) → meets after (y ∷ k) (y ∷ m)
+    ≡ meets after k m
 unfolding meets
 meets-cons true y k m = before-cons y k m
 meets-cons false y k m = ap not (before-cons y m k)
 
-pub meets-higher : (after : Bool) (x y : ℕ) (k m : List ℕ) → y < x → meets after (y ∷ k) (x ∷ m) ≡ true
+pub meets-higher : (after : Bool) (x y : ℕ) (k m : List ℕ) → y < x → meets after (y ∷ k) (x ∷ m)
+    ≡ true
 unfolding meets
 meets-higher true x y k m h = before-lower y x k m h
 meets-higher false x y k m h = ap not (before-asym (y ∷ k) (x ∷ m) (before-lower y x k m h))

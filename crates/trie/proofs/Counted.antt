@@ -1,5 +1,6 @@
--- Numbers summed one after the other, from none on: how often an address stands in the links of a node, and in those of all nodes, are
--- such sums. A sum is at least each of its parts and any two of them; and where it is above 0, one of its parts is.
+-- Numbers summed one after the other, from none on: how often an address stands in the links of a
+-- node, and in those of all nodes, are such sums. A sum is at least each of its parts and any two
+-- of them; and where it is above 0, one of its parts is.
 use Prim.Native.Nat.{ℕ, zero, suc, _+_, _-_, _≤_, _<_}
 use mathlib.Core.Path.{_≡_}
 use mathlib.Core.Logic.{_≢_}
@@ -37,12 +38,14 @@ module _ {s part : ℕ → ℕ} (sums : Sums s part) where
   some-part zero h = absurd (omega (arith, sums .start))
   some-part (suc k) h = go (decLe 1 (part k)) (λ b. some-part k b)
     where
-      go : Dec (1 ≤ part k) → (1 ≤ s k → (i : ℕ) × (i < k) × (1 ≤ part i)) → (i : ℕ) × (i < suc k) × (1 ≤ part i)
+      go : Dec (1 ≤ part k) → (1 ≤ s k → (i : ℕ) × (i < k) × (1 ≤ part i)) → (i : ℕ) × (i < suc k)
+          × (1 ≤ part i)
       go (yes h) on = (k, omega arith, h)
       go (no b) on = let (i, u, v) = on (omega (arith, sums .more k)) in (i, omega arith, v)
 
   -- no part is above 1, and no two parts are above 0
-  pub one-at-most : (k : ℕ) → ((i : ℕ) → part i ≤ 1) → ((i j : ℕ) → 1 ≤ part i → 1 ≤ part j → i ≡ j) → s k ≤ 1
+  pub one-at-most : (k : ℕ) → ((i : ℕ) → part i ≤ 1)
+      → ((i j : ℕ) → 1 ≤ part i → 1 ≤ part j → i ≡ j) → s k ≤ 1
   one-at-most zero small same = omega (arith, sums .start)
   one-at-most (suc k) small same = go (decLe 1 (part k)) (one-at-most k small same)
     where

@@ -1,5 +1,5 @@
--- A key's walk, one letter at a time: its first bad link, where there is one, and what it answers. Each law is one way that a link can be:
--- none is left, empty, bad, or neither.
+-- A key's walk, one letter at a time: its first bad link, where there is one, and what it answers.
+-- Each law is one way that a link can be: none is left, empty, bad, or neither.
 use Prim.Native.Nat.{ℕ}
 use mathlib.Core.Path.{_≡_, refl, sym, ap, _∙_}
 use mathlib.Core.Logic.{_≢_}
@@ -8,7 +8,8 @@ use mathlib.Core.Option.{none, some}
 use mathlib.Core.List.{List, [], _∷_}
 use native.Mathlib.Omega.{arith}
 use Rattle.trie.specs.Table.{Table, descend, valueAt, fault}
-use Rattle.trie.proofs.Walk.{follow-empty, follow-on, descend-nil, descend-empty, descend-on}
+use Rattle.trie.proofs.Walk.{follow-empty, follow-on, descend-nil, descend-empty}
+use Rattle.trie.proofs.Walk.{descend-on}
 
 module _ (bad : ℕ → ℕ → Bool) (t : Table) (q : ℕ) where
   pub fault-nil : fault bad t q [] ≡ none
@@ -18,25 +19,31 @@ module _ (bad : ℕ → ℕ → Bool) (t : Table) (q : ℕ) where
   module _ (x : ℕ) (xs : List ℕ) where
     pub fault-empty : t .child q x ≡ 0 → fault bad t q (x ∷ xs) ≡ none
     unfolding fault
-    fault-empty e = follow-empty (t .child q x) none (λ c. cond (bad q c) (some q) (fault bad t c xs)) e
+    fault-empty e =
+        follow-empty (t .child q x) none (λ c. cond (bad q c) (some q) (fault bad t c xs)) e
 
     -- a link that is not empty
-    tested : {c : ℕ} → t .child q x ≡ c → c ≢ 0 → fault bad t q (x ∷ xs) ≡ cond (bad q c) (some q) (fault bad t c xs)
+    tested : {c : ℕ} → t .child q x ≡ c → c ≢ 0 → fault bad t q (x ∷ xs) ≡ cond (bad q c) (some q)
+        (fault bad t c xs)
     unfolding fault
     tested {c} e h = rw e (follow-on c none (λ c. cond (bad q c) (some q) (fault bad t c xs)) h)
 
-    pub fault-bad : {c : ℕ} → t .child q x ≡ c → c ≢ 0 → bad q c ≡ true → fault bad t q (x ∷ xs) ≡ some q
+    pub fault-bad : {c : ℕ} → t .child q x ≡ c → c ≢ 0 → bad q c ≡ true → fault bad t q (x ∷ xs)
+        ≡ some q
     fault-bad e h b = tested e h ∙ rw b
 
-    pub fault-on : {c : ℕ} → t .child q x ≡ c → c ≢ 0 → bad q c ≡ false → fault bad t q (x ∷ xs) ≡ fault bad t c xs
+    pub fault-on : {c : ℕ} → t .child q x ≡ c → c ≢ 0 → bad q c ≡ false → fault bad t q (x ∷ xs)
+        ≡ fault bad t c xs
     fault-on e h b = tested e h ∙ rw b
 
     -- a link that is not empty on a path without bad links
-    pub fault-none : {c : ℕ} → t .child q x ≡ c → c ≢ 0 → fault bad t q (x ∷ xs) ≡ none → (bad q c ≡ false) × (fault bad t c xs ≡ none)
+    pub fault-none : {c : ℕ} → t .child q x ≡ c → c ≢ 0 → fault bad t q (x ∷ xs) ≡ none
+        → (bad q c ≡ false) × (fault bad t c xs ≡ none)
     fault-none {c} e h f = go (bad q c) refl
       where
         go : (b : Bool) → bad q c ≡ b → (bad q c ≡ false) × (fault bad t c xs ≡ none)
-        go true b = let w : some q ≡ none = sym (fault-bad e h b) ∙ f in let z : _≡_ {A = ℕ} 0 1 = cc in absurd (omega arith)
+        go true b = let w : some q ≡ none = sym (fault-bad e h b) ∙ f in let z : _≡_ {A = ℕ} 0 1 =
+            cc in absurd (omega arith)
         go false b = (b, sym (fault-on e h b) ∙ f)
 
 -- what the walk from a node answers
@@ -49,5 +56,7 @@ module _ (t : Table) (q : ℕ) where
   unfolding valueAt
   value-empty x xs e = ap (valueAt t) (descend-empty t q x xs e)
 
-  pub value-on : (x : ℕ) (xs : List ℕ) {c : ℕ} → t .child q x ≡ c → c ≢ 0 → valueAt t (descend t q (x ∷ xs)) ≡ valueAt t (descend t c xs)
-  value-on x xs {c} e h = ap (valueAt t) (descend-on t q x xs (λ z. h (sym e ∙ z)) ∙ ap (λ (p : ℕ). descend t p xs) e)
+  pub value-on : (x : ℕ) (xs : List ℕ) {c : ℕ} → t .child q x ≡ c → c ≢ 0
+      → valueAt t (descend t q (x ∷ xs)) ≡ valueAt t (descend t c xs)
+  value-on x xs {c} e h =
+      ap (valueAt t) (descend-on t q x xs (λ z. h (sym e ∙ z)) ∙ ap (λ (p : ℕ). descend t p xs) e)

@@ -1,5 +1,6 @@
--- A table has at most as many stored keys as nodes: each ends at a node, and two that end at one node are equal (`one-key`).
--- That no more keys than numbers below g can have different numbers goes down g: at most one key has the greatest.
+-- A table has at most as many stored keys as nodes: each ends at a node, and two that end at one
+-- node are equal (`one-key`). That no more keys than numbers below g can have different numbers
+-- goes down g: at most one key has the greatest.
 use Prim.Native.Nat.{ℕ, zero, suc, _<_, _≤_}
 use native.Mathlib.Omega.{arith}
 use mathlib.Core.Bool.{Bool, true, false, not}
@@ -24,13 +25,15 @@ unfolding filter
 one-out p [] up alone = omega arith
 one-out p (x ∷ l) up alone =
     let on = one-out p l (up .1) (λ j k a b. alone j k (List·Memᴰ·tail a) (List·Memᴰ·tail b)) in
-    by-test _ p x (λ e. rw e (omega arith)) (λ e. rw (e, filter-every p l (others e)) (omega arith))
+    by-test _ p x (λ e. rw e (omega arith))
+    (λ e. rw (e, filter-every p l (others e)) (omega arith))
   where
     others : p x ≡ false → (k : List ℕ) → List·Memᴰ k l → p k ≡ true
     others e k a =
         by-test _ p k
         (λ f. f)
-        (λ f. absurd (before-apart x k (up .0 k a) (alone x k (List·Memᴰ·head refl) (List·Memᴰ·tail a) e f)))
+        (λ f. absurd (before-apart x k (up .0 k a)
+        (alone x k (List·Memᴰ·head refl) (List·Memᴰ·tail a) e f)))
 
 -- keys in order, each with a number of its own below g
 few : (node : List ℕ → ℕ) (g : ℕ) (l : List (List ℕ)) → Ascending l
@@ -40,7 +43,8 @@ few : (node : List ℕ → ℕ) (g : ℕ) (l : List (List ℕ)) → Ascending l
 few node zero [] up low alone = omega arith
 few node zero (x ∷ l) up low alone = absurd (omega (arith, low x (List·Memᴰ·head refl)))
 few node (suc g) l up low alone =
-    let on = few node g (filter p l) (filter-ascending p l up) lower (λ j k a b. alone j k (held j a .0) (held k b .0)) in
+    let on = few node g (filter p l) (filter-ascending p l up) lower
+    (λ j k a b. alone j k (held j a .0) (held k b .0)) in
     omega (arith, one-out p l up (λ j k a b e f. alone j k a b (top j e ∙ sym (top k f))))
   where
     p : List ℕ → Bool
@@ -63,7 +67,8 @@ abbrev reached : Descent → ℕ
 reached (complete q) = q
 reached (stopped q x xs) = 0
 
-pub listing-few : {t : Table} {g n : ℕ} → Linked t g n → (least most : ℕ) → length (listing t n least most) ≤ suc g
+pub listing-few : {t : Table} {g n : ℕ} → Linked t g n → (least most : ℕ)
+    → length (listing t n least most) ≤ suc g
 listing-few {t} {g} {n} linked least most =
     few node (suc g) (listing t n least most) (keysUnder-ascending t n least most 0) low alone
   where
@@ -71,10 +76,12 @@ listing-few {t} {g} {n} linked least most =
     node k = reached (descend t 0 k)
 
     ends : (k : List ℕ) → List·Memᴰ k (listing t n least most) → descend t 0 k ≡ complete (node k)
-    ends k a = let f = under-listed t n least most 0 k a in f .reaches ∙ ap complete (sym (ap reached (f .reaches)))
+    ends k a = let f = under-listed t n least most 0 k a in
+        f .reaches ∙ ap complete (sym (ap reached (f .reaches)))
 
     low : (k : List ℕ) → List·Memᴰ k (listing t n least most) → node k < suc g
     low k a = omega (arith, complete-within t g k (linked .within) (ends k a))
 
-    alone : (j k : List ℕ) → List·Memᴰ j (listing t n least most) → List·Memᴰ k (listing t n least most) → node j ≡ node k → j ≡ k
+    alone : (j k : List ℕ) → List·Memᴰ j (listing t n least most)
+        → List·Memᴰ k (listing t n least most) → node j ≡ node k → j ≡ k
     alone j k a b e = one-key t j k (linked .once) (ends j a ∙ ap complete e) (ends k b)

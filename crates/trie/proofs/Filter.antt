@@ -1,5 +1,5 @@
--- Those keys of a list that meet a request. Every law asks key by key whether it meets, so each goes down the list; the first key that
--- meets is the first of those that meet.
+-- Those keys of a list that meet a request. Every law asks key by key whether it meets, so each
+-- goes down the list; the first key that meets is the first of those that meet.
 use Prim.Native.Nat.{ℕ, _≤_}
 use native.Mathlib.Omega.{arith}
 use mathlib.Core.Bool.{Bool, true, false, true≢false}
@@ -13,23 +13,27 @@ use Rattle.trie.specs.Keys.{firstMeeting, meets, filter, Ascending}
 use Rattle.trie.specs.Beyond.{firstOf}
 use Rattle.trie.proofs.Before.{meets-any}
 
-pub filter-in : (p : List ℕ → Bool) (k : List ℕ) (l : List (List ℕ)) → p k ≡ true → filter p (k ∷ l) ≡ k ∷ filter p l
+pub filter-in : (p : List ℕ → Bool) (k : List ℕ) (l : List (List ℕ)) → p k ≡ true
+    → filter p (k ∷ l) ≡ k ∷ filter p l
 unfolding filter
 filter-in p k l e = rw e
 
-pub filter-out : (p : List ℕ → Bool) (k : List ℕ) (l : List (List ℕ)) → p k ≡ false → filter p (k ∷ l) ≡ filter p l
+pub filter-out : (p : List ℕ → Bool) (k : List ℕ) (l : List (List ℕ)) → p k ≡ false
+    → filter p (k ∷ l) ≡ filter p l
 unfolding filter
 filter-out p k l e = rw e
 
 -- what holds of a list's filtering whether its first key meets or not
-pub by-test {ℓ} : (X : Type ℓ) (p : List ℕ → Bool) (k : List ℕ) → (p k ≡ true → X) → (p k ≡ false → X) → X
+pub by-test {ℓ} : (X : Type ℓ) (p : List ℕ → Bool) (k : List ℕ) → (p k ≡ true → X)
+    → (p k ≡ false → X) → X
 by-test X p k met unmet = go (p k) refl
   where
     go : (b : Bool) → p k ≡ b → X
     go true e = met e
     go false e = unmet e
 
-pub filter-append : (p : List ℕ → Bool) (l m : List (List ℕ)) → filter p (l ++ m) ≡ filter p l ++ filter p m
+pub filter-append : (p : List ℕ → Bool) (l m : List (List ℕ)) → filter p (l ++ m) ≡ filter p l
+    ++ filter p m
 unfolding filter
 filter-append p [] m = refl
 filter-append p (k ∷ l) m =
@@ -37,7 +41,8 @@ filter-append p (k ∷ l) m =
     by-test _ p k (λ e. rw (e, on)) (λ e. rw (e, on))
 
 -- keys that begin with one letter, where the request leaves it to what follows
-pub filter-map : (p r : List ℕ → Bool) (x : ℕ) (l : List (List ℕ)) → ((k : List ℕ) → p (x ∷ k) ≡ r k)
+pub filter-map : (p r : List ℕ → Bool) (x : ℕ) (l : List (List ℕ))
+    → ((k : List ℕ) → p (x ∷ k) ≡ r k)
     → filter p (map (x ∷_) l) ≡ map (x ∷_) (filter r l)
 unfolding filter
 filter-map p r x [] same = refl
@@ -45,25 +50,31 @@ filter-map p r x (k ∷ l) same =
     let on = filter-map p r x l same in
     by-test _ r k (λ e. rw (same k, e, on)) (λ e. rw (same k, e, on))
 
-pub filter-none : (p : List ℕ → Bool) (l : List (List ℕ)) → ((k : List ℕ) → List·Memᴰ k l → p k ≡ false) → filter p l ≡ []
+pub filter-none : (p : List ℕ → Bool) (l : List (List ℕ))
+    → ((k : List ℕ) → List·Memᴰ k l → p k ≡ false) → filter p l ≡ []
 unfolding filter
 filter-none p [] h = refl
-filter-none p (k ∷ l) h = filter-out p k l (h k (List·Memᴰ·head refl)) ∙ filter-none p l (λ m a. h m (List·Memᴰ·tail a))
+filter-none p (k ∷ l) h =
+    filter-out p k l (h k (List·Memᴰ·head refl)) ∙ filter-none p l (λ m a. h m (List·Memᴰ·tail a))
 
-pub filter-every : (p : List ℕ → Bool) (l : List (List ℕ)) → ((k : List ℕ) → List·Memᴰ k l → p k ≡ true) → filter p l ≡ l
+pub filter-every : (p : List ℕ → Bool) (l : List (List ℕ))
+    → ((k : List ℕ) → List·Memᴰ k l → p k ≡ true) → filter p l ≡ l
 unfolding filter
 filter-every p [] h = refl
 filter-every p (k ∷ l) h =
-    filter-in p k l (h k (List·Memᴰ·head refl)) ∙ ap (k ∷_) (filter-every p l (λ m a. h m (List·Memᴰ·tail a)))
+    filter-in p k l (h k (List·Memᴰ·head refl))
+    ∙ ap (k ∷_) (filter-every p l (λ m a. h m (List·Memᴰ·tail a)))
 
-pub first-filter : (p : List ℕ → Bool) (l : List (List ℕ)) → firstMeeting p l ≡ firstOf (filter p l)
+pub first-filter : (p : List ℕ → Bool) (l : List (List ℕ)) → firstMeeting p l
+    ≡ firstOf (filter p l)
 unfolding firstMeeting filter firstOf
 first-filter p [] = refl
 first-filter p (k ∷ l) =
     let on = first-filter p l in
     by-test _ p k (λ e. rw e) (λ e. rw (e, on))
 
-pub filter-holds : (p : List ℕ → Bool) (l : List (List ℕ)) (m : List ℕ) → List·Memᴰ m (filter p l) ↔ (List·Memᴰ m l × (p m ≡ true))
+pub filter-holds : (p : List ℕ → Bool) (l : List (List ℕ)) (m : List ℕ) → List·Memᴰ m (filter p l)
+    ↔ (List·Memᴰ m l × (p m ≡ true))
 unfolding filter
 filter-holds p [] m = (λ a. absurd (List·Memᴰ·not-nil a), λ h. h .0)
 filter-holds p (k ∷ l) m =
@@ -76,10 +87,12 @@ filter-holds p (k ∷ l) m =
           (List·Memᴰ·cases-cons (rw (filter-in p k l e) at a)),
       λ h.
           rw e
-          (⊎-elim List·Memᴰ·head (λ b. List·Memᴰ·tail (filter-holds p l m .1 (b, h .1))) (List·Memᴰ·cases-cons (h .0))),
+          (⊎-elim List·Memᴰ·head (λ b. List·Memᴰ·tail (filter-holds p l m .1 (b, h .1)))
+          (List·Memᴰ·cases-cons (h .0))),
     ))
     (λ e. (
-      λ a. let h = filter-holds p l m .0 (rw (filter-out p k l e) at a) in (List·Memᴰ·tail (h .0), h .1),
+      λ a. let h =
+          filter-holds p l m .0 (rw (filter-out p k l e) at a) in (List·Memᴰ·tail (h .0), h .1),
       λ h.
           rw e
           (⊎-elim
@@ -88,7 +101,8 @@ filter-holds p (k ∷ l) m =
           (List·Memᴰ·cases-cons (h .0))),
     ))
 
-pub filter-ascending : (p : List ℕ → Bool) (l : List (List ℕ)) → Ascending l → Ascending (filter p l)
+pub filter-ascending : (p : List ℕ → Bool) (l : List (List ℕ)) → Ascending l
+    → Ascending (filter p l)
 unfolding filter
 filter-ascending p [] up = tt
 filter-ascending p (k ∷ l) up =
@@ -104,12 +118,14 @@ filter-length p (k ∷ l) =
     by-test _ p k (λ e. rw e (omega arith)) (λ e. rw e (omega arith))
 
 -- a key that is found stands in the list, and meets
-pub first-listed : (p : List ℕ → Bool) (l : List (List ℕ)) {k : List ℕ} → firstMeeting p l ≡ some k → List·Memᴰ k l × (p k ≡ true)
+pub first-listed : (p : List ℕ → Bool) (l : List (List ℕ)) {k : List ℕ} → firstMeeting p l ≡ some k
+    → List·Memᴰ k l × (p k ≡ true)
 unfolding firstMeeting
 first-listed p [] {k} h = absurd (Option·some-ne-none k (sym h))
 first-listed p (x ∷ l) {k} h =
     by-test _ p x
-    (λ e. let same : x ≡ k = Option·some-injective x k (rw e at h) in (List·Memᴰ·head (sym same), ap p (sym same) ∙ e))
+    (λ e. let same : x ≡ k = Option·some-injective x k (rw e at h) in
+    (List·Memᴰ·head (sym same), ap p (sym same) ∙ e))
     (λ e. let f = first-listed p l (rw e at h) in (List·Memᴰ·tail (f .0), f .1))
 
 -- every key is at or after the empty key

@@ -1,24 +1,29 @@
--- Asking for the key after a key, then for the key after that one, lists what comes after the first key, each key once and in order.
--- In a list in order the keys after the first one that meets are the rest of those that met, so each question shortens what is left.
+-- Asking for the key after a key, then for the key after that one, lists what comes after the
+-- first key, each key once and in order. In a list in order the keys after the first one that
+-- meets are the rest of those that met, so each question shortens what is left.
 use Prim.Native.Nat.{ℕ, zero, suc, _≤_}
 use native.Mathlib.Omega.{arith}
 use mathlib.Core.Bool.{true, false}
-use mathlib.Core.List.{List, [], _∷_, List·Memᴰ, List·Memᴰ·head, nil≢cons, head-eq-of-cons-eq, tail-eq-of-cons-eq}
+use mathlib.Core.List.{List, [], _∷_, List·Memᴰ, List·Memᴰ·head, nil≢cons, head-eq-of-cons-eq}
+use mathlib.Core.List.{tail-eq-of-cons-eq}
 use mathlib.Core.Option.{Option, none, some}
 use mathlib.Core.Path.{_≡_, refl, sym, _∙_, ap, subst}
 use lib.ListN.{length, drop-of-length-le}
 use Rattle.trie.specs.Keys.{before, meets, firstMeeting, filter, withKey, inTurn, Ascending}
 use Rattle.trie.specs.Beyond.{firstOf}
 use Rattle.trie.proofs.Before.{before-irrefl, before-trans, before-asym}
-use Rattle.trie.proofs.Filter.{by-test, filter-in, filter-out, filter-every, filter-holds, filter-length, first-filter}
+use Rattle.trie.proofs.Filter.{by-test, filter-in, filter-out, filter-every, filter-holds}
+use Rattle.trie.proofs.Filter.{filter-length, first-filter}
 
 -- the keys after the first one that comes after k
-pub filter-next : (keys : List (List ℕ)) (k : List ℕ) {m : List ℕ} {ms : List (List ℕ)} → Ascending keys
+pub filter-next : (keys : List (List ℕ)) (k : List ℕ) {m : List ℕ} {ms : List (List ℕ)}
+    → Ascending keys
     → filter (meets true k) keys ≡ m ∷ ms
     → filter (meets true m) keys ≡ ms
 unfolding filter meets
 filter-next [] k up e = absurd (nil≢cons e)
-filter-next (x ∷ l) k {m} {ms} up e = by-test _ (meets true k) x met (unmet (filter-next l k (up .1)))
+filter-next (x ∷ l) k {m} {ms} up e =
+    by-test _ (meets true k) x met (unmet (filter-next l k (up .1)))
   where
     met : before k x ≡ true → filter (meets true m) (x ∷ l) ≡ ms
     met h =
@@ -31,10 +36,12 @@ filter-next (x ∷ l) k {m} {ms} up e = by-test _ (meets true k) x met (unmet (f
         ∙ sym (filter-every (meets true k) l (λ j a. before-trans k x j h (up .0 j a)))
         ∙ tail-eq-of-cons-eq f)
 
-    unmet : (filter (meets true k) l ≡ m ∷ ms → filter (meets true m) l ≡ ms) → before k x ≡ false → filter (meets true m) (x ∷ l) ≡ ms
+    unmet : (filter (meets true k) l ≡ m ∷ ms → filter (meets true m) l ≡ ms) → before k x ≡ false
+        → filter (meets true m) (x ∷ l) ≡ ms
     unmet rest h =
         let f : filter (meets true k) l ≡ m ∷ ms = sym (filter-out (meets true k) x l h) ∙ e in
-        let held : List·Memᴰ m l = filter-holds (meets true k) l m .0 (rw f (List·Memᴰ·head refl)) .0 in
+        let held : List·Memᴰ m l =
+        filter-holds (meets true k) l m .0 (rw f (List·Memᴰ·head refl)) .0 in
         filter-out (meets true m) x l (before-asym x m (up .0 m held)) ∙ rest f
 
 -- the answer to one question
@@ -66,7 +73,8 @@ module _ (keys : List (List ℕ)) (up : Ascending keys) where
 
 -- ---- two ways of asking
 
-with-same : (found : Option (List ℕ)) (f g : List ℕ → List (List ℕ)) → ((m : List ℕ) → found ≡ some m → f m ≡ g m)
+with-same : (found : Option (List ℕ)) (f g : List ℕ → List (List ℕ))
+    → ((m : List ℕ) → found ≡ some m → f m ≡ g m)
     → withKey found f ≡ withKey found g
 unfolding withKey
 with-same none f g h = refl
@@ -80,4 +88,5 @@ pub same-turns : (next other : List ℕ → Option (List ℕ)) (On : List ℕ �
 unfolding inTurn
 same-turns next other On same on zero k p = refl
 same-turns next other On same on (suc times) k p =
-    rw (same k p) (with-same (other k) _ _ (λ m e. ap (m ∷_) (same-turns next other On same on times m (on k m e))))
+    rw (same k p) (with-same (other k) _ _
+    (λ m e. ap (m ∷_) (same-turns next other On same on times m (on k m e))))

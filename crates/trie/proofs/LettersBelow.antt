@@ -1,4 +1,5 @@
--- Keys whose letters are all below n. The type computes letter by letter, so each law goes down the key.
+-- Keys whose letters are all below n. The type computes letter by letter, so each law goes down
+-- the key.
 use Prim.Native.Nat.{ℕ, zero, suc, _≤_, _<_}
 use mathlib.Core.List.{List, [], _∷_, _++_}
 use native.Mathlib.Omega.{arith}
@@ -10,7 +11,8 @@ letters-at n [] l i h = omega arith
 letters-at n (x ∷ k) l zero h = l .0
 letters-at n (x ∷ k) l (suc i) h = letters-at n k (l .1) i (omega arith)
 
-pub letters-of : (n : ℕ) (k : List ℕ) → ((i : ℕ) → i < length k → getD k i 0 < n) → LettersBelow n k
+pub letters-of : (n : ℕ) (k : List ℕ) → ((i : ℕ) → i < length k → getD k i 0 < n)
+    → LettersBelow n k
 letters-of n [] f = tt
 letters-of n (x ∷ k) f = (f 0 (omega arith), letters-of n k (λ i h. f (suc i) (omega arith)))
 

@@ -1,5 +1,5 @@
--- Two tables that agree on the nodes up to g, where no link of the one leads above g: a walk from one of these nodes stays among them, so
--- it goes alike in both.
+-- Two tables that agree on the nodes up to g, where no link of the one leads above g: a walk from
+-- one of these nodes stays among them, so it goes alike in both.
 use Prim.Native.Nat.{ℕ, _≤_}
 use mathlib.Core.Path.{_≡_, refl, sym, _∙_}
 use mathlib.Core.Bool.{Bool, false}
@@ -9,7 +9,8 @@ use native.Mathlib.Decide.{ℕ-discrete}
 use native.Mathlib.Omega.{arith}
 use Rattle.trie.specs.Table.{Table, descend, valueAt, answer, fault}
 use Rattle.trie.specs.Rules.{Within}
-use Rattle.trie.proofs.Faults.{fault-nil, fault-empty, fault-on, fault-none, value-nil, value-empty, value-on}
+use Rattle.trie.proofs.Faults.{fault-nil, fault-empty, fault-on, fault-none, value-nil}
+use Rattle.trie.proofs.Faults.{value-empty, value-on}
 
 -- the nodes up to g have the same links and data
 pub record Agree (s t : Table) (g : ℕ) : Type 0 where
@@ -26,8 +27,10 @@ module _ {s t : Table} {g : ℕ} (same : Agree s t g) (within : Within s g) wher
 
       go : Dec (c ≡ 0) → valueAt s (descend s c xs) ≡ valueAt t (descend t c xs)
           → valueAt s (descend s q (x ∷ xs)) ≡ valueAt t (descend t q (x ∷ xs))
-      go (yes e) rest = value-empty s q x xs e ∙ sym (value-empty t q x xs (sym (same .links q x b) ∙ e))
-      go (no h) rest = value-on s q x xs refl h ∙ rest ∙ sym (value-on t q x xs (sym (same .links q x b)) h)
+      go (yes e) rest =
+          value-empty s q x xs e ∙ sym (value-empty t q x xs (sym (same .links q x b) ∙ e))
+      go (no h) rest =
+          value-on s q x xs refl h ∙ rest ∙ sym (value-on t q x xs (sym (same .links q x b)) h)
 
   pub answer-alike : (k : List ℕ) → answer s k ≡ answer t k
   unfolding answer
@@ -37,7 +40,8 @@ module _ {s t : Table} {g : ℕ} (same : Agree s t g) (within : Within s g) wher
   pub fault-alike : (bad worse : ℕ → ℕ → Bool) → ((q c : ℕ) → bad q c ≡ false → worse q c ≡ false)
       → (q : ℕ) (k : List ℕ) → q ≤ g → fault bad s q k ≡ none → fault worse t q k ≡ none
   fault-alike bad worse milder q [] b e = fault-nil worse t q
-  fault-alike bad worse milder q (x ∷ xs) b e = go (ℕ-discrete c 0) (fault-alike bad worse milder c xs (within q x))
+  fault-alike bad worse milder q (x ∷ xs) b e =
+      go (ℕ-discrete c 0) (fault-alike bad worse milder c xs (within q x))
     where
       c : ℕ
       c = s .child q x
@@ -45,7 +49,8 @@ module _ {s t : Table} {g : ℕ} (same : Agree s t g) (within : Within s g) wher
       there : t .child q x ≡ c
       there = sym (same .links q x b)
 
-      go : Dec (c ≡ 0) → (fault bad s c xs ≡ none → fault worse t c xs ≡ none) → fault worse t q (x ∷ xs) ≡ none
+      go : Dec (c ≡ 0) → (fault bad s c xs ≡ none → fault worse t c xs ≡ none)
+          → fault worse t q (x ∷ xs) ≡ none
       go (yes z) rest = fault-empty worse t q x xs (there ∙ z)
       go (no h) rest =
           let (fair, on) = fault-none bad s q x xs refl h e in

@@ -1,5 +1,6 @@
--- The lowest number that passes a test, told by what passes and what does not. Each law goes up from the first of the numbers: that one
--- passes and is the lowest, or it does not and the rest is searched.
+-- The lowest number that passes a test, told by what passes and what does not. Each law goes up
+-- from the first of the numbers: that one passes and is the lowest, or it does not and the rest is
+-- searched.
 use Prim.Native.Nat.{ℕ, zero, suc, _+_, _≤_, _<_}
 use mathlib.Core.Path.{_≡_, refl, _∙_}
 use mathlib.Core.Bool.{Bool, true, false}
@@ -35,13 +36,16 @@ module _ (p : ℕ → Bool) where
   lowest-none a zero none = omega arith
   lowest-none a (suc k) none =
       let e : suc a + k ≡ a + suc k = omega arith in
-      lowest-on a k (none a (omega arith) (omega arith)) ∙ lowest-none (suc a) k (λ y l h. none y (omega arith) (omega arith)) ∙ e
+      lowest-on a k (none a (omega arith) (omega arith)) ∙ lowest-none (suc a) k
+      (λ y l h. none y (omega arith) (omega arith)) ∙ e
 
   -- one that passes, where none before it does
-  pub lowest-at : (a k y : ℕ) → a ≤ y → y < a + k → p y ≡ true → ((z : ℕ) → a ≤ z → z < y → p z ≡ false) → lowest p a k ≡ y
+  pub lowest-at : (a k y : ℕ) → a ≤ y → y < a + k → p y ≡ true
+      → ((z : ℕ) → a ≤ z → z < y → p z ≡ false) → lowest p a k ≡ y
   lowest-at a zero y low high e none = absurd (omega arith)
   lowest-at a (suc k) y low high e none =
-      go (ℕ-discrete a y) (λ b. lowest-at (suc a) k y b (omega arith) e (λ z c d. none z (omega arith) d))
+      go (ℕ-discrete a y) (λ b. lowest-at (suc a) k y b (omega arith) e
+      (λ z c d. none z (omega arith) d))
     where
       go : Dec (a ≡ y) → (suc a ≤ y → lowest p (suc a) k ≡ y) → lowest p a (suc k) ≡ y
       go (yes s) on = lowest-here a k (rw s e) ∙ s
@@ -52,7 +56,8 @@ module _ (p : ℕ → Bool) where
   none-lowest a zero h y low high = absurd (omega arith)
   none-lowest a (suc k) h y low high = go (p a) refl (λ e. none-lowest (suc a) k e y)
     where
-      go : (b : Bool) → p a ≡ b → (suc a + k ≤ lowest p (suc a) k → suc a ≤ y → y < suc a + k → p y ≡ false) → p y ≡ false
+      go : (b : Bool) → p a ≡ b → (suc a + k ≤ lowest p (suc a) k → suc a ≤ y → y < suc a + k
+          → p y ≡ false) → p y ≡ false
       go true e on = absurd (omega (arith, lowest-here a k e))
       go false e on = at (ℕ-discrete a y)
         where

@@ -1,5 +1,5 @@
--- A store keeps 01's rules on links. A new node's address is greater than all before it, so links go on rising, of which no other law on
--- storing speaks; the rest are `Linked`.
+-- A store keeps 01's rules on links. A new node's address is greater than all before it, so links
+-- go on rising, of which no other law on storing speaks; the rest are `Linked`.
 use Prim.Native.Nat.{ℕ, suc, _+_, _<_}
 use mathlib.Core.List.{List, [], _∷_}
 use mathlib.Core.Logic.{_≢_}
@@ -18,12 +18,15 @@ grow-rising t q x c r h p i = go (grown t q x c p i)
     go (new e f) u = omega arith
     go old u = r p i u
 
-growPath-rising : (t : Table) (q x : ℕ) (xs : List ℕ) (c : ℕ) → Rising t → q < c → Rising (growPath t q x xs c)
+growPath-rising : (t : Table) (q x : ℕ) (xs : List ℕ) (c : ℕ) → Rising t → q < c
+    → Rising (growPath t q x xs c)
 unfolding growPath
 growPath-rising t q x [] c r h = grow-rising t q x c r h
-growPath-rising t q x (y ∷ ys) c r h = growPath-rising (grow t q x c) c y ys (suc c) (grow-rising t q x c r h) (omega arith)
+growPath-rising t q x (y ∷ ys) c r h =
+    growPath-rising (grow t q x c) c y ys (suc c) (grow-rising t q x c r h) (omega arith)
 
-rising : {t s : Table} {g g′ v : ℕ} {k : List ℕ} → Within t g → Rising t → Store t g k v s g′ → Rising s
+rising : {t s : Table} {g g′ v : ℕ} {k : List ℕ} → Within t g → Rising t → Store t g k v s g′
+    → Rising s
 unfolding put
 rising w r (over e) = r
 rising w r (unchanged e) = r
@@ -34,7 +37,8 @@ rising {t} {g = g} {k = k} w r (longer {q} {x} {xs} e) =
 pub rules-linked : {t : Table} {g n : ℕ} → Framed t g n → LinkRules t g → Linked t g n
 rules-linked f r = record { framed = f; within = r .within; named = r .named; once = r .once }
 
-pub stored-rules : {t : Table} {g n : ℕ} → Framed t g n → LinkRules t g → (k : List ℕ) → LettersBelow n k → (v : ℕ)
+pub stored-rules : {t : Table} {g n : ℕ} → Framed t g n → LinkRules t g → (k : List ℕ)
+    → LettersBelow n k → (v : ℕ)
     → LinkRules (stored t g k v) (g + added (missing (descend t 0 k)) v)
 stored-rules {t} {g} f r k letters v =
     let l = stored-linked (rules-linked f r) k letters v in

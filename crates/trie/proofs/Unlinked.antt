@@ -1,5 +1,5 @@
--- A table before its last link was written: it has every link but that one. So the rules that hold with the link hold without it, but
--- for the address that the link holds, which stands in no link.
+-- A table before its last link was written: it has every link but that one. So the rules that hold
+-- with the link hold without it, but for the address that the link holds, which stands in no link.
 use Prim.Native.Nat.{ℕ, _≤_}
 use mathlib.Core.Path.{_≡_, sym, _∙_}
 use mathlib.Core.Logic.{_≢_}
@@ -26,11 +26,14 @@ module _ (t : Table) (q x c : ℕ) (empty : t .child q x ≡ 0) where
   unlinked-rising r p i h = rw (there p i h) at (r p i (rw (there p i h) h))
 
   pub unlinked-once : Once (grow t q x c) → Once t
-  unlinked-once once p i r j h e = once p i r j (rw (there p i h) h) (there p i h ∙ e ∙ sym (there r j (rw (← e) h)))
+  unlinked-once once p i r j h e =
+      once p i r j (rw (there p i h) h) (there p i h ∙ e ∙ sym (there r j (rw (← e) h)))
 
   -- every other address stands in the link that it stood in
-  pub unlinked-names : {g : ℕ} → Named (grow t q x c) g → (y : ℕ) → 1 ≤ y → y ≤ g → y ≢ c → (p : ℕ) × (i : ℕ) × (t .child p i ≡ y)
-  unlinked-names named y low high other = let (p, i, e) = named y low high in (p, i, go (grown t q x c p i) e)
+  pub unlinked-names : {g : ℕ} → Named (grow t q x c) g → (y : ℕ) → 1 ≤ y → y ≤ g → y ≢ c
+      → (p : ℕ) × (i : ℕ) × (t .child p i ≡ y)
+  unlinked-names named y low high other =
+      let (p, i, e) = named y low high in (p, i, go (grown t q x c p i) e)
     where
       go : {p i z : ℕ} → Grown t q x c p i z → z ≡ y → t .child p i ≡ y
       go (new _ _) e = absurd (other (sym e))
@@ -40,5 +43,7 @@ module _ (t : Table) (q x c : ℕ) (empty : t .child q x ≡ 0) where
   pub unlinked-none : c ≢ 0 → Once (grow t q x c) → (p i : ℕ) → t .child p i ≢ c
   unlinked-none h once p i e =
       let full : t .child p i ≢ 0 = rw e h in
-      let same : (p ≡ q) × (i ≡ x) = once p i q x (rw (there p i full) full) (there p i full ∙ e ∙ sym (grow-child t q x c)) in
+      let same : (p ≡ q) × (i ≡ x) =
+      once p i q x (rw (there p i full) full) (there p i full ∙ e ∙ sym (grow-child t q x c))
+      in
       full (rw (same .0, same .1) empty)

@@ -1,5 +1,6 @@
--- The stored keys of a table in order (01, "Walking, storing, listing": "A stored key is one with length in min..max whose data is
--- not 0", "Order: a key comes before its extensions; otherwise the first different letter number decides").
+-- The stored keys of a table in order (01, "Walking, storing, listing": "A stored key is one with
+-- length in min..max whose data is not 0", "Order: a key comes before its extensions; otherwise
+-- the first different letter number decides").
 use Prim.Native.Nat.{ℕ, zero, suc, pred}
 use mathlib.Core.Bool.{Bool, true, false, not, cond}
 use mathlib.Core.Option.{Option, none, some}
@@ -19,18 +20,20 @@ unfolding present
 ownKey t zero q = present (t .value q)
 ownKey t (suc short) q = []
 
--- the keys that begin with letter i, then those with i + 1, for m letters in all; keys i has what follows the letter i
+-- the keys that begin with letter i, then those with i + 1, for m letters in all; keys i has what
+-- follows the letter i
 unfoldable pub byLetter : (ℕ → List (List ℕ)) → ℕ → ℕ → List (List ℕ)
 byLetter keys i zero = []
 byLetter keys i (suc m) = map (λ (k : List ℕ). i ∷ k) (keys i) ++ byLetter keys (suc i) m
 
--- The stored keys at or under a node, in order, written from that node on. `short` letters are needed before a key is long enough,
--- `left` letters are allowed, and a node has n links.
+-- The stored keys at or under a node, in order, written from that node on. `short` letters are
+-- needed before a key is long enough, `left` letters are allowed, and a node has n links.
 unfoldable pub keysUnder : Table → ℕ → ℕ → ℕ → ℕ → List (List ℕ)
 unfolding ownKey byLetter follow
 keysUnder t n short zero q = ownKey t short q
 keysUnder t n short (suc left) q =
-    ownKey t short q ++ byLetter (λ i. follow (t .child q i) [] (λ c. keysUnder t n (pred short) left c)) 0 n
+    ownKey t short q ++ byLetter
+    (λ i. follow (t .child q i) [] (λ c. keysUnder t n (pred short) left c)) 0 n
 
 -- the listing: the stored keys of a table with n letters, for keys of least to most letters
 abbrev pub listing : Table → ℕ → ℕ → ℕ → List (List ℕ)
@@ -64,8 +67,8 @@ unfoldable pub withKey : Option (List ℕ) → (List ℕ → List (List ℕ)) �
 withKey none keys = []
 withKey (some k) keys = keys k
 
--- What is heard when one asks for the key after k, then for the key after that one, and so on, `times` times in all or until there is
--- none. `next` answers one question.
+-- What is heard when one asks for the key after k, then for the key after that one, and so on,
+-- `times` times in all or until there is none. `next` answers one question.
 unfoldable pub inTurn : (List ℕ → Option (List ℕ)) → ℕ → List ℕ → List (List ℕ)
 unfolding withKey
 inTurn next zero k = []

@@ -1,5 +1,6 @@
--- 01's rules on links, each by itself and then as one record ("Links: every link that isn't empty is at most G and greater than the address of the node it
--- stands in. Every address from 1 to G stands in exactly one link"). The table has no link outside its nodes and letters (`Framed`), so
+-- 01's rules on links, each by itself and then as one record ("Links: every link that isn't empty
+-- is at most G and greater than the address of the node it stands in. Every address from 1 to G
+-- stands in exactly one link"). The table has no link outside its nodes and letters (`Framed`), so
 -- no rule repeats these bounds; an empty link is 0, which is at most G.
 use Prim.Native.Nat.{ℕ, _≤_, _<_}
 use mathlib.Core.Path.{_≡_}
@@ -28,14 +29,16 @@ Named t g = (x : ℕ) → 1 ≤ x → x ≤ g → (q : ℕ) × (i : ℕ) × (t .
 abbrev pub Once : Table → Type 0
 Once t = (q i p j : ℕ) → t .child q i ≢ 0 → t .child q i ≡ t .child p j → (q ≡ p) × (i ≡ j)
 
--- The rules together, for a table whose greatest address is g: what an accepted image's table meets.
+-- The rules together, for a table whose greatest address is g: what an accepted image's table
+-- meets.
 pub record LinkRules (t : Table) (g : ℕ) : Type 0 where
   pub within : Within t g
   pub rising : Rising t
   pub named : Named t g
   pub once : Once t
 
--- What every law on storing asks of a table, and gives back. It leaves out `Rising`: no law on trees needs it.
+-- What every law on storing asks of a table, and gives back. It leaves out `Rising`: no law on
+-- trees needs it.
 pub record Linked (t : Table) (g n : ℕ) : Type 0 where
   pub framed : Framed t g n
   pub within : Within t g

@@ -1,6 +1,8 @@
--- What a store does to a table (01, "Walking, storing, listing": "Store, path complete: only the D data bytes change. Path incomplete and
--- value 0: nothing changes, answer 0. Path incomplete otherwise: the empty link that stopped the walk receives G+1; nodes G+1 to G+k are
--- written in key order, each linking to the next by the key's letter, all else zero; the last holds the value").
+-- What a store does to a table (01, "Walking, storing, listing": "Store, path complete: only the D
+-- data bytes change. Path incomplete and value 0: nothing changes, answer 0. Path incomplete
+-- otherwise: the empty link that stopped the walk receives G+1; nodes G+1 to G+k are written in
+-- key order, each linking to the next by the key's letter, all else zero; the last holds the
+-- value").
 use Prim.Native.Nat.{ℕ, zero, suc, _+_}
 use mathlib.Core.Bool.{_&&_, cond}
 use mathlib.Core.List.{List, [], _∷_}
@@ -15,20 +17,24 @@ put t q v = record { child = t .child; value = λ p. cond (eqb p q) v (t .value 
 
 -- node c linked by letter x of node q
 unfoldable pub grow : Table → ℕ → ℕ → ℕ → Table
-grow t q x c = record { child = λ p i. cond (eqb p q && eqb i x) c (t .child p i); value = t .value }
+grow t q x c =
+    record { child = λ p i. cond (eqb p q && eqb i x) c (t .child p i); value = t .value }
 
--- a fresh node linked by letter x of node q, and below it one for each letter that follows, by rising address
+-- a fresh node linked by letter x of node q, and below it one for each letter that follows, by
+-- rising address
 unfoldable pub growPath : Table → ℕ → ℕ → List ℕ → ℕ → Table
 unfolding grow
 growPath t q x [] fresh = grow t q x fresh
 growPath t q x (y ∷ ys) fresh = growPath (grow t q x fresh) fresh y ys (suc fresh)
 
--- what a store of a value does where the key's walk ended so, in a table whose greatest address is g
+-- what a store of a value does where the key's walk ended so, in a table whose greatest address is
+-- g
 unfoldable pub storedBy : Descent → Table → ℕ → ℕ → Table
 unfolding put growPath
 storedBy (complete q) t g v = put t q v
 storedBy (stopped q x xs) t g zero = t
-storedBy (stopped q x xs) t g (suc v) = put (growPath t q x xs (suc g)) (g + suc (length xs)) (suc v)
+storedBy (stopped q x xs) t g (suc v) =
+    put (growPath t q x xs (suc g)) (g + suc (length xs)) (suc v)
 
 unfoldable pub stored : Table → ℕ → List ℕ → ℕ → Table
 unfolding storedBy descend
@@ -39,7 +45,8 @@ unfoldable pub added : ℕ → ℕ → ℕ
 added missed zero = 0
 added missed (suc v) = missed
 
--- "the change in the number of stored keys: -1, 0 or 1", by what the key answered before and its new value
+-- "the change in the number of stored keys: -1, 0 or 1", by what the key answered before and its
+-- new value
 unfoldable pub changeOf : ℕ → ℕ → ℤ
 changeOf zero zero = pos 0
 changeOf zero (suc v) = pos 1

@@ -1,5 +1,5 @@
--- A trie as a table of nodes, and the walk through it (01, "Walking, storing, listing"). No bytes: `node` turns an image into a table.
--- A node is its address, the root is 0, and link 0 is empty.
+-- A trie as a table of nodes, and the walk through it (01, "Walking, storing, listing"). No bytes:
+-- `node` turns an image into a table. A node is its address, the root is 0, and link 0 is empty.
 use Prim.Native.Nat.{ℕ, zero, suc, _<_}
 use mathlib.Core.Bool.{Bool, cond}
 use mathlib.Core.Option.{Option, none, some}
@@ -16,8 +16,8 @@ unfoldable pub follow {ℓ} : {X : Type ℓ} → ℕ → X → (ℕ → X) → X
 follow zero empty on = empty
 follow (suc c) empty on = on (suc c)
 
--- How a key's walk ends: at the key's own node, or at an empty link. There it names the node that holds the empty link, the letter
--- that met it and the letters after that one.
+-- How a key's walk ends: at the key's own node, or at an empty link. There it names the node that
+-- holds the empty link, the letter that met it and the letters after that one.
 pub data Descent : Type 0 where
   complete : ℕ → Descent
   stopped : ℕ → ℕ → List ℕ → Descent
@@ -33,7 +33,8 @@ unfoldable pub valueAt : Table → Descent → ℕ
 valueAt t (complete q) = t .value q
 valueAt t (stopped q x xs) = 0
 
--- what a key answers: its value, or 0 for absent. "The empty key, where min is 0, is the root's data."
+-- what a key answers: its value, or 0 for absent. "The empty key, where min is 0, is the root's
+-- data."
 unfoldable pub answer : Table → List ℕ → ℕ
 unfolding valueAt descend
 answer t k = valueAt t (descend t 0 k)
@@ -48,9 +49,11 @@ unfoldable pub missing : Descent → ℕ
 missing (complete q) = 0
 missing (stopped q x xs) = suc (length xs)
 
--- "the first refusal met on the way down is the answer, and its place is the node that holds that link": the node of the first link
--- on the key's path that is bad, where there is one. An empty link ends the path.
+-- "the first refusal met on the way down is the answer, and its place is the node that holds that
+-- link": the node of the first link on the key's path that is bad, where there is one. An empty
+-- link ends the path.
 unfoldable pub fault : (ℕ → ℕ → Bool) → Table → ℕ → List ℕ → Option ℕ
 unfolding follow
 fault bad t q [] = none
-fault bad t q (x ∷ xs) = follow (t .child q x) none (λ c. cond (bad q c) (some q) (fault bad t c xs))
+fault bad t q (x ∷ xs) =
+    follow (t .child q x) none (λ c. cond (bad q c) (some q) (fault bad t c xs))

@@ -1,8 +1,11 @@
-// The C face: what a bench links. Each function calls one public call of the library and lists the numbers of its answer; its promise is
-// that call's own. A slice comes as a pointer and a length. include/trieff.h declares all of it for C.
+// The C face: what a bench links. Each function calls one public call of the library and lists the
+// numbers of its answer; its promise is that call's own. A slice comes as a pointer and a length.
+// include/trieff.h declares all of it for C.
 ghost use Rattle.paper.specs.Given.{asLetters, asText};
-ghost use Rattle.paper.specs.Promises.{Makes, Checks, CountsKeys, LooksUp, Stores, StoresWrites, Mends, Nexts};
-ghost use Rattle.position.specs.Promises.{WorksOut, ChecksCounts, StoresCounts, GivesKey, GivesPosition};
+ghost use Rattle.paper.specs.Promises.{Makes, Checks, CountsKeys, LooksUp, Stores, StoresWrites};
+ghost use Rattle.paper.specs.Promises.{Mends, Nexts};
+ghost use Rattle.position.specs.Promises.{WorksOut, ChecksCounts, StoresCounts, GivesKey};
+ghost use Rattle.position.specs.Promises.{GivesPosition};
 ghost use Rattle.face.specs.Face.{numbersOf};
 use face::TrieffAnswer;
 use head::Head;
@@ -17,7 +20,8 @@ pub extern "C" fn trieff_make(
     min: u32,
     max: u32,
 ) -> TrieffAnswer
-    ensures { λ r. ⌜ Makes (now (image .entry)) n a d (now (alphabet .entry)) min max (numbersOf r) (now (image .exit)) ⌝ }
+    ensures { λ r. ⌜ Makes (now (image .entry)) n a d (now (alphabet .entry)) min max (numbersOf r)
+        (now (image .exit)) ⌝ }
 {
     let answer = images::make(image, n, a, d, alphabet, min, max);
     face::done(answer)
@@ -25,7 +29,8 @@ pub extern "C" fn trieff_make(
 
 #[no_mangle]
 pub extern "C" fn trieff_check(image: &[u8], work: &mut [u32]) -> TrieffAnswer
-    ensures { λ r. ⌜ Checks (now (image .entry)) (now (work .entry)) (numbersOf r) (now (work .exit)) ⌝ }
+    ensures { λ r. ⌜ Checks (now (image .entry)) (now (work .entry)) (numbersOf r)
+        (now (work .exit)) ⌝ }
 {
     let answer = checks::check(image, work);
     face::done(answer)
@@ -33,7 +38,8 @@ pub extern "C" fn trieff_check(image: &[u8], work: &mut [u32]) -> TrieffAnswer
 
 #[no_mangle]
 pub extern "C" fn trieff_count(image: &[u8], work: &mut [u32]) -> TrieffAnswer
-    ensures { λ r. ⌜ CountsKeys (now (image .entry)) (now (work .entry)) (numbersOf r) (now (work .exit)) ⌝ }
+    ensures { λ r. ⌜ CountsKeys (now (image .entry)) (now (work .entry)) (numbersOf r)
+        (now (work .exit)) ⌝ }
 {
     let answer = checks::count(image, work);
     face::counted(answer)
@@ -41,7 +47,8 @@ pub extern "C" fn trieff_count(image: &[u8], work: &mut [u32]) -> TrieffAnswer
 
 #[no_mangle]
 pub extern "C" fn trieff_look_up(image: &[u8], letters: &[u8]) -> TrieffAnswer
-    ensures { λ r. ⌜ LooksUp (now (image .entry)) (asLetters (now (letters .entry))) (numbersOf r) ⌝ }
+    ensures { λ r. ⌜ LooksUp (now (image .entry)) (asLetters (now (letters .entry)))
+        (numbersOf r) ⌝ }
 {
     let answer = lookups::look_up(image, letters);
     face::looked(answer)
@@ -62,7 +69,9 @@ pub extern "C" fn trieff_store(
     letters: &[u8],
     value: u32,
 ) -> TrieffAnswer
-    ensures { λ r. ⌜ Stores (now (image .entry)) (now (work .entry)) (asLetters (now (letters .entry))) value (numbersOf r) (now (image .exit)) (now (work .exit)) ⌝ }
+    ensures { λ r. ⌜ Stores (now (image .entry)) (now (work .entry))
+        (asLetters (now (letters .entry))) value (numbersOf r) (now (image .exit))
+        (now (work .exit)) ⌝ }
 {
     let answer = stores::store(image, work, letters, value);
     face::stored(answer)
@@ -75,7 +84,8 @@ pub extern "C" fn trieff_store_text(
     text: &[u8],
     value: u32,
 ) -> TrieffAnswer
-    ensures { λ r. ⌜ Stores (now (image .entry)) (now (work .entry)) (asText (now (text .entry))) value (numbersOf r) (now (image .exit)) (now (work .exit)) ⌝ }
+    ensures { λ r. ⌜ Stores (now (image .entry)) (now (work .entry)) (asText (now (text .entry)))
+        value (numbersOf r) (now (image .exit)) (now (work .exit)) ⌝ }
 {
     let answer = stores::store_text(image, work, text, value);
     face::stored(answer)
@@ -89,7 +99,9 @@ pub extern "C" fn trieff_store_writes(
     value: u32,
     writes: &mut [u32; Head::NOTED_MOST as usize],
 ) -> TrieffAnswer
-    ensures { λ r. ⌜ StoresWrites (now (image .entry)) (now (work .entry)) (asLetters (now (letters .entry))) value (now (writes .entry)) (numbersOf r) (now (image .exit)) (now (work .exit)) (now (writes .exit)) ⌝ }
+    ensures { λ r. ⌜ StoresWrites (now (image .entry)) (now (work .entry))
+        (asLetters (now (letters .entry))) value (now (writes .entry)) (numbersOf r)
+        (now (image .exit)) (now (work .exit)) (now (writes .exit)) ⌝ }
 {
     let answer = stores::store_writes(image, work, letters, value, writes);
     face::noted(answer)
@@ -103,7 +115,9 @@ pub extern "C" fn trieff_store_text_writes(
     value: u32,
     writes: &mut [u32; Head::NOTED_MOST as usize],
 ) -> TrieffAnswer
-    ensures { λ r. ⌜ StoresWrites (now (image .entry)) (now (work .entry)) (asText (now (text .entry))) value (now (writes .entry)) (numbersOf r) (now (image .exit)) (now (work .exit)) (now (writes .exit)) ⌝ }
+    ensures { λ r. ⌜ StoresWrites (now (image .entry)) (now (work .entry))
+        (asText (now (text .entry))) value (now (writes .entry)) (numbersOf r) (now (image .exit))
+        (now (work .exit)) (now (writes .exit)) ⌝ }
 {
     let answer = stores::store_text_writes(image, work, text, value, writes);
     face::noted(answer)
@@ -111,7 +125,8 @@ pub extern "C" fn trieff_store_text_writes(
 
 #[no_mangle]
 pub extern "C" fn trieff_mend(image: &mut [u8], work: &mut [u32]) -> TrieffAnswer
-    ensures { λ r. ⌜ Mends (now (image .entry)) (now (work .entry)) (numbersOf r) (now (image .exit)) (now (work .exit)) ⌝ }
+    ensures { λ r. ⌜ Mends (now (image .entry)) (now (work .entry)) (numbersOf r)
+        (now (image .exit)) (now (work .exit)) ⌝ }
 {
     let answer = images::mend(image, work);
     face::done(answer)
@@ -125,7 +140,8 @@ pub extern "C" fn trieff_next_key(
     after: bool,
     key: &mut [u8],
 ) -> TrieffAnswer
-    ensures { λ r. ⌜ Nexts (now (image .entry)) (now (work .entry)) (now (letters .entry)) after (now (key .entry)) (numbersOf r) (now (work .exit)) (now (key .exit)) ⌝ }
+    ensures { λ r. ⌜ Nexts (now (image .entry)) (now (work .entry)) (now (letters .entry)) after
+        (now (key .entry)) (numbersOf r) (now (work .exit)) (now (key .exit)) ⌝ }
 {
     let answer = checks::next_key(image, work, letters, after, key);
     face::found(answer)
@@ -133,7 +149,8 @@ pub extern "C" fn trieff_next_key(
 
 #[no_mangle]
 pub extern "C" fn trieff_counts(image: &[u8], work: &mut [u32], list: &mut [u32]) -> TrieffAnswer
-    ensures { λ r. ⌜ WorksOut (now (image .entry)) (now (work .entry)) (now (list .entry)) (numbersOf r) (now (work .exit)) (now (list .exit)) ⌝ }
+    ensures { λ r. ⌜ WorksOut (now (image .entry)) (now (work .entry)) (now (list .entry))
+        (numbersOf r) (now (work .exit)) (now (list .exit)) ⌝ }
 {
     let answer = counts::counts(image, work, list);
     face::done(answer)
@@ -141,7 +158,8 @@ pub extern "C" fn trieff_counts(image: &[u8], work: &mut [u32], list: &mut [u32]
 
 #[no_mangle]
 pub extern "C" fn trieff_check_counts(image: &[u8], work: &mut [u32], list: &[u32]) -> TrieffAnswer
-    ensures { λ r. ⌜ ChecksCounts (now (image .entry)) (now (work .entry)) (now (list .entry)) (numbersOf r) (now (work .exit)) ⌝ }
+    ensures { λ r. ⌜ ChecksCounts (now (image .entry)) (now (work .entry)) (now (list .entry))
+        (numbersOf r) (now (work .exit)) ⌝ }
 {
     let answer = counts::check_counts(image, work, list);
     face::done(answer)
@@ -155,7 +173,9 @@ pub extern "C" fn trieff_store_counts(
     value: u32,
     list: &mut [u32],
 ) -> TrieffAnswer
-    ensures { λ r. ⌜ StoresCounts (now (image .entry)) (now (work .entry)) (asLetters (now (letters .entry))) value (now (list .entry)) (numbersOf r) (now (image .exit)) (now (work .exit)) (now (list .exit)) ⌝ }
+    ensures { λ r. ⌜ StoresCounts (now (image .entry)) (now (work .entry))
+        (asLetters (now (letters .entry))) value (now (list .entry)) (numbersOf r)
+        (now (image .exit)) (now (work .exit)) (now (list .exit)) ⌝ }
 {
     let answer = counts::store_counts(image, work, letters, value, list);
     face::stored(answer)
@@ -169,7 +189,9 @@ pub extern "C" fn trieff_store_text_counts(
     value: u32,
     list: &mut [u32],
 ) -> TrieffAnswer
-    ensures { λ r. ⌜ StoresCounts (now (image .entry)) (now (work .entry)) (asText (now (text .entry))) value (now (list .entry)) (numbersOf r) (now (image .exit)) (now (work .exit)) (now (list .exit)) ⌝ }
+    ensures { λ r. ⌜ StoresCounts (now (image .entry)) (now (work .entry))
+        (asText (now (text .entry))) value (now (list .entry)) (numbersOf r) (now (image .exit))
+        (now (work .exit)) (now (list .exit)) ⌝ }
 {
     let answer = counts::store_text_counts(image, work, text, value, list);
     face::stored(answer)
@@ -183,7 +205,8 @@ pub extern "C" fn trieff_key_at(
     position: u64,
     key: &mut [u8],
 ) -> TrieffAnswer
-    ensures { λ r. ⌜ GivesKey (now (image .entry)) (now (work .entry)) (now (list .entry)) position (now (key .entry)) (numbersOf r) (now (work .exit)) (now (key .exit)) ⌝ }
+    ensures { λ r. ⌜ GivesKey (now (image .entry)) (now (work .entry)) (now (list .entry)) position
+        (now (key .entry)) (numbersOf r) (now (work .exit)) (now (key .exit)) ⌝ }
 {
     let answer = jumps::key_at(image, work, list, position, key);
     face::found(answer)
@@ -196,7 +219,8 @@ pub extern "C" fn trieff_position(
     list: &[u32],
     letters: &[u8],
 ) -> TrieffAnswer
-    ensures { λ r. ⌜ GivesPosition (now (image .entry)) (now (work .entry)) (now (list .entry)) (asLetters (now (letters .entry))) (numbersOf r) (now (work .exit)) ⌝ }
+    ensures { λ r. ⌜ GivesPosition (now (image .entry)) (now (work .entry)) (now (list .entry))
+        (asLetters (now (letters .entry))) (numbersOf r) (now (work .exit)) ⌝ }
 {
     let answer = jumps::position(image, work, list, letters);
     face::placed(answer)
@@ -209,7 +233,8 @@ pub extern "C" fn trieff_position_text(
     list: &[u32],
     text: &[u8],
 ) -> TrieffAnswer
-    ensures { λ r. ⌜ GivesPosition (now (image .entry)) (now (work .entry)) (now (list .entry)) (asText (now (text .entry))) (numbersOf r) (now (work .exit)) ⌝ }
+    ensures { λ r. ⌜ GivesPosition (now (image .entry)) (now (work .entry)) (now (list .entry))
+        (asText (now (text .entry))) (numbersOf r) (now (work .exit)) ⌝ }
 {
     let answer = jumps::position_text(image, work, list, text);
     face::placed(answer)

@@ -1,5 +1,6 @@
--- The characters of a text, one at a time from a place on. Each takes a byte at least, so a number that only counts down and is enough to
--- reach the text's end tells the same as any other that is (`charsFrom-enough`): the laws need no count.
+-- The characters of a text, one at a time from a place on. Each takes a byte at least, so a number
+-- that only counts down and is enough to reach the text's end tells the same as any other that is
+-- (`charsFrom-enough`): the laws need no count.
 use mathlib.Core.Path.{_≡_, refl, sym, ap, _∙_}
 use mathlib.Core.Logic.{_≢_}
 use mathlib.Core.Bool.{Bool, true, false}
@@ -23,7 +24,8 @@ pub prepend-nil : (r : Option (List ℕ)) → prepend [] r ≡ r
 prepend-nil none = refl
 prepend-nil (some ds) = refl
 
-pub prepend-append : (cs ds : List ℕ) (r : Option (List ℕ)) → prepend cs (prepend ds r) ≡ prepend (cs ++ ds) r
+pub prepend-append : (cs ds : List ℕ) (r : Option (List ℕ)) → prepend cs (prepend ds r)
+    ≡ prepend (cs ++ ds) r
 prepend-append cs ds none = refl
 prepend-append cs ds (some es) = ap some (sym (append-assoc cs ds es))
 
@@ -40,26 +42,37 @@ unfolding charsFrom
 at-end zero l at h = rw (le-leb (length l) at h)
 at-end (suc more) l at h = rw (le-leb (length l) at h)
 
-before-end : (more : ℕ) (l : List ℕ) (at : ℕ) → at < length l → charsFrom (suc more) l at ≡ inFront (charLen l at) (charAt l at) (charsFrom more l (at + charLen l at))
+before-end : (more : ℕ) (l : List ℕ) (at : ℕ) → at < length l → charsFrom (suc more) l at
+    ≡ inFront (charLen l at) (charAt l at) (charsFrom more l (at + charLen l at))
 unfolding charsFrom
 before-end more l at h = rw (lt-leb (length l) at h)
 
-no-character : (more : ℕ) (l : List ℕ) (at : ℕ) → at < length l → charLen l at ≡ 0 → charsFrom (suc more) l at ≡ none
+no-character : (more : ℕ) (l : List ℕ) (at : ℕ) → at < length l → charLen l at ≡ 0
+    → charsFrom (suc more) l at ≡ none
 unfolding inFront
-no-character more l at h e = before-end more l at h ∙ ap (λ (n : ℕ). inFront n (charAt l at) (charsFrom more l (at + charLen l at))) e
+no-character more l at h e =
+    before-end more l at h ∙ ap
+    (λ (n : ℕ). inFront n (charAt l at) (charsFrom more l (at + charLen l at))) e
 
-one-more : (more : ℕ) (l : List ℕ) (at : ℕ) → at < length l → charLen l at ≢ 0 → charsFrom (suc more) l at ≡ prepend (charAt l at ∷ []) (charsFrom more l (at + charLen l at))
-one-more more l at h e = before-end more l at h ∙ in-front (charLen l at) (charAt l at) (charsFrom more l (at + charLen l at)) e
+one-more : (more : ℕ) (l : List ℕ) (at : ℕ) → at < length l → charLen l at ≢ 0
+    → charsFrom (suc more) l at ≡ prepend (charAt l at ∷ []) (charsFrom more l (at + charLen l at))
+one-more more l at h e = before-end more l at h ∙ in-front (charLen l at) (charAt l at)
+    (charsFrom more l (at + charLen l at)) e
 
-pub chars-enough : (a b : ℕ) (l : List ℕ) (at : ℕ) → length l ≤ at + a → length l ≤ at + b → charsFrom a l at ≡ charsFrom b l at
+pub chars-enough : (a b : ℕ) (l : List ℕ) (at : ℕ) → length l ≤ at + a → length l ≤ at + b
+    → charsFrom a l at ≡ charsFrom b l at
 chars-enough zero b l at ha hb = at-end 0 l at (omega arith) ∙ sym (at-end b l at (omega arith))
-chars-enough (suc a) zero l at ha hb = at-end (suc a) l at (omega arith) ∙ sym (at-end 0 l at (omega arith))
-chars-enough (suc a) (suc b) l at ha hb = go (leb (length l) at) refl (charLen l at) refl (λ h. chars-enough a b l (at + charLen l at) (omega arith) (omega arith))
+chars-enough (suc a) zero l at ha hb =
+    at-end (suc a) l at (omega arith) ∙ sym (at-end 0 l at (omega arith))
+chars-enough (suc a) (suc b) l at ha hb = go (leb (length l) at) refl (charLen l at) refl
+    (λ h. chars-enough a b l (at + charLen l at) (omega arith) (omega arith))
   where
     go : (t : Bool) → leb (length l) at ≡ t → (n : ℕ) → charLen l at ≡ n
-        → (charLen l at ≢ 0 → charsFrom a l (at + charLen l at) ≡ charsFrom b l (at + charLen l at))
+        → (charLen l at ≢ 0 → charsFrom a l (at + charLen l at) ≡ charsFrom b l
+        (at + charLen l at))
         → charsFrom (suc a) l at ≡ charsFrom (suc b) l at
-    go true t n e next = let h : length l ≤ at = leb-true _ _ t in at-end (suc a) l at h ∙ sym (at-end (suc b) l at h)
+    go true t n e next = let h : length l ≤ at = leb-true _ _ t in
+        at-end (suc a) l at h ∙ sym (at-end (suc b) l at h)
     go false t zero e next =
         let h : at < length l = leb-false _ _ t in
         no-character a l at h e ∙ sym (no-character b l at h e)
@@ -87,7 +100,8 @@ enough l at h = chars-enough (length l) (suc (length l)) l at (omega arith) (ome
 pub chars-ill : (l : List ℕ) (at : ℕ) → at < length l → charLen l at ≡ 0 → charsAt l at ≡ none
 chars-ill l at h e = enough l at h ∙ no-character (length l) l at h e
 
-pub chars-more : (l : List ℕ) (at : ℕ) → at < length l → charLen l at ≢ 0 → charsAt l at ≡ prepend (charAt l at ∷ []) (charsAt l (at + charLen l at))
+pub chars-more : (l : List ℕ) (at : ℕ) → at < length l → charLen l at ≢ 0 → charsAt l at
+    ≡ prepend (charAt l at ∷ []) (charsAt l (at + charLen l at))
 chars-more l at h e = enough l at h ∙ one-more (length l) l at h e
 
 -- ---- a loop over the characters: cs are those before place at
@@ -97,9 +111,11 @@ pub record Passed (l cs : List ℕ) (at : ℕ) : Type 0 where
   pub before : chars l ≡ prepend cs (charsAt l at)
 
 pub passed-none : (l : List ℕ) → Passed l [] 0
-passed-none l = record { within = omega arith; before = chars-start l ∙ sym (prepend-nil (charsAt l 0)) }
+passed-none l =
+    record { within = omega arith; before = chars-start l ∙ sym (prepend-nil (charsAt l 0)) }
 
-pub passed-more : {l cs : List ℕ} {at n c : ℕ} → Passed l cs at → n ≡ charLen l at → n ≢ 0 → c ≡ charAt l at → Passed l (cs ++ (c ∷ [])) (at + n)
+pub passed-more : {l cs : List ℕ} {at n c : ℕ} → Passed l cs at → n ≡ charLen l at → n ≢ 0
+    → c ≡ charAt l at → Passed l (cs ++ (c ∷ [])) (at + n)
 passed-more {l} {cs} {at} {n} {c} p e h d =
     let k : charLen l at ≢ 0 = omega arith in
     let w : at + charLen l at ≤ length l = character l at k .whole in
@@ -115,5 +131,6 @@ passed-more {l} {cs} {at} {n} {c} p e h d =
 pub passed-all : {l cs : List ℕ} {at : ℕ} → Passed l cs at → length l ≤ at → chars l ≡ some cs
 passed-all {l} {cs} {at} p h = p .before ∙ ap (prepend cs) (chars-end l at h) ∙ simp append-nil
 
-pub passed-ill : {l cs : List ℕ} {at : ℕ} → Passed l cs at → at < length l → charLen l at ≡ 0 → chars l ≡ none
+pub passed-ill : {l cs : List ℕ} {at : ℕ} → Passed l cs at → at < length l → charLen l at ≡ 0
+    → chars l ≡ none
 passed-ill {l} {cs} {at} p h e = p .before ∙ ap (prepend cs) (chars-ill l at h e)

@@ -1,5 +1,5 @@
--- What the loops keep. Testing a row, the tests passed leave those of the later bytes; consulting the table, the rows passed leave the
--- later rows. Either loop is done where nothing is left.
+-- What the loops keep. Testing a row, the tests passed leave those of the later bytes; consulting
+-- the table, the rows passed leave the later rows. Either loop is done where nothing is left.
 use mathlib.Core.Path.{_≡_, refl, _∙_}
 use mathlib.Core.Bool.{true, false, _&&_}
 use Prim.Native.Nat.{ℕ, zero, suc, _+_, _-_, _≤_, _<_}
@@ -15,7 +15,8 @@ use Rattle.utf8.proofs.Characters.{length-fits, length-passes}
 
 -- ---- a row
 
-pub third-byte : (row : List ℕ) (i b : ℕ) → (i ≡ 0 → ⊥) → (i ≡ 1 → ⊥) → inRange row i b ≡ inRange row 2 b
+pub third-byte : (row : List ℕ) (i b : ℕ) → (i ≡ 0 → ⊥) → (i ≡ 1 → ⊥) → inRange row i b
+    ≡ inRange row 2 b
 unfolding inRange
 third-byte row zero b h k = absurd (h refl)
 third-byte row (suc zero) b h k = absurd (k refl)
@@ -29,7 +30,8 @@ pub record Testing (row l : List ℕ) (at n i : ℕ) : Type 0 where
 pub testing-none : (row l : List ℕ) (at n : ℕ) → Testing row l at n 0
 testing-none row l at n = record { within = omega arith; tests = rw (sub-zero n) refl }
 
-next : (row l : List ℕ) (at n i : ℕ) → i < n → inRanges row l at i (n - i) ≡ (inRange row i (getD l (at + i) 0) && inRanges row l at (i + 1) (n - (i + 1)))
+next : (row l : List ℕ) (at n i : ℕ) → i < n → inRanges row l at i (n - i)
+    ≡ (inRange row i (getD l (at + i) 0) && inRanges row l at (i + 1) (n - (i + 1)))
 unfolding inRanges
 next row l at n i h = let e : n - i ≡ suc (n - (i + 1)) = omega arith in rw (e, add-one i)
 
@@ -37,7 +39,8 @@ module _ {row l : List ℕ} {at n i : ℕ} (p : Testing row l at n i) where
   pub testing-more : i < n → inRange row i (getD l (at + i) 0) ≡ true → Testing row l at n (i + 1)
   testing-more h e = record { within = omega arith; tests = p .tests ∙ next row l at n i h ∙ rw e }
 
-  pub testing-fails : i < n → inRange row i (getD l (at + i) 0) ≡ false → inRanges row l at 0 n ≡ false
+  pub testing-fails : i < n → inRange row i (getD l (at + i) 0) ≡ false → inRanges row l at 0 n
+      ≡ false
   testing-fails h e = p .tests ∙ next row l at n i h ∙ rw e
 
   pub testing-all : n ≤ i → inRanges row l at 0 n ≡ true
@@ -48,7 +51,8 @@ pub fits-not : (row l : List ℕ) (at : ℕ) → length l < at + getD row 4 0 �
 unfolding fitsRow
 fits-not row l at h = rw (lt-leb (at + getD row 4 0) (length l) h)
 
-pub fits-if : (row l : List ℕ) (at : ℕ) → at + getD row 4 0 ≤ length l → fitsRow row l at ≡ inRanges row l at 0 (getD row 4 0)
+pub fits-if : (row l : List ℕ) (at : ℕ) → at + getD row 4 0 ≤ length l → fitsRow row l at
+    ≡ inRanges row l at 0 (getD row 4 0)
 unfolding fitsRow
 fits-if row l at h = rw (le-leb (at + getD row 4 0) (length l) h)
 
@@ -63,15 +67,19 @@ pub consulting-none : (rs : List (List ℕ)) (l : List ℕ) (at : ℕ) → Consu
 consulting-none rs l at = record { within = omega arith; rest = refl }
 
 module _ {rs : List (List ℕ)} {l : List ℕ} {at i : ℕ} (p : Consulting rs l at i) where
-  pub consulting-more : i < length rs → fitsRow (getD rs i []) l at ≡ false → Consulting rs l at (i + 1)
+  pub consulting-more : i < length rs → fitsRow (getD rs i []) l at ≡ false
+      → Consulting rs l at (i + 1)
   consulting-more h e =
       record {
         within = omega arith;
-        rest = p .rest ∙ rw (drop-cons rs i [] h, add-one i) (length-passes (getD rs i []) (drop (suc i) rs) l at e);
+        rest = p .rest ∙ rw (drop-cons rs i [] h, add-one i)
+            (length-passes (getD rs i []) (drop (suc i) rs) l at e);
       }
 
-  pub consulting-fits : i < length rs → fitsRow (getD rs i []) l at ≡ true → lengthBy rs l at ≡ getD (getD rs i []) 4 0
-  consulting-fits h e = p .rest ∙ rw (drop-cons rs i [] h) (length-fits (getD rs i []) (drop (suc i) rs) l at e)
+  pub consulting-fits : i < length rs → fitsRow (getD rs i []) l at ≡ true → lengthBy rs l at
+      ≡ getD (getD rs i []) 4 0
+  consulting-fits h e =
+      p .rest ∙ rw (drop-cons rs i [] h) (length-fits (getD rs i []) (drop (suc i) rs) l at e)
 
   pub consulting-all : length rs ≤ i → lengthBy rs l at ≡ 0
   unfolding lengthBy

@@ -1,6 +1,7 @@
--- 01, "The image": "Well-formed is Table 3-7 of the Unicode Standard, nine rows of ranges, each telling the first and second byte ...
--- Third and fourth bytes are 80..BF." A row: the lowest and the highest first byte, the lowest and the highest second byte (0 where the
--- character has none), and the character's bytes.
+-- 01, "The image": "Well-formed is Table 3-7 of the Unicode Standard, nine rows of ranges, each
+-- telling the first and second byte ... Third and fourth bytes are 80..BF." A row: the lowest and
+-- the highest first byte, the lowest and the highest second byte (0 where the character has none),
+-- and the character's bytes.
 use Prim.Native.Nat.{ℕ, zero, suc, _+_}
 use mathlib.Core.Bool.{Bool, true, _&&_, cond}
 use mathlib.Core.List.{List, [], _∷_}
@@ -21,7 +22,8 @@ rows =
     ∷ (0xF4 ∷ 0xF4 ∷ 0x80 ∷ 0x8F ∷ 4 ∷ [])
     ∷ []
 
--- the range for byte i of a character of this row: the row tells the first and the second, all others are 80..BF
+-- the range for byte i of a character of this row: the row tells the first and the second, all
+-- others are 80..BF
 unfoldable pub inRange : List ℕ → ℕ → ℕ → Bool
 inRange row zero b = between b (getD row 0 0) (getD row 1 0)
 inRange row (suc zero) b = between b (getD row 2 0) (getD row 3 0)
@@ -38,7 +40,8 @@ unfoldable pub fitsRow : List ℕ → List ℕ → ℕ → Bool
 unfolding inRanges
 fitsRow row l at = leb (at + getD row 4 0) (length l) && inRanges row l at 0 (getD row 4 0)
 
--- the bytes of the character at place at by the first of the given rows that it fits, 0 where it fits none
+-- the bytes of the character at place at by the first of the given rows that it fits, 0 where it
+-- fits none
 unfoldable pub lengthBy : List (List ℕ) → List ℕ → ℕ → ℕ
 unfolding fitsRow
 lengthBy [] l at = 0

@@ -1,10 +1,11 @@
-// Characters of UTF-8: Table 3-7 of the Unicode Standard, consulted by row. Any place of any bytes may be asked
-// for; what stands past the end is no character.
+// Characters of UTF-8: Table 3-7 of the Unicode Standard, consulted by row. Any place of any bytes
+// may be asked for; what stands past the end is no character.
 ghost use mathlib.Core.Path.{_≡_};
 ghost use Rattle.utf8.specs.Table37.{inRange, fitsRow, charLen};
 ghost use Rattle.utf8.specs.Text.{charAt};
 
-// A row: the lowest and the highest first byte, the lowest and the highest second byte, and the character's bytes.
+// A row: the lowest and the highest first byte, the lowest and the highest second byte, and the
+// character's bytes.
 const ROWS: [[u8; 5]; 9] = [
     [0x00, 0x7F, 0x00, 0x00, 1],
     [0xC2, 0xDF, 0x80, 0xBF, 2],
@@ -17,8 +18,8 @@ const ROWS: [[u8; 5]; 9] = [
     [0xF4, 0xF4, 0x80, 0x8F, 4],
 ];
 
-// The bytes of the well-formed character at `at`, 0 where none stands there. The table is bound before the loop, so that
-// the compiler makes the loop nine tests against constants.
+// The bytes of the well-formed character at `at`, 0 where none stands there. The table is bound
+// before the loop, so that the compiler makes the loop nine tests against constants.
 pub fn char_len(s: &[u8], at: usize) -> usize
     ensures { λ r. ⌜ r ≡ charLen (now (s .entry)) at ⌝ }
 {
@@ -34,7 +35,8 @@ pub fn char_len(s: &[u8], at: usize) -> usize
     0
 }
 
-// The same, with the first row asked before the table: a loop over characters that mostly have one byte has that test in it.
+// The same, with the first row asked before the table: a loop over characters that mostly have one
+// byte has that test in it.
 pub fn quick_len(s: &[u8], at: usize) -> usize
     ensures { λ r. ⌜ r ≡ charLen (now (s .entry)) at ⌝ }
 {

@@ -1,5 +1,6 @@
--- The descent from node to node. One letter meets an empty link, a bad one or one to go on by, and each law on a walk goes by these three
--- (`Met`). So a walk along a key (`Walking`) keeps in step with the table's own descent and with its first fault.
+-- The descent from node to node. One letter meets an empty link, a bad one or one to go on by, and
+-- each law on a walk goes by these three (`Met`). So a walk along a key (`Walking`) keeps in step
+-- with the table's own descent and with its first fault.
 use Prim.Native.Nat.{ℕ, _+_, _≤_, _<_}
 use mathlib.Core.Path.{_≡_, refl, sym, _∙_, ap, subst}
 use mathlib.Core.Logic.{_≢_}
@@ -12,7 +13,8 @@ use lib.ListN.{length, drop, length-drop}
 use lib.Seq.{drop-length, drop-drop}
 use Rattle.trie.specs.Table.{Table, complete, stopped, descend, fault}
 use Rattle.trie.proofs.Faults.{fault-nil, fault-empty, fault-bad, fault-on}
-use Rattle.trie.proofs.Walk.{follow-empty, follow-on, descend-nil, descend-empty, descend-on, answer-complete, answer-stopped}
+use Rattle.trie.proofs.Walk.{follow-empty, follow-on, descend-nil, descend-empty, descend-on}
+use Rattle.trie.proofs.Walk.{answer-complete, answer-stopped}
 use Rattle.paper.specs.declared.Looked.{Looked}
 use Rattle.paper.specs.declared.Refusal.the-variants.{Link}
 use Rattle.paper.specs.Rows.{badLink}
@@ -20,7 +22,8 @@ use Rattle.paper.proofs.Linking.{good-link}
 use Rattle.walk.specs.declared.Position.{Position}
 use Rattle.walk.specs.declared.Step.{Step}
 use Rattle.walk.specs.declared.Walked.{Walked}
-use Rattle.walk.specs.Descent.{atRoot, onTo, stepOf, stepTaken, walkedFrom, lookedBy, lookedIn}
+use Rattle.walk.specs.Descent.{atRoot, onTo, stepOf, stepTaken, walkedFrom, lookedBy}
+use Rattle.walk.specs.Descent.{lookedIn}
 
 -- ---- one letter
 
@@ -50,8 +53,10 @@ data Met (g : ℕ) (p : Position) (c : ℕ) : Step → Type 0 where
   bad : c ≢ 0 → badLink g (p .node) c ≡ true → Met g p c (Step.Bad (p .node))
   on : c ≢ 0 → badLink g (p .node) c ≡ false → Met g p c (Step.At (onTo p c))
 
-met : (g : ℕ) (t : Table) (p : Position) (x : ℕ) {s : Step} → stepOf g t p x ≡ s → Met g p (t .child (p .node) x) s
-met g t p x e = subst (λ (s : Step). Met g p c s) e (go (ℕ-discrete c 0) (badLink g (p .node) c) refl)
+met : (g : ℕ) (t : Table) (p : Position) (x : ℕ) {s : Step} → stepOf g t p x ≡ s
+    → Met g p (t .child (p .node) x) s
+met g t p x e =
+    subst (λ (s : Step). Met g p c s) e (go (ℕ-discrete c 0) (badLink g (p .node) c) refl)
   where
     c : ℕ
     c = t .child (p .node) x
@@ -61,18 +66,21 @@ met g t p x e = subst (λ (s : Step). Met g p c s) e (go (ℕ-discrete c 0) (bad
     go (no h) true f = rw (step-bad g t p x refl h f) (bad h f)
     go (no h) false f = rw (step-on g t p x refl h f) (on h f)
 
-pub walked-nil : (g : ℕ) (t : Table) (p : Position) → walkedFrom g t p [] ≡ Walked.Complete (p .node)
+pub walked-nil : (g : ℕ) (t : Table) (p : Position) → walkedFrom g t p [] ≡ Walked.Complete
+    (p .node)
 unfolding walkedFrom
 walked-nil g t p = refl
 
-pub walked-more : (g : ℕ) (t : Table) (p : Position) (x : ℕ) (xs : List ℕ) {s : Step} → stepOf g t p x ≡ s
+pub walked-more : (g : ℕ) (t : Table) (p : Position) (x : ℕ) (xs : List ℕ) {s : Step}
+    → stepOf g t p x ≡ s
     → walkedFrom g t p (x ∷ xs) ≡ stepTaken p s (λ q. walkedFrom g t q xs)
 unfolding walkedFrom
 walked-more g t p x xs e = ap (λ (s : Step). stepTaken p s (λ q. walkedFrom g t q xs)) e
 
 -- ---- a walk along a key
 
--- The walk has come this far: from here on along the letters left it ends as the whole walk does, and so do descent and fault.
+-- The walk has come this far: from here on along the letters left it ends as the whole walk does,
+-- and so do descent and fault.
 pub record Walking (g : ℕ) (t : Table) (k : List ℕ) (here : Position) : Type 0 where
   pub same : walkedFrom g t atRoot k ≡ walkedFrom g t here (drop (here .depth) k)
   pub faults : fault (badLink g) t 0 k ≡ fault (badLink g) t (here .node) (drop (here .depth) k)
@@ -96,13 +104,22 @@ pub record Halted (g : ℕ) (t : Table) (k : List ℕ) (p : Position) : Type 0 w
   pub within : p .node ≤ g
 
 pub walking-start : (g : ℕ) (t : Table) (k : List ℕ) → Walking g t k atRoot
-walking-start g t k = record { same = refl; faults = refl; descents = refl; within = omega arith; deep = omega arith }
+walking-start g t k = record {
+  same = refl;
+  faults = refl;
+  descents = refl;
+  within =
+      omega arith;
+  deep = omega arith;
+}
 
 -- ---- at the key's end
 
-module _ {g : ℕ} {t : Table} {k : List ℕ} {here : Position} (w : Walking g t k here) (h : length k ≤ here .depth) where
+module _ {g : ℕ} {t : Table} {k : List ℕ} {here : Position} (w : Walking g t k here)
+    (h : length k ≤ here .depth) where
   none-left : drop (here .depth) k ≡ []
-  none-left = let e : here .depth ≡ length k = omega (arith, w .deep) in ap (λ (d : ℕ). drop d k) e ∙ drop-length k
+  none-left = let e : here .depth ≡ length k = omega (arith, w .deep) in
+      ap (λ (d : ℕ). drop d k) e ∙ drop-length k
 
   pub walking-end : walkedFrom g t atRoot k ≡ Walked.Complete (here .node)
   walking-end = w .same ∙ ap (walkedFrom g t here) none-left ∙ walked-nil g t here
@@ -110,14 +127,16 @@ module _ {g : ℕ} {t : Table} {k : List ℕ} {here : Position} (w : Walking g t
   arrived : Arrived g t k (here .node)
   arrived =
       record {
-        sound = w .faults ∙ ap (fault (badLink g) t (here .node)) none-left ∙ fault-nil (badLink g) t (here .node);
+        sound = w .faults ∙ ap (fault (badLink g) t (here .node)) none-left
+            ∙ fault-nil (badLink g) t (here .node);
         descent = w .descents ∙ ap (descend t (here .node)) none-left ∙ descend-nil t (here .node);
         within = w .within;
       }
 
 -- ---- before it, where the letters left are x and xs
 
-module _ {g : ℕ} {t : Table} {k : List ℕ} {here : Position} (w : Walking g t k here) {x : ℕ} {xs : List ℕ}
+module _ {g : ℕ} {t : Table} {k : List ℕ} {here : Position} (w : Walking g t k here) {x : ℕ}
+    {xs : List ℕ}
     (l : drop (here .depth) k ≡ x ∷ xs) where
   rest : drop (here .depth + 1) k ≡ xs
   rest = sym (drop-drop 1 (here .depth) k) ∙ ap (drop 1) l
@@ -125,7 +144,8 @@ module _ {g : ℕ} {t : Table} {k : List ℕ} {here : Position} (w : Walking g t
   further : here .depth < length k
   further = omega (arith, length-drop (here .depth) k, ap length l)
 
-  walk-left : {s : Step} → stepOf g t here x ≡ s → walkedFrom g t atRoot k ≡ stepTaken here s (λ q. walkedFrom g t q xs)
+  walk-left : {s : Step} → stepOf g t here x ≡ s → walkedFrom g t atRoot k ≡ stepTaken here s
+      (λ q. walkedFrom g t q xs)
   walk-left e = w .same ∙ ap (walkedFrom g t here) l ∙ walked-more g t here x xs e
 
   fault-left : fault (badLink g) t 0 k ≡ fault (badLink g) t (here .node) (x ∷ xs)
@@ -135,7 +155,8 @@ module _ {g : ℕ} {t : Table} {k : List ℕ} {here : Position} (w : Walking g t
   descent-left = w .descents ∙ ap (descend t (here .node)) l
 
   -- an empty link
-  pub walking-stopped : {s : Step} → s ≡ stepOf g t here x → s ≡ Step.Empty → walkedFrom g t atRoot k ≡ Walked.Stopped here
+  pub walking-stopped : {s : Step} → s ≡ stepOf g t here x → s ≡ Step.Empty
+      → walkedFrom g t atRoot k ≡ Walked.Stopped here
   unfolding stepTaken
   walking-stopped o e = walk-left (sym o ∙ e)
 
@@ -151,13 +172,15 @@ module _ {g : ℕ} {t : Table} {k : List ℕ} {here : Position} (w : Walking g t
       }
 
   -- a bad one
-  pub walking-bad : {s : Step} {q : ℕ} → s ≡ stepOf g t here x → s ≡ Step.Bad q → walkedFrom g t atRoot k ≡ Walked.Bad q
+  pub walking-bad : {s : Step} {q : ℕ} → s ≡ stepOf g t here x → s ≡ Step.Bad q
+      → walkedFrom g t atRoot k ≡ Walked.Bad q
   unfolding stepTaken
   walking-bad o e = walk-left (sym o ∙ e)
 
   -- one to go on by
   onward : {next : Position} → stepOf g t here x ≡ Step.At next
-      → Met g here (t .child (here .node) x) (Step.At next) → Walking g t k next × (next .depth ≡ here .depth + 1)
+      → Met g here (t .child (here .node) x) (Step.At next) → Walking g t k next
+      × (next .depth ≡ here .depth + 1)
   unfolding stepTaken
   onward e (on c b) = (
     record {
@@ -166,7 +189,8 @@ module _ {g : ℕ} {t : Table} {k : List ℕ} {here : Position} (w : Walking g t
           fault-left
           ∙ fault-on (badLink g) t (here .node) x xs refl c b
           ∙ ap (fault (badLink g) t (t .child (here .node) x)) (sym rest);
-      descents = descent-left ∙ descend-on t (here .node) x xs c ∙ ap (descend t (t .child (here .node) x)) (sym rest);
+      descents = descent-left ∙ descend-on t (here .node) x xs c
+          ∙ ap (descend t (t .child (here .node) x)) (sym rest);
       within = good-link g (here .node) (t .child (here .node) x) c b .0;
       deep = omega (arith, further);
     },
@@ -186,15 +210,20 @@ Told g t k (Walked.Bad q) = fault (badLink g) t 0 k ≡ some q
 
 module _ (g : ℕ) (t : Table) (k : List ℕ) where
   -- from where letters are left, by what the next one met
-  told-more : {here : Position} {x : ℕ} {xs : List ℕ} → Walking g t k here → drop (here .depth) k ≡ x ∷ xs
-      → ((next : Position) → Walking g t k next → drop (next .depth) k ≡ xs → Told g t k (walkedFrom g t atRoot k))
-      → {s : Step} → stepOf g t here x ≡ s → Met g here (t .child (here .node) x) s → Told g t k (walkedFrom g t atRoot k)
+  told-more : {here : Position} {x : ℕ} {xs : List ℕ} → Walking g t k here → drop (here .depth) k
+      ≡ x ∷ xs
+      → ((next : Position) → Walking g t k next → drop (next .depth) k ≡ xs
+      → Told g t k (walkedFrom g t atRoot k))
+      → {s : Step} → stepOf g t here x ≡ s → Met g here (t .child (here .node) x) s
+      → Told g t k (walkedFrom g t atRoot k)
   told-more w l go e (empty z) = rw (walking-stopped w l refl e) (halted w l z)
   told-more {here} {x} {xs} w l go e (bad h b) =
-      rw (walking-bad w l refl e) (fault-left w l ∙ fault-bad (badLink g) t (here .node) x xs refl h b)
+      rw (walking-bad w l refl e)
+      (fault-left w l ∙ fault-bad (badLink g) t (here .node) x xs refl h b)
   told-more w l go e (on h b) = go _ (walking-on w l refl e .0) (rest w l)
 
-  told-from : (xs : List ℕ) (here : Position) → Walking g t k here → drop (here .depth) k ≡ xs → Told g t k (walkedFrom g t atRoot k)
+  told-from : (xs : List ℕ) (here : Position) → Walking g t k here → drop (here .depth) k ≡ xs
+      → Told g t k (walkedFrom g t atRoot k)
   told-from [] here w l =
       let h : length k ≤ here .depth = omega (arith, length-drop (here .depth) k, ap length l) in
       rw (walking-end w h) (arrived w h)
@@ -215,9 +244,11 @@ module _ (g : ℕ) (t : Table) (k : List ℕ) where
     walked-bad e = subst (Told g t k) e told
 
     -- what a lookup answers then
-    pub looked-complete : {q : ℕ} → o ≡ Walked.Complete q → lookedIn g t k ≡ Looked.Value (t .value q)
+    pub looked-complete : {q : ℕ} → o ≡ Walked.Complete q → lookedIn g t k ≡ Looked.Value
+        (t .value q)
     unfolding lookedIn lookedBy
-    looked-complete e = let a = walked-complete e in rw (a .sound, answer-complete t k (a .descent))
+    looked-complete e =
+        let a = walked-complete e in rw (a .sound, answer-complete t k (a .descent))
 
     pub looked-stopped : {p : Position} → o ≡ Walked.Stopped p → lookedIn g t k ≡ Looked.Value 0
     unfolding lookedIn lookedBy

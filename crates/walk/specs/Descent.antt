@@ -1,6 +1,7 @@
--- 01, "Walking, storing, listing": "The descent stands at a node and a depth; each letter gives the next position. An empty link means
--- absent [..] At the end the node's data is the value"; "the first refusal met on the way down is the answer, and its place is the node
--- that holds that link".
+-- 01, "Walking, storing, listing": "The descent stands at a node and a depth; each letter gives
+-- the next position. An empty link means absent [..] At the end the node's data is the value";
+-- "the first refusal met on the way down is the answer, and its place is the node that holds that
+-- link".
 use Prim.Native.Nat.{ℕ, _+_}
 use mathlib.Core.Bool.{cond}
 use mathlib.Core.Option.{Option, none, some}
@@ -23,9 +24,11 @@ onTo p c = record { node = c; depth = p .depth + 1 }
 -- one letter, in a table whose greatest address is g
 unfoldable pub stepOf : ℕ → Table → Position → ℕ → Step
 unfolding follow badLink
-stepOf g t p x = follow (t .child (p .node) x) Step.Empty (λ c. cond (badLink g (p .node) c) (Step.Bad (p .node)) (Step.At (onTo p c)))
+stepOf g t p x = follow (t .child (p .node) x) Step.Empty
+    (λ c. cond (badLink g (p .node) c) (Step.Bad (p .node)) (Step.At (onTo p c)))
 
--- The walk behind a step: it goes on from the next position, it stops at this one, or it ends with the node that holds the bad link.
+-- The walk behind a step: it goes on from the next position, it stops at this one, or it ends with
+-- the node that holds the bad link.
 unfoldable pub stepTaken : Position → Step → (Position → Walked) → Walked
 stepTaken p (Step.At q) on = on q
 stepTaken p Step.Empty on = Walked.Stopped p

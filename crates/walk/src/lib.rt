@@ -1,5 +1,6 @@
-// The descent: a position is a node and a depth, each letter gives the next position. It follows the links of an image that was opened and
-// never checked, so that each link is judged where it is met; the first bad one ends the walk, with the node that holds it.
+// The descent: a position is a node and a depth, each letter gives the next position. It follows
+// the links of an image that was opened and never checked, so that each link is judged where it is
+// met; the first bad one ends the walk, with the node that holds it.
 ghost use mathlib.Core.Path.{_≡_};
 ghost use Prim.Native.Nat.{_≤_, _<_};
 ghost use Rattle.head.specs.Fields.{mostLetters};
@@ -23,7 +24,8 @@ pub enum Step {
     Bad(u32),
 }
 
-// Where a key leads: to its own node, to a position whose link for the next letter is empty, or to a node that holds a bad link.
+// Where a key leads: to its own node, to a position whose link for the next letter is empty, or to
+// a node that holds a bad link.
 pub enum Walked {
     Complete(u32),
     Stopped(Position),
@@ -32,7 +34,8 @@ pub enum Walked {
 
 impl Position {
     pub fn step(self, image: &[u8], h: Head, mask: u32, letter: u8) -> Step
-        requires { ⌜ Open h (now image) ⌝ ∗ ⌜ Masks h mask ⌝ ∗ ⌜ self .node ≤ h .g ⌝ ∗ ⌜ letter < h .n ⌝ ∗ ⌜ self .depth < mostLetters ⌝ }
+        requires { ⌜ Open h (now image) ⌝ ∗ ⌜ Masks h mask ⌝ ∗ ⌜ self .node ≤ h .g ⌝
+            ∗ ⌜ letter < h .n ⌝ ∗ ⌜ self .depth < mostLetters ⌝ }
         ensures { λ r. ⌜ r ≡ stepOf (h .g) (tableOf h (now (image .entry))) self letter ⌝ }
     {
         let node = self.node;
@@ -53,7 +56,8 @@ impl Position {
 // Walks from the root along a key that 9 and 10 have passed.
 pub fn walk(image: &[u8], h: Head, key: Key) -> Walked
     requires { ⌜ Open h (now image) ⌝ ∗ ⌜ Ready h key ⌝ }
-    ensures { λ r. ⌜ r ≡ walkedFrom (h .g) (tableOf h (now (image .entry))) atRoot (lettersOf key) ⌝ }
+    ensures { λ r. ⌜ r ≡ walkedFrom (h .g) (tableOf h (now (image .entry))) atRoot
+        (lettersOf key) ⌝ }
 {
     let mask = node::mask(h);
     let letters = key.letters;

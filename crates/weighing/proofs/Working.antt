@@ -1,5 +1,6 @@
--- From a list that begins with G+1 zeros to the counts worked out: what the root weighs for a node is that node's count, so the list after the
--- walk holds the counts in front, and what it held from G+1 on, where no node stands.
+-- From a list that begins with G+1 zeros to the counts worked out: what the root weighs for a node
+-- is that node's count, so the list after the walk holds the counts in front, and what it held
+-- from G+1 on, where no node stands.
 use Prim.Native.Nat.{ℕ, _+_, _-_, _^_, _<_, _≤_}
 use native.Mathlib.Decide.{decLt}
 use native.Mathlib.Nat.{sub-zero, zero-add}
@@ -7,7 +8,8 @@ use native.Mathlib.Omega.{arith}
 use mathlib.Core.Bool.{Bool, true}
 use mathlib.Core.List.{List, _++_}
 use mathlib.Core.Path.{_≡_, sym, _∙_, ap}
-use lib.ListN.{length, getD, set, drop, replicate, length-append, length-drop, length-replicate, getD-replicate, List·getD-append}
+use lib.ListN.{length, getD, set, drop, replicate, length-append, length-drop, length-replicate}
+use lib.ListN.{getD-replicate, List·getD-append}
 use lib.Seq.{sets-eq, ext-getD, getD-append-add, getD-drop}
 use Rattle.head.specs.declared.Head.{Head}
 use Rattle.head.specs.Fields.{headOf}
@@ -50,16 +52,23 @@ module _ {l : List ℕ} (a : Accepted l) where
   weight-root : (q : ℕ) → weight (headOf l) l 0 0 q ≡ countIn l q
   unfolding countIn tableIn
   weight-root q =
-      rw (sub-zero (headOf l .min), sub-zero (headOf l .max)) (weight-count (accepted-linked a) (headOf l .min) (headOf l .max) q)
+      rw (sub-zero (headOf l .min), sub-zero (headOf l .max))
+      (weight-count (accepted-linked a) (headOf l .min) (headOf l .max) q)
 
   count-fits : (q : ℕ) → countIn l q < 2 ^ 32
   unfolding countIn storedKeys
-  count-fits q = omega (arith, count-few (tableIn l) (headOf l .n) (headOf l .min) (headOf l .max) q, counted-fits a)
+  count-fits q =
+      omega (
+        arith,
+        count-few (tableIn l) (headOf l .n) (headOf l .min) (headOf l .max) q,
+        counted-fits a,
+      )
 
   count-none : (q : ℕ) → headOf l .g < q → countIn l q ≡ 0
   unfolding countIn
   count-none q out =
-      count-outside (tableIn l) (headOf l .g) (headOf l .n) (headOf l .min) (headOf l .max) q (accepted-linked a .within) out
+      count-outside (tableIn l) (headOf l .g) (headOf l .n) (headOf l .min) (headOf l .max) q
+      (accepted-linked a .within) out
 
   -- `start` is the list before the walk
   module _ {h : Head} (same : h ≡ headOf l) (list : List ℕ) {start : List ℕ}
@@ -74,7 +83,8 @@ module _ {l : List ℕ} (a : Accepted l) where
         ∙ getD-replicate (h .g + 1) q 0 0 (omega arith)
 
     start-past : (q : ℕ) → h .g < q → getD start q 0 ≡ getD list q 0
-    start-past q high = ap (λ (s : List ℕ). getD s q 0) clear ∙ past-front (replicate (h .g + 1) 0) list zeros q (omega arith)
+    start-past q high = ap (λ (s : List ℕ). getD s q 0) clear ∙ past-front (replicate (h .g + 1) 0)
+        list zeros q (omega arith)
 
     pub start-length : h .g + 1 ≤ length list → length start ≡ length list
     start-length room = ap length clear ∙ front-length (replicate (h .g + 1) 0) list zeros room
@@ -96,12 +106,14 @@ module _ {l : List ℕ} (a : Accepted l) where
     -- what the walk leaves
     counts-size : length (countsIn l) ≡ h .g + 1
     unfolding countsIn
-    counts-size = omega (arith, each-length (countIn l) 0 (headOf l .g + 1), ap (λ (k : Head). k .g) same)
+    counts-size =
+        omega (arith, each-length (countIn l) 0 (headOf l .g + 1), ap (λ (k : Head). k .g) same)
 
     counts-at : (q : ℕ) → q ≤ h .g → getD (countsIn l) q 0 ≡ countIn l q
     unfolding countsIn
     counts-at q low =
-        each-at (countIn l) 0 (headOf l .g + 1) q (omega (arith, ap (λ (k : Head). k .g) same)) ∙ ap (countIn l) (zero-add q)
+        each-at (countIn l) 0 (headOf l .g + 1) q (omega (arith, ap (λ (k : Head). k .g) same))
+        ∙ ap (countIn l) (zero-add q)
 
     counts-front : h .g + 1 ≤ length list → worked l list ≡ countsIn l ++ drop (h .g + 1) list
     unfolding worked
@@ -109,7 +121,8 @@ module _ {l : List ℕ} (a : Accepted l) where
         let e : 0 + length (countsIn l) ≡ h .g + 1 = omega (arith, counts-size) in
         sets-eq (countsIn l) list 0 (omega arith) ∙ ap (λ (x : ℕ). countsIn l ++ drop x list) e
 
-    pub weighed-worked : {list′ : List ℕ} → h .g + 1 ≤ length list → Weighed h l 0 0 start list′ → list′ ≡ worked l list
+    pub weighed-worked : {list′ : List ℕ} → h .g + 1 ≤ length list → Weighed h l 0 0 start list′
+        → list′ ≡ worked l list
     weighed-worked {list′} room w =
         ext-getD
         0
@@ -119,7 +132,8 @@ module _ {l : List ℕ} (a : Accepted l) where
         (λ q _. go q (decLt (h .g) q))
         ∙ sym (counts-front room)
       where
-        go : (q : ℕ) → Dec (h .g < q) → getD list′ q 0 ≡ getD (countsIn l ++ drop (h .g + 1) list) q 0
+        go : (q : ℕ) → Dec (h .g < q) → getD list′ q 0 ≡ getD (countsIn l ++ drop (h .g + 1) list)
+            q 0
         go q (yes out) =
             omega (
               arith,
@@ -140,14 +154,18 @@ module _ {l : List ℕ} (a : Accepted l) where
             )
 
     -- where no key lies below the root, its own key alone is counted
-    pub leaf-worked : {own : ℕ} {r : Bool} → h .g + 1 ≤ length list → own ≡ owned h (tableOf h l) 0 0
+    pub leaf-worked : {own : ℕ} {r : Bool} → h .g + 1 ≤ length list
+        → own ≡ owned h (tableOf h l) 0 0
         → KeysBelow h (tableOf h l) 0 0 r → r ≡ true → set start 0 own ≡ worked l list
     leaf-worked {own} room e b z =
         let blank : own ≡ getD start 0 0 + own = omega (arith, start-front 0 (omega arith)) in
-        ap (set start 0) blank ∙ weighed-worked room (weighed-leaf h l 0 0 start e b z (omega (arith, start-length room)))
+        ap (set start 0) blank ∙ weighed-worked room
+        (weighed-leaf h l 0 0 start e b z (omega (arith, start-length room)))
 
-  -- a list that was cleared in front has room as before, begins with zeros, and is worked out as it was before
-  module _ {h : Head} (same : h ≡ headOf l) (list : List ℕ) {start : List ℕ} (clear : start ≡ replicate (h .g + 1) 0 ++ drop (h .g + 1) list)
+  -- a list that was cleared in front has room as before, begins with zeros, and is worked out as
+  -- it was before
+  module _ {h : Head} (same : h ≡ headOf l) (list : List ℕ) {start : List ℕ}
+      (clear : start ≡ replicate (h .g + 1) 0 ++ drop (h .g + 1) list)
       (room : h .g + 1 ≤ length list) where
     pub cleared-room : h .g + 1 ≤ length start
     cleared-room = omega (arith, room, start-length same list clear room)

@@ -1,4 +1,5 @@
--- 02, Ask 7: "how many stored keys lie at or under it". What a walk below a node at a depth adds to a list of counts.
+-- 02, Ask 7: "how many stored keys lie at or under it". What a walk below a node at a depth adds
+-- to a list of counts.
 use Prim.Native.Nat.{ℕ, _+_, _-_, _^_, _<_}
 use mathlib.Core.Path.{_≡_}
 use mathlib.Core.List.{List}

@@ -1,5 +1,6 @@
-// The counts of an image that has been checked, worked out afresh: how many stored keys lie at or under each node. One walk down to max;
-// every node that it meets adds what lies at or under it to its own count.
+// The counts of an image that has been checked, worked out afresh: how many stored keys lie at or
+// under each node. One walk down to max; every node that it meets adds what lies at or under it to
+// its own count.
 ghost use mathlib.Core.Path.{_≡_};
 ghost use Prim.Native.Nat.{ℕ, _+_, _-_, _^_, _≤_, _<_};
 ghost use mathlib.Core.List.{_++_};
@@ -16,7 +17,8 @@ use head::Head;
 
 // Writes the counts of the nodes 0 to G to the front of a list; the rest of it keeps what it held.
 pub fn weigh(image: &[u8], h: Head, list: &mut [u32])
-    requires { ⌜ Accepted (now image) ⌝ ∗ ⌜ h ≡ headOf (now image) ⌝ ∗ ⌜ h .g + 1 ≤ length (now list) ⌝ }
+    requires { ⌜ Accepted (now image) ⌝ ∗ ⌜ h ≡ headOf (now image) ⌝
+        ∗ ⌜ h .g + 1 ≤ length (now list) ⌝ }
     ensures { λ _. ⌜ now (list .exit) ≡ worked (now (image .entry)) (now (list .entry)) ⌝ }
 {
     audit::clear(list, (h.g as usize) + 1);
@@ -25,12 +27,13 @@ pub fn weigh(image: &[u8], h: Head, list: &mut [u32])
 
 // The same, for a list whose first G+1 numbers are 0.
 pub fn add_up(image: &[u8], h: Head, list: &mut [u32])
-    requires { ⌜ Accepted (now image) ⌝ ∗ ⌜ h ≡ headOf (now image) ⌝ ∗ ⌜ h .g + 1 ≤ length (now list) ⌝ }
+    requires { ⌜ Accepted (now image) ⌝ ∗ ⌜ h ≡ headOf (now image) ⌝
+        ∗ ⌜ h .g + 1 ≤ length (now list) ⌝ }
     requires { ⌜ now list ≡ replicate (h .g + 1) 0 ++ drop (h .g + 1) (now list) ⌝ }
     ensures { λ _. ⌜ now (list .exit) ≡ worked (now (image .entry)) (now (list .entry)) ⌝ }
 {
-    let ones = node::greatest(h);
-    let own = if depths::own_value_by(image, h, ones, 0, 0) == 0 {
+    let data_mask = node::greatest(h);
+    let own = if depths::own_value_by(image, h, data_mask, 0, 0) == 0 {
         0
     } else {
         1
@@ -39,26 +42,31 @@ pub fn add_up(image: &[u8], h: Head, list: &mut [u32])
         list[0] = own;
         return;
     }
-    weighed(image, h, node::mask(h), ones, 0, 0, own, list);
+    weighed(image, h, node::mask(h), data_mask, 0, 0, own, list);
 }
 
-// The stored keys at or under a node at a depth, of which `own` are its own; they are added to its count, and so for every node under it.
-// It calls itself on each child; the depth left to max falls.
+// The stored keys at or under a node at a depth, of which `own` are its own; they are added to its
+// count, and so for every node under it. It calls itself on each child; the depth left to max
+// falls.
 fn weighed(
     image: &[u8],
     h: Head,
     mask: u32,
-    ones: u32,
+    data_mask: u32,
     node: u32,
     depth: usize,
     own: u32,
     list: &mut [u32],
 ) -> u32
-    requires { ⌜ Open h (now image) ⌝ ∗ ⌜ Within (tableOf h (now image)) (h .g) ⌝ ∗ ⌜ ReadMasks h mask ones ⌝ }
+    requires { ⌜ Open h (now image) ⌝ ∗ ⌜ Within (tableOf h (now image)) (h .g) ⌝
+        ∗ ⌜ ReadMasks h mask data_mask ⌝ }
     requires { ⌜ node ≤ h .g ⌝ ∗ ⌜ depth < h .max ⌝ ∗ ⌜ h .g + 1 ≤ length (now list) ⌝ }
-    requires { ⌜ own ≡ length (ownKey (tableOf h (now image)) (h .min - depth) node) ⌝ ∗ ⌜ SumsFit h (now image) node depth (now list) ⌝ }
-    ensures { λ r. ⌜ r ≡ length (keysUnder (tableOf h (now (image .entry))) (h .n) (h .min - depth) (h .max - depth) node) ⌝ }
-    ensures { λ _. ⌜ Weighed h (now (image .entry)) node depth (now (list .entry)) (now (list .exit)) ⌝ }
+    requires { ⌜ own ≡ length (ownKey (tableOf h (now image)) (h .min - depth) node) ⌝
+        ∗ ⌜ SumsFit h (now image) node depth (now list) ⌝ }
+    ensures { λ r. ⌜ r ≡ length (keysUnder (tableOf h (now (image .entry))) (h .n) (h .min - depth)
+        (h .max - depth) node) ⌝ }
+    ensures { λ _. ⌜ Weighed h (now (image .entry)) node depth (now (list .entry))
+        (now (list .exit)) ⌝ }
 {
     let mut sum = own;
     for i in 0..h.n {
@@ -66,7 +74,7 @@ fn weighed(
         if c == 0 {
             continue;
         }
-        let one = if depths::own_value_by(image, h, ones, c, depth + 1) == 0 {
+        let one = if depths::own_value_by(image, h, data_mask, c, depth + 1) == 0 {
             0
         } else {
             1
@@ -76,7 +84,7 @@ fn weighed(
             sum += one;
             continue;
         }
-        sum += weighed(image, h, mask, ones, c, depth + 1, one, list);
+        sum += weighed(image, h, mask, data_mask, c, depth + 1, one, list);
     }
     list[node as usize] = list[node as usize] + sum;
     sum

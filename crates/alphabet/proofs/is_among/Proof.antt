@@ -1,8 +1,9 @@
--- `alphabet::is_among` meets its contract. The answer so far is that of the codes passed. The measure is the codes that are left.
--- Assumes nothing.
+-- `alphabet::is_among` meets its contract. The answer so far is that of the codes passed. The
+-- measure is the codes that are left. Assumes nothing.
 use Prim.Native.Nat.{_-_}
 use native.Mathlib.Omega.{arith}
-use Rattle.alphabet.proofs.AlphabetLoops.{Searching, searching-none, searching-more, searching-all}
+use Rattle.alphabet.proofs.AlphabetLoops.{Searching, searching-none, searching-more}
+use Rattle.alphabet.proofs.AlphabetLoops.{searching-all}
 use Rattle.alphabet.proofs.is_among.Statement.{statement}
 use Rattle.alphabet.proofs.is_among.Tie as tie
 
@@ -28,7 +29,8 @@ loop-less : tie.Need-loop-less Inv-loop μ-loop
 loop-less c = omega arith
 
 loop-again : tie.Need-loop-again Inv-loop μ-loop
-loop-again c = searching-more (c .before .before .loop .inv) (c .before .before .before .pre) (omega arith)
+loop-again c =
+    searching-more (c .before .before .loop .inv) (c .before .before .before .pre) (omega arith)
 
 returns : tie.Need-returns Inv-loop μ-loop
 returns c = searching-all (c .before .loop .inv) (c .before .before .pre) (omega arith)

@@ -1,5 +1,6 @@
--- `alphabet::judge` meets its contract. Each way out has its law: no character there, one too many, one again, and the end, where the count
--- alone decides. The measure is the bytes that are left. Assumes nothing.
+-- `alphabet::judge` meets its contract. Each way out has its law: no character there, one too
+-- many, one again, and the end, where the count alone decides. The measure is the bytes that are
+-- left. Assumes nothing.
 use mathlib.Core.Logic.{_≢_, ⊎-elim}
 use Rattle.utf8.specs.Table37.{charLen}
 use Rattle.utf8.proofs.Characters.{character}
@@ -9,7 +10,8 @@ use mathlib.Core.Bool.{false}
 use native.Mathlib.Omega.{arith}
 use lib.ListN.{length, take}
 use Rattle.alphabet.specs.Letters.{among}
-use Rattle.alphabet.proofs.AlphabetLoops.{Judging, judging-none, judging-more, judging-ill, judging-many, judging-again, judging-all}
+use Rattle.alphabet.proofs.AlphabetLoops.{Judging, judging-none, judging-more, judging-ill}
+use Rattle.alphabet.proofs.AlphabetLoops.{judging-many, judging-again, judging-all}
 use Rattle.alphabet.proofs.judge.Statement.{statement}
 use Rattle.alphabet.proofs.judge.Tie as tie
 
@@ -26,17 +28,23 @@ char-len-requires : tie.Need-char-len-requires Inv-loop μ-loop
 char-len-requires c κs = tt
 
 returns : tie.Need-returns Inv-loop μ-loop
-returns c = judging-ill (c .before .before .before .loop .inv) (omega arith) (sym (c .before .char-len .ensures) ∙ c .if1 .taken)
+returns c = judging-ill (c .before .before .before .loop .inv) (omega arith)
+    (sym (c .before .char-len .ensures) ∙ c .if1 .taken)
 
 -- past the first test a character stands there
-stands : (c : tie.Else1 Inv-loop μ-loop) → charLen (c .before .before .before .before .before .before .args .bytes .now) (c .before .before .before .loop .at) ≢ 0
+stands : (c : tie.Else1 Inv-loop μ-loop)
+    → charLen (c .before .before .before .before .before .before .args .bytes .now)
+    (c .before .before .before .loop .at) ≢ 0
 stands c z = c .if1 .left (c .before .char-len .ensures ∙ z)
 
-whole : (c : tie.Else1 Inv-loop μ-loop) → c .before .before .before .loop .at + c .before .char-len .result ≤ length (c .before .before .before .before .before .before .args .bytes .now)
+whole : (c : tie.Else1 Inv-loop μ-loop) → c .before .before .before .loop .at
+    + c .before .char-len .result
+    ≤ length (c .before .before .before .before .before .before .args .bytes .now)
 whole c = rw (c .before .char-len .ensures) (character _ _ (stands c) .whole)
 
 returns-2 : tie.Need-returns-2 Inv-loop μ-loop
-returns-2 c = judging-many (c .before .before .before .before .loop .inv) (stands (c .before)) (omega arith)
+returns-2 c =
+    judging-many (c .before .before .before .before .loop .inv) (stands (c .before)) (omega arith)
 
 char-at-requires : tie.Need-char-at-requires Inv-loop μ-loop
 char-at-requires c κs = c .before .before .char-len .ensures
@@ -46,7 +54,11 @@ is-among-requires c κs = omega arith
 
 returns-3 : tie.Need-returns-3 Inv-loop μ-loop
 returns-3 c =
-    judging-again (c .before .before .before .before .before .before .before .before .before .loop .inv) (stands (c .before .before .before .before .before .before)) (rw (← c .before .before .before .before .char-at .ensures) (sym (c .before .is-among .ensures) ∙ c .if4 .taken))
+    judging-again
+    (c .before .before .before .before .before .before .before .before .before .loop .inv)
+    (stands (c .before .before .before .before .before .before))
+    (rw (← c .before .before .before .before .char-at .ensures)
+    (sym (c .before .is-among .ensures) ∙ c .if4 .taken))
 
 mul-all : tie.Need-mul-all Inv-loop μ-loop
 mul-all c = omega arith
@@ -65,17 +77,26 @@ loop-less c = omega (arith, whole (c .before .before .before))
 
 -- where the two ways meet the code is new, and none is above `top`
 new : (c : tie.Joined3 Inv-loop μ-loop)
-    → (among (c .before .char-at .result) (take (c .before .before .before .before .before .before .loop .count) (c .before .before .before .before .before .before .loop .all)) ≡ false)
+    → (among (c .before .char-at .result)
+    (take (c .before .before .before .before .before .before .loop .count)
+    (c .before .before .before .before .before .before .loop .all)) ≡ false)
     × (c .before .before .before .before .before .before .loop .top ≤ c .if3 .top)
     × (c .before .char-at .result ≤ c .if3 .top)
 new c =
     ⊎-elim (λ w. (sym (w .2 .ensures) ∙ w .3 .left, omega arith, omega arith))
-    (λ w. (c .before .before .before .before .before .before .loop .inv .above _ (w .0 .left), omega arith, omega arith))
+    (λ w. (
+      c .before .before .before .before .before .before .loop .inv .above _ (w .0 .left),
+      omega arith,
+      omega arith,
+    ))
     (c .if3 .came)
 
 loop-again : tie.Need-loop-again Inv-loop μ-loop
 loop-again c =
-    judging-more (c .before .before .before .before .before .before .loop .inv) (omega arith) (c .before .before .before .before .char-len .ensures) (c .before .before .before .if1 .left) (c .before .char-at .ensures) (new c .0) (new c .1) (new c .2)
+    judging-more (c .before .before .before .before .before .before .loop .inv) (omega arith)
+    (c .before .before .before .before .char-len .ensures)
+    (c .before .before .before .if1 .left) (c .before .char-at .ensures) (new c .0) (new c .1)
+    (new c .2)
 
 returns-4 : tie.Need-returns-4 Inv-loop μ-loop
 returns-4 c = judging-all (c .before .loop .inv) (omega arith)

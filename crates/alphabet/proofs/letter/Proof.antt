@@ -1,10 +1,12 @@
--- `alphabet::letter` meets its contract. No code passed is the one looked for, so where it is met it stands first, and where it is not the
--- number is the length. The measure is the codes that are left. Assumes nothing.
+-- `alphabet::letter` meets its contract. No code passed is the one looked for, so where it is met
+-- it stands first, and where it is not the number is the length. The measure is the codes that are
+-- left. Assumes nothing.
 use mathlib.Core.Path.{sym}
 use Prim.Native.Nat.{_-_}
 use native.Mathlib.Omega.{arith}
 use mathlib.Core.Bool.{false}
-use Rattle.alphabet.proofs.AlphabetLoops.{Searching, searching-on, searching-found, searching-missed}
+use Rattle.alphabet.proofs.AlphabetLoops.{Searching, searching-on, searching-found}
+use Rattle.alphabet.proofs.AlphabetLoops.{searching-missed}
 use Rattle.alphabet.proofs.letter.Statement.{statement}
 use Rattle.alphabet.proofs.letter.Tie as tie
 
@@ -27,7 +29,8 @@ shared-slice-read-if1 : tie.Need-shared-slice-read-if1 Inv-loop μ-loop
 shared-slice-read-if1 c = omega arith
 
 returns : tie.Need-returns Inv-loop μ-loop
-returns c = searching-found (c .before .before .before .loop .inv) (c .before .before .before .before .before .before .pre) (omega arith) (c .if1 .taken)
+returns c = searching-found (c .before .before .before .loop .inv)
+    (c .before .before .before .before .before .before .pre) (omega arith) (c .if1 .taken)
 
 add-i : tie.Need-add-i Inv-loop μ-loop
 add-i c = omega arith
@@ -36,10 +39,12 @@ loop-less : tie.Need-loop-less Inv-loop μ-loop
 loop-less c = omega arith
 
 loop-again : tie.Need-loop-again Inv-loop μ-loop
-loop-again c = searching-on (c .before .before .before .loop .inv) (c .before .before .before .before .before .before .pre) (omega arith) (c .if1 .left)
+loop-again c = searching-on (c .before .before .before .loop .inv)
+    (c .before .before .before .before .before .before .pre) (omega arith) (c .if1 .left)
 
 returns-2 : tie.Need-returns-2 Inv-loop μ-loop
-returns-2 c = searching-missed (c .before .loop .inv) (c .before .before .before .before .pre) (omega arith)
+returns-2 c =
+    searching-missed (c .before .loop .inv) (c .before .before .before .before .pre) (omega arith)
 
 pub letter-spec : {M : Type 1} → statement M
 letter-spec =

@@ -1,4 +1,5 @@
--- `alphabet::near` meets its contract: no code passed is the one looked for. The measure is the codes that are left. Assumes nothing.
+-- `alphabet::near` meets its contract: no code passed is the one looked for. The measure is the
+-- codes that are left. Assumes nothing.
 use mathlib.Core.Path.{sym}
 use Prim.Native.Nat.{_-_}
 use native.Mathlib.Omega.{arith}
@@ -53,7 +54,8 @@ shared-slice-read-if1-4 : tie.Need-shared-slice-read-if1-4 Inv-loop μ-loop
 shared-slice-read-if1-4 c = omega arith
 
 returns : tie.Need-returns Inv-loop μ-loop
-returns c = let p = c .before .before .before .before .before .before .loop .inv in (p .within, sym (p .told))
+returns c = let p = c .before .before .before .before .before .before .loop .inv in
+    (p .within, sym (p .told))
 
 add-i : tie.Need-add-i Inv-loop μ-loop
 add-i c = omega arith
@@ -62,7 +64,8 @@ loop-less : tie.Need-loop-less Inv-loop μ-loop
 loop-less c = omega arith
 
 loop-again : tie.Need-loop-again Inv-loop μ-loop
-loop-again c = searching-four (c .before .before .before .before .before .before .loop .inv) (c .before .before .before .before .before .before .before .pre) (omega arith) (c .if1 .left)
+loop-again c = searching-four (c .before .before .before .before .before .before .loop .inv)
+    (c .before .before .before .before .before .before .before .pre) (omega arith) (c .if1 .left)
 
 returns-2 : tie.Need-returns-2 Inv-loop μ-loop
 returns-2 c = let p = c .before .loop .inv in (p .within, sym (p .told))

@@ -14,7 +14,8 @@ same-length : tie.Need-same-length
 same-length c = search needs
 
 returns : tie.Need-returns
-returns c = c .by-letters .ensures _ _ _ _ _ (checked-front (c .before .before .before .check .ensures))
+returns c =
+    c .by-letters .ensures _ _ _ _ _ (checked-front (c .before .before .before .check .ensures))
 
 pub ask-spec : {M : Type 1} → statement M
 ask-spec = tie.close (tie.spec check-requires by-letters-requires same-length returns)

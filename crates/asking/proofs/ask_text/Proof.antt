@@ -14,7 +14,8 @@ same-length : tie.Need-same-length
 same-length c = search needs
 
 returns : tie.Need-returns
-returns c = c .by-text .ensures _ _ _ _ (checked-front (c .before .before .before .before .check .ensures))
+returns c =
+    c .by-text .ensures _ _ _ _ (checked-front (c .before .before .before .before .check .ensures))
 
 pub ask-text-spec : {M : Type 1} → statement M
 ask-text-spec = tie.close (tie.spec check-requires by-text-requires same-length returns)

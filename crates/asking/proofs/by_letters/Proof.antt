@@ -1,5 +1,5 @@
--- `asking::by_letters` meets its contract: what the front refused is told, and behind a front that passed the key in hand is judged. Assumes
--- nothing.
+-- `asking::by_letters` meets its contract: what the front refused is told, and behind a front that
+-- passed the key in hand is judged. Assumes nothing.
 use mathlib.Core.Path.{refl}
 use borrow.Author.Needs.{needs}
 use Rattle.paper.proofs.Hearing.{told-passed}
@@ -30,7 +30,10 @@ returns c codes = after-front-refused (c .before .enum-told .given .1) (c .unjud
 returns-2 : tie.Need-returns-2
 returns-2 c codes =
     let made = c .before in
-    after-front-letters (made .before .enum-told2 .given .1) _ _ (made .of .ensures) (c .judge .ensures)
+    after-front-letters (made .before .enum-told2 .given .1) _ _ (made .of .ensures)
+    (c .judge .ensures)
 
 pub by-letters-spec : {M : Type 1} → statement M
-by-letters-spec = tie.close (tie.spec enum-told unjudged-requires enum-told-2 of-requires judge-requires returns returns-2)
+by-letters-spec =
+    tie.close (tie.spec enum-told unjudged-requires enum-told-2 of-requires judge-requires returns
+    returns-2)

@@ -1,5 +1,5 @@
--- `asking::by_text` meets its contract: what the front refused is told, and behind a front that passed what the text names is judged. Assumes
--- nothing.
+-- `asking::by_text` meets its contract: what the front refused is told, and behind a front that
+-- passed what the text names is judged. Assumes nothing.
 use mathlib.Core.Path.{refl}
 use borrow.Author.Needs.{needs}
 use Rattle.paper.proofs.Hearing.{told-passed}
@@ -17,7 +17,8 @@ enum-told-2 : tie.Need-enum-told-2
 enum-told-2 c = search needs
 
 of-requires : tie.Need-of-requires
-of-requires c κs = c .before .before .before .before .pre .count (told-passed refl (c .enum-told2 .given .1))
+of-requires c κs =
+    c .before .before .before .before .pre .count (told-passed refl (c .enum-told2 .given .1))
 
 judge-requires : tie.Need-judge-requires
 judge-requires c κs =
@@ -30,7 +31,10 @@ returns c = after-front-refused (c .before .enum-told .given .1) (c .unjudged .e
 returns-2 : tie.Need-returns-2
 returns-2 c =
     let made = c .before .before in
-    after-front-text (made .before .enum-told2 .given .1) _ _ (made .of .ensures) (c .judge .ensures)
+    after-front-text (made .before .enum-told2 .given .1) _ _ (made .of .ensures)
+    (c .judge .ensures)
 
 pub by-text-spec : {M : Type 1} → statement M
-by-text-spec = tie.close (tie.spec enum-told unjudged-requires enum-told-2 of-requires judge-requires returns returns-2)
+by-text-spec =
+    tie.close (tie.spec enum-told unjudged-requires enum-told-2 of-requires judge-requires returns
+    returns-2)

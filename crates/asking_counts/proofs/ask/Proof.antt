@@ -1,4 +1,5 @@
--- `asking_counts::ask` meets its contract: 1 to 8 and 25 by the comparing, 9 and 10 behind it. Assumes nothing.
+-- `asking_counts::ask` meets its contract: 1 to 8 and 25 by the comparing, 9 and 10 behind it.
+-- Assumes nothing.
 use borrow.Author.Needs.{needs}
 use Rattle.asking.proofs.Asking.{front-judgeable}
 use Rattle.asking_counts.proofs.AskingCounts.{compared-front}
@@ -15,7 +16,8 @@ same-length : tie.Need-same-length
 same-length c = search needs
 
 returns : tie.Need-returns
-returns c = c .by-letters .ensures _ _ _ _ _ (compared-front (c .before .before .before .compare .ensures))
+returns c =
+    c .by-letters .ensures _ _ _ _ _ (compared-front (c .before .before .before .compare .ensures))
 
 pub ask-spec : {M : Type 1} → statement M
 ask-spec = tie.close (tie.spec compare-requires by-letters-requires same-length returns)

@@ -1,5 +1,6 @@
--- `audit::audit` meets its contract: 5 is judged first, and what the last clearing leaves is what was lent with the first numbers 0, since
--- neither the first clearing nor the stages between touch the rest. Assumes nothing.
+-- `audit::audit` meets its contract: 5 is judged first, and what the last clearing leaves is what
+-- was lent with the first numbers 0, since neither the first clearing nor the stages between touch
+-- the rest. Assumes nothing.
 use Prim.Native.Nat.{_+_}
 use native.Mathlib.Omega.{arith}
 use borrow.Author.Needs.{needs}
@@ -22,8 +23,14 @@ clear-requires c κs = search needs
 
 links-requires : tie.Need-links-requires
 links-requires c κs =
-    let s = c .before .before .before .before .before .before .before .before .before in
-    (s .pre, (omega arith, cleared-again (s .args .h .g + 1) (s .args .work .now) (c .before .before .before .clear .ensures)))
+    let s = c .before .before .before .before .before .before .before .before .before in (
+      s .pre,
+      (
+        omega arith,
+        cleared-again (s .args .h .g + 1) (s .args .work .now)
+            (c .before .before .before .clear .ensures),
+      ),
+    )
 
 clear-requires-2 : tie.Need-clear-requires-2
 clear-requires-2 c κs = search needs
@@ -35,7 +42,8 @@ returns-2 : tie.Need-returns-2
 returns-2 c =
     let k = c .before .before .before .before .before .before in
     let b = k .before .before .before .before in
-    audited-linked (b .before .before .if1 .left) (b .clear .ensures) (k .links .ensures) (c .before .before .clear2 .ensures)
+    audited-linked (b .before .before .if1 .left) (b .clear .ensures) (k .links .ensures)
+    (c .before .before .clear2 .ensures)
 
 pub audit-spec : {M : Type 1} → statement M
 audit-spec =

@@ -1,4 +1,5 @@
--- `audit::check` meets its contract: what opening tells stands where it refuses, and else 5 to 8 follow it. Assumes nothing.
+-- `audit::check` meets its contract: what opening tells stands where it refuses, and else 5 to 8
+-- follow it. Assumes nothing.
 use borrow.Author.Needs.{needs}
 use Rattle.opening.proofs.Passed.{known-opened}
 use Rattle.audit.proofs.Verdicts.{checked-refused, checked-audited}
@@ -15,7 +16,8 @@ enum-told-2 : tie.Need-enum-told-2
 enum-told-2 c = search needs
 
 audit-requires : tie.Need-audit-requires
-audit-requires c κs = known-opened (c .before .before .before .before .«open» .ensures) (c .before .before .enum-told2 .given .1) .image
+audit-requires c κs = known-opened (c .before .before .before .before .«open» .ensures)
+    (c .before .before .enum-told2 .given .1) .image
 
 returns : tie.Need-returns
 returns c = checked-refused (c .before .before .«open» .ensures) _ (c .enum-told .given .1)
@@ -26,7 +28,8 @@ same-length c = search needs
 returns-2 : tie.Need-returns-2
 returns-2 c =
     let t = c .before .before .before .before .before in
-    checked-audited (t .before .before .«open» .ensures) (t .enum-told2 .given .1) (c .before .before .audit .ensures)
+    checked-audited (t .before .before .«open» .ensures) (t .enum-told2 .given .1)
+    (c .before .before .audit .ensures)
 
 pub check-spec : {M : Type 1} → statement M
 check-spec =

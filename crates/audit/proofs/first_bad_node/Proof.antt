@@ -1,11 +1,13 @@
--- `audit::first_bad_node` meets its contract. Each turn counts the links of one more node, or stops at the node, which is then the lowest.
--- The measure is how many nodes are left. Assumes nothing.
+-- `audit::first_bad_node` meets its contract. Each turn counts the links of one more node, or
+-- stops at the node, which is then the lowest. The measure is how many nodes are left. Assumes
+-- nothing.
 use Prim.Native.Nat.{_-_}
 use native.Mathlib.Omega.{arith}
 use borrow.Author.Needs.{needs}
 use borrow.Author.Tests.{not-true, not-false}
 use Rattle.node.specs.Image.{tableOf}
-use Rattle.audit.proofs.Tallying.{Tallying, tallying-none, tallying-more, tallying-bad, tallying-all}
+use Rattle.audit.proofs.Tallying.{Tallying, tallying-none, tallying-more, tallying-bad}
+use Rattle.audit.proofs.Tallying.{tallying-all}
 use Rattle.audit.proofs.first_bad_node.Statement.{statement}
 use Rattle.audit.proofs.first_bad_node.Tie as tie
 
@@ -36,7 +38,8 @@ tally-requires c κs = search needs
 returns : tie.Need-returns Inv-loop μ-loop
 returns c =
     let t = c .before .before .before in
-    tallying-bad (t .before .before .before .loop .inv) (omega arith) (not-true _ (c .if1 .taken)) (t .tally .ensures)
+    tallying-bad (t .before .before .before .loop .inv) (omega arith) (not-true _ (c .if1 .taken))
+    (t .tally .ensures)
 
 same-length : tie.Need-same-length Inv-loop μ-loop
 same-length c = returns c .kept .long
@@ -50,7 +53,8 @@ loop-less c = omega arith
 loop-again : tie.Need-loop-again Inv-loop μ-loop
 loop-again c =
     let t = c .before .before .before in
-    tallying-more (t .before .before .before .loop .inv) (omega arith) (not-false _ (c .if1 .left)) (t .tally .ensures)
+    tallying-more (t .before .before .before .loop .inv) (omega arith) (not-false _ (c .if1 .left))
+    (t .tally .ensures)
 
 same-length-2 : tie.Need-same-length-2 Inv-loop μ-loop
 same-length-2 c = c .before .loop .inv .kept .long

@@ -1,10 +1,12 @@
--- `audit::first_holding` meets its contract: a search upwards from address 1. The measure is how many addresses are left. Assumes nothing.
+-- `audit::first_holding` meets its contract: a search upwards from address 1. The measure is how
+-- many addresses are left. Assumes nothing.
 use Prim.Native.Nat.{_-_}
 use native.Mathlib.Omega.{arith}
 use lib.Dec.{eqb}
 use lib.ListN.{getD}
 use borrow.Author.Tests.{eq-eqb, ne-eqb}
-use Rattle.audit.proofs.LowestFound.{Seeking, seeking-none, seeking-more, seeking-found, seeking-all}
+use Rattle.audit.proofs.LowestFound.{Seeking, seeking-none, seeking-more, seeking-found}
+use Rattle.audit.proofs.LowestFound.{seeking-all}
 use Rattle.audit.proofs.first_holding.Statement.{statement}
 use Rattle.audit.proofs.first_holding.Tie as tie
 
@@ -24,7 +26,8 @@ shared-slice-read-if1 : tie.Need-shared-slice-read-if1 Inv-loop μ-loop
 shared-slice-read-if1 c = omega arith
 
 returns : tie.Need-returns Inv-loop μ-loop
-returns c = seeking-found (c .before .before .before .loop .inv) (omega arith) (eq-eqb _ _ (c .if1 .taken))
+returns c =
+    seeking-found (c .before .before .before .loop .inv) (omega arith) (eq-eqb _ _ (c .if1 .taken))
 
 add-x : tie.Need-add-x Inv-loop μ-loop
 add-x c = omega arith
@@ -33,7 +36,8 @@ loop-less : tie.Need-loop-less Inv-loop μ-loop
 loop-less c = omega arith
 
 loop-again : tie.Need-loop-again Inv-loop μ-loop
-loop-again c = seeking-more (c .before .before .before .loop .inv) (omega arith) (ne-eqb _ _ (c .if1 .left))
+loop-again c =
+    seeking-more (c .before .before .before .loop .inv) (omega arith) (ne-eqb _ _ (c .if1 .left))
 
 returns-2 : tie.Need-returns-2 Inv-loop μ-loop
 returns-2 c = seeking-all (c .before .loop .inv) (omega arith) (omega arith)

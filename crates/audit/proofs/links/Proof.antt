@@ -1,7 +1,8 @@
--- `audit::links` meets its contract: each way out has its law, from what the search for a bad link, the pass over the working numbers and
--- the two searches in them returned. Assumes nothing.
+-- `audit::links` meets its contract: each way out has its law, from what the search for a bad
+-- link, the pass over the working numbers and the two searches in them returned. Assumes nothing.
 use borrow.Author.Needs.{needs}
-use Rattle.audit.proofs.Verdicts.{linked-bad, linked-once, linked-twice, linked-missing, linked-all}
+use Rattle.audit.proofs.Verdicts.{linked-bad, linked-once, linked-twice, linked-missing}
+use Rattle.audit.proofs.Verdicts.{linked-all}
 use Rattle.audit.proofs.links.Statement.{statement}
 use Rattle.audit.proofs.links.Tie as tie
 
@@ -32,7 +33,8 @@ same-length-2 c = search needs
 returns-2 : tie.Need-returns-2
 returns-2 c =
     let b = c .before .before .before in
-    linked-once (b .before .before .before .first-bad-node .ensures) (b .if1 .left) (c .before .all-once .ensures (c .if2 .taken))
+    linked-once (b .before .before .before .first-bad-node .ensures) (b .if1 .left)
+    (c .before .all-once .ensures (c .if2 .taken))
 
 first-holding-requires : tie.Need-first-holding-requires
 first-holding-requires c κs = search needs
@@ -46,7 +48,8 @@ same-length-3 c = search needs
 returns-3 : tie.Need-returns-3
 returns-3 c =
     let b = c .before .before .before .before .before .before in
-    linked-twice (b .before .before .before .first-bad-node .ensures) (b .if1 .left) (c .before .first-holding .ensures) (c .if3 .taken)
+    linked-twice (b .before .before .before .first-bad-node .ensures) (b .if1 .left)
+    (c .before .first-holding .ensures) (c .if3 .taken)
 
 first-holding-requires-2 : tie.Need-first-holding-requires-2
 first-holding-requires-2 c κs = search needs
@@ -61,7 +64,8 @@ returns-4 : tie.Need-returns-4
 returns-4 c =
     let d = c .before .before .before in
     let b = d .before .before .before .before .before .before in
-    linked-missing (b .before .before .before .first-bad-node .ensures) (b .if1 .left) (d .before .first-holding .ensures) (d .if3 .left)
+    linked-missing (b .before .before .before .first-bad-node .ensures) (b .if1 .left)
+    (d .before .first-holding .ensures) (d .if3 .left)
     (c .before .first-holding2 .ensures) (c .if4 .taken)
 
 same-length-5 : tie.Need-same-length-5
@@ -71,7 +75,8 @@ returns-5 : tie.Need-returns-5
 returns-5 c =
     let d = c .before .before .before in
     let b = d .before .before .before .before .before .before in
-    linked-all (b .before .before .before .first-bad-node .ensures) (b .if1 .left) (d .before .first-holding .ensures) (d .if3 .left)
+    linked-all (b .before .before .before .first-bad-node .ensures) (b .if1 .left)
+    (d .before .first-holding .ensures) (d .if3 .left)
     (c .before .first-holding2 .ensures) (c .if4 .left)
 
 pub links-spec : {M : Type 1} → statement M

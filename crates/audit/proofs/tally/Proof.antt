@@ -1,11 +1,13 @@
--- `audit::tally` meets its contract. A node without links is counted as it stands; each turn counts one more link, or stops at a bad one.
--- The measure is how many links are left. Assumes nothing.
+-- `audit::tally` meets its contract. A node without links is counted as it stands; each turn
+-- counts one more link, or stops at a bad one. The measure is how many links are left. Assumes
+-- nothing.
 use mathlib.Core.Path.{sym, _∙_}
 use Prim.Native.Nat.{_-_}
 use native.Mathlib.Omega.{arith}
 use borrow.Author.Needs.{needs}
 use Rattle.node.specs.Image.{tableOf}
-use Rattle.audit.proofs.Tallying.{Counting, counting-none, counting-empty, counting-full, counting-more, counting-room}
+use Rattle.audit.proofs.Tallying.{Counting, counting-none, counting-empty, counting-full}
+use Rattle.audit.proofs.Tallying.{counting-more, counting-room}
 use Rattle.audit.proofs.Tallying.{tallied-all, tallied-bad, tallied-childless}
 use Rattle.audit.proofs.tally.Statement.{statement}
 use Rattle.audit.proofs.tally.Tie as tie
@@ -35,7 +37,8 @@ loop-less : tie.Need-loop-less Inv-loop μ-loop
 loop-less c = omega arith
 
 loop-again : tie.Need-loop-again Inv-loop μ-loop
-loop-again c = counting-empty (c .before .before .before .before .loop .inv) (omega arith) (c .before .link .ensures) (c .if3 .taken)
+loop-again c = counting-empty (c .before .before .before .before .loop .inv) (omega arith)
+    (c .before .link .ensures) (c .if3 .taken)
 
 bad-link-requires : tie.Need-bad-link-requires Inv-loop μ-loop
 bad-link-requires c κs = search needs
@@ -46,7 +49,8 @@ same-length c = c .before .before .before .before .before .before .loop .inv .ke
 returns-2 : tie.Need-returns-2 Inv-loop μ-loop
 returns-2 c =
     let n = c .before .before .before in
-    tallied-bad (n .before .before .before .loop .inv) (omega arith) (n .link .ensures) (sym (c .before .bad-link .ensures) ∙ c .if4 .taken)
+    tallied-bad (n .before .before .before .loop .inv) (omega arith) (n .link .ensures)
+    (sym (c .before .bad-link .ensures) ∙ c .if4 .taken)
 
 cast-times : tie.Need-cast-times Inv-loop μ-loop
 cast-times c = omega arith
@@ -78,8 +82,10 @@ loop-less-2 c = omega arith
 loop-again-2 : tie.Need-loop-again-2 Inv-loop μ-loop
 loop-again-2 c =
     let b = c .before .before .before in
-    counting-more (b .before .before .before .before .before .loop .inv) (omega arith) (b .before .before .link .ensures)
-    (sym (b .bad-link .ensures) ∙ c .before .before .if4 .left) (slice-read-times (c .before)) (omega arith)
+    counting-more (b .before .before .before .before .before .loop .inv) (omega arith)
+    (b .before .before .link .ensures)
+    (sym (b .bad-link .ensures) ∙ c .before .before .if4 .left) (slice-read-times (c .before))
+    (omega arith)
 
 loop-less-3 : tie.Need-loop-less-3 Inv-loop μ-loop
 loop-less-3 c = omega arith
@@ -87,7 +93,8 @@ loop-less-3 c = omega arith
 loop-again-3 : tie.Need-loop-again-3 Inv-loop μ-loop
 loop-again-3 c =
     let b = c .before .before .before in
-    counting-full (b .before .before .before .before .before .loop .inv) (omega arith) (b .before .before .link .ensures)
+    counting-full (b .before .before .before .before .before .loop .inv) (omega arith)
+    (b .before .before .link .ensures)
     (sym (b .bad-link .ensures) ∙ c .before .before .if4 .left) (omega arith)
 
 same-length-2 : tie.Need-same-length-2 Inv-loop μ-loop

@@ -1,5 +1,5 @@
--- `cases::bytes` meets its contract, which asks only that it is safe and ends: the place stays within the bytes.
--- Assumes nothing.
+-- `cases::bytes` meets its contract, which asks only that it is safe and ends: the place stays
+-- within the bytes. Assumes nothing.
 use Prim.Native.Nat.{_-_, _≤_}
 use lib.ListN.{length}
 use borrow.Author.Needs.{needs}

@@ -1,5 +1,5 @@
--- `cases::cases` meets its contract, which asks only that it is safe and ends: what is lent stays within the image, and the number of a line within the place.
--- Assumes nothing.
+-- `cases::cases` meets its contract, which asks only that it is safe and ends: what is lent stays
+-- within the image, and the number of a line within the place. Assumes nothing.
 use mathlib.Core.Path.{_≡_}
 use Prim.Native.Nat.{_+_, _-_, _≤_}
 use mathlib.Core.Logic.{⊎-elim}
@@ -10,7 +10,8 @@ use Rattle.cases.proofs.cases.Statement.{statement}
 use Rattle.cases.proofs.cases.Tie as tie
 
 abbrev Inv-loop : tie.InvT-loop
-Inv-loop text image₀ lent₀ at₀ number₀ image lent at number = (lent ≤ length image) × (number ≤ at + 1) × (length image ≡ length image₀)
+Inv-loop text image₀ lent₀ at₀ number₀ image lent at number =
+    (lent ≤ length image) × (number ≤ at + 1) × (length image ≡ length image₀)
 
 abbrev μ-loop : tie.MeasureT-loop
 μ-loop text image₀ lent₀ at₀ number₀ image lent at number = length text - at
@@ -49,7 +50,8 @@ loop-less : tie.Need-loop-less Inv-loop μ-loop
 loop-less c = search needs
 
 loop-again : tie.Need-loop-again Inv-loop μ-loop
-loop-again c = ⊎-elim (λ w. (omega arith, omega arith, search needs)) (λ w. (omega arith, omega arith, search needs)) (c .if1 .came)
+loop-again c = ⊎-elim (λ w. (omega arith, omega arith, search needs))
+    (λ w. (omega arith, omega arith, search needs)) (c .if1 .came)
 
 same-length : tie.Need-same-length Inv-loop μ-loop
 same-length c = search needs

@@ -1,5 +1,6 @@
--- `cases::changes` meets its contract, which asks only that it is safe and ends: the place stays within the image, the number within the place, and the length of what is lent is kept.
--- Assumes nothing.
+-- `cases::changes` meets its contract, which asks only that it is safe and ends: the place stays
+-- within the image, the number within the place, and the length of what is lent is kept. Assumes
+-- nothing.
 use mathlib.Core.Path.{_≡_}
 use Prim.Native.Nat.{_-_, _≤_}
 use lib.ListN.{length}
@@ -10,7 +11,8 @@ use Rattle.cases.proofs.changes.Statement.{statement}
 use Rattle.cases.proofs.changes.Tie as tie
 
 abbrev Inv-loop : tie.InvT-loop
-Inv-loop before₀ image n₀ i₀ before n i = (i ≤ length image) × (n ≤ i) × (length before ≡ length before₀)
+Inv-loop before₀ image n₀ i₀ before n i =
+    (i ≤ length image) × (n ≤ i) × (length before ≡ length before₀)
 
 abbrev μ-loop : tie.MeasureT-loop
 μ-loop before₀ image n₀ i₀ before n i = length image - i
@@ -46,7 +48,8 @@ loop-less : tie.Need-loop-less Inv-loop μ-loop
 loop-less c = search needs
 
 loop-again : tie.Need-loop-again Inv-loop μ-loop
-loop-again c = ⊎-elim (λ w. (omega arith, omega arith, search needs)) (λ w. (omega arith, omega arith, search needs)) (c .before .if2 .came)
+loop-again c = ⊎-elim (λ w. (omega arith, omega arith, search needs))
+    (λ w. (omega arith, omega arith, search needs)) (c .before .if2 .came)
 
 same-length-2 : tie.Need-same-length-2 Inv-loop μ-loop
 same-length-2 c = search needs

@@ -1,5 +1,5 @@
--- `cases::decimals` meets its contract, which asks only that it is safe and ends: the place stays within the list.
--- Assumes nothing.
+-- `cases::decimals` meets its contract, which asks only that it is safe and ends: the place stays
+-- within the list. Assumes nothing.
 use Prim.Native.Nat.{_-_, _≤_}
 use lib.ListN.{length}
 use native.Mathlib.Omega.{arith}
@@ -26,7 +26,8 @@ shared-slice-read-fact : tie.Need-shared-slice-read-fact Inv-loop μ-loop
 shared-slice-read-fact c = search needs
 
 cast-fact : tie.Need-cast-fact Inv-loop μ-loop
-cast-fact c = omega (arith, c .shared-slice-known2 .given (c .before .before .before .before .loop .i))
+cast-fact c =
+    omega (arith, c .shared-slice-known2 .given (c .before .before .before .before .loop .i))
 
 fact-requires : tie.Need-fact-requires Inv-loop μ-loop
 fact-requires c κs = search needs

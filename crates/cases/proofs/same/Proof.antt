@@ -1,5 +1,5 @@
--- `cases::same` meets its contract, which asks only that it is safe and ends: the place stays within the forms.
--- Assumes nothing.
+-- `cases::same` meets its contract, which asks only that it is safe and ends: the place stays
+-- within the forms. Assumes nothing.
 use Prim.Native.Nat.{_-_, _≤_}
 use borrow.Author.Needs.{needs}
 use Rattle.cases.proofs.same.Statement.{statement}

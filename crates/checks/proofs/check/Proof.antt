@@ -1,4 +1,5 @@
--- `checks::check` meets its contract: the audit tells which of 1 to 8 is heard and how the working numbers are left. Assumes nothing.
+-- `checks::check` meets its contract: the audit tells which of 1 to 8 is heard and how the working
+-- numbers are left. Assumes nothing.
 use borrow.Author.Needs.{needs}
 use Rattle.checks.proofs.CheckReturns.{checks-refused, checks-done}
 use Rattle.checks.proofs.check.Statement.{statement}
@@ -17,13 +18,15 @@ same-length : tie.Need-same-length
 same-length c = search needs
 
 returns : tie.Need-returns
-returns c = checks-refused (c .before .before .before .before .before .check .ensures) (c .before .verdict .given .1)
+returns c = checks-refused (c .before .before .before .before .before .check .ensures)
+    (c .before .verdict .given .1)
 
 same-length-2 : tie.Need-same-length-2
 same-length-2 c = search needs
 
 returns-2 : tie.Need-returns-2
-returns-2 c = checks-done (c .before .before .before .before .check .ensures) (c .enum-told .given .1)
+returns-2 c =
+    checks-done (c .before .before .before .before .check .ensures) (c .enum-told .given .1)
 
 pub check-spec : {M : Type 1} → statement M
 check-spec =

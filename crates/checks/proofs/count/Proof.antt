@@ -1,5 +1,5 @@
--- `checks::count` meets its contract: 1 to 8 by the audit, and in an image that passed them as many keys as there are nodes at most.
--- Assumes nothing.
+-- `checks::count` meets its contract: 1 to 8 by the audit, and in an image that passed them as
+-- many keys as there are nodes at most. Assumes nothing.
 use borrow.Author.Needs.{needs}
 use Rattle.checks.proofs.CheckReturns.{checked-walkable, counts-refused, counts-done}
 use Rattle.checks.proofs.count.Statement.{statement}
@@ -16,14 +16,16 @@ enum-told c = search needs
 
 count-requires : tie.Need-count-requires
 count-requires c κs =
-    let w = checked-walkable (c .before .before .before .before .check .ensures) (c .enum-told .given .1) in
+    let w = checked-walkable (c .before .before .before .before .check .ensures)
+    (c .enum-told .given .1) in
     (w .opened, (w .within, w .few))
 
 same-length : tie.Need-same-length
 same-length c = search needs
 
 returns : tie.Need-returns
-returns c = counts-refused (c .before .before .before .before .before .check .ensures) (c .before .verdict .given .1)
+returns c = counts-refused (c .before .before .before .before .before .check .ensures)
+    (c .before .verdict .given .1)
 
 same-length-2 : tie.Need-same-length-2
 same-length-2 c = search needs
@@ -31,7 +33,8 @@ same-length-2 c = search needs
 returns-2 : tie.Need-returns-2
 returns-2 c =
     let told = c .before in
-    counts-done (told .before .before .before .before .check .ensures) (told .enum-told .given .1) (c .count .ensures)
+    counts-done (told .before .before .before .before .check .ensures) (told .enum-told .given .1)
+    (c .count .ensures)
 
 pub count-spec : {M : Type 1} → statement M
 count-spec =

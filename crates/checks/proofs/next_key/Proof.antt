@@ -1,4 +1,5 @@
--- `checks::next_key` meets its contract: 1 to 8 by the audit, and the rest by what stands behind it. Assumes nothing.
+-- `checks::next_key` meets its contract: 1 to 8 by the audit, and the rest by what stands behind
+-- it. Assumes nothing.
 use borrow.Author.Needs.{needs}
 use Rattle.audit.proofs.Verdicts.{checked-accepted, checked-head}
 use Rattle.checks.proofs.CheckReturns.{nexts-refused, nexts-seek}
@@ -24,7 +25,8 @@ same-length : tie.Need-same-length
 same-length c = search needs
 
 returns : tie.Need-returns
-returns c = nexts-refused (c .before .before .before .before .before .check .ensures) _ _ _ (c .before .verdict .given .1)
+returns c = nexts-refused (c .before .before .before .before .before .check .ensures) _ _ _
+    (c .before .verdict .given .1)
 
 same-length-2 : tie.Need-same-length-2
 same-length-2 c = search needs
@@ -36,7 +38,8 @@ returns-2 : tie.Need-returns-2
 returns-2 c =
     let sought = c .before .before in
     let told = sought .before .before in
-    nexts-seek (told .before .before .before .before .check .ensures) _ _ _ _ (told .enum-told .given .1) (sought .seek .ensures)
+    nexts-seek (told .before .before .before .before .check .ensures) _ _ _ _
+    (told .enum-told .given .1) (sought .seek .ensures)
 
 pub next-key-spec : {M : Type 1} → statement M
 next-key-spec =

@@ -1,5 +1,5 @@
--- `comparing::alike` meets its contract: while the answer is yes, every number passed is the same in both lists; a part more keeps that. The measure is
--- how many are left. Assumes nothing.
+-- `comparing::alike` meets its contract: while the answer is yes, every number passed is the same
+-- in both lists; a part more keeps that. The measure is how many are left. Assumes nothing.
 use Prim.Native.Nat.{_-_, _≤_}
 use native.Mathlib.Omega.{arith}
 use Rattle.comparing.proofs.Comparing.{Same, same-none, same-part, same-all}
@@ -37,7 +37,8 @@ alike-part-requires-2 : tie.Need-alike-part-requires-2 Inv-loop μ-loop
 alike-part-requires-2 c κs = (omega arith, omega arith)
 
 returns : tie.Need-returns Inv-loop μ-loop
-returns c = same-all (same-part (c .before .before .loop .inv .1) (c .alike-part2 .ensures)) (omega arith)
+returns c =
+    same-all (same-part (c .before .before .loop .inv .1) (c .alike-part2 .ensures)) (omega arith)
 
 pub alike-spec : {M : Type 1} → statement M
 alike-spec =

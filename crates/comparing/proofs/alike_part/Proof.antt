@@ -1,5 +1,6 @@
--- `comparing::alike_part` meets its contract: while the answer is yes, and the numbers before the part are the same in both lists, every number passed
--- is the same too. The measure is how many are left. Assumes nothing.
+-- `comparing::alike_part` meets its contract: while the answer is yes, and the numbers before the
+-- part are the same in both lists, every number passed is the same too. The measure is how many
+-- are left. Assumes nothing.
 use Prim.Native.Nat.{_+_, _-_}
 use native.Mathlib.Omega.{arith}
 use Rattle.comparing.specs.Comparing.{Alike}
@@ -8,7 +9,8 @@ use Rattle.comparing.proofs.alike_part.Statement.{statement}
 use Rattle.comparing.proofs.alike_part.Tie as tie
 
 abbrev Inv-loop : tie.InvT-loop
-Inv-loop fresh counts from many same₀ i₀ same i = Alike fresh counts from → Same fresh counts same (from + i)
+Inv-loop fresh counts from many same₀ i₀ same i =
+    Alike fresh counts from → Same fresh counts same (from + i)
 
 abbrev μ-loop : tie.MeasureT-loop
 μ-loop fresh counts from many same₀ i₀ same i = many - i

@@ -31,8 +31,11 @@ returns c =
     let part = c .before .before in
     let told = part .before .before .before in
     let a = told .before .before .before .args in
-    let e : told .lesser .result - 0 ≡ min (a .lent) (length (a .work .now)) = omega (arith, told .lesser .ensures) in
+    let e : told .lesser .result - 0 ≡ min (a .lent) (length (a .work .now)) =
+    omega (arith, told .lesser .ensures) in
     checked-both e (part .check .ensures)
 
 pub check-both-spec : {M : Type 1} → statement M
-check-both-spec = tie.close (tie.spec lesser-requires sub-check part-check-start part-check-end check-requires same-length returns)
+check-both-spec =
+    tie.close (tie.spec lesser-requires sub-check part-check-start part-check-end check-requires
+    same-length returns)

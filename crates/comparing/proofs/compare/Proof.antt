@@ -1,10 +1,13 @@
--- `comparing::compare` meets its contract: 1 to 8 by the check lent a part of the working numbers, 25 by the fresh counts. Assumes nothing.
+-- `comparing::compare` meets its contract: 1 to 8 by the check lent a part of the working numbers,
+-- 25 by the fresh counts. Assumes nothing.
 use Prim.Native.Nat.{_+_}
 use mathlib.Core.Path.{ap}
 use native.Mathlib.Omega.{arith}
 use borrow.Author.Needs.{needs}
 use Rattle.head.specs.declared.Head.{Head}
-use Rattle.comparing.proofs.CompareReturns.{compared-refused, compared-accepted, compared-head, long-counts, long-work, zeros-work, fresh-long, compared}
+use Rattle.comparing.proofs.CompareReturns.{compared-refused, compared-accepted}
+use Rattle.comparing.proofs.CompareReturns.{compared-head, long-counts, long-work}
+use Rattle.comparing.proofs.CompareReturns.{zeros-work, fresh-long, compared}
 use Rattle.comparing.proofs.compare.Statement.{statement}
 use Rattle.comparing.proofs.compare.Tie as tie
 
@@ -48,8 +51,16 @@ first-different-requires c κs =
     let a = front .before .before .before .before .before .before .args in
     let o = front .check-both .ensures in
     let e = told .enum-told2 .given .1 in
-    let same = ap (λ (h : Head). h .g) (compared-head (a .image .now) (a .work .now) (a .counts .now) o e) in (
-      omega (arith, same, long-work (a .image .now) (a .work .now) (a .counts .now) o e, fresh-long (a .image .now) (a .work .now) (a .counts .now) o e (c .before .before .before .add-up .ensures)),
+    let same =
+    ap (λ (h : Head). h .g) (compared-head (a .image .now) (a .work .now) (a .counts .now) o e)
+    in (
+      omega (
+        arith,
+        same,
+        long-work (a .image .now) (a .work .now) (a .counts .now) o e,
+        fresh-long (a .image .now) (a .work .now) (a .counts .now) o e
+            (c .before .before .before .add-up .ensures),
+      ),
       omega (arith, same, long-counts (a .image .now) (a .work .now) (a .counts .now) o e),
     )
 
@@ -60,8 +71,16 @@ clear-requires c κs =
     let a = front .before .before .before .before .before .before .args in
     let o = front .check-both .ensures in
     let e = told .enum-told2 .given .1 in
-    let same = ap (λ (h : Head). h .g) (compared-head (a .image .now) (a .work .now) (a .counts .now) o e) in
-    omega (arith, same, long-work (a .image .now) (a .work .now) (a .counts .now) o e, fresh-long (a .image .now) (a .work .now) (a .counts .now) o e (c .before .before .before .before .before .add-up .ensures))
+    let same =
+    ap (λ (h : Head). h .g) (compared-head (a .image .now) (a .work .now) (a .counts .now) o e)
+    in
+    omega (
+      arith,
+      same,
+      long-work (a .image .now) (a .work .now) (a .counts .now) o e,
+      fresh-long (a .image .now) (a .work .now) (a .counts .now) o e
+          (c .before .before .before .before .before .add-up .ensures),
+    )
 
 judge-requires : tie.Need-judge-requires
 judge-requires c κs = search needs
@@ -73,20 +92,28 @@ returns : tie.Need-returns
 returns c =
     let front = c .before .before .before .before in
     let a = front .before .before .before .before .before .before .args in
-    compared-refused (a .image .now) (a .work .now) (a .counts .now) (front .check-both .ensures) (c .enum-told .given .1)
+    compared-refused (a .image .now) (a .work .now) (a .counts .now) (front .check-both .ensures)
+    (c .enum-told .given .1)
 
 same-length-2 : tie.Need-same-length-2
 same-length-2 c = search needs
 
 returns-2 : tie.Need-returns-2
 returns-2 c =
-    let told = c .before .before .before .before .before .before .before .before .before .before .before .before .before in
+    let told =
+    c .before .before .before .before .before .before .before .before .before .before .before
+    .before .before in
     let front = told .before .before .before .before in
     let a = front .before .before .before .before .before .before .args in
     let o = front .check-both .ensures in
     let e = told .enum-told2 .given .1 in
-    let nodes = ap (λ (h : Head). h .g + 1) (compared-head (a .image .now) (a .work .now) (a .counts .now) o e) in
-    compared (a .image .now) (a .work .now) (a .counts .now) o e (c .before .before .before .before .before .before .before .before .before .add-up .ensures) nodes (c .before .before .before .before .before .first-different .ensures) (c .judge .ensures)
+    let nodes =
+    ap (λ (h : Head). h .g + 1)
+    (compared-head (a .image .now) (a .work .now) (a .counts .now) o e) in
+    compared (a .image .now) (a .work .now) (a .counts .now) o e
+    (c .before .before .before .before .before .before .before .before .before .add-up
+    .ensures) nodes (c .before .before .before .before .before .first-different .ensures)
+    (c .judge .ensures)
     (c .before .before .before .clear .ensures)
 
 pub compare-spec : {M : Type 1} → statement M

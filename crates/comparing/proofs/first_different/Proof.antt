@@ -1,5 +1,5 @@
--- `comparing::first_different` meets its contract: a search upwards from node 0, spared where the lists are alike. The measure is how many nodes
--- are left. Assumes nothing.
+-- `comparing::first_different` meets its contract: a search upwards from node 0, spared where the
+-- lists are alike. The measure is how many nodes are left. Assumes nothing.
 use Prim.Native.Nat.{_-_}
 use native.Mathlib.Omega.{arith}
 use mathlib.Core.Bool.{not}
@@ -8,13 +8,15 @@ use lib.ListN.{getD}
 use borrow.Author.Needs.{needs}
 use borrow.Author.Tests.{eq-eqb, ne-eqb}
 use Rattle.paper.proofs.Hearing.{untrue, unfalse}
-use Rattle.audit.proofs.LowestFound.{Seeking, seeking-none, seeking-more, seeking-found, seeking-all}
+use Rattle.audit.proofs.LowestFound.{Seeking, seeking-none, seeking-more, seeking-found}
+use Rattle.audit.proofs.LowestFound.{seeking-all}
 use Rattle.comparing.proofs.Comparing.{alike-nowhere}
 use Rattle.comparing.proofs.first_different.Statement.{statement}
 use Rattle.comparing.proofs.first_different.Tie as tie
 
 abbrev Inv-loop : tie.InvT-loop
-Inv-loop fresh counts nodes q₀ q = Seeking (λ y. not (eqb (getD counts y 0) (getD fresh y 0))) 0 nodes q
+Inv-loop fresh counts nodes q₀ q =
+    Seeking (λ y. not (eqb (getD counts y 0) (getD fresh y 0))) 0 nodes q
 
 abbrev μ-loop : tie.MeasureT-loop
 μ-loop fresh counts nodes q₀ q = nodes - q
@@ -43,7 +45,8 @@ shared-slice-read-if2-2 : tie.Need-shared-slice-read-if2-2 Inv-loop μ-loop
 shared-slice-read-if2-2 c = omega arith
 
 returns-2 : tie.Need-returns-2 Inv-loop μ-loop
-returns-2 c = seeking-found (c .before .before .before .before .loop .inv) (omega arith) (unfalse (ne-eqb _ _ (c .if2 .taken)))
+returns-2 c = seeking-found (c .before .before .before .before .loop .inv) (omega arith)
+    (unfalse (ne-eqb _ _ (c .if2 .taken)))
 
 add-q : tie.Need-add-q Inv-loop μ-loop
 add-q c = omega arith
@@ -52,7 +55,8 @@ loop-less : tie.Need-loop-less Inv-loop μ-loop
 loop-less c = omega arith
 
 loop-again : tie.Need-loop-again Inv-loop μ-loop
-loop-again c = seeking-more (c .before .before .before .before .loop .inv) (omega arith) (untrue (eq-eqb _ _ (c .if2 .left)))
+loop-again c = seeking-more (c .before .before .before .before .loop .inv) (omega arith)
+    (untrue (eq-eqb _ _ (c .if2 .left)))
 
 returns-3 : tie.Need-returns-3 Inv-loop μ-loop
 returns-3 c = seeking-all (c .before .loop .inv) (omega arith) (omega arith)

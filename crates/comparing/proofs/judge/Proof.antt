@@ -1,4 +1,5 @@
--- `comparing::judge` meets its contract: 25 is given where the node found is one of the nodes. Assumes nothing.
+-- `comparing::judge` meets its contract: 25 is given where the node found is one of the nodes.
+-- Assumes nothing.
 use mathlib.Core.Path.{sym}
 use native.Mathlib.Omega.{arith}
 use borrow.Author.Needs.{needs}

@@ -1,5 +1,6 @@
--- The proof of the cycle of calls {counted}: what was counted and what is still to come make up the whole, letter by letter, and the depth
--- left to max falls at each call of itself. Assumes nothing.
+-- The proof of the cycle of calls {counted}: what was counted and what is still to come make up
+-- the whole, letter by letter, and the depth left to max falls at each call of itself. Assumes
+-- nothing.
 use Prim.Native.Nat.{ℕ, _+_, _-_, _<_, _≤_}
 use mathlib.Core.Logic.{⊎-elim}
 use mathlib.Core.Path.{_≡_}
@@ -9,7 +10,8 @@ use borrow.Fn.Kinds.{In}
 use borrow.Fn.PlainCycle.{Measures, is, falls, and}
 use Rattle.head.proofs.Permitted.{bounds}
 use Rattle.node.specs.Image.{tableOf}
-use Rattle.counting.proofs.Counting.{left, owned, owned-none, owned-one, left-no-keys, left-none, left-empty, left-link}
+use Rattle.counting.proofs.Counting.{left, owned, owned-none, owned-one, left-no-keys}
+use Rattle.counting.proofs.Counting.{left-none, left-empty, left-link}
 use Rattle.counting.proofs.counted.Reads as counted
 use Rattle.counting.proofs.counted.Kinds as counted-kinds
 use Rattle.counting.proofs.+counted.Lts-counted as lts
@@ -65,7 +67,11 @@ loop-again t c =
     let found = c .before in
     let loop = found .before .before in
     let a = loop .before .before .args in
-    omega (arith, left-empty (a .h) (tableOf (a .h) (a .image .now)) (a .node) (a .depth) (loop .loop .i) (found .before .loop-test .taken) (found .link .ensures) (c .if1 .taken))
+    omega (
+      arith,
+      left-empty (a .h) (tableOf (a .h) (a .image .now)) (a .node) (a .depth)
+          (loop .loop .i) (found .before .loop-test .taken) (found .link .ensures) (c .if1 .taken),
+    )
 
 -- past an empty link: the child's keys come next
 by-link : (t : ℕ) (c : lts.Else1 (claims t) (at t) counted.Post Inv-loop μ-loop)
@@ -82,21 +88,27 @@ by-link t c =
     let loop = found .before .before in
     let start = loop .before .before in
     let a = start .args in
-    left-link (a .h) (tableOf (a .h) (a .image .now)) (a .node) (a .depth) (loop .loop .i) (start .pre .1 .1 .1 .1 .1 .0) (found .before .loop-test .taken)
+    left-link (a .h) (tableOf (a .h) (a .image .now)) (a .node) (a .depth) (loop .loop .i)
+    (start .pre .1 .1 .1 .1 .1 .0) (found .before .loop-test .taken)
     (found .link .ensures) (c .if1 .left)
 
 -- the child stands in the table
-inside : (t : ℕ) (c : lts.After-link (claims t) (at t) counted.Post Inv-loop μ-loop) → c .link .result ≤ c .before .before .before .before .args .h .g
+inside : (t : ℕ) (c : lts.After-link (claims t) (at t) counted.Post Inv-loop μ-loop)
+    → c .link .result ≤ c .before .before .before .before .args .h .g
 inside t c =
     let loop = c .before .before in
     let start = loop .before .before in
     omega (arith, c .link .ensures, start .pre .1 .1 .0 (start .args .node) (loop .loop .i))
 
-add-own-value-by : (t : ℕ) → lts.Need-add-own-value-by (claims t) (at t) counted.Post Inv-loop μ-loop
-add-own-value-by t c = let start = c .before .before .before .before .before in omega (arith, bounds (start .args .h) (start .pre .1 .0 .head-permitted))
+add-own-value-by : (t : ℕ) → lts.Need-add-own-value-by (claims t) (at t) counted.Post Inv-loop
+    μ-loop
+add-own-value-by t c = let start = c .before .before .before .before .before in
+    omega (arith, bounds (start .args .h) (start .pre .1 .0 .head-permitted))
 
-own-value-by-requires : (t : ℕ) → lts.Need-own-value-by-requires (claims t) (at t) counted.Post Inv-loop μ-loop
-own-value-by-requires t c κs = let p = c .before .before .before .before .before .pre .1 in (p .0, (p .1 .1 .0 .values, inside t (c .before)))
+own-value-by-requires : (t : ℕ) → lts.Need-own-value-by-requires (claims t) (at t) counted.Post
+    Inv-loop μ-loop
+own-value-by-requires t c κs = let p = c .before .before .before .before .before .pre .1 in
+    (p .0, (p .1 .1 .0 .values, inside t (c .before)))
 
 add-sum : (t : ℕ) → lts.Need-add-sum (claims t) (at t) counted.Post Inv-loop μ-loop
 add-sum t c =
@@ -105,30 +117,52 @@ add-sum t c =
     let loop = found .before .before in
     let start = loop .before .before in
     let a = start .args in
-    omega (arith, start .pre .1, loop .loop .inv, by-link t (own .before), owned-one (a .h) (tableOf (a .h) (a .image .now)) (found .link .result) (a .depth + 1) (own .own-value-by .ensures) (c .if2 .taken))
+    omega (
+      arith,
+      start .pre .1,
+      loop .loop .inv,
+      by-link t (own .before),
+      owned-one (a .h)
+          (tableOf (a .h) (a .image .now)) (found .link .result) (a .depth + 1)
+          (own .own-value-by .ensures) (c .if2 .taken),
+    )
 
 -- the child's own key is counted
 own-counted : (t : ℕ) (c : lts.Joined2 (claims t) (at t) counted.Post Inv-loop μ-loop)
     → (let found = c .before .before .before in
     let loop = found .before .before in
     let a = loop .before .before .args in
-    c .if2 .sum ≡ loop .loop .sum + owned (a .h) (tableOf (a .h) (a .image .now)) (found .link .result) (a .depth + 1))
+    c .if2 .sum ≡ loop .loop .sum + owned (a .h) (tableOf (a .h) (a .image .now))
+    (found .link .result) (a .depth + 1))
 own-counted t c =
     let own = c .before in
     let found = own .before .before in
     let a = found .before .before .before .before .args in
     let table = tableOf (a .h) (a .image .now) in
-    ⊎-elim (λ w. omega (arith, w .1, owned-one (a .h) table (found .link .result) (a .depth + 1) (own .own-value-by .ensures) (w .0 .taken)))
-    (λ w. omega (arith, w .1, owned-none (a .h) table (found .link .result) (a .depth + 1) (own .own-value-by .ensures) (w .0 .left)))
+    ⊎-elim (λ w. omega (
+      arith,
+      w .1,
+      owned-one (a .h) table (found .link .result) (a .depth + 1)
+          (own .own-value-by .ensures) (w .0 .taken),
+    ))
+    (λ w. omega (
+      arith,
+      w .1,
+      owned-none (a .h) table (found .link .result) (a .depth + 1)
+          (own .own-value-by .ensures) (w .0 .left),
+    ))
     (c .if2 .came)
 
-add-no-keys-below : (t : ℕ) → lts.Need-add-no-keys-below (claims t) (at t) counted.Post Inv-loop μ-loop
+add-no-keys-below : (t : ℕ) → lts.Need-add-no-keys-below (claims t) (at t) counted.Post Inv-loop
+    μ-loop
 add-no-keys-below t c =
     let start = c .before .before .before .before .before .before .before in
     omega (arith, bounds (start .args .h) (start .pre .1 .0 .head-permitted))
 
-no-keys-below-requires : (t : ℕ) → lts.Need-no-keys-below-requires (claims t) (at t) counted.Post Inv-loop μ-loop
-no-keys-below-requires t c κs = let found = c .before .before .before in (found .before .before .before .before .pre .1 .0, inside t found)
+no-keys-below-requires : (t : ℕ) → lts.Need-no-keys-below-requires (claims t) (at t) counted.Post
+    Inv-loop μ-loop
+no-keys-below-requires t c κs = let found = c .before .before .before in
+    (found .before .before .before .before .pre .1 .0, inside t found)
 
 add-i-2 : (t : ℕ) → lts.Need-add-i-2 (claims t) (at t) counted.Post Inv-loop μ-loop
 add-i-2 t c = omega arith
@@ -143,14 +177,22 @@ loop-again-2 t c =
     let found = joined .before .before .before in
     let loop = found .before .before in
     let a = loop .before .before .args in
-    omega (arith, left-no-keys (a .h) (tableOf (a .h) (a .image .now)) (found .link .result) (a .depth + 1) 0 (c .before .no-keys-below .ensures) (c .if3 .taken), own-counted t joined, by-link t (joined .before .before), loop .loop .inv)
+    omega (
+      arith,
+      left-no-keys (a .h) (tableOf (a .h) (a .image .now)) (found .link .result)
+          (a .depth + 1) 0 (c .before .no-keys-below .ensures) (c .if3 .taken),
+      own-counted t joined,
+      by-link t (joined .before .before),
+      loop .loop .inv,
+    )
 
 add-counted : (t : ℕ) → lts.Need-add-counted (claims t) (at t) counted.Post Inv-loop μ-loop
 add-counted t c =
     let start = c .before .before .before .before .before .before .before .before .before in
     omega (arith, bounds (start .args .h) (start .pre .1 .0 .head-permitted))
 
-counted-requires : (t : ℕ) → lts.Need-counted-requires (claims t) (at t) counted.Post Inv-loop μ-loop
+counted-requires : (t : ℕ) → lts.Need-counted-requires (claims t) (at t) counted.Post Inv-loop
+    μ-loop
 counted-requires t c κs =
     let joined = c .before .before in
     let found = joined .before .before .before in
@@ -161,7 +203,25 @@ counted-requires t c κs =
       omega (arith, start .pre .0),
       (
         p .0,
-        (p .1 .0, (p .1 .1 .0, (inside t found, (deep, omega (arith, p, loop .loop .inv, by-link t (joined .before .before), own-counted t joined))))),
+        (
+          p .1 .0,
+          (
+            p .1 .1 .0,
+            (
+              inside t found,
+              (
+                deep,
+                omega (
+                  arith,
+                  p,
+                  loop .loop .inv,
+                  by-link t (joined .before .before),
+                  own-counted t joined,
+                ),
+              ),
+            ),
+          ),
+        ),
       ),
     )
 
@@ -175,13 +235,23 @@ loop-again-3 : (t : ℕ) → lts.Need-loop-again-3 (claims t) (at t) counted.Pos
 loop-again-3 t c =
     let joined = c .before .before .before in
     let found = joined .before .before .before in
-    omega (arith, c .counted .ensures, own-counted t joined, by-link t (joined .before .before), found .before .before .loop .inv)
+    omega (
+      arith,
+      c .counted .ensures,
+      own-counted t joined,
+      by-link t (joined .before .before),
+      found .before .before .loop .inv,
+    )
 
 returns : (t : ℕ) → lts.Need-returns (claims t) (at t) counted.Post Inv-loop μ-loop
 returns t c =
     let loop = c .before in
     let a = loop .before .before .args in
-    omega (arith, left-none (a .h) (tableOf (a .h) (a .image .now)) (a .node) (a .depth) (loop .loop .i) (c .loop-test .left))
+    omega (
+      arith,
+      left-none (a .h) (tableOf (a .h) (a .image .now)) (a .node) (a .depth)
+          (loop .loop .i) (c .loop-test .left),
+    )
 
 pub +counted-spec : {M : Type 1} → statement M
 +counted-spec = close μ-counted λ t. lts.spec (claims t)

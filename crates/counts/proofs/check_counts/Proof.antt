@@ -1,4 +1,5 @@
--- `counts::check_counts` meets its contract: the comparing tells what is heard and how the working numbers are left. Assumes nothing.
+-- `counts::check_counts` meets its contract: the comparing tells what is heard and how the working
+-- numbers are left. Assumes nothing.
 use borrow.Author.Needs.{needs}
 use Rattle.counts.proofs.CountsReturns.{check-counts-refused, check-counts-done}
 use Rattle.counts.proofs.check_counts.Statement.{statement}
@@ -17,13 +18,15 @@ same-length : tie.Need-same-length
 same-length c = search needs
 
 returns : tie.Need-returns
-returns c = check-counts-refused (c .before .before .before .before .before .compare .ensures) (c .before .verdict .given .1)
+returns c = check-counts-refused (c .before .before .before .before .before .compare .ensures)
+    (c .before .verdict .given .1)
 
 same-length-2 : tie.Need-same-length-2
 same-length-2 c = search needs
 
 returns-2 : tie.Need-returns-2
-returns-2 c = check-counts-done (c .before .before .before .before .compare .ensures) (c .enum-told .given .1)
+returns-2 c = check-counts-done (c .before .before .before .before .compare .ensures)
+    (c .enum-told .given .1)
 
 pub check-counts-spec : {M : Type 1} → statement M
 check-counts-spec =

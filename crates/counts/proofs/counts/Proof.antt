@@ -1,5 +1,5 @@
--- `counts::counts` meets its contract: 1 to 8 with 5 for either list by the check, and in an image that passed them the counts by the
--- weighing. Assumes nothing.
+-- `counts::counts` meets its contract: 1 to 8 with 5 for either list by the check, and in an image
+-- that passed them the counts by the weighing. Assumes nothing.
 use borrow.Author.Needs.{needs}
 use Rattle.counts.proofs.CountsReturns.{counts-refused, weigh-asks, counts-done}
 use Rattle.counts.proofs.counts.Statement.{statement}
@@ -19,7 +19,8 @@ weigh-requires c κs =
     let told = c .before in
     let front = told .before .before .before .before in
     let a = front .before .before .before .before .before .before .args in
-    weigh-asks (a .image .now) (a .work .now) (a .list .now) (front .check-both .ensures) (told .enum-told .given .1)
+    weigh-asks (a .image .now) (a .work .now) (a .list .now) (front .check-both .ensures)
+    (told .enum-told .given .1)
 
 same-length : tie.Need-same-length
 same-length c = search needs
@@ -28,7 +29,8 @@ returns : tie.Need-returns
 returns c =
     let front = c .before .before .before .before .before in
     let a = front .before .before .before .before .before .before .args in
-    counts-refused (a .image .now) (a .work .now) (a .list .now) (front .check-both .ensures) (c .before .verdict .given .1)
+    counts-refused (a .image .now) (a .work .now) (a .list .now) (front .check-both .ensures)
+    (c .before .verdict .given .1)
 
 same-length-2 : tie.Need-same-length-2
 same-length-2 c = search needs
@@ -43,7 +45,8 @@ returns-2 c =
     let front = told .before .before .before .before in
     let a = front .before .before .before .before .before .before .args in
     let o = front .check-both .ensures in
-    counts-done (a .image .now) (a .work .now) (a .list .now) o (told .enum-told .given .1) (weighed .weigh .ensures)
+    counts-done (a .image .now) (a .work .now) (a .list .now) o (told .enum-told .given .1)
+    (weighed .weigh .ensures)
 
 pub counts-spec : {M : Type 1} → statement M
 counts-spec =

@@ -1,4 +1,5 @@
--- `depths::no_keys_below` meets its contract: nothing lies below a node where no letter may follow, nor where all links are empty. Assumes nothing.
+-- `depths::no_keys_below` meets its contract: nothing lies below a node where no letter may
+-- follow, nor where all links are empty. Assumes nothing.
 use borrow.Author.Needs.{needs}
 use Rattle.node.specs.Image.{tableOf}
 use Rattle.depths.proofs.Links.{keys-below-full, keys-below-asked}
@@ -19,7 +20,8 @@ childless-requires c κs = search needs
 returns-2 : tie.Need-returns-2
 returns-2 c =
     let a = c .before .before .before .before .args in
-    keys-below-asked (a .h) (tableOf (a .h) (a .image .now)) (a .node) (a .depth) (c .before .if1 .left) (c .childless .ensures)
+    keys-below-asked (a .h) (tableOf (a .h) (a .image .now)) (a .node) (a .depth)
+    (c .before .if1 .left) (c .childless .ensures)
 
 pub no-keys-below-spec : {M : Type 1} → statement M
 no-keys-below-spec = tie.close (tie.spec cast-if1 returns childless-requires returns-2)

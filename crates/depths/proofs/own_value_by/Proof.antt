@@ -1,4 +1,5 @@
--- `depths::own_value_by` meets its contract: below min no key ends, from there on a node's data is its own. Assumes nothing.
+-- `depths::own_value_by` meets its contract: below min no key ends, from there on a node's data is
+-- its own. Assumes nothing.
 use mathlib.Core.Path.{sym, _∙_}
 use borrow.Author.Needs.{needs}
 use Rattle.node.specs.Image.{tableOf}
@@ -20,7 +21,9 @@ data-by-requires c κs = search needs
 returns-2 : tie.Need-returns-2
 returns-2 c =
     let a = c .before .before .before .before .args in
-    c .data-by .ensures ∙ sym (own-data (a .h) (tableOf (a .h) (a .image .now)) (a .node) (a .depth) (c .before .if1 .left))
+    c .data-by .ensures ∙ sym
+    (own-data (a .h) (tableOf (a .h) (a .image .now)) (a .node) (a .depth)
+    (c .before .if1 .left))
 
 pub own-value-by-spec : {M : Type 1} → statement M
 own-value-by-spec = tie.close (tie.spec cast-if1 returns data-by-requires returns-2)

@@ -1,4 +1,5 @@
--- `face::noted` meets its contract: each case of the answer has the numbers that are listed for it. Assumes nothing.
+-- `face::noted` meets its contract: each case of the answer has the numbers that are listed for
+-- it. Assumes nothing.
 use mir.Syntax.{w32}
 use mir.Facts.{toZ-ofZ}
 use borrow.Author.Needs.{needs, sfits-of}
@@ -24,7 +25,9 @@ refused-requires c κs = search needs
 returns : tie.Need-returns
 unfolding notedOf doneNumbers
 returns c =
-    c .done-with .ensures ∙ ap (λ (z : ℤ). doneNumbers (c .before .before .answer .given .0 .1 .0) z 0) (toZ-ofZ {w = w32} (sfits-of (c .before .known-told .given .0 .1)))
+    c .done-with .ensures ∙ ap
+    (λ (z : ℤ). doneNumbers (c .before .before .answer .given .0 .1 .0) z 0)
+    (toZ-ofZ {w = w32} (sfits-of (c .before .known-told .given .0 .1)))
     ∙ sym (ap notedOf (c .before .before .answer .given .1))
 
 returns-2 : tie.Need-returns-2

@@ -1,4 +1,5 @@
--- `face::stored` meets its contract: each case of the answer has the numbers that are listed for it. Assumes nothing.
+-- `face::stored` meets its contract: each case of the answer has the numbers that are listed for
+-- it. Assumes nothing.
 use mir.Syntax.{w32}
 use mir.Facts.{toZ-ofZ}
 use borrow.Author.Needs.{needs, sfits-of}
@@ -24,7 +25,8 @@ refused-requires c κs = search needs
 returns : tie.Need-returns
 unfolding storedOf doneNumbers
 returns c =
-    c .done-with .ensures ∙ ap (λ (z : ℤ). doneNumbers 0 z 0) (toZ-ofZ {w = w32} (sfits-of (c .before .known-told .given .0 .1)))
+    c .done-with .ensures ∙ ap (λ (z : ℤ). doneNumbers 0 z 0)
+    (toZ-ofZ {w = w32} (sfits-of (c .before .known-told .given .0 .1)))
     ∙ sym (ap storedOf (c .before .before .answer .given .1))
 
 returns-2 : tie.Need-returns-2

@@ -1,5 +1,6 @@
--- `field::blank` meets its contract. A turn shows sixteen bytes more to be as the first eight are; the last sixteen cover what is then
--- left, since there are sixteen at least. The measure is how many bytes are left. Assumes nothing.
+-- `field::blank` meets its contract. A turn shows sixteen bytes more to be as the first eight are;
+-- the last sixteen cover what is then left, since there are sixteen at least. The measure is how
+-- many bytes are left. Assumes nothing.
 use mathlib.Core.Path.{sym}
 use mathlib.Core.Bool.{true≢false}
 use Prim.Native.Nat.{_-_}
@@ -60,7 +61,8 @@ add-at c = omega arith
 loop-holds : tie.Need-loop-holds Inv-loop μ-loop
 loop-holds c =
     let b = c .before .before .before .before in
-    blanking-none (omega arith) (b .before .before .eight .ensures) (λ z. b .before .eight2 .ensures (omega arith))
+    blanking-none (omega arith) (b .before .before .eight .ensures)
+    (λ z. b .before .eight2 .ensures (omega arith))
 
 add-loop : tie.Need-add-loop Inv-loop μ-loop
 add-loop c = omega arith
@@ -89,13 +91,17 @@ loop-less c = omega arith
 loop-again : tie.Need-loop-again Inv-loop μ-loop
 loop-again c =
     let b = c .before .before in
-    blanking-more (b .before .before .before .loop .inv) (omega arith) (λ z. b .before .eight5 .ensures (omega arith)) (λ z. c .before .eight6 .ensures (omega arith))
+    blanking-more (b .before .before .before .loop .inv) (omega arith)
+    (λ z. b .before .eight5 .ensures (omega arith))
+    (λ z. c .before .eight6 .ensures (omega arith))
 
 returns-7 : tie.Need-returns-7 Inv-loop μ-loop
 returns-7 c e =
     let b = c .before .before in
     let z = eqb-true _ _ e in
-    blanking-all (c .before .loop .inv) (omega arith) (omega arith) z (b .before .before .before .eight3 .ensures (omega arith)) (b .before .eight4 .ensures (omega arith))
+    blanking-all (c .before .loop .inv) (omega arith) (omega arith) z
+    (b .before .before .before .eight3 .ensures (omega arith))
+    (b .before .eight4 .ensures (omega arith))
 
 pub blank-spec : {M : Type 1} → statement M
 blank-spec =

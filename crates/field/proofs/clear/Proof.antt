@@ -1,5 +1,5 @@
--- `field::clear` meets its contract. Clearing is laying zeros, and the zero that a turn stores is the next of them.
--- The measure is how many are left. Assumes nothing.
+-- `field::clear` meets its contract. Clearing is laying zeros, and the zero that a turn stores is
+-- the next of them. The measure is how many are left. Assumes nothing.
 use mathlib.Core.Path.{sym}
 use Prim.Native.Nat.{ℕ, _-_}
 use native.Mathlib.Omega.{arith}
@@ -33,13 +33,16 @@ loop-again : tie.Need-loop-again Inv-loop μ-loop
 loop-again c =
     let n = c .before .before .args .n in
     let i = c .before .loop .i in
-    laying-more (c .before .loop .inv) (omega (arith, length-replicate {A = ℕ} n 0)) (sym (getD-replicate n i 0 0 (omega arith)))
+    laying-more (c .before .loop .inv) (omega (arith, length-replicate {A = ℕ} n 0))
+    (sym (getD-replicate n i 0 0 (omega arith)))
 
 same-length : tie.Need-same-length Inv-loop μ-loop
 same-length c = c .before .loop .inv .long
 
 returns : tie.Need-returns Inv-loop μ-loop
-returns c = laying-all (c .before .loop .inv) (omega (arith, length-replicate {A = ℕ} (c .before .before .args .n) 0))
+returns c =
+    laying-all (c .before .loop .inv)
+    (omega (arith, length-replicate {A = ℕ} (c .before .before .args .n) 0))
 
 pub clear-spec : {M : Type 1} → statement M
 clear-spec =

@@ -1,5 +1,5 @@
--- `field::eight` meets its contract: eight bytes whose number is 0, the last of them highest, are eight zeros, and so is their number with
--- the first of them highest. Assumes nothing.
+-- `field::eight` meets its contract: eight bytes whose number is 0, the last of them highest, are
+-- eight zeros, and so is their number with the first of them highest. Assumes nothing.
 use Prim.Native.Nat.{_+_, _<_}
 use native.Mathlib.Omega.{arith}
 use borrow.Author.Needs.{needs}
@@ -78,11 +78,31 @@ wide-requires-8 c κs = search needs
 
 -- the eight numbers that were read are bytes
 small : (c : tie.After-wide8)
-    → (c .before .before .before .before .before .before .before .before .before .before .before .before .before .before .wide .result < 256) × (c .before .before .before .before .before .before .before .before .before .before .before .before .wide2 .result < 256) × (c .before .before .before .before .before .before .before .before .before .before .wide3 .result < 256) × (c .before .before .before .before .before .before .before .before .wide4 .result < 256) × (c .before .before .before .before .before .before .wide5 .result < 256) × (c .before .before .before .before .wide6 .result < 256) × (c .before .before .wide7 .result < 256) × (c .wide8 .result < 256)
+    → (c .before .before .before .before .before .before .before .before .before .before .before
+    .before .before .before .wide .result < 256)
+    × (c .before .before .before .before .before .before .before .before .before .before
+    .before .before .wide2 .result < 256)
+    × (c .before .before .before .before .before .before .before .before .before .before .wide3
+    .result < 256)
+    × (c .before .before .before .before .before .before .before .before .wide4 .result < 256)
+    × (c .before .before .before .before .before .before .wide5 .result < 256)
+    × (c .before .before .before .before .wide6 .result < 256)
+    × (c .before .before .wide7 .result < 256) × (c .wide8 .result < 256)
 small c =
     let byte = c .before .shared-slice-known9 .given in
-    let at = c .before .before .before .before .before .before .before .before .before .before .before .before .before .before .before .before .before .args .at in
-    omega (arith, byte at, byte (at + 1), byte (at + 2), byte (at + 3), byte (at + 4), byte (at + 5), byte (at + 6), byte (at + 7))
+    let at = c .before .before .before .before .before .before .before .before .before .before
+    .before .before .before .before .before .before .before .args .at in
+    omega (
+      arith,
+      byte at,
+      byte (at + 1),
+      byte (at + 2),
+      byte (at + 3),
+      byte (at + 4),
+      byte (at + 5),
+      byte (at + 6),
+      byte (at + 7),
+    )
 
 mul-low : tie.Need-mul-low
 mul-low c = omega (arith, small c)
@@ -128,7 +148,17 @@ add-result c = omega (arith, small c)
 
 returns : tie.Need-returns
 returns c e =
-    turned _ _ (c .before .before .before .before .before .before .before .before .before .before .before .before .before .before .wide .ensures) (c .before .before .before .before .before .before .before .before .before .before .before .before .wide2 .ensures) (c .before .before .before .before .before .before .before .before .before .before .wide3 .ensures) (c .before .before .before .before .before .before .before .before .wide4 .ensures) (c .before .before .before .before .before .before .wide5 .ensures) (c .before .before .before .before .wide6 .ensures) (c .before .before .wide7 .ensures) (c .wide8 .ensures) e
+    turned _ _
+    (c .before .before .before .before .before .before .before .before .before .before .before
+    .before .before .before .wide .ensures)
+    (c .before .before .before .before .before .before .before .before .before .before .before
+    .before .wide2 .ensures)
+    (c .before .before .before .before .before .before .before .before .before .before .wide3
+    .ensures)
+    (c .before .before .before .before .before .before .before .before .wide4 .ensures)
+    (c .before .before .before .before .before .before .wide5 .ensures)
+    (c .before .before .before .before .wide6 .ensures) (c .before .before .wide7 .ensures)
+    (c .wide8 .ensures) e
 
 pub eight-spec : {M : Type 1} → statement M
 eight-spec =

@@ -1,5 +1,5 @@
--- `field::read4` meets its contract. What it computes is the definition at width 4, written out; the four numbers are bytes, so that 32
--- bits hold the result. Assumes nothing.
+-- `field::read4` meets its contract. What it computes is the definition at width 4, written out;
+-- the four numbers are bytes, so that 32 bits hold the result. Assumes nothing.
 use mathlib.Core.Path.{ap}
 use Prim.Native.Nat.{ℕ, _+_, _<_}
 use native.Mathlib.Nat.{add-zero}
@@ -45,7 +45,9 @@ wide-requires-4 c κs = search needs
 
 -- the four numbers that were read are bytes
 small : (c : tie.After-wide4)
-    → (c .before .before .before .before .before .before .wide .result < 256) × (c .before .before .before .before .wide2 .result < 256) × (c .before .before .wide3 .result < 256) × (c .wide4 .result < 256)
+    → (c .before .before .before .before .before .before .wide .result < 256)
+    × (c .before .before .before .before .wide2 .result < 256)
+    × (c .before .before .wide3 .result < 256) × (c .wide4 .result < 256)
 small c =
     let byte = c .before .shared-slice-known5 .given in
     let at = c .before .before .before .before .before .before .before .before .before .args .at in
@@ -75,7 +77,8 @@ cast-result c = omega (arith, small c)
 returns : tie.Need-returns
 unfolding fieldAt
 returns c =
-    let s = c .before .before .before .before .before .before .before .before .before .args .s .now in
+    let s =
+    c .before .before .before .before .before .before .before .before .before .args .s .now in
     let at = c .before .before .before .before .before .before .before .before .before .args .at in
     omega (arith, ap (λ (k : ℕ). getD s k 0) (add-zero at))
 

@@ -1,5 +1,5 @@
--- `field::read_few` meets its contract: byte by byte, the number so far is that of the bytes so far, and four of them fit 32 bits.
--- Assumes nothing.
+-- `field::read_few` meets its contract: byte by byte, the number so far is that of the bytes so
+-- far, and four of them fit 32 bits. Assumes nothing.
 use mathlib.Core.Path.{_≡_, sym, ap, _∙_}
 use Prim.Native.Nat.{ℕ, _+_, _*_, _<_, _^_}
 use native.Mathlib.Omega.{arith}
@@ -16,29 +16,37 @@ wide-requires : tie.Need-wide-requires
 wide-requires c κs = search needs
 
 -- what has been read after each byte
-read-1 : (c : tie.After-wide) → c .wide .result ≡ fieldAt (c .before .before .before .args .s .now) (c .before .before .before .args .at) 1
+read-1 : (c : tie.After-wide) → c .wide .result ≡ fieldAt (c .before .before .before .args .s .now)
+    (c .before .before .before .args .at) 1
 read-1 c = c .wide .ensures ∙ sym (field-one _ _)
 
 read-2 : (c : tie.After-wide2)
     → let one = c .before .before .before in
-    one .wide .result * 256 + c .wide2 .result ≡ fieldAt (one .before .before .before .args .s .now) (one .before .before .before .args .at) 2
+    one .wide .result * 256 + c .wide2 .result
+    ≡ fieldAt (one .before .before .before .args .s .now)
+    (one .before .before .before .args .at) 2
 read-2 c = field-more _ _ 1 (read-1 (c .before .before .before)) (c .wide2 .ensures)
 
 read-3 : (c : tie.After-wide3)
     → let two = c .before .before .before in
     let one = two .before .before .before in
-    (one .wide .result * 256 + two .wide2 .result) * 256 + c .wide3 .result ≡ fieldAt (one .before .before .before .args .s .now) (one .before .before .before .args .at) 3
+    (one .wide .result * 256 + two .wide2 .result) * 256 + c .wide3 .result
+    ≡ fieldAt (one .before .before .before .args .s .now)
+    (one .before .before .before .args .at) 3
 read-3 c = field-more _ _ 2 (read-2 (c .before .before .before)) (c .wide3 .ensures)
 
 read-4 : (c : tie.After-wide4)
     → let three = c .before .before .before in
     let two = three .before .before .before in
     let one = two .before .before .before in
-    ((one .wide .result * 256 + two .wide2 .result) * 256 + three .wide3 .result) * 256 + c .wide4 .result ≡ fieldAt (one .before .before .before .args .s .now) (one .before .before .before .args .at) 4
+    ((one .wide .result * 256 + two .wide2 .result) * 256 + three .wide3 .result) * 256
+    + c .wide4 .result ≡ fieldAt (one .before .before .before .args .s .now)
+    (one .before .before .before .args .at) 4
 read-4 c = field-more _ _ 3 (read-3 (c .before .before .before)) (c .wide4 .ensures)
 
 -- and what each number is below
-bound : (c : tie.After-wide) (i : ℕ) → fieldAt (c .before .before .before .args .s .now) (c .before .before .before .args .at) i < 256 ^ i
+bound : (c : tie.After-wide) (i : ℕ) → fieldAt (c .before .before .before .args .s .now)
+    (c .before .before .before .args .at) i < 256 ^ i
 bound c i = field-bound _ _ i (λ k. c .before .shared-slice-known2 .given k .fits)
 
 cast-result : tie.Need-cast-result
@@ -84,13 +92,23 @@ add-three : tie.Need-add-three
 add-three c = omega (arith, read-3 c, bound (c .before .before .before .before .before .before) 3)
 
 cast-result-3 : tie.Need-cast-result-3
-cast-result-3 c = omega (arith, read-3 (c .before), bound (c .before .before .before .before .before .before .before) 3)
+cast-result-3 c =
+    omega (
+      arith,
+      read-3 (c .before),
+      bound (c .before .before .before .before .before .before .before) 3,
+    )
 
 returns-3 : tie.Need-returns-3
 returns-3 c = read-3 (c .before) ∙ ap (fieldAt _ _) (sym (c .if3 .taken))
 
 mul-result : tie.Need-mul-result
-mul-result c = omega (arith, read-3 (c .before), bound (c .before .before .before .before .before .before .before) 3)
+mul-result c =
+    omega (
+      arith,
+      read-3 (c .before),
+      bound (c .before .before .before .before .before .before .before) 3,
+    )
 
 add-wide-3 : tie.Need-add-wide-3
 add-wide-3 c = search needs
@@ -102,14 +120,27 @@ wide-requires-4 : tie.Need-wide-requires-4
 wide-requires-4 c κs = search needs
 
 add-result : tie.Need-add-result
-add-result c = omega (arith, read-4 c, bound (c .before .before .before .before .before .before .before .before .before) 4)
+add-result c =
+    omega (
+      arith,
+      read-4 c,
+      bound
+          (c .before .before .before .before .before .before .before .before .before) 4,
+    )
 
 cast-result-4 : tie.Need-cast-result-4
-cast-result-4 c = omega (arith, read-4 c, bound (c .before .before .before .before .before .before .before .before .before) 4)
+cast-result-4 c =
+    omega (
+      arith,
+      read-4 c,
+      bound
+          (c .before .before .before .before .before .before .before .before .before) 4,
+    )
 
 returns-4 : tie.Need-returns-4
 returns-4 c =
-    let w : c .before .before .before .before .before .before .before .before .before .before .before .before .args .w ≡ 4 = omega arith in
+    let w : c .before .before .before .before .before .before .before .before .before .before
+    .before .before .args .w ≡ 4 = omega arith in
     read-4 c ∙ ap (fieldAt _ _) (sym w)
 
 pub read-few-spec : {M : Type 1} → statement M

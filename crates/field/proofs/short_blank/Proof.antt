@@ -1,4 +1,5 @@
--- `field::short_blank` meets its contract: less than sixteen bytes are the first eight and the last. Assumes nothing.
+-- `field::short_blank` meets its contract: less than sixteen bytes are the first eight and the
+-- last. Assumes nothing.
 use mathlib.Core.Path.{sym}
 use mathlib.Core.Bool.{true≢false}
 use native.Mathlib.Omega.{arith}
@@ -28,7 +29,10 @@ returns-2 c e = absurd (true≢false (sym e))
 returns-3 : tie.Need-returns-3
 returns-3 c e =
     let z = eqb-true _ _ e in
-    short-zeros _ _ _ (omega arith) (omega arith) (c .before .before .eight .ensures z) (c .before .eight2 .ensures (omega arith))
+    short-zeros _ _ _ (omega arith) (omega arith) (c .before .before .eight .ensures z)
+    (c .before .eight2 .ensures (omega arith))
 
 pub short-blank-spec : {M : Type 1} → statement M
-short-blank-spec = tie.close (tie.spec add-if1 returns eight-requires sub-eight eight-requires-2 returns-2 returns-3)
+short-blank-spec =
+    tie.close (tie.spec add-if1 returns eight-requires sub-eight eight-requires-2 returns-2
+    returns-3)

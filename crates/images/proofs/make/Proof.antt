@@ -1,5 +1,5 @@
--- `images::make` meets its contract: 1 and the part of 2 that a 32-bit F cannot say are judged here, the rest of 1 to 4 by the opening.
--- Assumes nothing.
+-- `images::make` meets its contract: 1 and the part of 2 that a 32-bit F cannot say are judged
+-- here, the rest of 1 to 4 by the opening. Assumes nothing.
 use mathlib.Core.Path.{_≡_, refl, sym, _∙_}
 use mathlib.Core.Option.{none}
 use borrow.Author.Needs.{needs}
@@ -14,7 +14,9 @@ length-allowed-requires : tie.Need-length-allowed-requires
 length-allowed-requires c κs = search needs
 
 returns : tie.Need-returns
-returns c = makes-refused _ _ _ _ _ _ _ _ (heard-1 _ _ _ (sym (c .before .length-allowed .ensures) ∙ not-true _ (c .if1 .taken)))
+returns c =
+    makes-refused _ _ _ _ _ _ _ _
+    (heard-1 _ _ _ (sym (c .before .length-allowed .ensures) ∙ not-true _ (c .if1 .taken)))
 
 cast-if2 : tie.Need-cast-if2
 cast-if2 c = search needs
@@ -53,7 +55,8 @@ fresh-requires c κs =
 returns-3 : tie.Need-returns-3
 returns-3 c =
     let judge = c .before .before .before in
-    makes-refused _ _ _ _ _ _ _ _ (told-refused (judge .judge .ensures .verdict) (c .before .verdict .given .1))
+    makes-refused _ _ _ _ _ _ _ _
+    (told-refused (judge .judge .ensures .verdict) (c .before .verdict .given .1))
 
 same-length : tie.Need-same-length
 same-length c = search needs

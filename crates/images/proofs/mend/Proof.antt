@@ -1,9 +1,11 @@
--- `images::mend` meets its contract: the check's answer, but for an 8 whose trial passed. Assumes nothing.
+-- `images::mend` meets its contract: the check's answer, but for an 8 whose trial passed. Assumes
+-- nothing.
 use mathlib.Core.Path.{_∙_, ap}
 use native.Mathlib.Omega.{arith}
 use borrow.Author.Needs.{needs}
 use Rattle.paper.specs.declared.Verdict.{Verdict}
-use Rattle.images.proofs.MendReturns.{not-eight, lower-asks, mends-passed, mends-other, mends-lowered, mends-kept}
+use Rattle.images.proofs.MendReturns.{not-eight, lower-asks, mends-passed, mends-other}
+use Rattle.images.proofs.MendReturns.{mends-lowered, mends-kept}
 use Rattle.images.proofs.mend.Statement.{statement}
 use Rattle.images.proofs.mend.Tie as tie
 
@@ -28,13 +30,15 @@ same-length-2 c = search needs
 returns : tie.Need-returns
 returns c =
     let told = c .before .before in
-    mends-other (told .before .before .before .before .check .ensures) (told .verdict .given .1) (not-eight (told .verdict .given .0 .0) (c .match2 .keys2))
+    mends-other (told .before .before .before .before .check .ensures) (told .verdict .given .1)
+    (not-eight (told .verdict .given .0 .0) (c .match2 .keys2))
 
 lower-requires : tie.Need-lower-requires
 lower-requires c κs =
     let eighth = c .before .before .before .before in
     let told = eighth .before .before .before in
-    lower-asks (told .before .before .before .before .check .ensures) (told .verdict .given .1 ∙ ap Verdict.Refused (eighth .why .given .1))
+    lower-asks (told .before .before .before .before .check .ensures)
+    (told .verdict .given .1 ∙ ap Verdict.Refused (eighth .why .given .1))
 
 enum-told-2 : tie.Need-enum-told-2
 enum-told-2 c = search needs
@@ -63,7 +67,8 @@ returns-3 c =
     let tried = c .before .before .before .before .before .before in
     let eighth = tried .before .before .before .before .before in
     let told = eighth .before .before .before in
-    mends-lowered (told .before .before .before .before .check .ensures) (told .verdict .given .1 ∙ ap Verdict.Refused (eighth .why .given .1)) (omega arith)
+    mends-lowered (told .before .before .before .before .check .ensures)
+    (told .verdict .given .1 ∙ ap Verdict.Refused (eighth .why .given .1)) (omega arith)
     (tried .lower .ensures) (c .enum-told2 .given .1)
 
 same-length-7 : tie.Need-same-length-7
@@ -77,7 +82,8 @@ returns-4 c =
     let tried = c .before .before .before .before .before .before .before in
     let eighth = tried .before .before .before .before .before in
     let told = eighth .before .before .before in
-    mends-kept (told .before .before .before .before .check .ensures) (told .verdict .given .1 ∙ ap Verdict.Refused (eighth .why .given .1)) (omega arith)
+    mends-kept (told .before .before .before .before .check .ensures)
+    (told .verdict .given .1 ∙ ap Verdict.Refused (eighth .why .given .1)) (omega arith)
     (tried .lower .ensures) (c .before .trial .given .1)
 
 pub mend-spec : {M : Type 1} → statement M

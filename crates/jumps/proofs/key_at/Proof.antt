@@ -1,4 +1,5 @@
--- `jumps::key_at` meets its contract: 1 to 8 and 25 by the comparing, and the rest by what stands behind it. Assumes nothing.
+-- `jumps::key_at` meets its contract: 1 to 8 and 25 by the comparing, and the rest by what stands
+-- behind it. Assumes nothing.
 use borrow.Author.Needs.{needs}
 use Rattle.jumps.proofs.KeyAtReturns.{spot-asks, gives-key-refused, gives-key-spotted}
 use Rattle.jumps.proofs.key_at.Statement.{statement}
@@ -22,7 +23,8 @@ same-length : tie.Need-same-length
 same-length c = search needs
 
 returns : tie.Need-returns
-returns c = gives-key-refused (c .before .before .before .before .before .compare .ensures) _ _ (c .before .verdict .given .1)
+returns c = gives-key-refused (c .before .before .before .before .before .compare .ensures) _ _
+    (c .before .verdict .given .1)
 
 same-length-2 : tie.Need-same-length-2
 same-length-2 c = search needs
@@ -34,7 +36,8 @@ returns-2 : tie.Need-returns-2
 returns-2 c =
     let spot = c .before .before in
     let told = spot .before .before in
-    gives-key-spotted (told .before .before .before .before .compare .ensures) _ _ _ (told .enum-told .given .1) (spot .tell-key .ensures)
+    gives-key-spotted (told .before .before .before .before .compare .ensures) _ _ _
+    (told .enum-told .given .1) (spot .tell-key .ensures)
 
 pub key-at-spec : {M : Type 1} → statement M
 key-at-spec =

@@ -1,7 +1,8 @@
--- `jumps::position` meets its contract: 1 to 8, 25, 9 and 10 by what stands in front of the key, and 15 or the position by what stands
--- behind them. Assumes nothing.
+-- `jumps::position` meets its contract: 1 to 8, 25, 9 and 10 by what stands in front of the key,
+-- and 15 or the position by what stands behind them. Assumes nothing.
 use borrow.Author.Needs.{needs}
-use Rattle.jumps.proofs.PositionReturns.{place-asks, gives-position-refused, gives-position-placed}
+use Rattle.jumps.proofs.PositionReturns.{place-asks, gives-position-refused}
+use Rattle.jumps.proofs.PositionReturns.{gives-position-placed}
 use Rattle.jumps.proofs.position.Statement.{statement}
 use Rattle.jumps.proofs.position.Tie as tie
 
@@ -15,13 +16,17 @@ enum-told : tie.Need-enum-told
 enum-told c = search needs
 
 tell-position-requires : tie.Need-tell-position-requires
-tell-position-requires c κs = place-asks _ _ (c .before .before .before .before .before .ask .ensures) (c .enum-told .given .1)
+tell-position-requires c κs =
+    place-asks _ _ (c .before .before .before .before .before .ask .ensures)
+    (c .enum-told .given .1)
 
 same-length : tie.Need-same-length
 same-length c = search needs
 
 returns : tie.Need-returns
-returns c = gives-position-refused _ _ (c .before .before .before .before .before .before .ask .ensures) (c .before .verdict .given .1)
+returns c =
+    gives-position-refused _ _ (c .before .before .before .before .before .before .ask .ensures)
+    (c .before .verdict .given .1)
 
 same-length-2 : tie.Need-same-length-2
 same-length-2 c = search needs
@@ -29,7 +34,8 @@ same-length-2 c = search needs
 returns-2 : tie.Need-returns-2
 returns-2 c =
     let told = c .before in
-    gives-position-placed _ _ (told .before .before .before .before .before .ask .ensures) (told .enum-told .given .1) (c .tell-position .ensures)
+    gives-position-placed _ _ (told .before .before .before .before .before .ask .ensures)
+    (told .enum-told .given .1) (c .tell-position .ensures)
 
 pub position-spec : {M : Type 1} → statement M
 position-spec =

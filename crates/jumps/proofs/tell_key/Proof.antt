@@ -1,17 +1,20 @@
--- `jumps::tell_key` meets its contract: 14 here, 15 by the count of the root, the key by the way through the image; the buffer is written only
--- where there is a key. Assumes nothing.
+-- `jumps::tell_key` meets its contract: 14 here, 15 by the count of the root, the key by the way
+-- through the image; the buffer is written only where there is a key. Assumes nothing.
 use native.Mathlib.Omega.{arith}
 use borrow.Author.Needs.{needs}
 use Rattle.ranking.proofs.Below.{Counted, counted}
-use Rattle.jumps.proofs.KeyAtReturns.{root-count, few-keys, path-room, spotted-within, spotted-front, spotted-room, spotted-fits}
+use Rattle.jumps.proofs.KeyAtReturns.{root-count, few-keys, path-room, spotted-within}
+use Rattle.jumps.proofs.KeyAtReturns.{spotted-front, spotted-room, spotted-fits}
 use Rattle.jumps.proofs.KeyAtReturns.{spots-short, spots-past, spots-found}
 use Rattle.jumps.proofs.tell_key.Statement.{statement}
 use Rattle.jumps.proofs.tell_key.Tie as tie
 
 -- what the image and its counts give
 known : (c : tie.After-struct-known)
-    → (let a = c .before .before .before .before .args in Counted (a .h) (a .image .now) (a .counts .now))
-known c = let start = c .before .before .before .before in counted (start .pre .0) (start .pre .1 .0) (start .pre .1 .1)
+    → (let a = c .before .before .before .before .args in
+    Counted (a .h) (a .image .now) (a .counts .now))
+known c = let start = c .before .before .before .before in
+    counted (start .pre .0) (start .pre .1 .0) (start .pre .1 .1)
 
 cast-if1 : tie.Need-cast-if1
 cast-if1 c = search needs
@@ -25,13 +28,15 @@ shared-slice-read-if2 : tie.Need-shared-slice-read-if2
 shared-slice-read-if2 c = omega (arith, known (c .before .before) .long)
 
 cast-if2 : tie.Need-cast-if2
-cast-if2 c = omega (arith, root-count (known (c .before .before)), few-keys (known (c .before .before)))
+cast-if2 c =
+    omega (arith, root-count (known (c .before .before)), few-keys (known (c .before .before)))
 
 returns-2 : tie.Need-returns-2
 returns-2 c =
     let room = c .before .before in
     let start = room .before .before .before .before .before in
-    spots-past (start .args .image .now) (start .args .position) (start .args .buffer .now) (start .pre .1 .0) (room .if1 .left)
+    spots-past (start .args .image .now) (start .args .position) (start .args .buffer .now)
+    (start .pre .1 .0) (room .if1 .left)
     (omega (arith, c .if2 .taken, root-count (known (room .before))))
 
 cast-key-at : tie.Need-cast-key-at
@@ -46,8 +51,13 @@ key-at-requires : tie.Need-key-at-requires
 key-at-requires c κs =
     let below = c .before in
     let w = known (below .before .before .before) in
-    let start = below .before .before .before .before .before .before .before in
-    (start .pre .0, (start .pre .1 .0, (start .pre .1 .1, (omega (arith, below .if2 .left, root-count w), path-room w))))
+    let start = below .before .before .before .before .before .before .before in (
+      start .pre .0,
+      (
+        start .pre .1 .0,
+        (start .pre .1 .1, (omega (arith, below .if2 .left, root-count w), path-room w)),
+      ),
+    )
 
 array-share-prefix-path : tie.Need-array-share-prefix-path
 array-share-prefix-path c = spotted-within (c .before .before .key-at .ensures)
@@ -67,7 +77,9 @@ cast-t14 c =
     let told = c .before .before .before .before .before .before in
     let room = told .before .before .before .before in
     let start = room .before .before .before .before .before in
-    record { fits = spotted-fits (told .key-at .ensures) (start .pre .1 .0) (known (room .before)) }
+    record {
+      fits = spotted-fits (told .key-at .ensures) (start .pre .1 .0) (known (room .before));
+    }
 
 same-length : tie.Need-same-length
 same-length c = search needs

@@ -1,4 +1,5 @@
--- `jumps::tell_position` meets its contract: the way by counts tells the position, or that the key is not stored. Assumes nothing.
+-- `jumps::tell_position` meets its contract: the way by counts tells the position, or that the key
+-- is not stored. Assumes nothing.
 use borrow.Author.Needs.{needs}
 use Rattle.jumps.proofs.PositionReturns.{ranks-missing, ranks-at}
 use Rattle.jumps.proofs.tell_position.Statement.{statement}
@@ -20,4 +21,5 @@ returns-2 : tie.Need-returns-2
 returns-2 c = ranks-at _ _ (c .before .before .before .rank .ensures) (c .before .ranked .given .1)
 
 pub tell-position-spec : {M : Type 1} → statement M
-tell-position-spec = tie.close (tie.spec rank-requires enum-told enum-known-ranked returns returns-2)
+tell-position-spec =
+    tie.close (tie.spec rank-requires enum-told enum-known-ranked returns returns-2)

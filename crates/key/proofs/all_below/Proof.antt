@@ -1,5 +1,5 @@
--- `key::all_below` meets its contract: the letters passed are below n, and the first that is not settles it.
--- Assumes nothing.
+-- `key::all_below` meets its contract: the letters passed are below n, and the first that is not
+-- settles it. Assumes nothing.
 use Prim.Native.Nat.{_-_, _≤_}
 use mathlib.Core.Path.{_≡_, sym}
 use mathlib.Core.Bool.{true}
@@ -36,7 +36,8 @@ returns : tie.Need-returns Inv-loop μ-loop
 returns c =
     let at = c .before .before .before in
     sym
-    (below-not (at .before .args .n) (at .before .args .t1) (at .loop .i) (at .before .args .len) (omega arith) (omega (arith, whole (at .before)))
+    (below-not (at .before .args .n) (at .before .args .t1) (at .loop .i) (at .before .args .len)
+    (omega arith) (omega (arith, whole (at .before)))
     (omega (arith, c .before .wide .ensures)))
 
 add-i : tie.Need-add-i Inv-loop μ-loop
@@ -49,7 +50,8 @@ loop-again : tie.Need-loop-again Inv-loop μ-loop
 loop-again c =
     let at = c .before .before .before in (
       omega arith,
-      rw add-one (below-more (at .before .args .n) (at .before .args .t1) (at .loop .i) (at .loop .inv .1) (omega (arith, c .before .wide .ensures))),
+      rw add-one (below-more (at .before .args .n) (at .before .args .t1) (at .loop .i)
+          (at .loop .inv .1) (omega (arith, c .before .wide .ensures))),
     )
 
 returns-2 : tie.Need-returns-2 Inv-loop μ-loop

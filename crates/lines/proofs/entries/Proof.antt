@@ -21,7 +21,8 @@ slice-aggregate-word-2 : tie.Need-slice-aggregate-word-2
 slice-aggregate-word-2 c = search needs
 
 word-requires-2 : tie.Need-word-requires-2
-word-requires-2 c κs = omega (arith, decimal-end _ (c .before .before .before .before .number .ensures))
+word-requires-2 c κs =
+    omega (arith, decimal-end _ (c .before .before .before .before .number .ensures))
 
 same-length : tie.Need-same-length
 same-length c = search needs
@@ -30,7 +31,8 @@ returns : tie.Need-returns
 unfolding entriesLine
 returns c =
     let done = c .before .before .before .before .before .before .before in
-    laid-join (done .before .before .before .before .word .ensures) (laid-join (done .number .ensures) (c .before .before .word2 .ensures))
+    laid-join (done .before .before .before .before .word .ensures)
+    (laid-join (done .number .ensures) (c .before .before .word2 .ensures))
 
 pub entries-spec : {M : Type 1} → statement M
 entries-spec =

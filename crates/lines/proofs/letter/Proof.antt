@@ -1,5 +1,5 @@
--- `lines::letter` meets its contract. Its ways out are a letter of one, two and three digits, and each stores just these.
--- Assumes nothing.
+-- `lines::letter` meets its contract. Its ways out are a letter of one, two and three digits, and
+-- each stores just these. Assumes nothing.
 use mathlib.Core.Path.{refl, sym}
 use native.Mathlib.Omega.{arith}
 use lib.ListN.{length-set}
@@ -46,7 +46,8 @@ same-length-2 : tie.Need-same-length-2
 same-length-2 c = search needs
 
 returns-2 : tie.Need-returns-2
-returns-2 c = laid-as (sym (decimal-two _ (omega arith) (omega arith))) (laid-join (laid-one _ _ _ refl) (laid-one _ _ _ (omega arith)))
+returns-2 c = laid-as (sym (decimal-two _ (omega arith) (omega arith)))
+    (laid-join (laid-one _ _ _ refl) (laid-one _ _ _ (omega arith)))
 
 add-out-5 : tie.Need-add-out-5
 add-out-5 c = search needs
@@ -81,7 +82,8 @@ same-length-3 c = search needs
 returns-3 : tie.Need-returns-3
 returns-3 c =
     laid-as (sym (decimal-three _ (omega arith) (omega arith)))
-    (laid-join (laid-one _ _ _ refl) (laid-join (laid-one _ _ _ (omega arith)) (laid-one _ _ _ (omega arith))))
+    (laid-join (laid-one _ _ _ refl)
+    (laid-join (laid-one _ _ _ (omega arith)) (laid-one _ _ _ (omega arith))))
 
 pub letter-spec : {M : Type 1} → statement M
 letter-spec =

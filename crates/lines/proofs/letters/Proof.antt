@@ -1,5 +1,5 @@
--- `lines::letters` meets its contract. Behind the first letter a turn lays a dot and the next one; each letter has four bytes of room.
--- The measure is how many letters are left. Assumes nothing.
+-- `lines::letters` meets its contract. Behind the first letter a turn lays a dot and the next one;
+-- each letter has four bytes of room. The measure is how many letters are left. Assumes nothing.
 use mathlib.Core.Path.{refl, _∙_}
 use Prim.Native.Nat.{_+_, _-_, _≤_}
 use native.Mathlib.Omega.{arith}
@@ -8,7 +8,8 @@ use lib.ListN.{length, getD, length-set}
 use Rattle.lines.specs.Lines.{TextAt, decimal}
 use Rattle.lines.proofs.LineTexts.{key-none}
 use Rattle.lines.proofs.TextsAt.{laid-long, laid-as, laid-one}
-use Rattle.lines.proofs.LineLoops.{Spelling, spelling-none, spelling-more, spelling-room, spelling-all}
+use Rattle.lines.proofs.LineLoops.{Spelling, spelling-none, spelling-more, spelling-room}
+use Rattle.lines.proofs.LineLoops.{spelling-all}
 use Rattle.lines.proofs.letters.Statement.{statement}
 use Rattle.lines.proofs.letters.Tie as tie
 
@@ -19,9 +20,12 @@ abbrev μ-loop : tie.MeasureT-loop
 μ-loop out₀ at path len end₀ i₀ out end i = len - i
 
 first : (c : tie.At-loop Inv-loop μ-loop)
-    → TextAt (c .before .before .before .before .before .before .before .before .before .args .out .now)
+    → TextAt (c .before .before .before .before .before .before .before .before .before .args .out
+    .now)
     (c .before .before .before .before .before .before .before .before .before .args .at)
-    (decimal (getD (c .before .before .before .before .before .before .before .before .before .args .path .now) 0 0))
+    (decimal (getD
+    (c .before .before .before .before .before .before .before .before .before .args .path
+    .now) 0 0))
     (c .before .before .before .letter .result)
     (c .before .before .before .letter .last .0)
 first c = c .before .before .before .letter .ensures
@@ -29,7 +33,8 @@ first c = c .before .before .before .letter .ensures
 room : (c : tie.In-loop Inv-loop μ-loop) → c .before .loop .end + 4 ≤ length (c .before .loop .out)
 room c =
     spelling-room (first (c .before)) (c .before .loop .inv)
-    (λ k. c .before .before .before .before .before .shared-slice-known2 .given k .fits) (omega arith) (omega arith)
+    (λ k. c .before .before .before .before .before .shared-slice-known2 .given k .fits)
+    (omega arith) (omega arith)
 
 slice-write-out : tie.Need-slice-write-out Inv-loop μ-loop
 slice-write-out c = omega arith
@@ -72,7 +77,8 @@ loop-less c = omega arith
 
 loop-again : tie.Need-loop-again Inv-loop μ-loop
 loop-again c =
-    spelling-more (c .before .before .before .before .before .before .loop .inv) (omega arith) (c .before .before .letter2 .ensures)
+    spelling-more (c .before .before .before .before .before .before .loop .inv) (omega arith)
+    (c .before .before .letter2 .ensures)
 
 same-length-2 : tie.Need-same-length-2 Inv-loop μ-loop
 same-length-2 c = laid-long (c .before .loop .inv .laid) ∙ laid-long (first (c .before))

@@ -1,7 +1,8 @@
--- `lines::places` meets its contract. A turn counts a digit and goes on with a tenth of the number.
--- The measure is what is left of it. Assumes nothing.
+-- `lines::places` meets its contract. A turn counts a digit and goes on with a tenth of the
+-- number. The measure is what is left of it. Assumes nothing.
 use native.Mathlib.Omega.{arith}
-use Rattle.lines.proofs.LineLoops.{Counting, counting-none, counting-more, counting-room, counting-all}
+use Rattle.lines.proofs.LineLoops.{Counting, counting-none, counting-more, counting-room}
+use Rattle.lines.proofs.LineLoops.{counting-all}
 use Rattle.lines.proofs.places.Statement.{statement}
 use Rattle.lines.proofs.places.Tie as tie
 

@@ -21,10 +21,16 @@ slice-aggregate-word-2 : tie.Need-slice-aggregate-word-2
 slice-aggregate-word-2 c = search needs
 
 word-requires-2 : tie.Need-word-requires-2
-word-requires-2 c κs = omega (arith, decimal-end _ (c .before .before .before .before .number .ensures))
+word-requires-2 c κs =
+    omega (arith, decimal-end _ (c .before .before .before .before .number .ensures))
 
 number-requires-2 : tie.Need-number-requires-2
-number-requires-2 c κs = omega (arith, decimal-end _ (c .before .before .before .before .before .before .before .before .number .ensures))
+number-requires-2 c κs =
+    omega (
+      arith,
+      decimal-end _
+          (c .before .before .before .before .before .before .before .before .number .ensures),
+    )
 
 slice-aggregate-word-3 : tie.Need-slice-aggregate-word-3
 slice-aggregate-word-3 c = search needs
@@ -34,7 +40,8 @@ word-requires-3 c κs =
     omega (
       arith,
       decimal-end _
-          (c .before .before .before .before .before .before .before .before .before .before .before .before .before .number .ensures),
+          (c .before .before .before .before .before .before .before .before .before .before
+          .before .before .before .number .ensures),
       decimal-end _ (c .before .before .before .before .number2 .ensures),
     )
 

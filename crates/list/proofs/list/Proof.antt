@@ -1,5 +1,6 @@
--- `list::list` meets its contract. Each key that is found leaves its path, from which the next one is sought; a line begins where the longest
--- fits behind it. The measure is how many keys are left. Assumes nothing.
+-- `list::list` meets its contract. Each key that is found leaves its path, from which the next one
+-- is sought; a line begins where the longest fits behind it. The measure is how many keys are
+-- left. Assumes nothing.
 use mathlib.Core.Path.{_≡_, sym}
 use Prim.Native.Nat.{_≤_}
 use native.Mathlib.Omega.{arith}
@@ -21,11 +22,19 @@ abbrev μ-loop : tie.MeasureT-loop
 μ-loop image h out₀ path₀ nodes₀ left₀ head root end₀ len₀ out path nodes left end len = left
 
 -- the image, as it was when the loop began
-ready : (c : tie.At-loop Inv-loop μ-loop) → Walkable (c .before .before .before .before .before .before .before .before .before .before .before .before .args .h) (c .before .before .before .before .before .before .before .before .before .before .before .before .args .image .now)
-ready c = let s = c .before .before .before .before .before .before .before .before .before .before .before .before in walkable (s .pre .0) (s .pre .1)
+ready : (c : tie.At-loop Inv-loop μ-loop)
+    → Walkable
+    (c .before .before .before .before .before .before .before .before .before .before .before
+    .before .args .h)
+    (c .before .before .before .before .before .before .before .before .before .before .before
+    .before .args .image .now)
+ready c = let s =
+    c .before .before .before .before .before .before .before .before .before .before .before
+    .before in walkable (s .pre .0) (s .pre .1)
 
 count-requires : tie.Need-count-requires Inv-loop μ-loop
-count-requires c κs = let w = walkable (c .before .pre .0) (c .before .pre .1) in (w .opened, (w .within, w .few))
+count-requires c κs =
+    let w = walkable (c .before .pre .0) (c .before .pre .1) in (w .opened, (w .within, w .few))
 
 slice-aggregate-entries : tie.Need-slice-aggregate-entries Inv-loop μ-loop
 slice-aggregate-entries c = search needs
@@ -37,7 +46,8 @@ slice-aggregate-start : tie.Need-slice-aggregate-start Inv-loop μ-loop
 slice-aggregate-start c = search needs
 
 start-requires : tie.Need-start-requires Inv-loop μ-loop
-start-requires c κs = let s = c .before .before .before .before .before .before in let w = walkable (s .pre .0) (s .pre .1) in (w .opened, search needs)
+start-requires c κs = let s = c .before .before .before .before .before .before in let w =
+    walkable (s .pre .0) (s .pre .1) in (w .opened, search needs)
 
 slice-aggregate-root-line : tie.Need-slice-aggregate-root-line Inv-loop μ-loop
 slice-aggregate-root-line c = search needs
@@ -45,7 +55,12 @@ slice-aggregate-root-line c = search needs
 root-line-requires : tie.Need-root-line-requires Inv-loop μ-loop
 root-line-requires c κs =
     let titled = c .before .before .before .before .before in
-    omega (arith, titled .entries .ensures .ends, entries-long (titled .before .before .count .result), laid-long (titled .entries .ensures))
+    omega (
+      arith,
+      titled .entries .ensures .ends,
+      entries-long (titled .before .before .count .result),
+      laid-long (titled .entries .ensures),
+    )
 
 loop-holds : tie.Need-loop-holds Inv-loop μ-loop
 loop-holds c =
@@ -53,8 +68,18 @@ loop-holds c =
     let started = rooted .before .before .before in
     let titled = started .before .before .before in (
       search needs,
-      omega (arith, rooted .root-line .ensures, titled .entries .ensures .ends, entries-long (titled .before .before .count .result)),
-      record { letters = search needs; ends = search needs; key = record { deep = omega arith; along = started .start .ensures .1 _ } },
+      omega (
+        arith,
+        rooted .root-line .ensures,
+        titled .entries .ensures .ends,
+        entries-long (titled .before .before .count .result),
+      ),
+      record {
+        letters = search needs;
+        ends = search needs;
+        key =
+            record { deep = omega arith; along = started .start .ensures .1 _ };
+      },
     )
 
 slice-aggregate-onward : tie.Need-slice-aggregate-onward Inv-loop μ-loop
@@ -64,7 +89,8 @@ slice-aggregate-onward-2 : tie.Need-slice-aggregate-onward-2 Inv-loop μ-loop
 slice-aggregate-onward-2 c = search needs
 
 onward-requires : tie.Need-onward-requires Inv-loop μ-loop
-onward-requires c κs = let loop = c .before .before .before in walks-on (ready loop) (loop .loop .inv .2)
+onward-requires c κs =
+    let loop = c .before .before .before in walks-on (ready loop) (loop .loop .inv .2)
 
 enum-known-found : tie.Need-enum-known-found Inv-loop μ-loop
 enum-known-found c = search needs
@@ -91,7 +117,14 @@ entry-requires c κs =
     let m = met (onward .onward .ensures .0) (told .before .found .given .1) in
     let loop = onward .before .before .before .before in
     let p = loop .loop .inv in
-    omega (arith, m .deep, short (ready loop), c .before .before .room .ensures, p .0, p .2 .letters)
+    omega (
+      arith,
+      m .deep,
+      short (ready loop),
+      c .before .before .room .ensures,
+      p .0,
+      p .2 .letters,
+    )
 
 sub-left : tie.Need-sub-left Inv-loop μ-loop
 sub-left c = search needs
@@ -106,7 +139,13 @@ loop-again c =
     let m = met (onward .onward .ensures .0) (told .before .found .given .1) in
     let most = short (ready (onward .before .before .before .before)) in (
       search needs,
-      omega (arith, m .deep, most, c .before .entry .ensures .1, c .before .before .before .before .room .ensures),
+      omega (
+        arith,
+        m .deep,
+        most,
+        c .before .entry .ensures .1,
+        c .before .before .before .before .room .ensures,
+      ),
       record { letters = search needs; ends = search needs; key = m },
     )
 
@@ -114,7 +153,8 @@ array-share-prefix-out : tie.Need-array-share-prefix-out Inv-loop μ-loop
 array-share-prefix-out c = search needs
 
 slice-aggregate-write-all : tie.Need-slice-aggregate-write-all Inv-loop μ-loop
-slice-aggregate-write-all c = sym (length-take-le _ _ (let p = c .before .before .loop .inv in omega (arith, p .0, p .1)))
+slice-aggregate-write-all c =
+    sym (length-take-le _ _ (let p = c .before .before .loop .inv in omega (arith, p .0, p .1)))
 
 write-all-requires : tie.Need-write-all-requires Inv-loop μ-loop
 write-all-requires c κs = search needs

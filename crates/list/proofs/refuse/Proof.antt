@@ -18,7 +18,14 @@ refused-requires c κs = search needs
 
 -- the line ends inside the buffer
 inside : (c : tie.After-refused) → c .refused .result ≤ length (c .refused .last .0)
-inside c = omega (arith, c .refused .ensures .ends, refused-long (c .before .before .args .number) (c .before .before .args .place), laid-long (c .refused .ensures))
+inside c =
+    omega (
+      arith,
+      c .refused .ensures .ends,
+      refused-long (c .before .before .args .number)
+          (c .before .before .args .place),
+      laid-long (c .refused .ensures),
+    )
 
 array-share-prefix-out : tie.Need-array-share-prefix-out
 array-share-prefix-out c = inside (c .before)

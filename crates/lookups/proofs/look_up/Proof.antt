@@ -1,8 +1,10 @@
--- `lookups::look_up` meets its contract: 1 to 4 by the opening, 9 and 10 by the key in hand, 6 or the value by the walk. Assumes nothing.
+-- `lookups::look_up` meets its contract: 1 to 4 by the opening, 9 and 10 by the key in hand, 6 or
+-- the value by the walk. Assumes nothing.
 use borrow.Author.Needs.{needs}
 use Rattle.key.proofs.Keyed.{by-letters}
 use Rattle.opening.proofs.Passed.{known-opened}
-use Rattle.lookups.proofs.LookUpReturns.{looks-up-unopened, looks-up-unkeyed, looks-up-found}
+use Rattle.lookups.proofs.LookUpReturns.{looks-up-unopened, looks-up-unkeyed}
+use Rattle.lookups.proofs.LookUpReturns.{looks-up-found}
 use Rattle.lookups.proofs.look_up.Statement.{statement}
 use Rattle.lookups.proofs.look_up.Tie as tie
 
@@ -21,7 +23,8 @@ of-requires c κs = search needs
 judge-requires : tie.Need-judge-requires
 judge-requires c κs =
     let told = c .before .before in
-    known-opened (told .before .before .«open» .ensures) (told .enum-told .given .1) .image .head-permitted
+    known-opened (told .before .before .«open» .ensures)
+    (told .enum-told .given .1) .image .head-permitted
 
 enum-known-judged : tie.Need-enum-known-judged
 enum-known-judged c = search needs
@@ -33,25 +36,31 @@ look-requires : tie.Need-look-requires
 look-requires c κs =
     let judge = c .before .before in
     let told = judge .before .before .before in
-    let b = known-opened (told .before .before .«open» .ensures) (told .enum-told .given .1) in
-    (b .image, by-letters b _ _ (judge .before .of .ensures) (judge .judge .ensures) .ready (c .enum-told2 .given .1))
+    let b = known-opened (told .before .before .«open» .ensures) (told .enum-told .given .1) in (
+      b .image,
+      by-letters b _ _ (judge .before .of .ensures) (judge .judge .ensures) .ready
+          (c .enum-told2 .given .1),
+    )
 
 returns : tie.Need-returns
-returns c = looks-up-unopened (c .before .before .before .«open» .ensures) _ (c .before .verdict .given .1)
+returns c =
+    looks-up-unopened (c .before .before .before .«open» .ensures) _ (c .before .verdict .given .1)
 
 returns-2 : tie.Need-returns-2
 returns-2 c =
     let judge = c .before .before .before in
     let told = judge .before .before .before in
     let b = known-opened (told .before .before .«open» .ensures) (told .enum-told .given .1) in
-    looks-up-unkeyed b (by-letters b _ _ (judge .before .of .ensures) (judge .judge .ensures)) (c .before .judged .given .1)
+    looks-up-unkeyed b (by-letters b _ _ (judge .before .of .ensures) (judge .judge .ensures))
+    (c .before .judged .given .1)
 
 returns-3 : tie.Need-returns-3
 returns-3 c =
     let judge = c .before .before .before in
     let told = judge .before .before .before in
     let b = known-opened (told .before .before .«open» .ensures) (told .enum-told .given .1) in
-    looks-up-found b (by-letters b _ _ (judge .before .of .ensures) (judge .judge .ensures)) (c .before .enum-told2 .given .1) (c .look .ensures)
+    looks-up-found b (by-letters b _ _ (judge .before .of .ensures) (judge .judge .ensures))
+    (c .before .enum-told2 .given .1) (c .look .ensures)
 
 pub look-up-spec : {M : Type 1} → statement M
 look-up-spec =

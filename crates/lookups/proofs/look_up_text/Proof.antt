@@ -1,11 +1,12 @@
--- `lookups::look_up_text` meets its contract: 1 to 4 by the opening, 10 and 9 by what the text names, 6 or the value by the walk.
--- Assumes nothing.
+-- `lookups::look_up_text` meets its contract: 1 to 4 by the opening, 10 and 9 by what the text
+-- names, 6 or the value by the walk. Assumes nothing.
 use mathlib.Core.Path.{refl}
 use borrow.Author.Needs.{needs}
 use Rattle.paper.proofs.Hearing.{told-passed}
 use Rattle.key.proofs.Keyed.{by-text}
 use Rattle.opening.proofs.Passed.{known-opened}
-use Rattle.lookups.proofs.LookUpReturns.{looks-up-unopened, looks-up-unkeyed, looks-up-found}
+use Rattle.lookups.proofs.LookUpReturns.{looks-up-unopened, looks-up-unkeyed}
+use Rattle.lookups.proofs.LookUpReturns.{looks-up-found}
 use Rattle.lookups.proofs.look_up_text.Statement.{statement}
 use Rattle.lookups.proofs.look_up_text.Tie as tie
 
@@ -21,12 +22,14 @@ enum-told c = search needs
 of-requires : tie.Need-of-requires
 of-requires c κs =
     let told = c .before .before in
-    told .before .before .«open» .ensures .decoded (told-passed refl (told .enum-told .given .1)) .count
+    told .before .before .«open» .ensures .decoded
+    (told-passed refl (told .enum-told .given .1)) .count
 
 judge-requires : tie.Need-judge-requires
 judge-requires c κs =
     let told = c .before .before .before in
-    known-opened (told .before .before .«open» .ensures) (told .enum-told .given .1) .image .head-permitted
+    known-opened (told .before .before .«open» .ensures)
+    (told .enum-told .given .1) .image .head-permitted
 
 enum-known-judged : tie.Need-enum-known-judged
 enum-known-judged c = search needs
@@ -40,11 +43,15 @@ look-requires c κs =
     let told = judge .before .before .before .before in
     let o = told .before .before .«open» .ensures in
     let e = told .enum-told .given .1 in
-    let b = known-opened o e in
-    (b .image, by-text b (o .decoded (told-passed refl e) .codes) _ _ (judge .before .of .ensures) (judge .judge .ensures) .ready (c .enum-told2 .given .1))
+    let b = known-opened o e in (
+      b .image,
+      by-text b (o .decoded (told-passed refl e) .codes) _ _ (judge .before .of .ensures)
+          (judge .judge .ensures) .ready (c .enum-told2 .given .1),
+    )
 
 returns : tie.Need-returns
-returns c = looks-up-unopened (c .before .before .before .«open» .ensures) _ (c .before .verdict .given .1)
+returns c =
+    looks-up-unopened (c .before .before .before .«open» .ensures) _ (c .before .verdict .given .1)
 
 returns-2 : tie.Need-returns-2
 returns-2 c =
@@ -53,7 +60,8 @@ returns-2 c =
     let o = told .before .before .«open» .ensures in
     let e = told .enum-told .given .1 in
     let b = known-opened o e in
-    looks-up-unkeyed b (by-text b (o .decoded (told-passed refl e) .codes) _ _ (judge .before .of .ensures) (judge .judge .ensures)) (c .before .judged .given .1)
+    looks-up-unkeyed b (by-text b (o .decoded (told-passed refl e) .codes) _ _
+    (judge .before .of .ensures) (judge .judge .ensures)) (c .before .judged .given .1)
 
 returns-3 : tie.Need-returns-3
 returns-3 c =
@@ -62,7 +70,9 @@ returns-3 c =
     let o = told .before .before .«open» .ensures in
     let e = told .enum-told .given .1 in
     let b = known-opened o e in
-    looks-up-found b (by-text b (o .decoded (told-passed refl e) .codes) _ _ (judge .before .of .ensures) (judge .judge .ensures)) (c .before .enum-told2 .given .1) (c .look .ensures)
+    looks-up-found b (by-text b (o .decoded (told-passed refl e) .codes) _ _
+    (judge .before .of .ensures) (judge .judge .ensures)) (c .before .enum-told2 .given .1)
+    (c .look .ensures)
 
 pub look-up-text-spec : {M : Type 1} → statement M
 look-up-text-spec =

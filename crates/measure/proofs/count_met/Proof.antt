@@ -1,10 +1,12 @@
--- `measure::count_met` meets its contract: each key that is met is one fewer to come, which is the measure too. Assumes nothing.
+-- `measure::count_met` meets its contract: each key that is met is one fewer to come, which is the
+-- measure too. Assumes nothing.
 use native.Mathlib.Omega.{arith}
 use borrow.Author.Needs.{needs}
 use lib.ListN.{take}
 use Rattle.depths.proofs.Walkable.{walkable}
 use Rattle.traversal.proofs.Walking.{walks-on}
-use Rattle.measure.proofs.Meeting.{toCome, Meeting, meeting-start, meeting-few, meeting-end, meeting-less, meeting-on}
+use Rattle.measure.proofs.Meeting.{toCome, Meeting, meeting-start, meeting-few, meeting-end}
+use Rattle.measure.proofs.Meeting.{meeting-less, meeting-on}
 use Rattle.measure.proofs.count_met.Statement.{statement}
 use Rattle.measure.proofs.count_met.Tie as tie
 
@@ -18,11 +20,17 @@ slice-aggregate-start : tie.Need-slice-aggregate-start Inv-loop μ-loop
 slice-aggregate-start c = search needs
 
 start-requires : tie.Need-start-requires Inv-loop μ-loop
-start-requires c κs = let s = c .before .before in let w = walkable (s .pre .0) (s .pre .1) in (w .opened, search needs)
+start-requires c κs = let s = c .before .before in let w = walkable (s .pre .0) (s .pre .1) in
+    (w .opened, search needs)
 
 loop-holds : tie.Need-loop-holds Inv-loop μ-loop
 loop-holds c =
-    meeting-start (record { letters = search needs; ends = search needs; key = record { deep = omega arith; along = c .before .start .ensures .1 _ } })
+    meeting-start (record {
+      letters = search needs;
+      ends = search needs;
+      key =
+          record { deep = omega arith; along = c .before .start .ensures .1 _ };
+    })
 
 slice-aggregate-onward : tie.Need-slice-aggregate-onward Inv-loop μ-loop
 slice-aggregate-onward c = search needs
@@ -58,12 +66,14 @@ add-met c =
 loop-less : tie.Need-loop-less Inv-loop μ-loop
 loop-less c =
     let onward = c .before .before .before .before .before in
-    meeting-less (onward .before .before .before .loop .inv) (onward .onward .ensures .0) (c .before .found .given .1)
+    meeting-less (onward .before .before .before .loop .inv) (onward .onward .ensures .0)
+    (c .before .found .given .1)
 
 loop-again : tie.Need-loop-again Inv-loop μ-loop
 loop-again c =
     let onward = c .before .before .before .before .before in
-    meeting-on (onward .before .before .before .loop .inv) (onward .onward .ensures .0) (c .before .found .given .1) (search needs) (search needs)
+    meeting-on (onward .before .before .before .loop .inv) (onward .onward .ensures .0)
+    (c .before .found .given .1) (search needs) (search needs)
 
 pub count-met-spec : {M : Type 1} → statement M
 count-met-spec =

@@ -1,5 +1,5 @@
--- `measure::measure_walk` meets its contract: an image that the check has passed is accepted, and its head is the one that was read; the walk
--- answers for it, and 0 for an image that was refused.
+-- `measure::measure_walk` meets its contract: an image that the check has passed is accepted, and
+-- its head is the one that was read; the walk answers for it, and 0 for an image that was refused.
 -- Assumes nothing.
 use borrow.Author.Needs.{needs}
 use Rattle.audit.proofs.Verdicts.{checked-accepted, checked-head}

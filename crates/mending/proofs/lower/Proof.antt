@@ -1,4 +1,5 @@
--- `mending::lower` meets its contract: the check is of the image with the lower G, and a refused one is left as it was. Assumes nothing.
+-- `mending::lower` meets its contract: the check is of the image with the lower G, and a refused
+-- one is left as it was. Assumes nothing.
 use borrow.Author.Needs.{needs}
 use Rattle.mending.proofs.Trial.{trial-passed, trial-refused}
 use Rattle.mending.proofs.lower.Statement.{statement}
@@ -50,8 +51,10 @@ returns-2 c =
     let wrote = checked .before .before .before .before .before .before in
     let read = wrote .before .before in
     let start = read .before .before .before .before in
-    trial-refused (wrote .set-total .ensures) (checked .check .ensures) (told .enum-told2 .given .1)
-    (λ k. read .before .before .before .slice-known .given k .fits) (start .pre .1) (read .total .ensures) (c .before .before .set-total2 .ensures)
+    trial-refused (wrote .set-total .ensures) (checked .check .ensures)
+    (told .enum-told2 .given .1)
+    (λ k. read .before .before .before .slice-known .given k .fits) (start .pre .1)
+    (read .total .ensures) (c .before .before .set-total2 .ensures)
 
 pub lower-spec : {M : Type 1} → statement M
 lower-spec =

@@ -16,12 +16,21 @@ blank-requires : tie.Need-blank-requires
 blank-requires c κs =
     let a = c .before .before .before .args in
     let p = c .before .before .before .pre in
-    omega (arith, c .before .node-place .ensures, c .data-place .ensures, data-from (a .h) (a .q), inside-room (data-inside (a .h) (a .q)) (p .0) (p .1))
+    omega (
+      arith,
+      c .before .node-place .ensures,
+      c .data-place .ensures,
+      data-from (a .h) (a .q),
+      inside-room (data-inside (a .h) (a .q)) (p .0) (p .1),
+    )
 
 returns : tie.Need-returns
 returns c e =
     let a = c .before .before .before .before .args in
-    blank-links (a .h) (a .image .now) (a .q) (λ k low high. c .blank .ensures e k (omega (arith, c .before .before .node-place .ensures)) (omega (arith, c .before .data-place .ensures)))
+    blank-links (a .h) (a .image .now) (a .q)
+    (λ k low high. c .blank .ensures e k
+    (omega (arith, c .before .before .node-place .ensures))
+    (omega (arith, c .before .data-place .ensures)))
 
 pub childless-spec : {M : Type 1} → statement M
 childless-spec =

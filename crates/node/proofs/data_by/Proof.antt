@@ -1,5 +1,5 @@
--- `node::data_by` meets its contract: the number in the data's field is the table's value. The head stands before all data, so four bytes
--- do before its end. Assumes nothing.
+-- `node::data_by` meets its contract: the number in the data's field is the table's value. The
+-- head stands before all data, so four bytes do before its end. Assumes nothing.
 use mathlib.Core.Path.{_≡_, sym, ap, _∙_}
 use Prim.Native.Nat.{ℕ, _+_, _-_}
 use native.Mathlib.Omega.{arith}
@@ -22,23 +22,38 @@ add-load-masked : tie.Need-add-load-masked
 add-load-masked c =
     let a = c .before .before .before .args in
     let p = c .before .before .before .pre in
-    omega (arith, bounds (a .h) (p .0 .head-permitted), c .before .data-place .ensures, inside-room (data-inside (a .h) (a .q)) (p .0) (p .1 .1))
+    omega (
+      arith,
+      bounds (a .h) (p .0 .head-permitted),
+      c .before .data-place .ensures,
+      inside-room (data-inside (a .h) (a .q)) (p .0) (p .1 .1),
+    )
 
 load-masked-requires : tie.Need-load-masked-requires
 load-masked-requires c κs =
     let a = c .before .before .before .args in
     let p = c .before .before .before .pre in
     let i = data-inside (a .h) (a .q) in
-    omega (arith, bounds (a .h) (p .0 .head-permitted), c .before .data-place .ensures, inside-least i, inside-room i (p .0) (p .1 .1))
+    omega (
+      arith,
+      bounds (a .h) (p .0 .head-permitted),
+      c .before .data-place .ensures,
+      inside-least i,
+      inside-room i (p .0) (p .1 .1),
+    )
 
 returns : tie.Need-returns
 returns c =
     let a = c .before .before .before .before .args in
     let p = c .before .before .before .before .pre in
-    let place : c .before .before .data-place .result + a .h .d - a .h .d ≡ dataPlace (a .h) (a .q) = omega (arith, c .before .before .data-place .ensures) in
-    c .load-masked .ensures (a .h .d) (omega (arith, bounds (a .h) (p .0 .head-permitted))) (p .1 .0)
+    let place : c .before .before .data-place .result + a .h .d - a .h .d ≡ dataPlace (a .h)
+    (a .q) = omega (arith, c .before .before .data-place .ensures) in
+    c .load-masked .ensures (a .h .d) (omega (arith, bounds (a .h) (p .0 .head-permitted)))
+    (p .1 .0)
     ∙ ap (λ (k : ℕ). fieldAt (a .image .now) k (a .h .d)) place
     ∙ sym (value-in (a .h) (a .image .now) (a .q) (p .1 .1))
 
 pub data-by-spec : {M : Type 1} → statement M
-data-by-spec = tie.close (tie.spec data-place-requires cast-load-masked add-load-masked load-masked-requires returns)
+data-by-spec =
+    tie.close (tie.spec data-place-requires cast-load-masked add-load-masked load-masked-requires
+    returns)

@@ -1,5 +1,5 @@
--- `node::link` meets its contract: the number in the link's field is the table's entry. The head stands before every link, so four bytes
--- do before its end. Assumes nothing.
+-- `node::link` meets its contract: the number in the link's field is the table's entry. The head
+-- stands before every link, so four bytes do before its end. Assumes nothing.
 use mathlib.Core.Path.{_≡_, sym, ap, _∙_}
 use Prim.Native.Nat.{ℕ, _+_, _-_}
 use native.Mathlib.Omega.{arith}
@@ -22,23 +22,38 @@ add-load-masked : tie.Need-add-load-masked
 add-load-masked c =
     let a = c .before .before .before .args in
     let p = c .before .before .before .pre in
-    omega (arith, bounds (a .h) (p .0 .head-permitted), c .before .link-place .ensures, inside-room (link-inside (a .h) (a .q) (p .1 .1 .1)) (p .0) (p .1 .1 .0))
+    omega (
+      arith,
+      bounds (a .h) (p .0 .head-permitted),
+      c .before .link-place .ensures,
+      inside-room (link-inside (a .h) (a .q) (p .1 .1 .1)) (p .0) (p .1 .1 .0),
+    )
 
 load-masked-requires : tie.Need-load-masked-requires
 load-masked-requires c κs =
     let a = c .before .before .before .args in
     let p = c .before .before .before .pre in
     let i = link-inside (a .h) (a .q) (p .1 .1 .1) in
-    omega (arith, bounds (a .h) (p .0 .head-permitted), c .before .link-place .ensures, inside-least i, inside-room i (p .0) (p .1 .1 .0))
+    omega (
+      arith,
+      bounds (a .h) (p .0 .head-permitted),
+      c .before .link-place .ensures,
+      inside-least i,
+      inside-room i (p .0) (p .1 .1 .0),
+    )
 
 returns : tie.Need-returns
 returns c =
     let a = c .before .before .before .before .args in
     let p = c .before .before .before .before .pre in
-    let place : c .before .before .link-place .result + a .h .a - a .h .a ≡ linkPlace (a .h) (a .q) (a .i) = omega (arith, c .before .before .link-place .ensures) in
-    c .load-masked .ensures (a .h .a) (omega (arith, bounds (a .h) (p .0 .head-permitted))) (p .1 .0)
+    let place : c .before .before .link-place .result + a .h .a - a .h .a ≡ linkPlace (a .h) (a .q)
+    (a .i) = omega (arith, c .before .before .link-place .ensures) in
+    c .load-masked .ensures (a .h .a) (omega (arith, bounds (a .h) (p .0 .head-permitted)))
+    (p .1 .0)
     ∙ ap (λ (k : ℕ). fieldAt (a .image .now) k (a .h .a)) place
     ∙ sym (child-in (a .h) (a .image .now) (a .q) (a .i) (p .1 .1 .0) (p .1 .1 .1))
 
 pub link-spec : {M : Type 1} → statement M
-link-spec = tie.close (tie.spec link-place-requires cast-load-masked add-load-masked load-masked-requires returns)
+link-spec =
+    tie.close (tie.spec link-place-requires cast-load-masked add-load-masked load-masked-requires
+    returns)

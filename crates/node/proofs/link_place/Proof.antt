@@ -1,5 +1,5 @@
--- `node::link_place` meets its contract. A node begins below 2^43 and its links take 1024 bytes at most, so nothing wraps.
--- Assumes nothing.
+-- `node::link_place` meets its contract. A node begins below 2^43 and its links take 1024 bytes at
+-- most, so nothing wraps. Assumes nothing.
 use Prim.Native.Nat.{ℕ, _+_, _*_}
 use native.Mathlib.Omega.{arith}
 use mathlib.Core.Path.{ap}
@@ -18,17 +18,28 @@ cast-result : tie.Need-cast-result
 cast-result c = search needs
 
 mul-result : tie.Need-mul-result
-mul-result c = omega (arith, links-most {i = c .before .before .args .i} (bounds (c .before .before .args .h) (c .before .before .pre .0)) (omega arith))
+mul-result c =
+    omega (
+      arith,
+      links-most {i = c .before .before .args .i}
+          (bounds (c .before .before .args .h) (c .before .before .pre .0)) (omega arith),
+    )
 
 add-result : tie.Need-add-result
 add-result c =
     let a = c .before .before .args in
     let s = bounds (a .h) (c .before .before .pre .0) in
-    omega (arith, c .before .node-place .ensures, place-most (a .q) s (omega arith), links-most {i = a .i} s (omega arith))
+    omega (
+      arith,
+      c .before .node-place .ensures,
+      place-most (a .q) s (omega arith),
+      links-most {i = a .i} s (omega arith),
+    )
 
 returns : tie.Need-returns
 unfolding linkPlace
-returns c = ap (λ (p : ℕ). p + c .before .before .args .i * c .before .before .args .h .a) (c .before .node-place .ensures)
+returns c = ap (λ (p : ℕ). p + c .before .before .args .i * c .before .before .args .h .a)
+    (c .before .node-place .ensures)
 
 pub link-place-spec : {M : Type 1} → statement M
 link-place-spec =

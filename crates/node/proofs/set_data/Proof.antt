@@ -1,5 +1,5 @@
--- `node::set_data` meets its contract: the bytes of the value are written where the data stands, which on the table puts it there.
--- Assumes nothing.
+-- `node::set_data` meets its contract: the bytes of the value are written where the data stands,
+-- which on the table puts it there. Assumes nothing.
 use native.Mathlib.Omega.{arith}
 use mathlib.Core.Path.{_≡_, ap, _∙_}
 use Prim.Native.Nat.{ℕ}
@@ -22,23 +22,33 @@ write-requires : tie.Need-write-requires
 write-requires c κs =
     let a = c .before .before .before .before .args in
     let p = c .before .before .before .before .pre in
-    omega (arith, c .before .data-place .ensures, inside-room (data-inside (a .h) (a .q)) (p .0) (p .1 .0))
+    omega (
+      arith,
+      c .before .data-place .ensures,
+      inside-room (data-inside (a .h) (a .q)) (p .0)
+          (p .1 .0),
+    )
 
 same-length : tie.Need-same-length
 same-length c = search needs
 
-written : (c : tie.After-write) → let a = c .before .before .before .before .before .args in c .write .last .0 ≡ putField (a .image .now) (dataPlace (a .h) (a .q)) (a .h .d) (a .v)
+written : (c : tie.After-write) → let a = c .before .before .before .before .before .args in
+    c .write .last .0 ≡ putField (a .image .now) (dataPlace (a .h) (a .q)) (a .h .d) (a .v)
 written c =
     let a = c .before .before .before .before .before .args in
-    c .write .ensures ∙ ap (λ (k : ℕ). putField (a .image .now) k (a .h .d) (a .v)) (c .before .before .data-place .ensures)
+    c .write .ensures ∙ ap (λ (k : ℕ). putField (a .image .now) k (a .h .d) (a .v))
+    (c .before .before .data-place .ensures)
 
 returns : tie.Need-returns
 unfolding carriedOut dataWrite
 returns c =
     let a = c .before .before .before .before .before .before .before .args in
     let p = c .before .before .before .before .before .before .before .pre in
-    let e = written (c .before .before) in
-    (e, ap (tableOf (a .h)) e ∙ table-data (a .h) (a .image .now) (p .0 .room) (a .q) (a .v) (p .1 .0) (p .1 .1))
+    let e = written (c .before .before) in (
+      e,
+      ap (tableOf (a .h)) e ∙ table-data (a .h) (a .image .now) (p .0 .room) (a .q) (a .v)
+          (p .1 .0) (p .1 .1),
+    )
 
 pub set-data-spec : {M : Type 1} → statement M
 set-data-spec =

@@ -1,5 +1,5 @@
--- `node::set_link` meets its contract: the link's bytes are written where the link stands, which on the table links the node there.
--- Assumes nothing.
+-- `node::set_link` meets its contract: the link's bytes are written where the link stands, which
+-- on the table links the node there. Assumes nothing.
 use native.Mathlib.Omega.{arith}
 use mathlib.Core.Path.{_≡_, ap, _∙_}
 use Prim.Native.Nat.{ℕ}
@@ -22,23 +22,32 @@ write-requires : tie.Need-write-requires
 write-requires c κs =
     let a = c .before .before .before .before .args in
     let p = c .before .before .before .before .pre in
-    omega (arith, c .before .link-place .ensures, inside-room (link-inside (a .h) (a .q) (p .1 .1 .0)) (p .0) (p .1 .0))
+    omega (
+      arith,
+      c .before .link-place .ensures,
+      inside-room (link-inside (a .h) (a .q) (p .1 .1 .0)) (p .0) (p .1 .0),
+    )
 
 same-length : tie.Need-same-length
 same-length c = search needs
 
-written : (c : tie.After-write) → let a = c .before .before .before .before .before .args in c .write .last .0 ≡ putField (a .image .now) (linkPlace (a .h) (a .q) (a .i)) (a .h .a) (a .c)
+written : (c : tie.After-write) → let a = c .before .before .before .before .before .args in
+    c .write .last .0 ≡ putField (a .image .now) (linkPlace (a .h) (a .q) (a .i)) (a .h .a) (a .c)
 written c =
     let a = c .before .before .before .before .before .args in
-    c .write .ensures ∙ ap (λ (k : ℕ). putField (a .image .now) k (a .h .a) (a .c)) (c .before .before .link-place .ensures)
+    c .write .ensures ∙ ap (λ (k : ℕ). putField (a .image .now) k (a .h .a) (a .c))
+    (c .before .before .link-place .ensures)
 
 returns : tie.Need-returns
 unfolding carriedOut linkWrite
 returns c =
     let a = c .before .before .before .before .before .before .before .args in
     let p = c .before .before .before .before .before .before .before .pre in
-    let e = written (c .before .before) in
-    (e, ap (tableOf (a .h)) e ∙ table-link (a .h) (a .image .now) (p .0 .room) (a .q) (a .i) (a .c) (p .1 .0) (p .1 .1 .0) (p .1 .1 .1))
+    let e = written (c .before .before) in (
+      e,
+      ap (tableOf (a .h)) e ∙ table-link (a .h) (a .image .now) (p .0 .room) (a .q) (a .i) (a .c)
+          (p .1 .0) (p .1 .1 .0) (p .1 .1 .1),
+    )
 
 pub set-link-spec : {M : Type 1} → statement M
 set-link-spec =

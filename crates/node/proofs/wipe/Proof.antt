@@ -15,14 +15,24 @@ clear-requires : tie.Need-clear-requires
 clear-requires c κs =
     let a = c .before .before .before .before .args in
     let p = c .before .before .before .before .pre in
-    omega (arith, c .before .node-place .ensures, c .node-width .ensures, place-add (a .h) (a .q) 1, p .1)
+    omega (
+      arith,
+      c .before .node-place .ensures,
+      c .node-width .ensures,
+      place-add (a .h)
+          (a .q) 1,
+      p .1,
+    )
 
 same-length : tie.Need-same-length
 same-length c = search needs
 
 returns : tie.Need-returns
 returns c =
-    rw (← c .before .before .before .before .node-place .ensures, ← c .before .before .before .node-width .ensures)
+    rw (
+      ← c .before .before .before .before .node-place .ensures,
+      ← c .before .before .before .node-width .ensures,
+    )
     (c .before .before .clear .ensures)
 
 pub wipe-spec : {M : Type 1} → statement M

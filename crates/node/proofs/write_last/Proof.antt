@@ -1,4 +1,5 @@
--- `node::write_last` meets its contract: a cleared node with the data written into it is the whole node of that data. Assumes nothing.
+-- `node::write_last` meets its contract: a cleared node with the data written into it is the whole
+-- node of that data. Assumes nothing.
 use native.Mathlib.Omega.{arith}
 use mathlib.Core.Path.{sym, _∙_}
 use Rattle.node.specs.Writes.{carriedOut}
@@ -34,7 +35,10 @@ returns c =
     let s = w .before .before .before .before .before .before .before .before .before in
     let a = s .args in
     w .write .ensures
-    ∙ rw (w .before .before .data-place .ensures, w .before .before .before .before .before .before .wipe .ensures)
+    ∙ rw (
+      w .before .before .data-place .ensures,
+      w .before .before .before .before .before .before .wipe .ensures,
+    )
     (sym (last-node (a .h) (a .image .now) (a .q) (a .v)))
 
 pub write-last-spec : {M : Type 1} → statement M

@@ -1,4 +1,5 @@
--- `node::write_path` meets its contract: a cleared node with one link written into it is the whole node of that link. Assumes nothing.
+-- `node::write_path` meets its contract: a cleared node with one link written into it is the whole
+-- node of that link. Assumes nothing.
 use native.Mathlib.Omega.{arith}
 use mathlib.Core.Path.{sym, _∙_}
 use Rattle.node.specs.Writes.{carriedOut}
@@ -34,7 +35,10 @@ returns c =
     let s = w .before .before .before .before .before .before .before .before .before in
     let a = s .args in
     w .write .ensures
-    ∙ rw (w .before .before .link-place .ensures, w .before .before .before .before .before .before .wipe .ensures)
+    ∙ rw (
+      w .before .before .link-place .ensures,
+      w .before .before .before .before .before .before .wipe .ensures,
+    )
     (sym (path-node (a .h) (a .image .now) (a .q) (a .i) (a .c) (s .pre .1 .1)))
 
 pub write-path-spec : {M : Type 1} → statement M

@@ -29,7 +29,12 @@ cast-note c =
     let start = told .before .before in
     let a = start .args in
     let within = subst (Ends (a .h) (a .key)) (told .walked .given .1) (start .pre .1 .1 .0) in
-    omega (arith, c .data-place .ensures, inside-used (data-inside (a .h) (told .walked .given .0 .0)) within, start .pre .1 .1 .1)
+    omega (
+      arith,
+      c .data-place .ensures,
+      inside-used (data-inside (a .h) (told .walked .given .0 .0)) within,
+      start .pre .1 .1 .1,
+    )
 
 note-requires : tie.Need-note-requires
 note-requires c κs = search needs
@@ -53,10 +58,24 @@ note-path-requires c κs =
     let a = start .args in
     let p = start .pre in
     let stop = subst (Ends (a .h) (a .key)) (told .walked2 .given .1) (p .1 .1 .0) in
-    let count : length (drop (told .walked2 .given .0 .0 .depth) (lettersOf (a .key))) ≡ a .key .len - told .walked2 .given .0 .0 .depth
+    let count : length (drop (told .walked2 .given .0 .0 .depth) (lettersOf (a .key)))
+    ≡ a .key .len - told .walked2 .given .0 .0 .depth
     = length-drop (told .walked2 .given .0 .0 .depth) (lettersOf (a .key))
-    ∙ ap (λ n. n - told .walked2 .given .0 .0 .depth) (letters-count (a .key) (whole start) (p .1 .0 .short)) in
-    (p .0, (p .1 .0, (stop, rw (missing-left (lettersOf (a .key)) (a .value) (told .walked2 .given .1) (c .before .if1 .left), count) at (p .1 .1 .1))))
+    ∙ ap (λ n. n - told .walked2 .given .0 .0 .depth)
+    (letters-count (a .key) (whole start) (p .1 .0 .short)) in (
+      p .0,
+      (
+        p .1 .0,
+        (
+          stop,
+          rw (
+            missing-left (lettersOf (a .key)) (a .value) (told .walked2 .given .1)
+                (c .before .if1 .left),
+            count,
+          ) at (p .1 .1 .1),
+        ),
+      ),
+    )
 
 enum-told : tie.Need-enum-told
 enum-told c = search needs
@@ -66,19 +85,22 @@ returns-2 c =
     let placed = c .before in
     let told = placed .before .before .before in
     let a = told .before .before .args in
-    notes-data (a .h) (lettersOf (a .key)) _ _ (told .walked .given .1) (placed .data-place .ensures) (c .note .ensures)
+    notes-data (a .h) (lettersOf (a .key)) _ _ (told .walked .given .1)
+    (placed .data-place .ensures) (c .note .ensures)
 
 returns-3 : tie.Need-returns-3
 returns-3 c =
     let passed = c .before .before in
     let told = passed .before .before in
     let a = told .before .before .args in
-    notes-value (a .h) (lettersOf (a .key)) _ (told .walked2 .given .1) _ (passed .if1 .left) (c .note-path .ensures)
+    notes-value (a .h) (lettersOf (a .key)) _ (told .walked2 .given .1) _ (passed .if1 .left)
+    (c .note-path .ensures)
 
 returns-4 : tie.Need-returns-4
 returns-4 c =
     let start = c .before .before in
-    absurd (subst (Ends (start .args .h) (start .args .key)) (c .enum-told .given .1) (start .pre .1 .1 .0))
+    absurd (subst (Ends (start .args .h) (start .args .key)) (c .enum-told .given .1)
+    (start .pre .1 .1 .0))
 
 pub note-all-spec : {M : Type 1} → statement M
 note-all-spec =

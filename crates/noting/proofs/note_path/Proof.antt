@@ -1,5 +1,5 @@
--- `noting::note_path` meets its contract: before each turn, what is still to be listed leaves what all of it would have left.
--- Assumes nothing.
+-- `noting::note_path` meets its contract: before each turn, what is still to be listed leaves what
+-- all of it would have left. Assumes nothing.
 use Prim.Native.Nat.{_+_, _-_, _*_, _≤_, _<_}
 use mathlib.Core.Path.{_≡_, refl}
 use native.Mathlib.Omega.{arith}
@@ -12,12 +12,14 @@ use Rattle.head.proofs.Places.{width-most}
 use Rattle.node.proofs.FieldPlaces.{link-inside, inside-used}
 use Rattle.key.specs.Hand.{lettersOf}
 use Rattle.key.proofs.Hand.{letters-count, letters-from, letter-below}
-use Rattle.noting.proofs.NotedPath.{Noting, noting-start, noting-room, noting-on, noting-end, notes-path}
+use Rattle.noting.proofs.NotedPath.{Noting, noting-start, noting-room, noting-on}
+use Rattle.noting.proofs.NotedPath.{noting-end, notes-path}
 use Rattle.noting.proofs.note_path.Statement.{statement}
 use Rattle.noting.proofs.note_path.Tie as tie
 
 abbrev Inv-loop : tie.InvT-loop
-Inv-loop writes₀ h depth nodes width link i₀ place₀ writes i place = Noting nodes width place₀ writes₀ writes i place
+Inv-loop writes₀ h depth nodes width link i₀ place₀ writes i place =
+    Noting nodes width place₀ writes₀ writes i place
 
 abbrev μ-loop : tie.MeasureT-loop
 μ-loop writes₀ h depth nodes width link i₀ place₀ writes i place = nodes - i
@@ -27,18 +29,28 @@ whole : (c : tie.Start Inv-loop μ-loop) → length (c .args .key .letters) ≡ 
 whole c = search needs
 
 -- the letter that stopped the walk is one of the N
-below : (c : tie.Start Inv-loop μ-loop) → getD (c .args .key .letters) (c .args .at .depth) 0 < c .args .h .n
-below c = letter-below (c .args .key) (whole c) (c .pre .1 .0 .short) _ _ (c .pre .1 .0 .letters) (c .pre .1 .1 .0 .depth)
+below : (c : tie.Start Inv-loop μ-loop) → getD (c .args .key .letters) (c .args .at .depth) 0
+    < c .args .h .n
+below c = letter-below (c .args .key) (whole c) (c .pre .1 .0 .short) _ _ (c .pre .1 .0 .letters)
+    (c .pre .1 .1 .0 .depth)
 
 -- where the last of the new nodes ends
 room : (c : tie.After-used Inv-loop μ-loop) →
     let a = c .before .before .before .before .before .args in
-    c .used .result + (a .key .len - a .at .depth) * c .before .before .node-width .result ≤ longestImage
-room c = rw (c .used .ensures, c .before .before .node-width .ensures) (c .before .before .before .before .before .pre .1 .1 .1)
+    c .used .result + (a .key .len - a .at .depth) * c .before .before .node-width .result
+    ≤ longestImage
+room c = rw (c .used .ensures, c .before .before .node-width .ensures)
+    (c .before .before .before .before .before .pre .1 .1 .1)
 
 -- where the next ends
-next : (c : tie.In-loop Inv-loop μ-loop) → c .before .loop .place + c .before .before .before .before .node-width .result ≤ longestImage
-next c = omega (arith, room (c .before .before), noting-room (c .before .loop .inv) (c .loop-test .taken))
+next : (c : tie.In-loop Inv-loop μ-loop) → c .before .loop .place
+    + c .before .before .before .before .node-width .result ≤ longestImage
+next c = omega (
+  arith,
+  room (c .before .before),
+  noting-room (c .before .loop .inv)
+      (c .loop-test .taken),
+)
 
 sub-nodes : tie.Need-sub-nodes Inv-loop μ-loop
 sub-nodes c = search needs
@@ -100,7 +112,8 @@ loop-less c = omega (arith, c .before .before .loop-test .taken)
 
 loop-again : tie.Need-loop-again Inv-loop μ-loop
 loop-again c =
-    noting-on (c .before .before .before .loop .inv) (c .before .before .loop-test .taken) (c .note .ensures)
+    noting-on (c .before .before .before .loop .inv) (c .before .before .loop-test .taken)
+    (c .note .ensures)
 
 note-requires-2 : tie.Need-note-requires-2 Inv-loop μ-loop
 note-requires-2 c κs =
@@ -109,22 +122,28 @@ note-requires-2 c κs =
 
 add-note : tie.Need-add-note Inv-loop μ-loop
 add-note c =
-    let start = c .before .before .before .before .before .before .before .before .before .before in
+    let start =
+    c .before .before .before .before .before .before .before .before .before .before in
     omega (arith, start .pre .1 .0 .short)
 
 note-requires-3 : tie.Need-note-requires-3 Inv-loop μ-loop
 note-requires-3 c κs =
-    let start = c .before .before .before .before .before .before .before .before .before .before in
+    let start =
+    c .before .before .before .before .before .before .before .before .before .before in
     omega (arith, start .pre .1 .0 .short)
 
 add-result : tie.Need-add-result Inv-loop μ-loop
 add-result c =
-    let start = c .before .before .before .before .before .before .before .before .before .before .before in
+    let start =
+    c .before .before .before .before .before .before .before .before .before .before .before
+    in
     omega (arith, start .pre .1 .0 .short)
 
 cast-result : tie.Need-cast-result Inv-loop μ-loop
 cast-result c =
-    let start = c .before .before .before .before .before .before .before .before .before .before .before in
+    let start =
+    c .before .before .before .before .before .before .before .before .before .before .before
+    in
     omega (arith, start .pre .1 .0 .short)
 
 returns : tie.Need-returns Inv-loop μ-loop
@@ -138,11 +157,15 @@ returns c =
     let short = start .pre .1 .0 .short in
     let depth = a .at .depth in
     let k = lettersOf (a .key) in
-    notes-path (a .h) (a .at .node) _ _ _ (letters-from (a .key) (whole start) short depth (start .pre .1 .1 .0 .depth))
-    (letters-after (a .h .n) (take depth k) (drop depth k) (rw (take-append-drop depth k) (start .pre .1 .0 .letters)))
-    (omega (arith, length-drop depth k, letters-count (a .key) (whole start) short)) (used .used .ensures) (used .before .before .node-width .ensures)
+    notes-path (a .h) (a .at .node) _ _ _
+    (letters-from (a .key) (whole start) short depth (start .pre .1 .1 .0 .depth))
+    (letters-after (a .h .n) (take depth k) (drop depth k)
+    (rw (take-append-drop depth k) (start .pre .1 .0 .letters)))
+    (omega (arith, length-drop depth k, letters-count (a .key) (whole start) short))
+    (used .used .ensures) (used .before .before .node-width .ensures)
     (used .before .link-place .ensures) refl
-    (noting-end (at .loop .inv) totalAt totalLen (used .before .link-place .result) (a .h .a) (over .loop-test .left) (noted .note2 .ensures) (c .note3 .ensures))
+    (noting-end (at .loop .inv) totalAt totalLen (used .before .link-place .result) (a .h .a)
+    (over .loop-test .left) (noted .note2 .ensures) (c .note3 .ensures))
 
 pub note-path-spec : {M : Type 1} → statement M
 note-path-spec =

@@ -1,5 +1,5 @@
--- `noting::store_noted` meets its contract: as `store`, and a store that was done had the room that its list is told from. Assumes
--- nothing.
+-- `noting::store_noted` meets its contract: as `store`, and a store that was done had the room
+-- that its list is told from. Assumes nothing.
 use mathlib.Core.Path.{_≡_}
 use mir.Syntax.{w32}
 use mir.Facts.{toZ-ofZ}
@@ -26,7 +26,11 @@ store-at-requires c κs =
     let start = walked .before .before .before in
     let p = start .pre in (
       head-open (p .0) (p .1 .0),
-      (p .1 .1, ends (p .0) (p .1 .0) (start .args .key) (whole start) (p .1 .1 .short) _ (walked .walk .ensures)),
+      (
+        p .1 .1,
+        ends (p .0) (p .1 .0) (start .args .key) (whole start) (p .1 .1 .short) _
+            (walked .walk .ensures),
+      ),
     )
 
 enum-known-stored : tie.Need-enum-known-stored
@@ -46,8 +50,10 @@ note-all-requires c κs =
       (
         p .1 .1,
         (
-          ends (p .0) (p .1 .0) (start .args .key) (whole start) (p .1 .1 .short) _ (walked .walk .ensures),
-          notes-room (p .0) (p .1 .0) (lettersOf (start .args .key)) (walked .walk .ensures) _ (stored .store-at .ensures) (told .stored2 .given .1),
+          ends (p .0) (p .1 .0) (start .args .key) (whole start) (p .1 .1 .short) _
+              (walked .walk .ensures),
+          notes-room (p .0) (p .1 .0) (lettersOf (start .args .key)) (walked .walk .ensures) _
+              (stored .store-at .ensures) (told .stored2 .given .1),
         ),
       ),
     )
@@ -62,7 +68,8 @@ returns c =
     let walked = stored .before .before in
     let start = walked .before .before .before in
     let p = start .pre in
-    notes-refused (p .0) (p .1 .0) (lettersOf (start .args .key)) (walked .walk .ensures) _ (stored .store-at .ensures) _ (told .stored .given .1)
+    notes-refused (p .0) (p .1 .0) (lettersOf (start .args .key)) (walked .walk .ensures) _
+    (stored .store-at .ensures) _ (told .stored .given .1)
 
 same-length-2 : tie.Need-same-length-2
 same-length-2 c = search needs
@@ -75,7 +82,8 @@ returns-2 c =
     let walked = stored .before .before in
     let start = walked .before .before .before in
     let p = start .pre in
-    notes-done (p .0) (p .1 .0) (lettersOf (start .args .key)) (walked .walk .ensures) _ (stored .store-at .ensures) (told .stored2 .given .1) _
+    notes-done (p .0) (p .1 .0) (lettersOf (start .args .key)) (walked .walk .ensures) _
+    (stored .store-at .ensures) (told .stored2 .given .1) _
     (toZ-ofZ {w = w32} (sfits-of (known .known-told2 .given .0 .1))) (c .note-all .ensures)
 
 pub store-noted-spec : {M : Type 1} → statement M

@@ -1,5 +1,5 @@
--- `opening::judge` meets its contract: each way out is one row of the order, reached past the rows before it.
--- Assumes nothing.
+-- `opening::judge` meets its contract: each way out is one row of the order, reached past the rows
+-- before it. Assumes nothing.
 use Prim.Native.Nat.{_≤_}
 use mathlib.Core.Path.{_≡_, sym, _∙_}
 use mathlib.Core.Bool.{true}
@@ -11,12 +11,14 @@ use Rattle.head.specs.Fields.{mostLinks, shortestImage, longestImage, permitted
 use Rattle.head.proofs.Permitted.{bounds}
 use Rattle.alphabet.proofs.Alphabets.{no-letters}
 use Rattle.paper.proofs.Opening.{heard-1, heard-2, heard-3, left-4}
-use Rattle.opening.proofs.Stages.{judged-refused, judged-room, plain-empty, plain-cut, plain-good, spoilt-bad}
+use Rattle.opening.proofs.Stages.{judged-refused, judged-room, plain-empty, plain-cut}
+use Rattle.opening.proofs.Stages.{plain-good, spoilt-bad}
 use Rattle.opening.proofs.judge.Statement.{statement}
 use Rattle.opening.proofs.judge.Tie as tie
 
 -- past the first test, and past the second
-allowed : (c : tie.Else1) → between (c .before .before .before .args .len) shortestImage longestImage ≡ true
+allowed : (c : tie.Else1) → between (c .before .before .before .args .len) shortestImage
+    longestImage ≡ true
 allowed c = sym (c .before .length-allowed .ensures) ∙ not-false _ (c .if1 .left)
 
 good-head : (c : tie.Else2) → permitted (c .before .before .before .before .before .args .h) ≡ true
@@ -34,7 +36,8 @@ refused-requires c κs = search needs
 returns : tie.Need-returns
 returns c =
     let one = c .before in
-    judged-refused _ _ _ (c .refused .ensures) (heard-1 _ _ _ (sym (one .before .length-allowed .ensures) ∙ not-true _ (one .if1 .taken)))
+    judged-refused _ _ _ (c .refused .ensures)
+    (heard-1 _ _ _ (sym (one .before .length-allowed .ensures) ∙ not-true _ (one .if1 .taken)))
 
 permitted-requires : tie.Need-permitted-requires
 permitted-requires c κs = search needs
@@ -46,7 +49,8 @@ returns-2 : tie.Need-returns-2
 returns-2 c =
     let two = c .before in
     judged-refused _ _ _ (c .refused2 .ensures)
-    (heard-2 _ _ _ (allowed (two .before .before)) (sym (two .before .permitted .ensures) ∙ not-true _ (two .if2 .taken)))
+    (heard-2 _ _ _ (allowed (two .before .before))
+    (sym (two .before .permitted .ensures) ∙ not-true _ (two .if2 .taken)))
 
 cast-f : tie.Need-cast-f
 cast-f c = search needs
@@ -60,7 +64,8 @@ returns-3 c =
     let two = three .before .before in
     let s = two .before .before .before .before .before .args in
     judged-room _ _ _ (c .room .ensures)
-    (left-4 _ _ _ (allowed (two .before .before)) (good-head two) (plain-empty (s .h) (s .alphabet .now) (s .len) (three .if3 .taken)))
+    (left-4 _ _ _ (allowed (two .before .before)) (good-head two)
+    (plain-empty (s .h) (s .alphabet .now) (s .len) (three .if3 .taken)))
     (omega arith)
     (λ w. sym (no-letters _ (w ∙ three .if3 .taken)))
 
@@ -73,7 +78,8 @@ returns-4 c =
     let two = four .before .before .before in
     let s = two .before .before .before .before .before .args in
     judged-room _ _ _ (c .room2 .ensures)
-    (left-4 _ _ _ (allowed (two .before .before)) (good-head two) (plain-cut (s .h) (s .alphabet .now) (s .len) (four .if4 .taken)))
+    (left-4 _ _ _ (allowed (two .before .before)) (good-head two)
+    (plain-cut (s .h) (s .alphabet .now) (s .len) (four .if4 .taken)))
     (omega arith)
     (λ w. absurd (four .if4 .taken w))
 
@@ -95,7 +101,8 @@ returns-5 c =
     let s = two .before .before .before .before .before .args in
     judged-refused _ _ _ (c .refused3 .ensures)
     (heard-3 _ _ _ (allowed (two .before .before)) (good-head two)
-    (spoilt-bad (s .h) (s .alphabet .now) (s .len) (four .before .if3 .left) (four .if4 .left) (sym (judge .judge .ensures .good) ∙ not-true _ (five .if5 .taken))))
+    (spoilt-bad (s .h) (s .alphabet .now) (s .len) (four .before .if3 .left) (four .if4 .left)
+    (sym (judge .judge .ensures .good) ∙ not-true _ (five .if5 .taken))))
 
 room-requires-3 : tie.Need-room-requires-3
 room-requires-3 c κs = good-head (c .before .before .before .before .before .before .before)
@@ -109,7 +116,8 @@ returns-6 c =
     let s = two .before .before .before .before .before .args in
     let good = not-false _ (five .if5 .left) in
     judged-room _ _ _ (c .room3 .ensures)
-    (left-4 _ _ _ (allowed (two .before .before)) (good-head two) (plain-good (s .h) (s .alphabet .now) (s .len) (sym (judge .judge .ensures .good) ∙ good)))
+    (left-4 _ _ _ (allowed (two .before .before)) (good-head two)
+    (plain-good (s .h) (s .alphabet .now) (s .len) (sym (judge .judge .ensures .good) ∙ good)))
     (few two)
     (λ w. judge .judge .ensures .codes good)
 

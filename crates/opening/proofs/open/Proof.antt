@@ -1,5 +1,5 @@
--- `opening::open` meets its contract: an image that has its seven fields is judged by them, and its alphabet is the part behind them.
--- Assumes nothing.
+-- `opening::open` meets its contract: an image that has its seven fields is judged by them, and
+-- its alphabet is the part behind them. Assumes nothing.
 use Prim.Native.Nat.{_≤_}
 use mathlib.Core.Path.{sym, _∙_}
 use native.Mathlib.Omega.{arith}
@@ -16,7 +16,8 @@ use Rattle.opening.proofs.open.Tie as tie
 
 -- past the first test the seven fields are there
 fields : (c : tie.Else1) → fieldsLen ≤ length (c .before .before .before .args .image .now)
-fields c = between-true _ _ _ (sym (c .before .length-allowed .ensures) ∙ not-false _ (c .if1 .left)) .0
+fields c =
+    between-true _ _ _ (sym (c .before .length-allowed .ensures) ∙ not-false _ (c .if1 .left)) .0
 
 length-allowed-requires : tie.Need-length-allowed-requires
 length-allowed-requires c κs = search needs
@@ -28,7 +29,8 @@ returns : tie.Need-returns
 unfolding openingRowsOf
 returns c =
     let one = c .before in
-    opens-refused _ (c .refused .ensures) (heard-1 _ _ _ (sym (one .before .length-allowed .ensures) ∙ not-true _ (one .if1 .taken)))
+    opens-refused _ (c .refused .ensures)
+    (heard-1 _ _ _ (sym (one .before .length-allowed .ensures) ∙ not-true _ (one .if1 .taken)))
 
 read-requires : tie.Need-read-requires
 read-requires c κs = fields c
@@ -51,7 +53,8 @@ judge-requires c κs = search needs
 returns-2 : tie.Need-returns-2
 returns-2 c =
     let end = c .before .before .before in
-    opens-judged _ (end .before .read .ensures) (end .alphabet-end .ensures) (fields (end .before .before)) (c .judge .ensures)
+    opens-judged _ (end .before .read .ensures) (end .alphabet-end .ensures)
+    (fields (end .before .before)) (c .judge .ensures)
 
 pub open-spec : {M : Type 1} → statement M
 open-spec =

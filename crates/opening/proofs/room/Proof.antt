@@ -1,5 +1,5 @@
--- `opening::room` meets its contract: row 4 is given exactly where what is used does not fit, which is what `fits` answers.
--- Assumes nothing.
+-- `opening::room` meets its contract: row 4 is given exactly where what is used does not fit,
+-- which is what `fits` answers. Assumes nothing.
 use mathlib.Core.Path.{refl, sym, _∙_}
 use borrow.Author.Needs.{needs}
 use Rattle.paper.specs.Answers.{rowOf}

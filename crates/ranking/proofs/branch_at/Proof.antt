@@ -1,17 +1,20 @@
--- `ranking::branch_at` meets its contract: letter by letter the position falls by the keys that come before, and it lies by the first letter
--- whose keys it does not reach beyond. Assumes nothing.
+-- `ranking::branch_at` meets its contract: letter by letter the position falls by the keys that
+-- come before, and it lies by the first letter whose keys it does not reach beyond. Assumes
+-- nothing.
 use Prim.Native.Nat.{_-_, _<_}
 use native.Mathlib.Omega.{arith}
 use mathlib.Core.Path.{_≡_}
 use lib.ListN.{length, getD}
 use borrow.Author.Needs.{needs}
 use Rattle.head.proofs.Permitted.{bounds}
-use Rattle.ranking.proofs.ByLetter.{sizes, below-link, Turning, turning-start, turning-empty, turning-past, turning-here, turning-none}
+use Rattle.ranking.proofs.ByLetter.{sizes, below-link, Turning, turning-start}
+use Rattle.ranking.proofs.ByLetter.{turning-empty, turning-past, turning-here, turning-none}
 use Rattle.ranking.proofs.branch_at.Statement.{statement}
 use Rattle.ranking.proofs.branch_at.Tie as tie
 
 abbrev Inv-loop : tie.InvT-loop
-Inv-loop image h mask counts node depth position left₀ i₀ i-end left i = Turning h image node depth position left i
+Inv-loop image h mask counts node depth position left₀ i₀ i-end left i =
+    Turning h image node depth position left i
 
 abbrev μ-loop : tie.MeasureT-loop
 μ-loop image h mask counts node depth position left₀ i₀ i-end left i = h .n - i
@@ -33,7 +36,8 @@ loop-again c =
     let found = c .before in
     let loop = found .before .before in
     let start = loop .before .before .before in
-    turning-empty _ _ _ _ (start .pre .1 .1 .1 .0) (loop .loop .inv) (found .before .loop-test .taken) (found .link .ensures) (c .if1 .taken)
+    turning-empty _ _ _ _ (start .pre .1 .1 .1 .0) (loop .loop .inv)
+    (found .before .loop-test .taken) (found .link .ensures) (c .if1 .taken)
 
 -- behind a link that is not empty: the child's count stands in the list
 counted : (c : tie.Else1 Inv-loop μ-loop)
@@ -41,13 +45,15 @@ counted : (c : tie.Else1 Inv-loop μ-loop)
     let loop = found .before .before in
     let a = loop .before .before .before .args in
     (found .link .result < length (a .counts .now))
-    × (getD (a .counts .now) (found .link .result) 0 ≡ sizes (a .h) (a .image .now) (a .node) (a .depth) (loop .loop .i)))
+    × (getD (a .counts .now) (found .link .result) 0 ≡ sizes (a .h) (a .image .now) (a .node)
+    (a .depth) (loop .loop .i)))
 counted c =
     let found = c .before in
     let loop = found .before .before in
     let start = loop .before .before .before in
     let a = start .args in
-    below-link (a .h) (a .image .now) (a .node) (a .depth) (a .counts .now) (loop .loop .i) (start .pre .1 .1 .1 .1)
+    below-link (a .h) (a .image .now) (a .node) (a .depth) (a .counts .now) (loop .loop .i)
+    (start .pre .1 .1 .1 .1)
     (found .link .ensures) (c .if1 .left)
 
 cast-under : tie.Need-cast-under Inv-loop μ-loop
@@ -63,7 +69,11 @@ cast-t18 : tie.Need-cast-t18 Inv-loop μ-loop
 cast-t18 c =
     let loop = c .before .before .before .before .before in
     let start = loop .before .before .before in
-    omega (arith, bounds (start .args .h) (start .pre .0 .head-permitted), c .before .before .before .before .loop-test .taken)
+    omega (
+      arith,
+      bounds (start .args .h) (start .pre .0 .head-permitted),
+      c .before .before .before .before .loop-test .taken,
+    )
 
 returns : tie.Need-returns Inv-loop μ-loop
 returns c =
@@ -71,7 +81,8 @@ returns c =
     let found = other .before in
     let loop = found .before .before in
     let start = loop .before .before .before in
-    turning-here _ _ _ _ (start .pre .1 .1 .1 .0) (loop .loop .inv) _ (found .before .loop-test .taken) (counted other .1) (c .if2 .taken)
+    turning-here _ _ _ _ (start .pre .1 .1 .1 .0) (loop .loop .inv) _
+    (found .before .loop-test .taken) (counted other .1) (c .if2 .taken)
     (found .link .ensures) (other .if1 .left)
 
 add-i-2 : tie.Need-add-i-2 Inv-loop μ-loop
@@ -86,7 +97,8 @@ loop-again-2 c =
     let found = other .before in
     let loop = found .before .before in
     let start = loop .before .before .before in
-    turning-past _ _ _ _ (start .pre .1 .1 .1 .0) (loop .loop .inv) _ (found .before .loop-test .taken) (counted other .1) (c .if2 .left)
+    turning-past _ _ _ _ (start .pre .1 .1 .1 .0) (loop .loop .inv) _
+    (found .before .loop-test .taken) (counted other .1) (c .if2 .left)
 
 returns-2 : tie.Need-returns-2 Inv-loop μ-loop
 returns-2 c =

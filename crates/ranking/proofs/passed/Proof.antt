@@ -1,4 +1,5 @@
--- `ranking::passed` meets its contract: what was added and what is still to come below the letter make up the whole. Assumes nothing.
+-- `ranking::passed` meets its contract: what was added and what is still to come below the letter
+-- make up the whole. Assumes nothing.
 use Prim.Native.Nat.{_+_, _-_, _<_}
 use mathlib.Core.Logic.{⊎-elim}
 use mathlib.Core.Path.{_≡_}
@@ -6,7 +7,8 @@ use lib.ListN.{length, getD}
 use native.Mathlib.Omega.{arith}
 use borrow.Author.Needs.{needs}
 use Rattle.ranking.specs.Ranking.{underLower}
-use Rattle.ranking.proofs.ByLetter.{sizes, below-link, rest, rest-all, rest-none, rest-empty, rest-counted}
+use Rattle.ranking.proofs.ByLetter.{sizes, below-link, rest, rest-all, rest-none}
+use Rattle.ranking.proofs.ByLetter.{rest-empty, rest-counted}
 use Rattle.ranking.proofs.passed.Statement.{statement}
 use Rattle.ranking.proofs.passed.Tie as tie
 
@@ -31,13 +33,15 @@ counted : (c : tie.Then1 Inv-loop μ-loop)
     let loop = found .before .before in
     let a = loop .before .before .before .args in
     (found .link .result < length (a .counts .now))
-    × (getD (a .counts .now) (found .link .result) 0 ≡ sizes (a .h) (a .image .now) (a .node) (a .depth) (loop .loop .i)))
+    × (getD (a .counts .now) (found .link .result) 0 ≡ sizes (a .h) (a .image .now) (a .node)
+    (a .depth) (loop .loop .i)))
 counted c =
     let found = c .before in
     let loop = found .before .before in
     let start = loop .before .before .before in
     let a = start .args in
-    below-link (a .h) (a .image .now) (a .node) (a .depth) (a .counts .now) (loop .loop .i) (start .pre .1 .1 .1 .1 .1 .0)
+    below-link (a .h) (a .image .now) (a .node) (a .depth) (a .counts .now) (loop .loop .i)
+    (start .pre .1 .1 .1 .1 .1 .0)
     (found .link .ensures) (c .if1 .taken)
 
 -- and is the next of those still to come
@@ -46,12 +50,14 @@ next : (c : tie.Then1 Inv-loop μ-loop)
     let loop = found .before .before in
     let a = loop .before .before .before .args in
     rest (a .h) (a .image .now) (a .node) (a .depth) (a .letter) (loop .loop .i)
-    ≡ getD (a .counts .now) (found .link .result) 0 + rest (a .h) (a .image .now) (a .node) (a .depth) (a .letter) (loop .loop .i + 1))
+    ≡ getD (a .counts .now) (found .link .result) 0 + rest (a .h) (a .image .now) (a .node)
+    (a .depth) (a .letter) (loop .loop .i + 1))
 next c =
     let found = c .before in
     let loop = found .before .before in
     let a = loop .before .before .before .args in
-    rest-counted (a .h) (a .image .now) (a .node) (a .depth) (a .letter) (loop .loop .i) (getD (a .counts .now) (found .link .result) 0)
+    rest-counted (a .h) (a .image .now) (a .node) (a .depth) (a .letter) (loop .loop .i)
+    (getD (a .counts .now) (found .link .result) 0)
     (found .before .loop-test .taken) (counted c .1)
 
 cast-sum : tie.Need-cast-sum Inv-loop μ-loop
@@ -66,7 +72,12 @@ shared-slice-read-sum c = counted (c .before) .0
 add-sum : tie.Need-add-sum Inv-loop μ-loop
 add-sum c =
     let loop = c .before .before .before .before in
-    omega (arith, loop .loop .inv, next (c .before), loop .before .before .before .pre .1 .1 .1 .1 .1 .1)
+    omega (
+      arith,
+      loop .loop .inv,
+      next (c .before),
+      loop .before .before .before .pre .1 .1 .1 .1 .1 .1,
+    )
 
 add-i : tie.Need-add-i Inv-loop μ-loop
 add-i c = omega arith
@@ -83,14 +94,20 @@ loop-again c =
     (λ w. omega (arith, w .2, loop .loop .inv, next (record { before = found; if1 = w .0 })))
     (λ w.
     let low = found .before .loop-test .taken in
-    let e = rest-empty (a .h) (a .image .now) (a .node) (a .depth) (a .letter) (loop .loop .i) low (found .link .ensures) (w .0 .left) in
+    let e = rest-empty (a .h) (a .image .now) (a .node) (a .depth) (a .letter) (loop .loop .i) low
+    (found .link .ensures) (w .0 .left) in
     omega (arith, w .1, loop .loop .inv, e))
     (c .if1 .came)
 
 returns : tie.Need-returns Inv-loop μ-loop
 returns c =
     let a = c .before .before .before .before .args in
-    omega (arith, c .before .loop .inv, rest-none (a .h) (a .image .now) (a .node) (a .depth) (a .letter) (c .before .loop .i) (c .loop-test .left))
+    omega (
+      arith,
+      c .before .loop .inv,
+      rest-none (a .h) (a .image .now) (a .node) (a .depth)
+          (a .letter) (c .before .loop .i) (c .loop-test .left),
+    )
 
 pub passed-spec : {M : Type 1} → statement M
 passed-spec =

@@ -1,5 +1,5 @@
--- `ranking::rank` meets its contract: letter by letter the keys passed by, and those before the rest of the key under the node reached, are
--- all that come before it. Assumes nothing.
+-- `ranking::rank` meets its contract: letter by letter the keys passed by, and those before the
+-- rest of the key under the node reached, are all that come before it. Assumes nothing.
 use Prim.Native.Nat.{suc, _+_, _-_, _≤_, _<_}
 use mathlib.Core.Logic.{⊎-elim}
 use mathlib.Core.List.{_∷_}
@@ -13,19 +13,23 @@ use Rattle.head.proofs.Permitted.{bounds}
 use Rattle.key.specs.Hand.{lettersOf}
 use Rattle.key.proofs.Hand.{letters-count, letters-from, letter-below}
 use Rattle.ranking.proofs.Below.{Counted, counted}
-use Rattle.ranking.proofs.Placing.{Placing, owned, owned-none, owned-one, placing-start, placing-within, placing-missing, placing-end}
-use Rattle.ranking.proofs.Placing.{placing-stop, placing-deep, placing-below, placing-own, placing-room, placing-on}
+use Rattle.ranking.proofs.Placing.{Placing, owned, owned-none, owned-one, placing-start}
+use Rattle.ranking.proofs.Placing.{placing-within, placing-missing, placing-end}
+use Rattle.ranking.proofs.Placing.{placing-stop, placing-deep, placing-below, placing-own}
+use Rattle.ranking.proofs.Placing.{placing-room, placing-on}
 use Rattle.ranking.proofs.rank.Statement.{statement}
 use Rattle.ranking.proofs.rank.Tie as tie
 
 abbrev Inv-loop : tie.InvT-loop
-Inv-loop image h counts mask letters len node₀ depth₀ before₀ node depth before = Placing h image (take len letters) node depth before
+Inv-loop image h counts mask letters len node₀ depth₀ before₀ node depth before =
+    Placing h image (take len letters) node depth before
 
 abbrev μ-loop : tie.MeasureT-loop
 μ-loop image h counts mask letters len node₀ depth₀ before₀ node depth before = len - depth
 
 -- what the image and its counts give
-known : (c : tie.Start Inv-loop μ-loop) → Counted (c .args .h) (c .args .image .now) (c .args .counts .now)
+known : (c : tie.Start Inv-loop μ-loop) → Counted (c .args .h) (c .args .image .now)
+    (c .args .counts .now)
 known c = counted (c .pre .0) (c .pre .1 .0) (c .pre .1 .1 .0)
 
 -- the array's length, and how many letters of it are the key's
@@ -36,8 +40,10 @@ count : (c : tie.Start Inv-loop μ-loop) → length (lettersOf (c .args .key)) �
 count c = letters-count (c .args .key) (whole c) (c .pre .1 .1 .1 .0 .short)
 
 allowed : (c : tie.Start Inv-loop μ-loop)
-    → (c .args .h .min ≤ length (lettersOf (c .args .key))) × (length (lettersOf (c .args .key)) ≤ c .args .h .max)
-allowed c = between-true (length (lettersOf (c .args .key))) (c .args .h .min) (c .args .h .max) (c .pre .1 .1 .1 .1)
+    → (c .args .h .min ≤ length (lettersOf (c .args .key)))
+    × (length (lettersOf (c .args .key)) ≤ c .args .h .max)
+allowed c = between-true (length (lettersOf (c .args .key))) (c .args .h .min) (c .args .h .max)
+    (c .pre .1 .1 .1 .1)
 
 -- the letters left, and the first of them
 next : (c : tie.In-loop Inv-loop μ-loop)
@@ -46,20 +52,24 @@ next : (c : tie.In-loop Inv-loop μ-loop)
     drop depth (lettersOf key) ≡ getD (key .letters) depth 0 ∷ drop (suc depth) (lettersOf key))
 next c =
     let start = c .before .before .before .before .before .before in
-    letters-from (start .args .key) (whole start) (start .pre .1 .1 .1 .0 .short) (c .before .loop .depth) (c .loop-test .taken)
+    letters-from (start .args .key) (whole start) (start .pre .1 .1 .1 .0 .short)
+    (c .before .loop .depth) (c .loop-test .taken)
 
 low : (c : tie.In-loop Inv-loop μ-loop)
-    → (let a = c .before .before .before .before .before .before .args in getD (a .key .letters) (c .before .loop .depth) 0 < a .h .n)
+    → (let a = c .before .before .before .before .before .before .args in
+    getD (a .key .letters) (c .before .loop .depth) 0 < a .h .n)
 low c =
     let start = c .before .before .before .before .before .before in
     let ready = start .pre .1 .1 .1 .0 in
-    letter-below (start .args .key) (whole start) (ready .short) (start .args .h .n) (c .before .loop .depth) (ready .letters) (c .loop-test .taken)
+    letter-below (start .args .key) (whole start) (ready .short) (start .args .h .n)
+    (c .before .loop .depth) (ready .letters) (c .loop-test .taken)
 
 mask-requires : tie.Need-mask-requires Inv-loop μ-loop
 mask-requires c κs = known (c .before .before) .opened .head-permitted
 
 loop-holds : tie.Need-loop-holds Inv-loop μ-loop
-loop-holds c = let start = c .before .before .before .before in placing-start (known start) (lettersOf (start .args .key))
+loop-holds c = let start = c .before .before .before .before in
+    placing-start (known start) (lettersOf (start .args .key))
 
 array-read-letter : tie.Need-array-read-letter Inv-loop μ-loop
 array-read-letter c =
@@ -75,15 +85,21 @@ link-requires : tie.Need-link-requires Inv-loop μ-loop
 link-requires c κs =
     let loop = c .before in
     let start = loop .before .before .before .before .before in
-    let w = known start in
-    (w .opened, (loop .before .before .mask .ensures, (placing-within w _ (loop .loop .inv), low c)))
+    let w = known start in (
+      w .opened,
+      (
+        loop .before .before .mask .ensures,
+        (placing-within w _ (loop .loop .inv), low c),
+      ),
+    )
 
 returns : tie.Need-returns Inv-loop μ-loop
 returns c =
     let found = c .before in
     let loop = found .before .before in
     let w = known (loop .before .before .before .before .before) in
-    placing-stop w _ (loop .loop .inv) (next (found .before)) (found .link .ensures) (c .if1 .taken)
+    placing-stop w _ (loop .loop .inv) (next (found .before)) (found .link .ensures)
+    (c .if1 .taken)
 
 own-value-requires : tie.Need-own-value-requires Inv-loop μ-loop
 own-value-requires c κs =
@@ -98,23 +114,36 @@ add-before c =
     let loop = found .before .before in
     let start = loop .before .before .before .before .before in
     let a = start .args in
-    let one = owned-one (a .h) (a .image .now) (loop .loop .node) (loop .loop .depth) (own .own-value .ensures) (c .if2 .taken) in
+    let one = owned-one (a .h) (a .image .now) (loop .loop .node) (loop .loop .depth)
+    (own .own-value .ensures) (c .if2 .taken) in
     let at = found .before in
-    let few = placing-own (known start) _ (loop .loop .inv) (next at) (found .link .ensures) (allowed start .1) (low at) in
+    let few = placing-own (known start) _ (loop .loop .inv) (next at) (found .link .ensures)
+    (allowed start .1) (low at) in
     omega (arith, one, few)
 
 -- the node's own key is passed
 own-passed : (c : tie.Joined2 Inv-loop μ-loop)
     → (let loop = c .before .before .before .before .before in
     let a = loop .before .before .before .before .before .args in
-    c .if2 .before ≡ loop .loop .before + owned (a .h) (a .image .now) (loop .loop .node) (loop .loop .depth))
+    c .if2 .before ≡ loop .loop .before + owned (a .h) (a .image .now) (loop .loop .node)
+    (loop .loop .depth))
 own-passed c =
     let own = c .before in
     let loop = own .before .before .before .before in
     let a = loop .before .before .before .before .before .args in
     ⊎-elim
-    (λ o. omega (arith, o .1, owned-one (a .h) (a .image .now) (loop .loop .node) (loop .loop .depth) (own .own-value .ensures) (o .0 .taken)))
-    (λ o. omega (arith, o .1, owned-none (a .h) (a .image .now) (loop .loop .node) (loop .loop .depth) (own .own-value .ensures) (o .0 .left)))
+    (λ o. omega (
+      arith,
+      o .1,
+      owned-one (a .h) (a .image .now) (loop .loop .node)
+          (loop .loop .depth) (own .own-value .ensures) (o .0 .taken),
+    ))
+    (λ o. omega (
+      arith,
+      o .1,
+      owned-none (a .h) (a .image .now) (loop .loop .node)
+          (loop .loop .depth) (own .own-value .ensures) (o .0 .left),
+    ))
     (c .if2 .came)
 
 passed-requires : tie.Need-passed-requires Inv-loop μ-loop
@@ -129,8 +158,13 @@ passed-requires c κs =
     let short = allowed start .1 in
     let deep = placing-deep w _ i (next at) link short (low at) in
     let below = placing-below w _ i (next at) link short (low at) in
-    let room = placing-room w _ i (next at) link short (low at) (own-passed c) in
-    (w .opened, (loop .before .before .mask .ensures, (placing-within w _ i, (deep, (omega (arith, low at), (below, room))))))
+    let room = placing-room w _ i (next at) link short (low at) (own-passed c) in (
+      w .opened,
+      (
+        loop .before .before .mask .ensures,
+        (placing-within w _ i, (deep, (omega (arith, low at), (below, room)))),
+      ),
+    )
 
 add-depth : tie.Need-add-depth Inv-loop μ-loop
 add-depth c = omega arith
@@ -144,7 +178,8 @@ loop-again c =
     let found = joined .before .before .before in
     let loop = found .before .before in
     let start = loop .before .before .before .before .before in
-    placing-on (known start) _ (loop .loop .inv) (next (found .before)) (found .link .ensures) (allowed start .1) (low (found .before))
+    placing-on (known start) _ (loop .loop .inv) (next (found .before)) (found .link .ensures)
+    (allowed start .1) (low (found .before))
     (own-passed joined) (joined .before .before .if1 .left) (c .passed .ensures)
 
 own-value-requires-2 : tie.Need-own-value-requires-2 Inv-loop μ-loop
@@ -155,22 +190,26 @@ own-value-requires-2 c κs =
 
 -- the key has ended
 ended : (c : tie.After-loop Inv-loop μ-loop)
-    → length (lettersOf (c .before .before .before .before .before .before .args .key)) ≤ c .before .loop .depth
-ended c = omega (arith, count (c .before .before .before .before .before .before), c .loop-test .left)
+    → length (lettersOf (c .before .before .before .before .before .before .args .key))
+    ≤ c .before .loop .depth
+ended c =
+    omega (arith, count (c .before .before .before .before .before .before), c .loop-test .left)
 
 returns-2 : tie.Need-returns-2 Inv-loop μ-loop
 returns-2 c =
     let own = c .before in
     let loop = own .before .before in
     let start = loop .before .before .before .before .before in
-    placing-missing (known start) _ (loop .loop .inv) (ended (own .before)) (allowed start .0) (own .own-value2 .ensures) (c .if3 .taken)
+    placing-missing (known start) _ (loop .loop .inv) (ended (own .before)) (allowed start .0)
+    (own .own-value2 .ensures) (c .if3 .taken)
 
 returns-3 : tie.Need-returns-3 Inv-loop μ-loop
 returns-3 c =
     let own = c .before in
     let loop = own .before .before in
     let start = loop .before .before .before .before .before in
-    placing-end (known start) _ (loop .loop .inv) (ended (own .before)) (allowed start .0) (own .own-value2 .ensures) (c .if3 .left)
+    placing-end (known start) _ (loop .loop .inv) (ended (own .before)) (allowed start .0)
+    (own .own-value2 .ensures) (c .if3 .left)
 
 pub rank-spec : {M : Type 1} → statement M
 rank-spec =

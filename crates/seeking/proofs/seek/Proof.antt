@@ -1,11 +1,12 @@
--- `seeking::seek` meets its contract: 9 and 10 by the key in hand, 14 here, 15 or the key by the search; the buffer is written only where
--- a key was found. Assumes nothing.
+-- `seeking::seek` meets its contract: 9 and 10 by the key in hand, 14 here, 15 or the key by the
+-- search; the buffer is written only where a key was found. Assumes nothing.
 use mathlib.Core.Path.{refl}
 use native.Mathlib.Omega.{arith}
 use borrow.Author.Needs.{needs}
 use Rattle.depths.proofs.Walkable.{short}
 use Rattle.traversal.proofs.Walking.{has-room, met}
-use Rattle.seeking.proofs.Seeking.{head-permitted, Behind, behind, found-within, found-front, found-room}
+use Rattle.seeking.proofs.Seeking.{head-permitted, Behind, behind, found-within}
+use Rattle.seeking.proofs.Seeking.{found-front, found-room}
 use Rattle.seeking.proofs.Seeking.{seek-unkeyed, seek-short, seek-missing, seek-found}
 use Rattle.seeking.proofs.seek.Statement.{statement}
 use Rattle.seeking.proofs.seek.Tie as tie
@@ -14,7 +15,8 @@ of-requires : tie.Need-of-requires
 of-requires c κs = search needs
 
 judge-next-requires : tie.Need-judge-next-requires
-judge-next-requires c κs = let p = c .before .before .before .before .pre in head-permitted (p .0) (p .1)
+judge-next-requires c κs =
+    let p = c .before .before .before .before .pre in head-permitted (p .0) (p .1)
 
 enum-known-judged : tie.Need-enum-known-judged
 enum-known-judged c = search needs
@@ -30,7 +32,8 @@ known : (c : tie.After-enum-told)
 known c =
     let judge = c .before .before in
     let p = judge .before .before .before .before .before .pre in
-    behind (p .0) (p .1) _ _ (judge .before .of .ensures) (judge .judge-next .ensures) (c .enum-told .given .1)
+    behind (p .0) (p .1) _ _ (judge .before .of .ensures) (judge .judge-next .ensures)
+    (c .enum-told .given .1)
 
 cast-if1 : tie.Need-cast-if1
 cast-if1 c = search needs
@@ -71,7 +74,8 @@ copy-requires : tie.Need-copy-requires
 copy-requires c κs =
     let found = c .before .before .before in
     let next = found .before .before .before .before in
-    found-room (next .next .ensures .0) (found .found .given .1) (next .next .ensures .1) (next .before .before .before .if1 .left)
+    found-room (next .next .ensures .0) (found .found .given .1) (next .next .ensures .1)
+    (next .before .before .before .if1 .left)
 
 cast-count : tie.Need-cast-count
 cast-count c =
@@ -84,13 +88,15 @@ returns-2 : tie.Need-returns-2
 returns-2 c =
     let judge = c .before .before .before in
     let p = judge .before .before .before .before .before .pre in
-    seek-unkeyed (p .0) (p .1) _ _ (judge .before .of .ensures) (judge .judge-next .ensures) _ _ (c .before .judged .given .1)
+    seek-unkeyed (p .0) (p .1) _ _ (judge .before .of .ensures) (judge .judge-next .ensures) _ _
+    (c .before .judged .given .1)
 
 returns-3 : tie.Need-returns-3
 returns-3 c =
     let next = c .before .before .before .before in
     let room = next .before .before .before in
-    seek-missing (known (room .before .before)) _ _ (room .if1 .left) (next .next .ensures .0) (c .enum-told2 .given .1)
+    seek-missing (known (room .before .before)) _ _ (room .if1 .left) (next .next .ensures .0)
+    (c .enum-told2 .given .1)
 
 same-length : tie.Need-same-length
 same-length c = search needs
@@ -101,7 +107,8 @@ returns-4 c =
     let found = lay .before .before .before .before in
     let next = found .before .before .before .before in
     let room = next .before .before .before in
-    seek-found (known (room .before .before)) _ _ (room .if1 .left) (next .next .ensures .0) (found .found .given .1) (lay .copy .ensures)
+    seek-found (known (room .before .before)) _ _ (room .if1 .left) (next .next .ensures .0)
+    (found .found .given .1) (lay .copy .ensures)
 
 pub seek-spec : {M : Type 1} → statement M
 seek-spec =

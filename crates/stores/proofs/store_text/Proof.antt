@@ -1,5 +1,5 @@
--- `stores::store_text` meets its contract: 1 to 10 by what stands in front of every store, the rest by what stands behind them.
--- Assumes nothing.
+-- `stores::store_text` meets its contract: 1 to 10 by what stands in front of every store, the
+-- rest by what stands behind them. Assumes nothing.
 use borrow.Author.Needs.{needs}
 use Rattle.asking.proofs.Asking.{store-asks}
 use Rattle.stores.proofs.StoreReturns.{stores-refused, stores-passed}
@@ -18,7 +18,8 @@ enum-told c = search needs
 store-requires : tie.Need-store-requires
 store-requires c κs =
     let told = c .before in
-    store-asks (told .before .before .before .before .before .ask-text .ensures) (told .enum-told .given .1)
+    store-asks (told .before .before .before .before .before .ask-text .ensures)
+    (told .enum-told .given .1)
 
 same-length : tie.Need-same-length
 same-length c = search needs
@@ -27,7 +28,8 @@ same-length-2 : tie.Need-same-length-2
 same-length-2 c = search needs
 
 returns : tie.Need-returns
-returns c = stores-refused _ (c .before .before .before .before .before .before .ask-text .ensures) _ (c .before .verdict .given .1)
+returns c = stores-refused _ (c .before .before .before .before .before .before .ask-text .ensures)
+    _ (c .before .verdict .given .1)
 
 same-length-3 : tie.Need-same-length-3
 same-length-3 c = search needs
@@ -39,7 +41,8 @@ returns-2 : tie.Need-returns-2
 returns-2 c =
     let stored = c .before .before in
     let told = stored .before .before in
-    stores-passed _ (told .before .before .before .before .before .ask-text .ensures) _ (told .enum-told .given .1) _ (stored .store .ensures)
+    stores-passed _ (told .before .before .before .before .before .ask-text .ensures) _
+    (told .enum-told .given .1) _ (stored .store .ensures)
 
 pub store-text-spec : {M : Type 1} → statement M
 store-text-spec =

@@ -1,4 +1,5 @@
--- `storing::extend` meets its contract: 12 and 13 have been asked for all that is missing, so the path can be built. Assumes nothing.
+-- `storing::extend` meets its contract: 12 and 13 have been asked for all that is missing, so the
+-- path can be built. Assumes nothing.
 use Prim.Native.Nat.{suc, _+_, _-_}
 use mathlib.Core.Path.{_≡_, refl, sym, ap, _∙_}
 use mathlib.Core.List.{_∷_}
@@ -26,20 +27,25 @@ whole c = search needs
 -- the letter that stopped the walk, and those after it
 left : (c : tie.Start) →
     let a = c .args in
-    drop (a .at .depth) (lettersOf (a .key)) ≡ getD (a .key .letters) (a .at .depth) 0 ∷ drop (suc (a .at .depth)) (lettersOf (a .key))
-left c = letters-from (c .args .key) (whole c) (c .pre .1 .0 .short) (c .args .at .depth) (c .pre .1 .1 .0 .depth)
+    drop (a .at .depth) (lettersOf (a .key)) ≡ getD (a .key .letters) (a .at .depth) 0
+    ∷ drop (suc (a .at .depth)) (lettersOf (a .key))
+left c = letters-from (c .args .key) (whole c) (c .pre .1 .0 .short) (c .args .at .depth)
+    (c .pre .1 .1 .0 .depth)
 
 -- they are as many as the nodes that are missing
 total : (c : tie.Start) →
-    let a = c .args in a .h .g + (a .key .len - a .at .depth) ≡ a .h .g + length (drop (a .at .depth) (lettersOf (a .key)))
+    let a = c .args in a .h .g + (a .key .len - a .at .depth) ≡ a .h .g
+    + length (drop (a .at .depth) (lettersOf (a .key)))
 total c =
     let a = c .args in
     let count = letters-count (a .key) (whole c) (c .pre .1 .0 .short) in
-    ap (λ n. a .h .g + n) (sym (length-drop (a .at .depth) (lettersOf (a .key)) ∙ ap (λ n. n - a .at .depth) count))
+    ap (λ n. a .h .g + n) (sym (length-drop (a .at .depth) (lettersOf (a .key))
+    ∙ ap (λ n. n - a .at .depth) count))
 
 -- addresses and room for them
 room : (c : tie.Then1) →
-    let a = c .before .before .args in Space (a .h) (a .image .now) (a .h .g + (a .key .len - a .at .depth))
+    let a = c .before .before .args in
+    Space (a .h) (a .image .now) (a .h .g + (a .key .len - a .at .depth))
 room c =
     let start = c .before .before in
     rw (total start) (path-space _ _ _ _ _ (left start) _ (c .if1 .taken) (start .pre .1 .1 .1))
@@ -47,10 +53,13 @@ room c =
 -- what the image holds then
 wrote : (c : tie.Joined1) →
     let a = c .before .before .args in
-    c .if1 .image ≡ carriedOut (a .image .now) (storeWrites (a .h) (stoppedAt (a .at .node) (drop (a .at .depth) (lettersOf (a .key)))) (a .value))
+    c .if1 .image ≡ carriedOut (a .image .now)
+    (storeWrites (a .h) (stoppedAt (a .at .node) (drop (a .at .depth) (lettersOf (a .key))))
+    (a .value))
 wrote c =
     let start = c .before .before in
-    ⊎-elim (λ w. w .8 ∙ path-built _ _ _ _ _ (left start) _ (w .0 .taken) (total start) (w .5 .ensures))
+    ⊎-elim (λ w. w .8 ∙ path-built _ _ _ _ _ (left start) _ (w .0 .taken) (total start)
+    (w .5 .ensures))
     (λ w. w .1 ∙ none-built _ _ _ _ _ (left start) _ (w .0 .left)) (c .if1 .came)
 
 sub-build : tie.Need-sub-build
@@ -63,7 +72,12 @@ add-build : tie.Need-add-build
 add-build c =
     let some = c .before .before .before .before in
     let start = some .before .before in
-    omega (arith, room some .addresses, addresses-fit (bounds (start .args .h) (start .pre .0 .head-permitted)))
+    omega (
+      arith,
+      room some .addresses,
+      addresses-fit
+          (bounds (start .args .h) (start .pre .0 .head-permitted)),
+    )
 
 build-requires : tie.Need-build-requires
 build-requires c κs =

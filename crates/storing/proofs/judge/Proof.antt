@@ -1,11 +1,13 @@
--- `storing::judge` meets its contract: 12 and 13 are asked of the greatest address that the new nodes would have. Assumes nothing.
+-- `storing::judge` meets its contract: 12 and 13 are asked of the greatest address that the new
+-- nodes would have. Assumes nothing.
 use Prim.Native.Nat.{_+_, _^_, _<_}
 use mathlib.Core.Path.{sym, _∙_}
 use native.Mathlib.Omega.{arith}
 use borrow.Author.Needs.{needs}
 use borrow.Author.Tests.{leb-true, leb-false, not-true, not-false}
 use Rattle.head.specs.Fields.{permitted}
-use Rattle.storing.proofs.Adding.{judged-11, judged-none, judged-12, judged-13, judged-passed}
+use Rattle.storing.proofs.Adding.{judged-11, judged-none, judged-12, judged-13}
+use Rattle.storing.proofs.Adding.{judged-passed}
 use Rattle.storing.proofs.judge.Statement.{statement}
 use Rattle.storing.proofs.judge.Tie as tie
 
@@ -14,7 +16,8 @@ fits : (c : tie.Else1) → let a = c .before .before .args in a .value < 256 ^ a
 fits c = omega (arith, c .if1 .left, c .before .greatest .ensures)
 
 -- 12 is passed
-few : (c : tie.Else3) → let a = c .before .before .before .before .before .before .args in a .h .g + a .new < 256 ^ a .h .a
+few : (c : tie.Else3) → let a =
+    c .before .before .before .before .before .before .args in a .h .g + a .new < 256 ^ a .h .a
 few c = omega (arith, c .if3 .left, c .before .mask .ensures)
 
 greatest-requires : tie.Need-greatest-requires
@@ -44,7 +47,8 @@ cast-if3 c = search needs
 returns-3 : tie.Need-returns-3
 returns-3 c =
     let some = c .before .before .before in
-    judged-12 _ _ _ (fits (some .before)) _ (some .if2 .left) (c .before .mask .ensures) (c .if3 .taken)
+    judged-12 _ _ _ (fits (some .before)) _ (some .if2 .left) (c .before .mask .ensures)
+    (c .if3 .taken)
 
 cast-t7 : tie.Need-cast-t7
 cast-t7 c = search needs

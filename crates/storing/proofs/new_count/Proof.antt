@@ -1,4 +1,5 @@
--- `storing::new_count` meets its contract: a node is missing for each letter that the walk left. Assumes nothing.
+-- `storing::new_count` meets its contract: a node is missing for each letter that the walk left.
+-- Assumes nothing.
 use Prim.Native.Nat.{_-_}
 use mathlib.Core.Path.{_≡_, sym, _∙_, ap, subst}
 use native.Mathlib.Omega.{arith}
@@ -16,7 +17,8 @@ whole : (c : tie.Start) → length (c .args .key .letters) ≡ mostLetters
 whole c = search needs
 
 -- where the walk stopped
-stop : (c : tie.After-walked) → let a = c .before .before .before .args in Stop (a .h) (a .key) (c .walked .given .0 .0)
+stop : (c : tie.After-walked) → let a =
+    c .before .before .before .args in Stop (a .h) (a .key) (c .walked .given .0 .0)
 stop c =
     let start = c .before .before .before in
     subst (Ends (start .args .h) (start .args .key)) (c .walked .given .1) (start .pre .1)
@@ -49,14 +51,16 @@ returns-3 c =
     let key = start .args .key in
     let short = start .pre .0 .short in (
       ap (λ n. n - told .walked .given .0 .0 .depth) (sym (letters-count key (whole start) short))
-          ∙ count-path _ _ (some .if1 .left) (told .walked .given .1) _ _ (letters-from key (whole start) short _ (stop told .depth)),
+          ∙ count-path _ _ (some .if1 .left) (told .walked .given .1) _ _
+          (letters-from key (whole start) short _ (stop told .depth)),
       omega (arith, short),
     )
 
 returns-4 : tie.Need-returns-4
 returns-4 c =
     let start = c .before .before .before in
-    absurd (subst (Ends (start .args .h) (start .args .key)) (c .enum-told2 .given .1) (start .pre .1))
+    absurd (subst (Ends (start .args .h) (start .args .key)) (c .enum-told2 .given .1)
+    (start .pre .1))
 
 pub new-count-spec : {M : Type 1} → statement M
 new-count-spec =

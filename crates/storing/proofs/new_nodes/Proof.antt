@@ -1,5 +1,5 @@
--- `storing::new_nodes` meets its contract: before each turn, what is still to be laid leaves what all of it would have left.
--- Assumes nothing.
+-- `storing::new_nodes` meets its contract: before each turn, what is still to be laid leaves what
+-- all of it would have left. Assumes nothing.
 use Prim.Native.Nat.{suc, _+_, _-_, _<_}
 use mathlib.Core.Path.{_≡_}
 use mathlib.Core.List.{_∷_}
@@ -11,12 +11,14 @@ use Rattle.head.proofs.Permitted.{bounds, addresses-fit}
 use Rattle.key.specs.Hand.{lettersOf}
 use Rattle.key.proofs.Hand.{letters-count, letters-from, letter-below}
 use Rattle.storing.specs.StoreStage.{Space}
-use Rattle.storing.proofs.Building.{Laying, laying-start, laying-room, laying-on, laying-end}
+use Rattle.storing.proofs.Building.{Laying, laying-start, laying-room, laying-on}
+use Rattle.storing.proofs.Building.{laying-end}
 use Rattle.storing.proofs.new_nodes.Statement.{statement}
 use Rattle.storing.proofs.new_nodes.Tie as tie
 
 abbrev Inv-loop : tie.InvT-loop
-Inv-loop image₀ h key from value letters depth₀ node₀ image depth node = Laying h (lettersOf key) from value image₀ image depth node
+Inv-loop image₀ h key from value letters depth₀ node₀ image depth node =
+    Laying h (lettersOf key) from value image₀ image depth node
 
 abbrev μ-loop : tie.MeasureT-loop
 μ-loop image₀ h key from value letters depth₀ node₀ image depth node = key .len - depth
@@ -28,7 +30,8 @@ whole c = search needs
 count : (c : tie.Start Inv-loop μ-loop) → length (lettersOf (c .args .key)) ≡ c .args .key .len
 count c = letters-count (c .args .key) (whole c) (c .pre .1 .0 .short)
 
-space : (c : tie.Start Inv-loop μ-loop) → Space (c .args .h) (c .args .image .now) (c .args .h .g + suc (length (lettersOf (c .args .key)) - c .args .from))
+space : (c : tie.Start Inv-loop μ-loop) → Space (c .args .h) (c .args .image .now)
+    (c .args .h .g + suc (length (lettersOf (c .args .key)) - c .args .from))
 space c = rw (count c) (c .pre .1 .1 .1)
 
 -- the letters left before the key's end
@@ -38,21 +41,35 @@ left : (c : tie.Then1 Inv-loop μ-loop) →
     drop depth (lettersOf key) ≡ getD (key .letters) depth 0 ∷ drop (suc depth) (lettersOf key)
 left c =
     let start = c .before .before .before .before .before .before in
-    letters-from (start .args .key) (whole start) (start .pre .1 .0 .short) (c .before .before .loop .depth) (c .if1 .taken)
+    letters-from (start .args .key) (whole start) (start .pre .1 .0 .short)
+    (c .before .before .loop .depth) (c .if1 .taken)
 
 add-node : tie.Need-add-node Inv-loop μ-loop
 add-node c =
     let start = c .before .before .before in
-    omega (arith, start .pre .1 .1 .1 .addresses, addresses-fit (bounds (start .args .h) (start .pre .0)))
+    omega (
+      arith,
+      start .pre .1 .1 .1 .addresses,
+      addresses-fit
+          (bounds (start .args .h) (start .pre .0)),
+    )
 
 loop-holds : tie.Need-loop-holds Inv-loop μ-loop
-loop-holds c = let start = c .before .before .before in laying-start (omega (arith, count start, start .pre .1 .1 .0))
+loop-holds c = let start = c .before .before .before in
+    laying-start (omega (arith, count start, start .pre .1 .1 .0))
 
 add-next : tie.Need-add-next Inv-loop μ-loop
 add-next c =
     let at = c .before .before in
     let start = at .before .before .before .before in
-    omega (arith, at .loop .inv .count, count start, c .if1 .taken, space start .addresses, addresses-fit (bounds (start .args .h) (start .pre .0)))
+    omega (
+      arith,
+      at .loop .inv .count,
+      count start,
+      c .if1 .taken,
+      space start .addresses,
+      addresses-fit (bounds (start .args .h) (start .pre .0)),
+    )
 
 array-read-write-path : tie.Need-array-read-write-path Inv-loop μ-loop
 array-read-write-path c =
@@ -65,7 +82,8 @@ below : (c : tie.Then1 Inv-loop μ-loop) →
     getD (start .args .key .letters) (c .before .before .loop .depth) 0 < start .args .h .n
 below c =
     let start = c .before .before .before .before .before .before in
-    letter-below (start .args .key) (whole start) (start .pre .1 .0 .short) _ _ (start .pre .1 .0 .letters) (c .if1 .taken)
+    letter-below (start .args .key) (whole start) (start .pre .1 .0 .short) _ _
+    (start .pre .1 .0 .letters) (c .if1 .taken)
 
 cast-write-path : tie.Need-cast-write-path Inv-loop μ-loop
 cast-write-path c =
@@ -92,7 +110,8 @@ loop-again c =
     let one = c .before .before .before .before in
     let at = one .before .before in
     let start = at .before .before .before .before in
-    laying-on (at .loop .inv) (omega (arith, count start, one .if1 .taken)) (left one) (c .before .before .write-path .ensures)
+    laying-on (at .loop .inv) (omega (arith, count start, one .if1 .taken)) (left one)
+    (c .before .before .write-path .ensures)
 
 write-last-requires : tie.Need-write-last-requires Inv-loop μ-loop
 write-last-requires c κs =
@@ -108,7 +127,8 @@ returns c =
     let one = c .before .before .before .before in
     let at = one .before .before in
     let start = at .before .before .before .before in
-    laying-end (at .loop .inv) (omega (arith, count start, one .if1 .left)) (c .before .before .write-last .ensures)
+    laying-end (at .loop .inv) (omega (arith, count start, one .if1 .left))
+    (c .before .before .write-last .ensures)
 
 pub new-nodes-spec : {M : Type 1} → statement M
 new-nodes-spec =

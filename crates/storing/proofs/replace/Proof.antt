@@ -1,4 +1,5 @@
--- `storing::replace` meets its contract: the data is read before it is written over. Assumes nothing.
+-- `storing::replace` meets its contract: the data is read before it is written over. Assumes
+-- nothing.
 use mathlib.Core.Path.{ap, _∙_}
 use Prim.Native.Nat.{ℕ}
 use mir.Facts.{toZ-ofZ}
@@ -26,7 +27,8 @@ returns c =
     let read = set .before .before in
     let a = read .before .before .before .args in (
       set .set-data .ensures .0,
-      toZ-ofZ {w = w32} (sfits-of (c .change .ok)) ∙ c .change .ensures ∙ ap (λ (old : ℕ). changeOf old (a .value)) (read .«data» .ensures),
+      toZ-ofZ {w = w32} (sfits-of (c .change .ok)) ∙ c .change .ensures
+          ∙ ap (λ (old : ℕ). changeOf old (a .value)) (read .«data» .ensures),
     )
 
 pub replace-spec : {M : Type 1} → statement M

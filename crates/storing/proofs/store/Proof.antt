@@ -1,4 +1,5 @@
--- `storing::store` meets its contract: what the walk tells is what there is to store by. Assumes nothing.
+-- `storing::store` meets its contract: what the walk tells is what there is to store by. Assumes
+-- nothing.
 use mathlib.Core.Path.{_≡_}
 use borrow.Author.Needs.{needs}
 use lib.ListN.{length}
@@ -22,7 +23,11 @@ store-at-requires c κs =
     let start = walked .before .before .before in
     let p = start .pre in (
       head-open (p .0) (p .1 .0),
-      (p .1 .1, ends (p .0) (p .1 .0) (start .args .key) (whole start) (p .1 .1 .short) _ (walked .walk .ensures)),
+      (
+        p .1 .1,
+        ends (p .0) (p .1 .0) (start .args .key) (whole start) (p .1 .1 .short) _
+            (walked .walk .ensures),
+      ),
     )
 
 same-length : tie.Need-same-length
@@ -33,7 +38,8 @@ returns c =
     let stored = c .before .before in
     let walked = stored .before .before in
     let start = walked .before .before .before in
-    stores (start .pre .0) (start .pre .1 .0) (lettersOf (start .args .key)) (walked .walk .ensures) _ _ (stored .store-at .ensures)
+    stores (start .pre .0) (start .pre .1 .0) (lettersOf (start .args .key))
+    (walked .walk .ensures) _ _ (stored .store-at .ensures)
 
 pub store-spec : {M : Type 1} → statement M
 store-spec = tie.close (tie.spec walk-requires store-at-requires same-length returns)

@@ -1,4 +1,5 @@
--- `storing::store_at` meets its contract: 11, 12 and 13 are judged before a byte is written. Assumes nothing.
+-- `storing::store_at` meets its contract: 11, 12 and 13 are judged before a byte is written.
+-- Assumes nothing.
 use Prim.Native.Nat.{ℕ}
 use mathlib.Core.Path.{_≡_, _∙_, ap}
 use mir.Syntax.{w32}
@@ -20,8 +21,12 @@ use Rattle.storing.proofs.store_at.Tie as tie
 same : (c : tie.After-new-count) →
     let a = c .before .before .args in
     first (addingRows (a .h) (a .value) (c .new-count .result) (length (a .image .now)))
-    ≡ first (addingRows (a .h) (a .value) (added (missing (endOf (lettersOf (a .key)) (a .walked))) (a .value)) (length (a .image .now)))
-same c = let a = c .before .before .args in ap (λ (k : ℕ). first (addingRows (a .h) (a .value) k (length (a .image .now)))) (c .new-count .ensures .0)
+    ≡ first (addingRows (a .h) (a .value)
+    (added (missing (endOf (lettersOf (a .key)) (a .walked))) (a .value))
+    (length (a .image .now)))
+same c = let a = c .before .before .args in
+    ap (λ (k : ℕ). first (addingRows (a .h) (a .value) k (length (a .image .now))))
+    (c .new-count .ensures .0)
 
 new-count-requires : tie.Need-new-count-requires
 new-count-requires c κs = search needs
@@ -39,15 +44,25 @@ write-at-requires : tie.Need-write-at-requires
 write-at-requires c κs =
     let told = c .before in
     let judged = told .before .before in
-    let p = judged .before .before .before .pre in
-    (p .0, (p .1 .0, (p .1 .1, told-passed (judged .judge .ensures ∙ same (judged .before)) (told .enum-told .given .1))))
+    let p = judged .before .before .before .pre in (
+      p .0,
+      (
+        p .1 .0,
+        (
+          p .1 .1,
+          told-passed (judged .judge .ensures ∙ same (judged .before))
+              (told .enum-told .given .1),
+        ),
+      ),
+    )
 
 returns : tie.Need-returns
 returns c =
     let told = c .before in
     let judged = told .before .before in
     let a = judged .before .before .before .args in
-    refuses (a .h) _ _ _ _ (told-refused (judged .judge .ensures ∙ same (judged .before)) (told .verdict .given .1))
+    refuses (a .h) _ _ _ _ (told-refused (judged .judge .ensures ∙ same (judged .before))
+    (told .verdict .given .1))
 
 same-length : tie.Need-same-length
 same-length c = search needs
@@ -58,8 +73,10 @@ returns-2 c =
     let told = wrote .before .before in
     let judged = told .before .before in
     let a = judged .before .before .before .args in
-    done (a .h) _ _ _ (told-passed (judged .judge .ensures ∙ same (judged .before)) (told .enum-told .given .1))
-    (toZ-ofZ {w = w32} (sfits-of (wrote .write-at .ok)) ∙ wrote .write-at .ensures .1) (wrote .write-at .ensures .0)
+    done (a .h) _ _ _ (told-passed (judged .judge .ensures ∙ same (judged .before))
+    (told .enum-told .given .1))
+    (toZ-ofZ {w = w32} (sfits-of (wrote .write-at .ok)) ∙ wrote .write-at .ensures .1)
+    (wrote .write-at .ensures .0)
 
 pub store-at-spec : {M : Type 1} → statement M
 store-at-spec =

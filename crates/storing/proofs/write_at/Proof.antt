@@ -1,4 +1,5 @@
--- `storing::write_at` meets its contract: the walk's end tells what there is to write. Assumes nothing.
+-- `storing::write_at` meets its contract: the walk's end tells what there is to write. Assumes
+-- nothing.
 use mathlib.Core.Path.{_≡_, _∙_, subst}
 use mir.Syntax.{w32}
 use mir.Facts.{toZ-ofZ}
@@ -37,8 +38,14 @@ replace-requires c κs =
     let told = c .before .before in
     let start = told .before .before .before in
     let a = start .args in
-    let p = start .pre in
-    (p .0, (subst (Ends (a .h) (a .key)) (told .walked .given .1) (p .1 .1 .0), passed _ _ _ _ (p .1 .1 .1) .fits))
+    let p = start .pre in (
+      p .0,
+      (
+        subst (Ends (a .h) (a .key)) (told .walked .given .1) (p .1 .1 .0),
+        passed _ _ _ _
+            (p .1 .1 .1) .fits,
+      ),
+    )
 
 extend-requires : tie.Need-extend-requires
 extend-requires c κs =
@@ -46,15 +53,25 @@ extend-requires c κs =
     let start = told .before .before .before in
     let a = start .args in
     let p = start .pre in
-    let stop = subst (Ends (a .h) (a .key)) (told .walked2 .given .1) (p .1 .1 .0) in
-    (p .0, (p .1 .0, (stop, allowed-path (a .h) _ (lettersOf (a .key)) _ (told .walked2 .given .1) (p .1 .1 .1))))
+    let stop = subst (Ends (a .h) (a .key)) (told .walked2 .given .1) (p .1 .1 .0) in (
+      p .0,
+      (
+        p .1 .0,
+        (
+          stop,
+          allowed-path (a .h) _ (lettersOf (a .key)) _ (told .walked2 .given .1)
+              (p .1 .1 .1),
+        ),
+      ),
+    )
 
 returns : tie.Need-returns
 returns c =
     let replaced = c .before .before in
     let told = replaced .before .before .before in
     let a = told .before .before .before .args in
-    writes-over (a .h) _ (lettersOf (a .key)) _ (told .walked .given .1) (replaced .replace .ensures .0)
+    writes-over (a .h) _ (lettersOf (a .key)) _ (told .walked .given .1)
+    (replaced .replace .ensures .0)
     (toZ-ofZ {w = w32} (sfits-of (replaced .replace .ok)) ∙ replaced .replace .ensures .1)
 
 returns-2 : tie.Need-returns-2
@@ -65,13 +82,15 @@ returns-2 c =
     let a = start .args in
     let stop = subst (Ends (a .h) (a .key)) (told .walked2 .given .1) (start .pre .1 .1 .0) in
     writes-path (a .h) _ (lettersOf (a .key)) _ (told .walked2 .given .1) _ _
-    (letters-from (a .key) (whole start) (start .pre .1 .0 .short) _ (stop .depth)) (extended .extend .ensures .0)
+    (letters-from (a .key) (whole start) (start .pre .1 .0 .short) _ (stop .depth))
+    (extended .extend .ensures .0)
     (toZ-ofZ {w = w32} (sfits-of (extended .extend .ok)) ∙ extended .extend .ensures .1)
 
 returns-3 : tie.Need-returns-3
 returns-3 c =
     let start = c .before .before .before in
-    absurd (subst (Ends (start .args .h) (start .args .key)) (c .enum-told .given .1) (start .pre .1 .1 .0))
+    absurd (subst (Ends (start .args .h) (start .args .key)) (c .enum-told .given .1)
+    (start .pre .1 .1 .0))
 
 pub write-at-spec : {M : Type 1} → statement M
 write-at-spec =

@@ -1,4 +1,5 @@
--- `tracking::clear` meets its contract: before each turn, the numbers from the first place up to this one are 0. Assumes nothing.
+-- `tracking::clear` meets its contract: before each turn, the numbers from the first place up to
+-- this one are 0. Assumes nothing.
 use Prim.Native.Nat.{_-_, _≤_}
 use mathlib.Core.Path.{subst}
 use native.Mathlib.Omega.{arith}
@@ -37,7 +38,12 @@ loop-again c =
     let at = loop .loop in (
       omega (arith, at .inv .0),
       omega (arith, c .loop-test .taken),
-      cleared-on (at .inv .0) (omega (arith, c .loop-test .taken, loop .before .pre .1, at .inv .2 .long)) (at .inv .2),
+      cleared-on (at .inv .0) (omega (
+        arith,
+        c .loop-test .taken,
+        loop .before .pre .1,
+        at .inv .2 .long,
+      )) (at .inv .2),
     )
 
 same-length : tie.Need-same-length Inv-loop μ-loop
@@ -47,7 +53,8 @@ returns : tie.Need-returns Inv-loop μ-loop
 returns c =
     let at = c .before .loop in
     let a = c .before .before .args in
-    subst (λ i. Cleared (a .from) i (a .counts .now) (at .counts)) (omega (arith, c .loop-test .left, at .inv .1)) (at .inv .2)
+    subst (λ i. Cleared (a .from) i (a .counts .now) (at .counts))
+    (omega (arith, c .loop-test .left, at .inv .1)) (at .inv .2)
 
 pub clear-spec : {M : Type 1} → statement M
 clear-spec =

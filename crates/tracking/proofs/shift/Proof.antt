@@ -1,4 +1,5 @@
--- `tracking::shift` meets its contract: before each turn, the nodes that the key has passed have received theirs. Assumes nothing.
+-- `tracking::shift` meets its contract: before each turn, the nodes that the key has passed have
+-- received theirs. Assumes nothing.
 use Prim.Native.Nat.{_-_, _<_}
 use mathlib.Core.Path.{_≡_}
 use native.Mathlib.Omega.{arith}
@@ -9,7 +10,8 @@ use Rattle.head.proofs.Permitted.{bounds}
 use Rattle.node.specs.Image.{tableOf}
 use Rattle.key.specs.Hand.{lettersOf}
 use Rattle.key.proofs.Hand.{letters-count, letters-from, letter-below}
-use Rattle.tracking.proofs.Shifting.{Going, going-start, going-within, going-over, going-under, going-on, going-end}
+use Rattle.tracking.proofs.Shifting.{Going, going-start, going-within, going-over}
+use Rattle.tracking.proofs.Shifting.{going-under, going-on, going-end}
 use Rattle.tracking.proofs.shift.Statement.{statement}
 use Rattle.tracking.proofs.shift.Tie as tie
 
@@ -31,7 +33,12 @@ count c = letters-count (c .args .key) (whole c) (c .pre .1 .0 .short)
 inside : (c : tie.At-loop Inv-loop μ-loop) → c .loop .node < length (c .loop .counts)
 inside c =
     let p = c .before .before .before .before .before .pre in
-    omega (arith, going-within (p .1 .1 .0) (p .1 .1 .1 .1 .1) (c .loop .inv), c .loop .inv .long, p .1 .1 .1 .0)
+    omega (
+      arith,
+      going-within (p .1 .1 .0) (p .1 .1 .1 .1 .1) (c .loop .inv),
+      c .loop .inv .long,
+      p .1 .1 .1 .0,
+    )
 
 mask-requires : tie.Need-mask-requires Inv-loop μ-loop
 mask-requires c κs = search needs
@@ -51,7 +58,8 @@ below : (c : tie.Then1 Inv-loop μ-loop) →
     getD (start .args .key .letters) (at .loop .depth) 0 < start .args .h .n
 below c =
     let start = c .before .before .before .before .before .before .before in
-    letter-below (start .args .key) (whole start) (start .pre .1 .0 .short) _ _ (start .pre .1 .0 .letters) (c .if1 .taken)
+    letter-below (start .args .key) (whole start) (start .pre .1 .0 .short) _ _
+    (start .pre .1 .0 .letters) (c .if1 .taken)
 
 cast-link : tie.Need-cast-link Inv-loop μ-loop
 cast-link c =
@@ -62,14 +70,27 @@ link-requires : tie.Need-link-requires Inv-loop μ-loop
 link-requires c κs =
     let at = c .before .before in
     let masked = at .before .before in
-    let p = masked .before .before .before .pre in
-    (p .0, (masked .mask .ensures, (going-within (p .1 .1 .0) (p .1 .1 .1 .1 .1) (at .loop .inv), below c)))
+    let p = masked .before .before .before .pre in (
+      p .0,
+      (
+        masked .mask .ensures,
+        (
+          going-within (p .1 .1 .0) (p .1 .1 .1 .1 .1) (at .loop .inv),
+          below c,
+        ),
+      ),
+    )
 
 bump-requires : tie.Need-bump-requires Inv-loop μ-loop
 bump-requires c κs =
     let at = c .before .before .before .before in
-    let p = at .before .before .before .before .before .pre in
-    (inside at, (going-over (p .1 .1 .0) (p .1 .1 .1 .1 .1) (at .loop .inv), going-under (p .1 .1 .0) (p .1 .1 .1 .1 .1) (at .loop .inv)))
+    let p = at .before .before .before .before .before .pre in (
+      inside at,
+      (
+        going-over (p .1 .1 .0) (p .1 .1 .1 .1 .1) (at .loop .inv),
+        going-under (p .1 .1 .0) (p .1 .1 .1 .1 .1) (at .loop .inv),
+      ),
+    )
 
 add-depth : tie.Need-add-depth Inv-loop μ-loop
 add-depth c =
@@ -89,14 +110,22 @@ loop-again c =
     let start = at .before .before .before .before .before in
     let key = start .args .key in
     let p = start .pre in
-    going-on (p .1 .1 .0) (p .1 .1 .1 .1 .1) (at .loop .inv) (inside at) (bumped .bump .ensures) (p .1 .1 .1 .1 .0) _
-    (omega (arith, count start, some .if1 .taken)) (letters-from key (whole start) (p .1 .0 .short) _ (some .if1 .taken)) (linked .link .ensures)
+    going-on (p .1 .1 .0) (p .1 .1 .1 .1 .1) (at .loop .inv) (inside at) (bumped .bump .ensures)
+    (p .1 .1 .1 .1 .0) _
+    (omega (arith, count start, some .if1 .taken))
+    (letters-from key (whole start) (p .1 .0 .short) _ (some .if1 .taken))
+    (linked .link .ensures)
 
 bump-requires-2 : tie.Need-bump-requires-2 Inv-loop μ-loop
 bump-requires-2 c κs =
     let at = c .before .before .before in
-    let p = at .before .before .before .before .before .pre in
-    (inside at, (going-over (p .1 .1 .0) (p .1 .1 .1 .1 .1) (at .loop .inv), going-under (p .1 .1 .0) (p .1 .1 .1 .1 .1) (at .loop .inv)))
+    let p = at .before .before .before .before .before .pre in (
+      inside at,
+      (
+        going-over (p .1 .1 .0) (p .1 .1 .1 .1 .1) (at .loop .inv),
+        going-under (p .1 .1 .0) (p .1 .1 .1 .1 .1) (at .loop .inv),
+      ),
+    )
 
 returns : tie.Need-returns Inv-loop μ-loop
 returns c =
@@ -105,7 +134,8 @@ returns c =
     let at = over .before .before in
     let start = at .before .before .before .before .before in
     let p = start .pre in
-    going-end (p .1 .1 .0) (p .1 .1 .1 .1 .1) (at .loop .inv) (inside at) (bumped .bump2 .ensures) (omega (arith, count start, over .if1 .left))
+    going-end (p .1 .1 .0) (p .1 .1 .1 .1 .1) (at .loop .inv) (inside at) (bumped .bump2 .ensures)
+    (omega (arith, count start, over .if1 .left))
 
 same-length : tie.Need-same-length Inv-loop μ-loop
 same-length c = returns c .long

@@ -1,5 +1,6 @@
--- `tracking::store_counted` meets its contract: every refusal is judged before a byte is written, and what is written along the key's path
--- leaves the counts of the image after the store. Assumes nothing.
+-- `tracking::store_counted` meets its contract: every refusal is judged before a byte is written,
+-- and what is written along the key's path leaves the counts of the image after the store. Assumes
+-- nothing.
 use mathlib.Core.Path.{_≡_, _∙_}
 use mathlib.Core.Option.{none}
 use mir.Syntax.{w32}
@@ -13,7 +14,8 @@ use Rattle.paper.proofs.Hearing.{told-refused, told-passed}
 use Rattle.paper.proofs.CheckCall.{head-open}
 use Rattle.storing.specs.StoreStage.{Ends}
 use Rattle.storing.proofs.StoreStage.{ends}
-use Rattle.tracking.proofs.Tracking.{Hand, refused, too-few, allows, carries, done, last-fits}
+use Rattle.tracking.proofs.Tracking.{Hand, refused, too-few, allows, carries, done}
+use Rattle.tracking.proofs.Tracking.{last-fits}
 use Rattle.tracking.proofs.store_counted.Statement.{statement}
 use Rattle.tracking.proofs.store_counted.Tie as tie
 
@@ -22,7 +24,8 @@ whole : (c : tie.Start) → length (c .args .key .letters) ≡ mostLetters
 whole c = search needs
 
 -- how the walk ended
-ended : (c : tie.After-walk) → let a = c .before .before .before .before .args in Ends (a .h) (a .key) (c .walk .result)
+ended : (c : tie.After-walk) → let a =
+    c .before .before .before .before .args in Ends (a .h) (a .key) (c .walk .result)
 ended c =
     let start = c .before .before .before .before in
     let p = start .pre in
@@ -31,7 +34,8 @@ ended c =
 -- what is in hand once the new nodes are counted
 hand : (c : tie.After-new-count) →
     let a = c .before .before .before .before .before .args in
-    Hand (a .image .now) (a .h) (a .key) (c .before .walk .result) (a .value) (c .new-count .result)
+    Hand (a .image .now) (a .h) (a .key) (c .before .walk .result) (a .value)
+    (c .new-count .result)
 hand c =
     let p = c .before .before .before .before .before .pre in
     record {
@@ -47,11 +51,13 @@ hand c =
 passed : (c : tie.After-enum-told) →
     let counted = c .before .before .before in
     let a = counted .before .before .before .before .before .args in
-    first (addingRows (a .h) (a .value) (counted .new-count .result) (length (a .image .now))) ≡ none
+    first (addingRows (a .h) (a .value) (counted .new-count .result) (length (a .image .now)))
+    ≡ none
 passed c = told-passed (c .before .before .judge .ensures) (c .enum-told .given .1)
 
 walk-requires : tie.Need-walk-requires
-walk-requires c κs = let p = c .before .before .before .pre in (head-open (p .0) (p .1 .0), p .1 .1 .0)
+walk-requires c κs =
+    let p = c .before .before .before .pre in (head-open (p .0) (p .1 .0), p .1 .1 .0)
 
 new-count-requires : tie.Need-new-count-requires
 new-count-requires c κs = (c .before .before .before .before .pre .1 .1 .0, ended c)
@@ -88,8 +94,10 @@ write-at-requires : tie.Need-write-at-requires
 write-at-requires c κs =
     let told = c .before .before .before in
     let counted = told .before .before .before in
-    let p = counted .before .before .before .before .before .pre in
-    (head-open (p .0) (p .1 .0), (p .1 .1 .0, (ended (counted .before), allows (hand counted) (passed told))))
+    let p = counted .before .before .before .before .before .pre in (
+      head-open (p .0) (p .1 .0),
+      (p .1 .1 .0, (ended (counted .before), allows (hand counted) (passed told))),
+    )
 
 cast-clear : tie.Need-cast-clear
 cast-clear c = search needs
@@ -105,7 +113,9 @@ clear-requires c κs = search needs
 
 cast-total : tie.Need-cast-total
 cast-total c =
-    let told = c .before .before .before .before .before .before .before .before .before .before .before in
+    let told =
+    c .before .before .before .before .before .before .before .before .before .before .before
+    in
     record { fits = last-fits (hand (told .before .before .before)) (passed told) }
 
 carry-requires : tie.Need-carry-requires
@@ -117,7 +127,8 @@ carry-requires c κs =
     let counted = told .before .before .before in
     let p = counted .before .before .before .before .before .pre in
     let r = carries (hand counted) (passed told) (wrote .write-at .ensures .0)
-    (toZ-ofZ {w = w32} (sfits-of (wrote .write-at .ok)) ∙ wrote .write-at .ensures .1) (p .1 .1 .1 .1) (cleared .clear .ensures)
+    (toZ-ofZ {w = w32} (sfits-of (wrote .write-at .ok)) ∙ wrote .write-at .ensures .1)
+    (p .1 .1 .1 .1) (cleared .clear .ensures)
     (room .if1 .left) in
     (r .0, (r .1, (r .2, (r .3, (r .4, r .5)))))
 
@@ -128,7 +139,8 @@ returns-2 : tie.Need-returns-2
 returns-2 c =
     let told = c .before in
     let judged = told .before .before in
-    refused (hand (judged .before)) _ _ (told-refused (judged .judge .ensures) (told .verdict .given .1))
+    refused (hand (judged .before)) _ _
+    (told-refused (judged .judge .ensures) (told .verdict .given .1))
 
 same-length-3 : tie.Need-same-length-3
 same-length-3 c = search needs
@@ -146,7 +158,8 @@ returns-3 c =
     let counted = told .before .before .before in
     let p = counted .before .before .before .before .before .pre in
     done (hand counted) (passed told) (wrote .write-at .ensures .0)
-    (toZ-ofZ {w = w32} (sfits-of (wrote .write-at .ok)) ∙ wrote .write-at .ensures .1) (p .1 .1 .1 .1) (cleared .clear .ensures)
+    (toZ-ofZ {w = w32} (sfits-of (wrote .write-at .ok)) ∙ wrote .write-at .ensures .1)
+    (p .1 .1 .1 .1) (cleared .clear .ensures)
     (room .if1 .left) (carried .carry .ensures)
 
 pub store-counted-spec : {M : Type 1} → statement M

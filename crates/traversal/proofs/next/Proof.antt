@@ -1,5 +1,6 @@
--- `traversal::next` meets its contract: where the key goes on at an empty link, or ends at a node whose own key is not the answer, the first key
--- that meets it is the first still to come from there. Assumes nothing.
+-- `traversal::next` meets its contract: where the key goes on at an empty link, or ends at a node
+-- whose own key is not the answer, the first key that meets it is the first still to come from
+-- there. Assumes nothing.
 use Prim.Native.Nat.{ℕ, _+_, _<_, _≤_}
 use mathlib.Core.Bool.{Bool}
 use mathlib.Core.Logic.{⊎-elim}
@@ -30,25 +31,36 @@ count : (c : tie.Start) → length (lettersOf (c .args .key)) ≡ c .args .key .
 count c = letters-count (c .args .key) (whole c) (c .pre .1 .1 .0 .short)
 
 -- the room is still there, and the path reaches no deeper than max
-room : (c : tie.After-along) → PathRoom (c .before .before .before .before .before .before .before .args .h) (c .along .last .1 .1 .1 .1 .0) (c .along .last .1 .1 .1 .1 .1 .0)
-room c = room-kept (c .before .before .before .before .before .before .before .pre .1 .1 .1 .1) (c .along .kept .1 .1 .1 .1 .0) (c .along .kept .1 .1 .1 .1 .1 .0)
+room : (c : tie.After-along)
+    → PathRoom (c .before .before .before .before .before .before .before .args .h)
+    (c .along .last .1 .1 .1 .1 .0) (c .along .last .1 .1 .1 .1 .1 .0)
+room c = room-kept (c .before .before .before .before .before .before .before .pre .1 .1 .1 .1)
+    (c .along .kept .1 .1 .1 .1 .0) (c .along .kept .1 .1 .1 .1 .1 .0)
 
-deep : (c : tie.After-along) → c .along .result ≤ c .before .before .before .before .before .before .before .args .h .max
+deep : (c : tie.After-along) → c .along .result
+    ≤ c .before .before .before .before .before .before .before .args .h .max
 deep c =
     let start = c .before .before .before .before .before .before .before in
     omega (arith, count start, c .along .ensures .short, start .pre .1 .1 .1 .0)
 
 -- the letter at an empty link
 letter : (c : tie.After-letters)
-    → (let a = c .before .before .before .before .before .before .before .before .before .before .before .before .before .before .args in
+    → (let a =
+    c .before .before .before .before .before .before .before .before .before .before .before
+    .before .before .before .args in
     let depth = c .before .before .before .before .before .before .before .along .result in
-    (getD (a .key .letters) depth 0 < a .h .n) × (getD (lettersOf (a .key)) depth 0 ≡ getD (a .key .letters) depth 0))
+    (getD (a .key .letters) depth 0 < a .h .n)
+    × (getD (lettersOf (a .key)) depth 0 ≡ getD (a .key .letters) depth 0))
 letter c =
-    let start = c .before .before .before .before .before .before .before .before .before .before .before .before .before .before in
+    let start =
+    c .before .before .before .before .before .before .before .before .before .before .before
+    .before .before .before in
     let p = start .pre .1 .1 .0 in
     let depth = c .before .before .before .before .before .before .before .along .result in (
-      letter-below (start .args .key) (whole start) (p .short) (start .args .h .n) depth (p .letters) (c .before .if1 .taken),
-      getD-take (start .args .key .len) (start .args .key .letters) depth 0 (c .before .if1 .taken),
+      letter-below (start .args .key) (whole start) (p .short) (start .args .h .n) depth
+          (p .letters) (c .before .if1 .taken),
+      getD-take (start .args .key .len) (start .args .key .letters) depth 0
+          (c .before .if1 .taken),
     )
 
 mask-requires : tie.Need-mask-requires
@@ -61,17 +73,49 @@ array-read-climb : tie.Need-array-read-climb
 array-read-climb c = search needs
 
 cast-climb : tie.Need-cast-climb
-cast-climb c = omega (arith, bounds (c .before .before .before .before .before .before .before .before .before .before .before .before .before .before .args .h) (c .before .before .before .before .before .before .before .before .before .before .before .before .before .before .pre .0 .head-permitted), letter c .0)
+cast-climb c =
+    omega (
+      arith,
+      bounds (c .before .before .before .before .before .before .before .before .before .before
+          .before .before .before .before .args .h)
+          (c .before .before .before .before .before .before .before .before .before .before
+          .before
+          .before .before .before .pre .0 .head-permitted),
+      letter c .0,
+    )
 
 add-climb : tie.Need-add-climb
-add-climb c = omega (arith, bounds (c .before .before .before .before .before .before .before .before .before .before .before .before .before .before .args .h) (c .before .before .before .before .before .before .before .before .before .before .before .before .before .before .pre .0 .head-permitted), letter c .0)
+add-climb c =
+    omega (
+      arith,
+      bounds (c .before .before .before .before .before .before .before .before .before .before
+          .before .before .before .before .args .h)
+          (c .before .before .before .before .before .before .before .before .before .before
+          .before
+          .before .before .before .pre .0 .head-permitted),
+      letter c .0,
+    )
 
 climb-requires : tie.Need-climb-requires
 climb-requires c κs =
     let on = c .before .before .before .before .before .before .before .before .before in
     let p = on .before .before .before .before .before .before .before .pre in
-    let stops = c .before .before .before .if1 .taken in
-    (p .0, (p .1 .0, (on .before .before .before .mask .ensures, (deep on, ((λ b. omega (arith, stops, p .1 .1 .1 .0)), (room on, on .along .ensures .along))))))
+    let stops = c .before .before .before .if1 .taken in (
+      p .0,
+      (
+        p .1 .0,
+        (
+          on .before .before .before .mask .ensures,
+          (
+            deep on,
+            (
+              (λ b. omega (arith, stops, p .1 .1 .1 .0)),
+              (room on, on .along .ensures .along),
+            ),
+          ),
+        ),
+      ),
+    )
 
 same-length : tie.Need-same-length
 same-length c = search needs
@@ -82,29 +126,45 @@ same-length-2 c = search needs
 returns : tie.Need-returns
 returns c =
     let climbed = c .before .before .before .before in
-    let on = climbed .before .before .before .before .before .before .before .before .before .before in
+    let on =
+    climbed .before .before .before .before .before .before .before .before .before .before in
     let start = on .before .before .before .before .before .before .before in
     let p = start .pre .1 .1 in
-    let e = stopped-key (on .along .ensures) (room on) (omega (arith, count start, p .1 .0)) (start .args .after) (p .0 .letters) (omega (arith, count start, climbed .before .before .before .before .if1 .taken)) in (
+    let e = stopped-key (on .along .ensures) (room on) (omega (arith, count start, p .1 .0))
+    (start .args .after) (p .0 .letters)
+    (omega (arith, count start, climbed .before .before .before .before .if1 .taken)) in (
       told-same (start .args .h) (start .args .image .now)
-          (e ∙ ap (λ (y : ℕ). firstOf (coming (start .args .h) (start .args .image .now) (on .along .last .1 .1 .1 .1 .0) (on .along .result) (y + 1))) (letter (climbed .before .before .before) .1))
+          (e ∙ ap (λ (y : ℕ). firstOf
+          (coming (start .args .h) (start .args .image .now) (on .along .last .1 .1 .1 .1 .0)
+          (on .along .result) (y + 1))) (letter (climbed .before .before .before) .1))
           (climbed .climb .ensures),
-      room-kept (room on) (climbed .climb .kept .1 .1 .1 .1 .1 .0) (climbed .climb .kept .1 .1 .1 .1 .1 .1 .0),
+      room-kept (room on) (climbed .climb .kept .1 .1 .1 .1 .1 .0)
+          (climbed .climb .kept .1 .1 .1 .1 .1 .1 .0),
     )
 
 mul-own-value : tie.Need-mul-own-value
 mul-own-value c =
     let on = c .before .before .before .before .before .before .before in
-    omega (arith, deep on, bounds (on .before .before .before .before .before .before .before .args .h) (on .before .before .before .before .before .before .before .pre .0 .head-permitted))
+    omega (
+      arith,
+      deep on,
+      bounds
+          (on .before .before .before .before .before .before .before .args .h)
+          (on .before .before .before .before .before .before .before .pre .0 .head-permitted),
+    )
 
 slice-read-own-value : tie.Need-slice-read-own-value
-slice-read-own-value c = let on = c .before .before .before .before .before .before .before .before in omega (arith, deep on, room on .ends)
+slice-read-own-value c = let on = c .before .before .before .before .before .before .before .before
+    in omega (arith, deep on, room on .ends)
 
 own-value-requires : tie.Need-own-value-requires
 own-value-requires c κs =
     let on = c .before .before .before .before .before .before .before .before in
-    let start = on .before .before .before .before .before .before .before in
-    (start .pre .0, along-within (start .args .h) (start .args .image .now) (start .pre .1 .0) (on .along .ensures .along))
+    let start = on .before .before .before .before .before .before .before in (
+      start .pre .0,
+      along-within (start .args .h) (start .args .image .now) (start .pre .1 .0)
+          (on .along .ensures .along),
+    )
 
 same-length-3 : tie.Need-same-length-3
 same-length-3 c = search needs
@@ -119,8 +179,11 @@ returns-2 c =
     let end = c .before .before .before .before .if1 .left in
     let not-after = not-true _ (c .before .before .before .if2 .taken) in (
       told-same (start .args .h) (start .args .image .now)
-          (ap (λ (after : Bool). nextStored (start .args .h) (start .args .image .now) after (lettersOf (start .args .key))) not-after)
-          (at-key-own (on .along .ensures) (room on) (omega (arith, count start, start .pre .1 .1 .1 .0)) (omega (arith, count start, end)) (c .before .own-value .ensures) (c .if3 .taken)),
+          (ap (λ (after : Bool). nextStored (start .args .h) (start .args .image .now) after
+          (lettersOf (start .args .key))) not-after)
+          (at-key-own (on .along .ensures) (room on)
+          (omega (arith, count start, start .pre .1 .1 .1 .0))
+          (omega (arith, count start, end)) (c .before .own-value .ensures) (c .if3 .taken)),
       room on,
     )
 
@@ -128,26 +191,40 @@ returns-2 c =
 from-here : (c : tie.Joined2)
     → (let on = c .before .before .before .before .before .before .before in
     let a = on .before .before .before .before .before .before .before .args in
-    nextStored (a .h) (a .image .now) (a .after) (lettersOf (a .key)) ≡ firstOf (coming (a .h) (a .image .now) (on .along .last .1 .1 .1 .1 .0) (on .along .result) 0))
+    nextStored (a .h) (a .image .now) (a .after) (lettersOf (a .key))
+    ≡ firstOf (coming (a .h) (a .image .now) (on .along .last .1 .1 .1 .1 .0)
+    (on .along .result) 0))
 from-here c =
     let on = c .before .before .before .before .before .before .before in
     let start = on .before .before .before .before .before .before .before in
     let a = start .args in
-    let short : length (lettersOf (a .key)) ≤ a .h .max = omega (arith, count start, start .pre .1 .1 .1 .0) in
-    let end : length (lettersOf (a .key)) ≤ on .along .result = omega (arith, count start, c .before .if1 .left) in
+    let short : length (lettersOf (a .key)) ≤ a .h .max =
+    omega (arith, count start, start .pre .1 .1 .1 .0) in
+    let end : length (lettersOf (a .key)) ≤ on .along .result =
+    omega (arith, count start, c .before .if1 .left) in
     ⊎-elim
     (λ w.
-    ap (λ (after : Bool). nextStored (a .h) (a .image .now) after (lettersOf (a .key))) (not-true _ (w .0 .taken))
+    ap (λ (after : Bool). nextStored (a .h) (a .image .now) after (lettersOf (a .key)))
+    (not-true _ (w .0 .taken))
     ∙ at-key-none (on .along .ensures) (room on) short end (w .2 .ensures) (w .3 .left))
     (λ w.
-    ap (λ (after : Bool). nextStored (a .h) (a .image .now) after (lettersOf (a .key))) (not-false _ (w .left)) ∙ after-key (on .along .ensures) (room on) short end)
+    ap (λ (after : Bool). nextStored (a .h) (a .image .now) after (lettersOf (a .key)))
+    (not-false _ (w .left)) ∙ after-key (on .along .ensures) (room on) short end)
     (c .if2 .came)
 
 climb-requires-2 : tie.Need-climb-requires-2
 climb-requires-2 c κs =
     let on = c .before .before .before .before .before .before .before .before .before in
-    let p = on .before .before .before .before .before .before .before .pre in
-    (p .0, (p .1 .0, (on .before .before .before .mask .ensures, (deep on, ((λ b. omega arith), (room on, on .along .ensures .along))))))
+    let p = on .before .before .before .before .before .before .before .pre in (
+      p .0,
+      (
+        p .1 .0,
+        (
+          on .before .before .before .mask .ensures,
+          (deep on, ((λ b. omega arith), (room on, on .along .ensures .along))),
+        ),
+      ),
+    )
 
 same-length-5 : tie.Need-same-length-5
 same-length-5 c = search needs
@@ -158,10 +235,13 @@ same-length-6 c = search needs
 returns-3 : tie.Need-returns-3
 returns-3 c =
     let climbed = c .before .before .before .before in
-    let on = climbed .before .before .before .before .before .before .before .before .before .before in
+    let on =
+    climbed .before .before .before .before .before .before .before .before .before .before in
     let a = on .before .before .before .before .before .before .before .args in (
-      told-same (a .h) (a .image .now) (from-here (climbed .before .before .before)) (climbed .climb2 .ensures),
-      room-kept (room on) (climbed .climb2 .kept .1 .1 .1 .1 .1 .0) (climbed .climb2 .kept .1 .1 .1 .1 .1 .1 .0),
+      told-same (a .h) (a .image .now) (from-here (climbed .before .before .before))
+          (climbed .climb2 .ensures),
+      room-kept (room on) (climbed .climb2 .kept .1 .1 .1 .1 .1 .0)
+          (climbed .climb2 .kept .1 .1 .1 .1 .1 .1 .0),
     )
 
 pub next-spec : {M : Type 1} → statement M

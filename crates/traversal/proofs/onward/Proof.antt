@@ -1,4 +1,5 @@
--- `traversal::onward` meets its contract: what meets "after" the path's key is what is still to come from the path's end. Assumes nothing.
+-- `traversal::onward` meets its contract: what meets "after" the path's key is what is still to
+-- come from the path's end. Assumes nothing.
 use native.Mathlib.Omega.{arith}
 use borrow.Author.Needs.{needs}
 use Rattle.traversal.proofs.Paths.{room-kept}
@@ -28,8 +29,11 @@ returns c =
     let start = climbed .before .before .before .before .before .before .before in
     let a = start .args in
     let p = start .pre .1 .1 in (
-      told-same (a .h) (a .image .now) (after-path (a .h) (a .image .now) (a .path .now) (a .nodes .now) (p .0) (p .1 .0) (p .1 .1)) (climbed .climb .ensures),
-      room-kept (p .1 .0) (climbed .climb .kept .1 .1 .1 .1 .1 .0) (climbed .climb .kept .1 .1 .1 .1 .1 .1 .0),
+      told-same (a .h) (a .image .now)
+          (after-path (a .h) (a .image .now) (a .path .now) (a .nodes .now) (p .0) (p .1 .0)
+          (p .1 .1)) (climbed .climb .ensures),
+      room-kept (p .1 .0) (climbed .climb .kept .1 .1 .1 .1 .1 .0)
+          (climbed .climb .kept .1 .1 .1 .1 .1 .1 .0),
     )
 
 pub onward-spec : {M : Type 1} → statement M

@@ -1,4 +1,5 @@
--- `traversal::start` meets its contract: no letters lead to the root, which is laid at the front. Assumes nothing.
+-- `traversal::start` meets its contract: no letters lead to the root, which is laid at the front.
+-- Assumes nothing.
 use borrow.Author.Needs.{needs}
 use lib.ListN.{set}
 use lib.Seq.{getD-set-same}
@@ -18,8 +19,11 @@ same-length c = search needs
 returns : tie.Need-returns
 returns c =
     let start = c .before .before .before in
-    let a = start .args in
-    (c .own-value .ensures, λ path. along-none (a .h) (a .image .now) path (set (a .nodes .now) 0 0) (getD-set-same (a .nodes .now) 0 0 0 (start .pre .1)))
+    let a = start .args in (
+      c .own-value .ensures,
+      λ path. along-none (a .h) (a .image .now) path
+          (set (a .nodes .now) 0 0) (getD-set-same (a .nodes .now) 0 0 0 (start .pre .1)),
+    )
 
 pub start-spec : {M : Type 1} → statement M
 start-spec = tie.close (tie.spec slice-write-nodes own-value-requires same-length returns)

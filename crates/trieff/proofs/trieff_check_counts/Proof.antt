@@ -1,4 +1,5 @@
--- `trieff::trieff_check_counts` meets its contract: `counts::check_counts` does, and its answer is listed in numbers. Assumes nothing.
+-- `trieff::trieff_check_counts` meets its contract: `counts::check_counts` does, and its answer is
+-- listed in numbers. Assumes nothing.
 use borrow.Author.Needs.{needs}
 use Rattle.face.proofs.Face.{by-numbers}
 use Rattle.trieff.proofs.trieff_check_counts.Statement.{statement}
@@ -17,4 +18,5 @@ returns : tie.Need-returns
 returns c = by-numbers (c .done .ensures) (c .before .before .before .check-counts .ensures)
 
 pub trieff-check-counts-spec : {M : Type 1} → statement M
-trieff-check-counts-spec = tie.close (tie.spec check-counts-requires done-requires same-length returns)
+trieff-check-counts-spec =
+    tie.close (tie.spec check-counts-requires done-requires same-length returns)

@@ -1,4 +1,5 @@
--- `trieff::trieff_counts` meets its contract: `counts::counts` does, and its answer is listed in numbers. Assumes nothing.
+-- `trieff::trieff_counts` meets its contract: `counts::counts` does, and its answer is listed in
+-- numbers. Assumes nothing.
 use borrow.Author.Needs.{needs}
 use Rattle.face.proofs.Face.{by-numbers}
 use Rattle.trieff.proofs.trieff_counts.Statement.{statement}
@@ -17,7 +18,9 @@ same-length-2 : tie.Need-same-length-2
 same-length-2 c = search needs
 
 returns : tie.Need-returns
-returns c = by-numbers (c .done .ensures) (c .before .before .before .before .before .counts .ensures)
+returns c =
+    by-numbers (c .done .ensures) (c .before .before .before .before .before .counts .ensures)
 
 pub trieff-counts-spec : {M : Type 1} → statement M
-trieff-counts-spec = tie.close (tie.spec counts-requires done-requires same-length same-length-2 returns)
+trieff-counts-spec =
+    tie.close (tie.spec counts-requires done-requires same-length same-length-2 returns)

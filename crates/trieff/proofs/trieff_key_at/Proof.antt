@@ -1,4 +1,5 @@
--- `trieff::trieff_key_at` meets its contract: `jumps::key_at` does, and its answer is listed in numbers. Assumes nothing.
+-- `trieff::trieff_key_at` meets its contract: `jumps::key_at` does, and its answer is listed in
+-- numbers. Assumes nothing.
 use borrow.Author.Needs.{needs}
 use Rattle.face.proofs.Face.{by-numbers}
 use Rattle.trieff.proofs.trieff_key_at.Statement.{statement}
@@ -17,7 +18,9 @@ same-length-2 : tie.Need-same-length-2
 same-length-2 c = search needs
 
 returns : tie.Need-returns
-returns c = by-numbers (c .found .ensures) (c .before .before .before .before .before .key-at .ensures)
+returns c =
+    by-numbers (c .found .ensures) (c .before .before .before .before .before .key-at .ensures)
 
 pub trieff-key-at-spec : {M : Type 1} → statement M
-trieff-key-at-spec = tie.close (tie.spec key-at-requires found-requires same-length same-length-2 returns)
+trieff-key-at-spec =
+    tie.close (tie.spec key-at-requires found-requires same-length same-length-2 returns)

@@ -1,4 +1,5 @@
--- `trieff::trieff_mend` meets its contract: `images::mend` does, and its answer is listed in numbers. Assumes nothing.
+-- `trieff::trieff_mend` meets its contract: `images::mend` does, and its answer is listed in
+-- numbers. Assumes nothing.
 use borrow.Author.Needs.{needs}
 use Rattle.face.proofs.Face.{by-numbers}
 use Rattle.trieff.proofs.trieff_mend.Statement.{statement}
@@ -17,7 +18,8 @@ same-length-2 : tie.Need-same-length-2
 same-length-2 c = search needs
 
 returns : tie.Need-returns
-returns c = by-numbers (c .done .ensures) (c .before .before .before .before .before .mend .ensures)
+returns c =
+    by-numbers (c .done .ensures) (c .before .before .before .before .before .mend .ensures)
 
 pub trieff-mend-spec : {M : Type 1} → statement M
 trieff-mend-spec =

@@ -1,4 +1,5 @@
--- `trieff::trieff_next_key` meets its contract: `checks::next_key` does, and its answer is listed in numbers. Assumes nothing.
+-- `trieff::trieff_next_key` meets its contract: `checks::next_key` does, and its answer is listed
+-- in numbers. Assumes nothing.
 use borrow.Author.Needs.{needs}
 use Rattle.face.proofs.Face.{by-numbers}
 use Rattle.trieff.proofs.trieff_next_key.Statement.{statement}
@@ -17,7 +18,8 @@ same-length-2 : tie.Need-same-length-2
 same-length-2 c = search needs
 
 returns : tie.Need-returns
-returns c = by-numbers (c .found .ensures) (c .before .before .before .before .before .next-key .ensures)
+returns c =
+    by-numbers (c .found .ensures) (c .before .before .before .before .before .next-key .ensures)
 
 pub trieff-next-key-spec : {M : Type 1} → statement M
 trieff-next-key-spec =

@@ -1,4 +1,5 @@
--- `trieff::trieff_position_text` meets its contract: `jumps::position_text` does, and its answer is listed in numbers. Assumes nothing.
+-- `trieff::trieff_position_text` meets its contract: `jumps::position_text` does, and its answer
+-- is listed in numbers. Assumes nothing.
 use borrow.Author.Needs.{needs}
 use Rattle.face.proofs.Face.{by-numbers}
 use Rattle.trieff.proofs.trieff_position_text.Statement.{statement}
@@ -17,4 +18,5 @@ returns : tie.Need-returns
 returns c = by-numbers (c .placed .ensures) (c .before .before .before .position-text .ensures)
 
 pub trieff-position-text-spec : {M : Type 1} → statement M
-trieff-position-text-spec = tie.close (tie.spec position-text-requires placed-requires same-length returns)
+trieff-position-text-spec =
+    tie.close (tie.spec position-text-requires placed-requires same-length returns)

@@ -1,4 +1,5 @@
--- `trieff::trieff_store_counts` meets its contract: `counts::store_counts` does, and its answer is listed in numbers. Assumes nothing.
+-- `trieff::trieff_store_counts` meets its contract: `counts::store_counts` does, and its answer is
+-- listed in numbers. Assumes nothing.
 use borrow.Author.Needs.{needs}
 use Rattle.face.proofs.Face.{by-numbers}
 use Rattle.trieff.proofs.trieff_store_counts.Statement.{statement}
@@ -20,7 +21,11 @@ same-length-3 : tie.Need-same-length-3
 same-length-3 c = search needs
 
 returns : tie.Need-returns
-returns c = by-numbers (c .stored .ensures) (c .before .before .before .before .before .before .before .store-counts .ensures)
+returns c =
+    by-numbers (c .stored .ensures)
+    (c .before .before .before .before .before .before .before .store-counts .ensures)
 
 pub trieff-store-counts-spec : {M : Type 1} → statement M
-trieff-store-counts-spec = tie.close (tie.spec store-counts-requires stored-requires same-length same-length-2 same-length-3 returns)
+trieff-store-counts-spec =
+    tie.close (tie.spec store-counts-requires stored-requires same-length same-length-2
+    same-length-3 returns)

@@ -1,5 +1,6 @@
--- `utf8::char_at` meets its contract. The character is the number in a field of n bytes by definition, and one of no bytes is 0. A character
--- stands whole inside the bytes and has at most four, so it may be read. Assumes nothing.
+-- `utf8::char_at` meets its contract. The character is the number in a field of n bytes by
+-- definition, and one of no bytes is 0. A character stands whole inside the bytes and has at most
+-- four, so it may be read. Assumes nothing.
 use mathlib.Core.Path.{sym, _∙_}
 use Rattle.field.specs.Field.{fieldAt}
 use native.Mathlib.Omega.{arith}
@@ -7,8 +8,10 @@ use Rattle.utf8.proofs.Characters.{Character, character, char-at}
 use Rattle.utf8.proofs.char_at.Statement.{statement}
 use Rattle.utf8.proofs.char_at.Tie as tie
 
-stands : (c : tie.Else1) → Character (c .before .before .args .s .now) (c .before .before .args .at) (c .before .before .args .n)
-stands c = rw (c .before .before .pre) (character _ _ (λ e. c .if1 .left (c .before .before .pre ∙ e)))
+stands : (c : tie.Else1) → Character (c .before .before .args .s .now)
+    (c .before .before .args .at) (c .before .before .args .n)
+stands c =
+    rw (c .before .before .pre) (character _ _ (λ e. c .if1 .left (c .before .before .pre ∙ e)))
 
 returns : tie.Need-returns
 unfolding fieldAt

@@ -1,5 +1,6 @@
--- `utf8::char_len` meets its contract. The rows passed do not fit, so the table answers as the rows that are left; the table in the code is
--- the table of the definition by computing. The measure is the rows that are left. Assumes nothing.
+-- `utf8::char_len` meets its contract. The rows passed do not fit, so the table answers as the
+-- rows that are left; the table in the code is the table of the definition by computing. The
+-- measure is the rows that are left. Assumes nothing.
 use Prim.Native.Nat.{_-_}
 use mathlib.Core.Path.{_≡_, sym, _∙_}
 use native.Mathlib.Omega.{arith}
@@ -8,7 +9,8 @@ use lib.ListN.{getD}
 use mathlib.Core.List.{[]}
 use Rattle.utf8.specs.Table37.{rows, charLen}
 use Rattle.utf8.proofs.Characters.{char-len-few}
-use Rattle.utf8.proofs.Utf8Loops.{Consulting, consulting-none, consulting-more, consulting-fits, consulting-all}
+use Rattle.utf8.proofs.Utf8Loops.{Consulting, consulting-none, consulting-more}
+use Rattle.utf8.proofs.Utf8Loops.{consulting-fits, consulting-all}
 use Rattle.utf8.proofs.char_len.Statement.{statement}
 use Rattle.utf8.proofs.char_len.Tie as tie
 
@@ -34,12 +36,24 @@ array-read-result : tie.Need-array-read-result Inv-loop μ-loop
 array-read-result c = search needs
 
 -- the row that fits tells the length
-found : (c : tie.Then1 Inv-loop μ-loop) → getD (getD rows (c .before .before .before .before .loop .i) []) 4 0 ≡ charLen (c .before .before .before .before .before .before .args .s .now) (c .before .before .before .before .before .before .args .at)
+found : (c : tie.Then1 Inv-loop μ-loop)
+    → getD (getD rows (c .before .before .before .before .loop .i) []) 4 0
+    ≡ charLen (c .before .before .before .before .before .before .args .s .now)
+    (c .before .before .before .before .before .before .args .at)
 unfolding charLen
-found c = sym (consulting-fits (c .before .before .before .before .loop .inv) (omega arith) (sym (c .before .fits2 .ensures) ∙ c .if1 .taken))
+found c =
+    sym (consulting-fits (c .before .before .before .before .loop .inv) (omega arith)
+    (sym (c .before .fits2 .ensures) ∙ c .if1 .taken))
 
 cast-result : tie.Need-cast-result Inv-loop μ-loop
-cast-result c = omega (arith, found c, char-len-few (c .before .before .before .before .before .before .args .s .now) (c .before .before .before .before .before .before .args .at))
+cast-result c =
+    omega (
+      arith,
+      found c,
+      char-len-few
+          (c .before .before .before .before .before .before .args .s .now)
+          (c .before .before .before .before .before .before .args .at),
+    )
 
 returns : tie.Need-returns Inv-loop μ-loop
 returns c = found c
@@ -51,7 +65,8 @@ loop-less : tie.Need-loop-less Inv-loop μ-loop
 loop-less c = omega arith
 
 loop-again : tie.Need-loop-again Inv-loop μ-loop
-loop-again c = consulting-more (c .before .before .before .before .loop .inv) (omega arith) (sym (c .before .fits2 .ensures) ∙ c .if1 .left)
+loop-again c = consulting-more (c .before .before .before .before .loop .inv) (omega arith)
+    (sym (c .before .fits2 .ensures) ∙ c .if1 .left)
 
 returns-2 : tie.Need-returns-2 Inv-loop μ-loop
 unfolding charLen

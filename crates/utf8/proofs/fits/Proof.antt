@@ -1,11 +1,13 @@
--- `utf8::fits` meets its contract. The bytes tested are in their ranges, so the row's test is that of the bytes that are left; they stand
--- inside, since the length was tested first. The measure is the bytes that are left. Assumes nothing.
+-- `utf8::fits` meets its contract. The bytes tested are in their ranges, so the row's test is that
+-- of the bytes that are left; they stand inside, since the length was tested first. The measure is
+-- the bytes that are left. Assumes nothing.
 use Prim.Native.Nat.{_-_}
 use mathlib.Core.Path.{sym, _∙_}
 use native.Mathlib.Omega.{arith}
 use borrow.Author.Tests.{not-true, not-false}
 use borrow.Author.Needs.{needs}
-use Rattle.utf8.proofs.Utf8Loops.{Testing, testing-none, testing-more, testing-fails, testing-all, fits-not, fits-if}
+use Rattle.utf8.proofs.Utf8Loops.{Testing, testing-none, testing-more, testing-fails}
+use Rattle.utf8.proofs.Utf8Loops.{testing-all, fits-not, fits-if}
 use Rattle.utf8.proofs.fits.Statement.{statement}
 use Rattle.utf8.proofs.fits.Tie as tie
 
@@ -43,7 +45,9 @@ in-range-requires : tie.Need-in-range-requires Inv-loop μ-loop
 in-range-requires c κs = tt
 
 returns-3 : tie.Need-returns-3 Inv-loop μ-loop
-returns-3 c = sym (fits-if _ _ _ (omega arith) ∙ testing-fails (c .before .before .before .before .loop .inv) (omega arith) (sym (c .before .in-range .ensures) ∙ not-true _ (c .if3 .taken)))
+returns-3 c =
+    sym (fits-if _ _ _ (omega arith) ∙ testing-fails (c .before .before .before .before .loop .inv)
+    (omega arith) (sym (c .before .in-range .ensures) ∙ not-true _ (c .if3 .taken)))
 
 add-i : tie.Need-add-i Inv-loop μ-loop
 add-i c = omega arith
@@ -52,7 +56,8 @@ loop-less : tie.Need-loop-less Inv-loop μ-loop
 loop-less c = omega arith
 
 loop-again : tie.Need-loop-again Inv-loop μ-loop
-loop-again c = testing-more (c .before .before .before .before .loop .inv) (omega arith) (sym (c .before .in-range .ensures) ∙ not-false _ (c .if3 .left))
+loop-again c = testing-more (c .before .before .before .before .loop .inv) (omega arith)
+    (sym (c .before .in-range .ensures) ∙ not-false _ (c .if3 .left))
 
 returns-4 : tie.Need-returns-4 Inv-loop μ-loop
 returns-4 c = sym (fits-if _ _ _ (omega arith) ∙ testing-all (c .before .loop .inv) (omega arith))

@@ -1,4 +1,5 @@
--- `utf8::quick_len` meets its contract: the table answers by its first row where that fits. Assumes nothing.
+-- `utf8::quick_len` meets its contract: the table answers by its first row where that fits.
+-- Assumes nothing.
 use mathlib.Core.Path.{sym, _∙_}
 use native.Mathlib.Omega.{arith}
 use borrow.Author.Needs.{needs}
@@ -23,7 +24,8 @@ returns : tie.Need-returns
 unfolding charLen
 returns c =
     let a = c .before .before .before .before .args in
-    sym (consulting-fits (consulting-none rows (a .s .now) (a .at)) (omega arith) (sym (c .before .fits2 .ensures) ∙ c .if1 .taken))
+    sym (consulting-fits (consulting-none rows (a .s .now) (a .at)) (omega arith)
+    (sym (c .before .fits2 .ensures) ∙ c .if1 .taken))
 
 char-len-requires : tie.Need-char-len-requires
 char-len-requires c κs = search needs

@@ -1,9 +1,10 @@
--- `walk::look` meets its contract: where the walk is complete the node lies within the table and its data is the value, where it stopped
--- the value is 0, and a bad link is 6. Assumes nothing.
+-- `walk::look` meets its contract: where the walk is complete the node lies within the table and
+-- its data is the value, where it stopped the value is 0, and a bad link is 6. Assumes nothing.
 use mathlib.Core.Path.{sym, _∙_, ap}
 use borrow.Author.Needs.{needs}
 use Rattle.paper.specs.declared.Looked.{Looked}
-use Rattle.walk.proofs.Descents.{walked-complete, looked-complete, looked-stopped, looked-bad}
+use Rattle.walk.proofs.Descents.{walked-complete, looked-complete, looked-stopped}
+use Rattle.walk.proofs.Descents.{looked-bad}
 use Rattle.walk.proofs.look.Statement.{statement}
 use Rattle.walk.proofs.look.Tie as tie
 
@@ -15,8 +16,11 @@ enum-known-walked c = search needs
 
 data-requires : tie.Need-data-requires
 data-requires c κs =
-    let one = c .before .before .before in
-    (one .before .before .pre .0, walked-complete _ _ _ (one .walk .ensures) (c .before .walked .given .1) .within)
+    let one = c .before .before .before in (
+      one .before .before .pre .0,
+      walked-complete _ _ _ (one .walk .ensures)
+          (c .before .walked .given .1) .within,
+    )
 
 enum-told : tie.Need-enum-told
 enum-told c = search needs
@@ -27,13 +31,17 @@ enum-known-walked-2 c = search needs
 returns : tie.Need-returns
 returns c =
     let at = c .before .before in
-    ap Looked.Value (c .«data» .ensures) ∙ sym (looked-complete _ _ _ (at .before .before .walk .ensures) (at .walked .given .1))
+    ap Looked.Value (c .«data» .ensures)
+    ∙ sym (looked-complete _ _ _ (at .before .before .walk .ensures) (at .walked .given .1))
 
 returns-2 : tie.Need-returns-2
-returns-2 c = sym (looked-stopped _ _ _ (c .before .before .walk .ensures) (c .enum-told .given .1))
+returns-2 c =
+    sym (looked-stopped _ _ _ (c .before .before .walk .ensures) (c .enum-told .given .1))
 
 returns-3 : tie.Need-returns-3
-returns-3 c = sym (looked-bad _ _ _ (c .before .before .before .walk .ensures) (c .before .walked2 .given .1))
+returns-3 c =
+    sym (looked-bad _ _ _ (c .before .before .before .walk .ensures)
+    (c .before .walked2 .given .1))
 
 pub look-spec : {M : Type 1} → statement M
 look-spec =

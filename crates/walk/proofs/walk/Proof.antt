@@ -1,5 +1,5 @@
--- `walk::walk` meets its contract: from the position reached, the walk along the letters left ends as the whole walk does.
--- Assumes nothing.
+-- `walk::walk` meets its contract: from the position reached, the walk along the letters left ends
+-- as the whole walk does. Assumes nothing.
 use Prim.Native.Nat.{suc, _+_, _-_}
 use mathlib.Core.Logic.{⊎-elim}
 use mathlib.Core.Path.{_≡_, refl, sym}
@@ -15,18 +15,21 @@ use Rattle.key.specs.Hand.{lettersOf}
 use Rattle.key.proofs.Hand.{letters-count, letters-from, letter-below}
 use Rattle.walk.specs.declared.Step.{Step}
 use Rattle.walk.proofs.Step.{the-type}
-use Rattle.walk.proofs.Descents.{Walking, walking-start, walking-on, walking-stopped, walking-bad, walking-end}
+use Rattle.walk.proofs.Descents.{Walking, walking-start, walking-on, walking-stopped}
+use Rattle.walk.proofs.Descents.{walking-bad, walking-end}
 use Rattle.walk.proofs.walk.Statement.{statement}
 use Rattle.walk.proofs.walk.Tie as tie
 
 abbrev Inv-loop : tie.InvT-loop
-Inv-loop image h key mask letters here₀ here = Walking (h .g) (tableOf h image) (lettersOf key) here
+Inv-loop image h key mask letters here₀ here =
+    Walking (h .g) (tableOf h image) (lettersOf key) here
 
 abbrev μ-loop : tie.MeasureT-loop
 μ-loop image h key mask letters here₀ here = key .len - here .depth
 
 -- a step that is neither on nor to a bad link is to an empty one
-is-empty : (s : Step) → OneOf (1 ∷ 2 ∷ []) (tagOf the-type s) → OneOf (0 ∷ 1 ∷ []) (tagOf the-type s) → s ≡ Step.Empty
+is-empty : (s : Step) → OneOf (1 ∷ 2 ∷ []) (tagOf the-type s)
+    → OneOf (0 ∷ 1 ∷ []) (tagOf the-type s) → s ≡ Step.Empty
 is-empty (Step.At p) a b = ⊎-elim (λ e. absurd (omega arith)) (λ e. absurd (omega arith)) a
 is-empty Step.Empty a b = refl
 is-empty (Step.Bad q) a b = ⊎-elim (λ e. absurd (omega arith)) (λ e. absurd (omega arith)) b
@@ -39,11 +42,13 @@ whole c = search needs
 left : (c : tie.Then1 Inv-loop μ-loop) →
     let here = c .before .before .before .loop .here in
     let key = c .before .before .before .before .before .before .before .args .key in
-    drop (here .depth) (lettersOf key) ≡ getD (key .letters) (here .depth) 0 ∷ drop (suc (here .depth)) (lettersOf key)
+    drop (here .depth) (lettersOf key) ≡ getD (key .letters) (here .depth) 0
+    ∷ drop (suc (here .depth)) (lettersOf key)
 left c =
     let at = c .before .before .before in
     let start = at .before .before .before .before in
-    letters-from (start .args .key) (whole start) (start .pre .1 .short) (at .loop .here .depth) (c .if1 .taken)
+    letters-from (start .args .key) (whole start) (start .pre .1 .short) (at .loop .here .depth)
+    (c .if1 .taken)
 
 -- the position behind a link to go on by
 onward : (c : tie.After-known-told Inv-loop μ-loop) →
@@ -51,11 +56,13 @@ onward : (c : tie.After-known-told Inv-loop μ-loop) →
     let at = one .before .before .before .before in
     let start = at .before .before .before .before in
     let next = c .before .next .given .0 .0 in
-    Walking (start .args .h .g) (tableOf (start .args .h) (start .args .image .now)) (lettersOf (start .args .key)) next
+    Walking (start .args .h .g) (tableOf (start .args .h) (start .args .image .now))
+    (lettersOf (start .args .key)) next
     × (next .depth ≡ at .loop .here .depth + 1)
 onward c =
     let one = c .before .before .before in
-    walking-on (one .before .before .before .before .loop .inv) (left (one .before)) (one .step .ensures) (c .before .next .given .1)
+    walking-on (one .before .before .before .before .loop .inv) (left (one .before))
+    (one .step .ensures) (c .before .next .given .1)
 
 mask-requires : tie.Need-mask-requires Inv-loop μ-loop
 mask-requires c κs = search needs
@@ -75,7 +82,11 @@ step-requires c κs =
         at .before .before .mask .ensures,
         (
           at .loop .inv .within,
-          (letter-below (start .args .key) (whole start) (start .pre .1 .short) _ _ (start .pre .1 .letters) (c .if1 .taken), omega arith),
+          (
+            letter-below (start .args .key) (whole start) (start .pre .1 .short) _ _
+                (start .pre .1 .letters) (c .if1 .taken),
+            omega arith,
+          ),
         ),
       ),
     )
@@ -90,7 +101,8 @@ returns : tie.Need-returns Inv-loop μ-loop
 returns c =
     let one = c .before .before in
     let inv = one .before .before .before .before .loop .inv in
-    sym (walking-stopped inv (left (one .before)) (one .step .ensures) (is-empty _ (c .before .match .keys2) (c .match2 .keys2)))
+    sym (walking-stopped inv (left (one .before)) (one .step .ensures)
+    (is-empty _ (c .before .match .keys2) (c .match2 .keys2)))
 
 returns-2 : tie.Need-returns-2 Inv-loop μ-loop
 returns-2 c =
@@ -108,7 +120,8 @@ returns-3 : tie.Need-returns-3 Inv-loop μ-loop
 returns-3 c =
     let at = c .before .before .before in
     let start = at .before .before .before .before in
-    sym (walking-end (at .loop .inv) (omega (arith, letters-count (start .args .key) (whole start) (start .pre .1 .short))))
+    sym (walking-end (at .loop .inv)
+    (omega (arith, letters-count (start .args .key) (whole start) (start .pre .1 .short))))
 
 pub walk-spec : {M : Type 1} → statement M
 walk-spec =

@@ -1,5 +1,6 @@
--- The proof of the cycle of calls {weighed}: from letter to letter each count and the sum hold what the links so far add, and the depth left to
--- max falls at each call of itself. Assumes nothing.
+-- The proof of the cycle of calls {weighed}: from letter to letter each count and the sum hold
+-- what the links so far add, and the depth left to max falls at each call of itself. Assumes
+-- nothing.
 use Prim.Native.Nat.{ℕ, _+_, _-_, _^_, _<_, _≤_}
 use mathlib.Core.Logic.{⊎-elim}
 use mathlib.Core.Path.{_≡_, _∙_}
@@ -11,8 +12,10 @@ use borrow.Fn.PlainCycle.{Measures, is, falls, and}
 use Rattle.head.proofs.Permitted.{bounds}
 use Rattle.node.specs.Image.{tableOf}
 use Rattle.counting.proofs.Counting.{owned, owned-none, owned-one}
-use Rattle.weighing.proofs.Weighing.{Weighing, weighing-start, weighing-empty, weighing-sum, weighing-end, fits-end}
-use Rattle.weighing.proofs.Weighing.{Onto, weighing-leaf, weighing-child, fits-one, fits-sum-one, fits-child, fits-sum}
+use Rattle.weighing.proofs.Weighing.{Weighing, weighing-start, weighing-empty, weighing-sum}
+use Rattle.weighing.proofs.Weighing.{weighing-end, fits-end}
+use Rattle.weighing.proofs.Weighing.{Onto, weighing-leaf, weighing-child, fits-one}
+use Rattle.weighing.proofs.Weighing.{fits-sum-one, fits-child, fits-sum}
 use Rattle.weighing.proofs.weighed.Reads as weighed
 use Rattle.weighing.proofs.weighed.Kinds as weighed-kinds
 use Rattle.weighing.proofs.+weighed.Lts-weighed as lts
@@ -32,7 +35,8 @@ abbrev under : ℕ → In 2 weighed-kinds.ps
 under t = and 2 weighed-kinds.ps (falls 2 weighed-kinds.ps _<_ μ-weighed t) weighed.Pre
 
 abbrev Inv-loop : lts.InvT-loop
-Inv-loop image h mask ones node depth own list₀ sum₀ i₀ i-end list sum i = Weighing h image node depth list₀ list sum i
+Inv-loop image h mask ones node depth own list₀ sum₀ i₀ i-end list sum i =
+    Weighing h image node depth list₀ list sum i
 
 abbrev μ-loop : lts.MeasureT-loop
 μ-loop image h mask ones node depth own list₀ sum₀ i₀ i-end list sum i = h .n - i
@@ -53,7 +57,8 @@ claims t = (
 loop-holds : (t : ℕ) → lts.Need-loop-holds (claims t) (at t) weighed.Post Inv-loop μ-loop
 loop-holds t c = let start = c .before .before in
     let a = start .args in
-    weighing-start (a .h) (a .image .now) (a .node) (a .depth) (a .list .now) (start .pre .1 .1 .1 .1 .1 .1 .1 .0)
+    weighing-start (a .h) (a .image .now) (a .node) (a .depth) (a .list .now)
+    (start .pre .1 .1 .1 .1 .1 .1 .1 .0)
 
 link-requires : (t : ℕ) → lts.Need-link-requires (claims t) (at t) weighed.Post Inv-loop μ-loop
 link-requires t c κs = search needs
@@ -67,7 +72,8 @@ loop-less t c = omega arith
 loop-again : (t : ℕ) → lts.Need-loop-again (claims t) (at t) weighed.Post Inv-loop μ-loop
 loop-again t c =
     let found = c .before in
-    weighing-empty (found .before .before .loop .inv) (found .before .loop-test .taken) (found .link .ensures) (c .if1 .taken)
+    weighing-empty (found .before .before .loop .inv) (found .before .loop-test .taken)
+    (found .link .ensures) (c .if1 .taken)
 
 -- the child stands in the table
 inside : (t : ℕ) (c : lts.After-link (claims t) (at t) weighed.Post Inv-loop μ-loop)
@@ -82,7 +88,8 @@ onto : (t : ℕ) (c : lts.Else1 (claims t) (at t) weighed.Post Inv-loop μ-loop)
     → (let found = c .before in
     let loop = found .before .before in
     let a = loop .before .before .before .args in
-    Onto (a .h) (a .image .now) (a .node) (a .depth) (a .list .now) (loop .loop .list) (loop .loop .sum) (loop .loop .i) (found .link .result))
+    Onto (a .h) (a .image .now) (a .node) (a .depth) (a .list .now) (loop .loop .list)
+    (loop .loop .sum) (loop .loop .i) (found .link .result))
 onto t c =
     let found = c .before in
     let loop = found .before .before in
@@ -98,13 +105,17 @@ onto t c =
     }
 
 -- one letter deeper is a depth still
-deeper : (t : ℕ) (c : lts.Start (claims t) (at t) weighed.Post Inv-loop μ-loop) → c .args .depth + 1 < 2 ^ 64
-deeper t c = omega (arith, c .pre .1 .1 .1 .1 .1 .0, bounds (c .args .h) (c .pre .1 .0 .head-permitted))
+deeper : (t : ℕ) (c : lts.Start (claims t) (at t) weighed.Post Inv-loop μ-loop) → c .args .depth
+    + 1 < 2 ^ 64
+deeper t c =
+    omega (arith, c .pre .1 .1 .1 .1 .1 .0, bounds (c .args .h) (c .pre .1 .0 .head-permitted))
 
-add-own-value-by : (t : ℕ) → lts.Need-add-own-value-by (claims t) (at t) weighed.Post Inv-loop μ-loop
+add-own-value-by : (t : ℕ) → lts.Need-add-own-value-by (claims t) (at t) weighed.Post Inv-loop
+    μ-loop
 add-own-value-by t c = omega (arith, deeper t (c .before .before .before .before .before .before))
 
-own-value-by-requires : (t : ℕ) → lts.Need-own-value-by-requires (claims t) (at t) weighed.Post Inv-loop μ-loop
+own-value-by-requires : (t : ℕ) → lts.Need-own-value-by-requires (claims t) (at t) weighed.Post
+    Inv-loop μ-loop
 own-value-by-requires t c κs =
     let p = c .before .before .before .before .before .before .pre .1 in
     (p .0, (p .1 .1 .0 .values, inside t (c .before)))
@@ -113,21 +124,38 @@ own-value-by-requires t c κs =
 own-counted : (t : ℕ) (c : lts.Joined2 (claims t) (at t) weighed.Post Inv-loop μ-loop)
     → (let found = c .before .before .before in
     let a = found .before .before .before .before .before .args in
-    c .if2 .one ≡ owned (a .h) (tableOf (a .h) (a .image .now)) (found .link .result) (a .depth + 1))
+    c .if2 .one ≡ owned (a .h) (tableOf (a .h) (a .image .now)) (found .link .result)
+    (a .depth + 1))
 own-counted t c =
     let own = c .before in
     let found = own .before .before in
     let a = found .before .before .before .before .before .args in
     let table = tableOf (a .h) (a .image .now) in
-    ⊎-elim (λ w. omega (arith, w .1, owned-none (a .h) table (found .link .result) (a .depth + 1) (own .own-value-by .ensures) (w .0 .taken)))
-    (λ w. omega (arith, w .1, owned-one (a .h) table (found .link .result) (a .depth + 1) (own .own-value-by .ensures) (w .0 .left)))
+    ⊎-elim (λ w. omega (
+      arith,
+      w .1,
+      owned-none (a .h) table (found .link .result) (a .depth + 1)
+          (own .own-value-by .ensures) (w .0 .taken),
+    ))
+    (λ w. omega (
+      arith,
+      w .1,
+      owned-one (a .h) table (found .link .result) (a .depth + 1)
+          (own .own-value-by .ensures) (w .0 .left),
+    ))
     (c .if2 .came)
 
-add-no-keys-below : (t : ℕ) → lts.Need-add-no-keys-below (claims t) (at t) weighed.Post Inv-loop μ-loop
-add-no-keys-below t c = omega (arith, deeper t (c .before .before .before .before .before .before .before .before))
+add-no-keys-below : (t : ℕ) → lts.Need-add-no-keys-below (claims t) (at t) weighed.Post Inv-loop
+    μ-loop
+add-no-keys-below t c =
+    omega (arith, deeper t (c .before .before .before .before .before .before .before .before))
 
-no-keys-below-requires : (t : ℕ) → lts.Need-no-keys-below-requires (claims t) (at t) weighed.Post Inv-loop μ-loop
-no-keys-below-requires t c κs = (c .before .before .before .before .before .before .before .before .pre .1 .0, inside t (c .before .before .before))
+no-keys-below-requires : (t : ℕ) → lts.Need-no-keys-below-requires (claims t) (at t) weighed.Post
+    Inv-loop μ-loop
+no-keys-below-requires t c κs = (
+  c .before .before .before .before .before .before .before .before .pre .1 .0,
+  inside t (c .before .before .before),
+)
 
 cast-list : (t : ℕ) → lts.Need-cast-list (claims t) (at t) weighed.Post Inv-loop μ-loop
 cast-list t c = omega arith
@@ -139,7 +167,8 @@ slice-read-list : (t : ℕ) → lts.Need-slice-read-list (claims t) (at t) weigh
 slice-read-list t c = onto t (c .before .before .before .before .before) .room
 
 add-list : (t : ℕ) → lts.Need-add-list (claims t) (at t) weighed.Post Inv-loop μ-loop
-add-list t c = let joined = c .before .before .before .before in omega (arith, fits-one (onto t (joined .before .before)) (own-counted t joined))
+add-list t c = let joined = c .before .before .before .before in
+    omega (arith, fits-one (onto t (joined .before .before)) (own-counted t joined))
 
 cast-list-2 : (t : ℕ) → lts.Need-cast-list-2 (claims t) (at t) weighed.Post Inv-loop μ-loop
 cast-list-2 t c = omega arith
@@ -147,11 +176,13 @@ cast-list-2 t c = omega arith
 mul-list-2 : (t : ℕ) → lts.Need-mul-list-2 (claims t) (at t) weighed.Post Inv-loop μ-loop
 mul-list-2 t c = omega arith
 
-slice-write-list : (t : ℕ) → lts.Need-slice-write-list (claims t) (at t) weighed.Post Inv-loop μ-loop
+slice-write-list : (t : ℕ) → lts.Need-slice-write-list (claims t) (at t) weighed.Post Inv-loop
+    μ-loop
 slice-write-list t c = onto t (c .before .before .before .before .before .before) .room
 
 add-sum : (t : ℕ) → lts.Need-add-sum (claims t) (at t) weighed.Post Inv-loop μ-loop
-add-sum t c = let joined = c .before .before .before .before in omega (arith, fits-sum-one (onto t (joined .before .before)) (own-counted t joined))
+add-sum t c = let joined = c .before .before .before .before in
+    omega (arith, fits-sum-one (onto t (joined .before .before)) (own-counted t joined))
 
 add-i-2 : (t : ℕ) → lts.Need-add-i-2 (claims t) (at t) weighed.Post Inv-loop μ-loop
 add-i-2 t c = omega arith
@@ -163,12 +194,18 @@ loop-again-2 : (t : ℕ) → lts.Need-loop-again-2 (claims t) (at t) weighed.Pos
 loop-again-2 t c =
     let none-below = c .before .before in
     let joined = none-below .before .before in
-    weighing-leaf (onto t (joined .before .before)) (own-counted t joined) (none-below .before .no-keys-below .ensures) (none-below .if3 .taken)
+    weighing-leaf (onto t (joined .before .before)) (own-counted t joined)
+    (none-below .before .no-keys-below .ensures) (none-below .if3 .taken)
 
 add-weighed : (t : ℕ) → lts.Need-add-weighed (claims t) (at t) weighed.Post Inv-loop μ-loop
-add-weighed t c = omega (arith, deeper t (c .before .before .before .before .before .before .before .before .before .before))
+add-weighed t c =
+    omega (
+      arith,
+      deeper t (c .before .before .before .before .before .before .before .before .before .before),
+    )
 
-weighed-requires : (t : ℕ) → lts.Need-weighed-requires (claims t) (at t) weighed.Post Inv-loop μ-loop
+weighed-requires : (t : ℕ) → lts.Need-weighed-requires (claims t) (at t) weighed.Post Inv-loop
+    μ-loop
 weighed-requires t c κs =
     let fruitful = c .before in
     let joined = fruitful .before .before in
@@ -176,16 +213,30 @@ weighed-requires t c κs =
     let start = found .before .before .before .before .before in
     let p = start .pre .1 in
     let o = onto t (joined .before .before) in
-    let long : start .args .h .g + 1 ≤ length (found .before .before .loop .list) = omega (arith, p .1 .1 .1 .1 .1 .0, o .so-far .long) in
+    let long : start .args .h .g + 1 ≤ length (found .before .before .loop .list) =
+    omega (arith, p .1 .1 .1 .1 .1 .0, o .so-far .long) in
     let deep = fruitful .before .no-keys-below .ensures .deep (fruitful .if3 .left) in (
       omega (arith, start .pre .0, o .deep),
-      (p .0, (p .1 .0, (p .1 .1 .0, (inside t found, (deep, (long, (own-counted t joined, fits-child o))))))),
+      (
+        p .0,
+        (
+          p .1 .0,
+          (
+            p .1 .1 .0,
+            (inside t found, (deep, (long, (own-counted t joined, fits-child o)))),
+          ),
+        ),
+      ),
     )
 
 add-sum-2 : (t : ℕ) → lts.Need-add-sum-2 (claims t) (at t) weighed.Post Inv-loop μ-loop
 add-sum-2 t c =
     let called = c .before .before in
-    omega (arith, fits-sum (onto t (called .before .before .before .before .before .before)) (called .weighed .ensures .0))
+    omega (
+      arith,
+      fits-sum (onto t (called .before .before .before .before .before .before))
+          (called .weighed .ensures .0),
+    )
 
 add-i-3 : (t : ℕ) → lts.Need-add-i-3 (claims t) (at t) weighed.Post Inv-loop μ-loop
 add-i-3 t c = omega arith
@@ -196,20 +247,23 @@ loop-less-3 t c = omega arith
 loop-again-3 : (t : ℕ) → lts.Need-loop-again-3 (claims t) (at t) weighed.Post Inv-loop μ-loop
 loop-again-3 t c =
     let called = c .before .before in
-    weighing-child (onto t (called .before .before .before .before .before .before)) (called .weighed .ensures .0) (called .weighed .ensures .1)
+    weighing-child (onto t (called .before .before .before .before .before .before))
+    (called .weighed .ensures .0) (called .weighed .ensures .1)
 
 mul-list-3 : (t : ℕ) → lts.Need-mul-list-3 (claims t) (at t) weighed.Post Inv-loop μ-loop
 mul-list-3 t c = omega arith
 
 -- the node has a count
 node-room : (t : ℕ) (c : lts.After-slice-known4 (claims t) (at t) weighed.Post Inv-loop μ-loop)
-    → c .before .before .before .before .before .args .node < length (c .before .before .loop .list)
+    → c .before .before .before .before .before .args .node
+    < length (c .before .before .loop .list)
 node-room t c =
     let loop = c .before .before in
     let p = loop .before .before .before .pre .1 .1 .1 .1 in
     omega (arith, p .0, p .1 .1 .0, loop .loop .inv .long)
 
-slice-read-list-2 : (t : ℕ) → lts.Need-slice-read-list-2 (claims t) (at t) weighed.Post Inv-loop μ-loop
+slice-read-list-2 : (t : ℕ) → lts.Need-slice-read-list-2 (claims t) (at t) weighed.Post Inv-loop
+    μ-loop
 slice-read-list-2 t c = node-room t c
 
 add-list-2 : (t : ℕ) → lts.Need-add-list-2 (claims t) (at t) weighed.Post Inv-loop μ-loop
@@ -221,11 +275,13 @@ add-list-2 t c =
 mul-list-4 : (t : ℕ) → lts.Need-mul-list-4 (claims t) (at t) weighed.Post Inv-loop μ-loop
 mul-list-4 t c = omega arith
 
-slice-write-list-2 : (t : ℕ) → lts.Need-slice-write-list-2 (claims t) (at t) weighed.Post Inv-loop μ-loop
+slice-write-list-2 : (t : ℕ) → lts.Need-slice-write-list-2 (claims t) (at t) weighed.Post Inv-loop
+    μ-loop
 slice-write-list-2 t c = node-room t c
 
 same-length : (t : ℕ) → lts.Need-same-length (claims t) (at t) weighed.Post Inv-loop μ-loop
-same-length t c = length-set (c .before .before .loop .list) _ _ ∙ c .before .before .loop .inv .long
+same-length t c =
+    length-set (c .before .before .loop .list) _ _ ∙ c .before .before .loop .inv .long
 
 returns : (t : ℕ) → lts.Need-returns (claims t) (at t) weighed.Post Inv-loop μ-loop
 returns t c =

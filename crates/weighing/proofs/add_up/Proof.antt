@@ -1,4 +1,5 @@
--- `weighing::add_up` meets its contract: what the root weighs is each node's count. Assumes nothing.
+-- `weighing::add_up` meets its contract: what the root weighs is each node's count. Assumes
+-- nothing.
 use mathlib.Core.Path.{_≡_}
 use mathlib.Core.Logic.{⊎-elim}
 use native.Mathlib.Omega.{arith}
@@ -17,7 +18,8 @@ greatest-requires : tie.Need-greatest-requires
 greatest-requires c κs = ready (c .before .before) .opened .head-permitted
 
 own-value-by-requires : tie.Need-own-value-by-requires
-own-value-by-requires c κs = (ready (c .before .before .before) .opened, (c .greatest .ensures, omega arith))
+own-value-by-requires c κs =
+    (ready (c .before .before .before) .opened, (c .greatest .ensures, omega arith))
 
 -- the root's own key
 own-counted : (c : tie.Joined1)
@@ -26,12 +28,23 @@ own-counted : (c : tie.Joined1)
 own-counted c =
     let a = c .before .before .before .before .before .args in
     let e = c .before .own-value-by .ensures in
-    ⊎-elim (λ w. omega (arith, w .1, owned-none (a .h) (tableOf (a .h) (a .image .now)) 0 0 e (w .0 .taken)))
-    (λ w. omega (arith, w .1, owned-one (a .h) (tableOf (a .h) (a .image .now)) 0 0 e (w .0 .left)))
+    ⊎-elim (λ w. omega (
+      arith,
+      w .1,
+      owned-none (a .h) (tableOf (a .h) (a .image .now)) 0 0 e
+          (w .0 .taken),
+    ))
+    (λ w. omega (
+      arith,
+      w .1,
+      owned-one (a .h) (tableOf (a .h) (a .image .now)) 0 0 e
+          (w .0 .left),
+    ))
     (c .if1 .came)
 
 no-keys-below-requires : tie.Need-no-keys-below-requires
-no-keys-below-requires c κs = (ready (c .before .before .before .before .before) .opened, omega arith)
+no-keys-below-requires c κs =
+    (ready (c .before .before .before .before .before) .opened, omega arith)
 
 slice-write-list : tie.Need-slice-write-list
 slice-write-list c = search needs
@@ -45,10 +58,12 @@ returns c =
     let start = own .before .before .before .before .before in
     let p = start .pre in
     let clear = p .1 .1 .1 in
-    leaf-worked (p .0) (p .1 .0) (start .args .list .now) clear (p .1 .1 .0) (own-counted own) (c .before .no-keys-below .ensures) (c .if2 .taken)
+    leaf-worked (p .0) (p .1 .0) (start .args .list .now) clear (p .1 .1 .0) (own-counted own)
+    (c .before .no-keys-below .ensures) (c .if2 .taken)
 
 mask-requires : tie.Need-mask-requires
-mask-requires c κs = ready (c .before .before .before .before .before .before .before) .opened .head-permitted
+mask-requires c κs =
+    ready (c .before .before .before .before .before .before .before) .opened .head-permitted
 
 weighed-requires : tie.Need-weighed-requires
 weighed-requires c κs =
@@ -63,14 +78,22 @@ weighed-requires c κs =
       (
         ready start .within,
         (
-          record { links = c .before .mask .ensures; values = own .before .before .greatest .ensures },
+          record {
+            links = c .before .mask .ensures;
+            values =
+                own .before .before .greatest .ensures;
+          },
           (
             omega arith,
             (
               deep,
               (
                 omega (arith, p .1 .1 .0, start-length (p .0) (p .1 .0) list clear (p .1 .1 .0)),
-                (own-counted own, fits-start (p .0) (p .1 .0) list clear (λ q. own .before .before .before .slice-known .given q .fits)),
+                (
+                  own-counted own,
+                  fits-start (p .0) (p .1 .0) list clear
+                      (λ q. own .before .before .before .slice-known .given q .fits),
+                ),
               ),
             ),
           ),
@@ -87,7 +110,8 @@ returns-2 c =
     let start = own .before .before .before .before .before in
     let p = start .pre in
     let clear = p .1 .1 .1 in
-    weighed-worked (p .0) (p .1 .0) (start .args .list .now) clear (p .1 .1 .0) (c .before .before .weighed .ensures .1)
+    weighed-worked (p .0) (p .1 .0) (start .args .list .now) clear (p .1 .1 .0)
+    (c .before .before .weighed .ensures .1)
 
 pub add-up-spec : {M : Type 1} → statement M
 add-up-spec =

@@ -1,4 +1,5 @@
--- `weighing::weigh` meets its contract: the list is cleared in front, and from there on the counts are added up. Assumes nothing.
+-- `weighing::weigh` meets its contract: the list is cleared in front, and from there on the counts
+-- are added up. Assumes nothing.
 use mathlib.Core.Path.{_∙_}
 use borrow.Author.Needs.{needs}
 use Rattle.weighing.proofs.Working.{cleared-room, cleared-start, cleared-worked}
@@ -19,8 +20,17 @@ add-up-requires c κs =
     let start = c .before .before .before .before .before .before .before .before in
     let p = start .pre in
     let list = start .args .list .now in
-    let clear = c .before .before .before .clear .ensures in
-    (p .0, (p .1 .0, (cleared-room (p .0) (p .1 .0) list clear (p .1 .1), cleared-start (p .0) (p .1 .0) list clear (p .1 .1))))
+    let clear = c .before .before .before .clear .ensures in (
+      p .0,
+      (
+        p .1 .0,
+        (
+          cleared-room (p .0) (p .1 .0) list clear (p .1 .1),
+          cleared-start (p .0)
+              (p .1 .0) list clear (p .1 .1),
+        ),
+      ),
+    )
 
 same-length : tie.Need-same-length
 same-length c = search needs
@@ -30,7 +40,9 @@ returns c =
     let called = c .before .before in
     let start = called .before .before .before .before .before .before .before .before .before in
     let p = start .pre in
-    called .add-up .ensures ∙ cleared-worked (p .0) (p .1 .0) (start .args .list .now) (called .before .before .before .before .clear .ensures) (p .1 .1)
+    called .add-up .ensures ∙ cleared-worked (p .0) (p .1 .0) (start .args .list .now)
+    (called .before .before .before .before .clear .ensures) (p .1 .1)
 
 pub weigh-spec : {M : Type 1} → statement M
-weigh-spec = tie.close (tie.spec cast-clear add-clear clear-requires add-up-requires same-length returns)
+weigh-spec =
+    tie.close (tie.spec cast-clear add-clear clear-requires add-up-requires same-length returns)

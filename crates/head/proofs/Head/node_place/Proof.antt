@@ -1,5 +1,5 @@
--- `head::Head::node_place` meets its contract. The place of no address up to 2^32 takes more than 43 bits, so nothing wraps.
--- Assumes nothing.
+-- `head::Head::node_place` meets its contract. The place of no address up to 2^32 takes more than
+-- 43 bits, so nothing wraps. Assumes nothing.
 use native.Mathlib.Omega.{arith}
 use mathlib.Core.Path.{ap}
 use Prim.Native.Nat.{ℕ, _+_, _*_, _^_, _<_}
@@ -19,9 +19,13 @@ add-result c = search needs
 node-width-requires : tie.Need-node-width-requires
 node-width-requires c κs = search needs
 
-small : (c : tie.After-node-width) → fieldsLen + c .before .before .args .self .f + c .before .before .args .q * c .node-width .result < 2 ^ 43
+small : (c : tie.After-node-width) → fieldsLen + c .before .before .args .self .f
+    + c .before .before .args .q * c .node-width .result < 2 ^ 43
 unfolding nodePlace
-small c = rw (c .node-width .ensures) (place-most (c .before .before .args .q) (bounds _ (c .before .before .pre .0)) (c .before .before .pre .1))
+small c =
+    rw (c .node-width .ensures)
+    (place-most (c .before .before .args .q) (bounds _ (c .before .before .pre .0))
+    (c .before .before .pre .1))
 
 mul-result : tie.Need-mul-result
 mul-result c = omega (arith, small c)
@@ -31,7 +35,9 @@ add-result-2 c = omega (arith, small c)
 
 returns : tie.Need-returns
 unfolding nodePlace
-returns c = ap (λ (w : ℕ). fieldsLen + c .before .before .args .self .f + c .before .before .args .q * w) (c .node-width .ensures)
+returns c =
+    ap (λ (w : ℕ). fieldsLen + c .before .before .args .self .f + c .before .before .args .q * w)
+    (c .node-width .ensures)
 
 pub node-place-spec : {M : Type 1} → statement M
 node-place-spec =

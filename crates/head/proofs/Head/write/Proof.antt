@@ -1,5 +1,5 @@
--- `head::Head::write` meets its contract: seven fields written one after the other are the bytes of the head, and no write changes the
--- length. Assumes nothing.
+-- `head::Head::write` meets its contract: seven fields written one after the other are the bytes
+-- of the head, and no write changes the length. Assumes nothing.
 use native.Mathlib.Omega.{arith}
 use Rattle.head.proofs.Fields.{head-writes}
 use borrow.Author.Needs.{needs}
@@ -34,31 +34,59 @@ cast-write-5 : tie.Need-cast-write-5
 cast-write-5 c = search needs
 
 write-requires-5 : tie.Need-write-requires-5
-write-requires-5 c κs = omega (arith, c .before .before .before .before .before .before .before .before .before .before)
+write-requires-5 c κs =
+    omega (
+      arith,
+      c .before .before .before .before .before .before .before .before .before .before,
+    )
 
 cast-write-6 : tie.Need-cast-write-6
 cast-write-6 c = search needs
 
 write-requires-6 : tie.Need-write-requires-6
-write-requires-6 c κs = omega (arith, c .before .before .before .before .before .before .before .before .before .before .before .before .before .before .before)
+write-requires-6 c κs =
+    omega (
+      arith,
+      c .before .before .before .before .before .before .before .before .before .before .before
+          .before .before .before .before,
+    )
 
 cast-write-7 : tie.Need-cast-write-7
 cast-write-7 c = search needs
 
 write-requires-7 : tie.Need-write-requires-7
-write-requires-7 c κs = omega (arith, c .before .before .before .before .before .before .before .before .before .before .before .before .before .before .before .before .before .before .before .before)
+write-requires-7 c κs =
+    omega (
+      arith,
+      c .before .before .before .before .before .before .before .before .before .before .before
+          .before .before .before .before .before .before .before .before .before,
+    )
 
 same-length : tie.Need-same-length
-same-length c = omega (arith, c .before .before .before .before .before .before .before .before .before .before .before .before .before .before .before .before .before .before .before .before)
+same-length c =
+    omega (
+      arith,
+      c .before .before .before .before .before .before .before .before .before .before .before
+          .before .before .before .before .before .before .before .before .before,
+    )
 
 returns : tie.Need-returns
 returns c =
     head-writes _ _
-    (c .before .before .before .before .before .before .before .before .before .before .before .before .before .before .before .before .before .before .before .before .before .before .before .before .before .before .before .before .before .before .before .before .write .ensures)
-    (c .before .before .before .before .before .before .before .before .before .before .before .before .before .before .before .before .before .before .before .before .before .before .before .before .before .before .before .write2 .ensures)
-    (c .before .before .before .before .before .before .before .before .before .before .before .before .before .before .before .before .before .before .before .before .before .before .write3 .ensures)
-    (c .before .before .before .before .before .before .before .before .before .before .before .before .before .before .before .before .before .write4 .ensures)
-    (c .before .before .before .before .before .before .before .before .before .before .before .before .write5 .ensures)
+    (c .before .before .before .before .before .before .before .before .before .before .before
+    .before .before .before .before .before .before .before .before .before .before .before
+    .before .before .before .before .before .before .before .before .before .before .write
+    .ensures)
+    (c .before .before .before .before .before .before .before .before .before .before .before
+    .before .before .before .before .before .before .before .before .before .before .before
+    .before .before .before .before .before .write2 .ensures)
+    (c .before .before .before .before .before .before .before .before .before .before .before
+    .before .before .before .before .before .before .before .before .before .before .before
+    .write3 .ensures)
+    (c .before .before .before .before .before .before .before .before .before .before .before
+    .before .before .before .before .before .before .write4 .ensures)
+    (c .before .before .before .before .before .before .before .before .before .before .before
+    .before .write5 .ensures)
     (c .before .before .before .before .before .before .before .write6 .ensures)
     (c .before .before .write7 .ensures)
 

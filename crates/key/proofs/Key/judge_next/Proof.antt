@@ -1,5 +1,5 @@
--- `key::Key::judge_next` meets its contract: 9 where the key is longer than max, and then 10 by the letters, all of which are held.
--- Assumes nothing.
+-- `key::Key::judge_next` meets its contract: 9 where the key is longer than max, and then 10 by
+-- the letters, all of which are held. Assumes nothing.
 use mathlib.Core.Path.{sym, _∙_}
 use native.Mathlib.Omega.{arith}
 use borrow.Author.Needs.{needs}
@@ -22,13 +22,15 @@ returns c =
     λ k o. sym (nine-given h (longer h) o (lt-ltb _ _ (c .if1 .taken)))
 
 spelled-requires : tie.Need-spelled-requires
-spelled-requires c κs = omega (arith, bounds (c .before .before .before .args .h) (c .before .before .before .pre))
+spelled-requires c κs =
+    omega (arith, bounds (c .before .before .before .args .h) (c .before .before .before .pre))
 
 returns-2 : tie.Need-returns-2
 unfolding rowOf nextRows row9next
 returns-2 c =
     let h = c .before .before .before .before .args .h in
-    λ k o. c .spelled .ensures k o ∙ sym (ten-decides h (longer h) o (le-ltb _ _ (c .before .if1 .left)))
+    λ k o. c .spelled .ensures k o
+    ∙ sym (ten-decides h (longer h) o (le-ltb _ _ (c .before .if1 .left)))
 
 pub judge-next-spec : {M : Type 1} → statement M
 judge-next-spec = tie.close (tie.spec cast-if1 returns spelled-requires returns-2)

@@ -1,5 +1,5 @@
--- `key::Key::of` meets its contract: the letters copied so far, with zeros behind them, are the array.
--- Assumes nothing.
+-- `key::Key::of` meets its contract: the letters copied so far, with zeros behind them, are the
+-- array. Assumes nothing.
 use Prim.Native.Nat.{_-_, _≤_, min}
 use mathlib.Core.Logic.{⊎-elim}
 use mathlib.Core.Path.{_≡_, refl, _∙_}
@@ -12,7 +12,8 @@ use Rattle.key.proofs.Key.of.Statement.{statement}
 use Rattle.key.proofs.Key.of.Tie as tie
 
 abbrev Inv-loop : tie.InvT-loop
-Inv-loop letters most kept₀ i₀ kept i = (i ≤ most) × (most ≡ min (length letters) mostLetters) × (kept ≡ padded mostLetters (take i letters))
+Inv-loop letters most kept₀ i₀ kept i = (i ≤ most) × (most ≡ min (length letters) mostLetters)
+    × (kept ≡ padded mostLetters (take i letters))
 
 abbrev μ-loop : tie.MeasureT-loop
 μ-loop letters most kept₀ i₀ kept i = most - i
@@ -34,15 +35,20 @@ loop-less : tie.Need-loop-less Inv-loop μ-loop
 loop-less c = omega arith
 
 loop-again : tie.Need-loop-again Inv-loop μ-loop
-loop-again c =
-    (omega arith, c .before .before .loop .inv .1, copy-more mostLetters _ _ _ (omega arith) (omega arith) (c .before .before .loop .inv .2))
+loop-again c = (
+  omega arith,
+  c .before .before .loop .inv .1,
+  copy-more mostLetters _ _ _ (omega arith)
+      (omega arith) (c .before .before .loop .inv .2),
+)
 
 returns : tie.Need-returns Inv-loop μ-loop
 unfolding inHand
 returns c =
     let at = c .before in
     let letters = at .before .before .args .letters .now in
-    let all : at .loop .kept ≡ padded mostLetters letters = at .loop .inv .2 ∙ copy-all mostLetters letters (at .loop .i) (omega arith) in
+    let all : at .loop .kept ≡ padded mostLetters letters =
+    at .loop .inv .2 ∙ copy-all mostLetters letters (at .loop .i) (omega arith) in
     λ j. record { letters = all j; len = length letters }
 
 pub of-spec : {M : Type 1} → statement M

@@ -1,5 +1,5 @@
--- `key::Key::spelled` meets its contract: a key that is not too long is held, so its letters are those of the array.
--- Assumes nothing.
+-- `key::Key::spelled` meets its contract: a key that is not too long is held, so its letters are
+-- those of the array. Assumes nothing.
 use mathlib.Core.Path.{sym, _∙_}
 use borrow.Author.Needs.{needs}
 use borrow.Author.Tests.{not-true, not-false}
@@ -14,11 +14,15 @@ all-below-requires c κs = search needs
 
 returns : tie.Need-returns
 unfolding rowOf rowWhen
-returns c = λ k o. sym (ten-by _ o (c .before .before .before .pre) (sym (c .before .all-below .ensures) ∙ not-true _ (c .if1 .taken)))
+returns c =
+    λ k o. sym (ten-by _ o (c .before .before .before .pre)
+    (sym (c .before .all-below .ensures) ∙ not-true _ (c .if1 .taken)))
 
 returns-2 : tie.Need-returns-2
 unfolding rowOf rowWhen
-returns-2 c = λ k o. sym (ten-by _ o (c .before .before .before .pre) (sym (c .before .all-below .ensures) ∙ not-false _ (c .if1 .left)))
+returns-2 c =
+    λ k o. sym (ten-by _ o (c .before .before .before .pre)
+    (sym (c .before .all-below .ensures) ∙ not-false _ (c .if1 .left)))
 
 pub spelled-spec : {M : Type 1} → statement M
 spelled-spec = tie.close (tie.spec all-below-requires returns returns-2)

@@ -1,5 +1,5 @@
--- `key::Typed::judge` meets its contract: 10 where the text names no key, then 9 by the length of the key that it names.
--- Assumes nothing.
+-- `key::Typed::judge` meets its contract: 10 where the text names no key, then 9 by the length of
+-- the key that it names. Assumes nothing.
 use mathlib.Core.Path.{sym, _∙_}
 use borrow.Author.Needs.{needs}
 use borrow.Author.Tests.{not-true, not-false}
@@ -20,13 +20,15 @@ returns-2 : tie.Need-returns-2
 unfolding rowOf rowWhen
 returns-2 c =
     let one = c .before .before .before in
-    λ named e. sym (typed-by _ _ named e (not-false _ (one .if1 .left)) (sym (c .before .length-allowed .ensures) ∙ not-true _ (c .if2 .taken)))
+    λ named e. sym (typed-by _ _ named e (not-false _ (one .if1 .left))
+    (sym (c .before .length-allowed .ensures) ∙ not-true _ (c .if2 .taken)))
 
 returns-3 : tie.Need-returns-3
 unfolding rowOf rowWhen
 returns-3 c =
     let one = c .before .before .before in
-    λ named e. sym (typed-by _ _ named e (not-false _ (one .if1 .left)) (sym (c .before .length-allowed .ensures) ∙ not-false _ (c .if2 .left)))
+    λ named e. sym (typed-by _ _ named e (not-false _ (one .if1 .left))
+    (sym (c .before .length-allowed .ensures) ∙ not-false _ (c .if2 .left)))
 
 pub judge-spec : {M : Type 1} → statement M
 judge-spec = tie.close (tie.spec returns length-allowed-requires returns-2 returns-3)

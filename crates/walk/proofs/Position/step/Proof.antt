@@ -1,5 +1,5 @@
--- `walk::Position::step` meets its contract: the link read is the table's, and it is empty, bad, or one to go on by.
--- Assumes nothing.
+-- `walk::Position::step` meets its contract: the link read is the table's, and it is empty, bad,
+-- or one to go on by. Assumes nothing.
 use mathlib.Core.Path.{sym, _∙_}
 use borrow.Author.Needs.{needs}
 use Rattle.walk.proofs.Descents.{step-empty, step-bad, step-on}
@@ -18,7 +18,8 @@ bad-link-requires c κs = search needs
 returns-2 : tie.Need-returns-2
 returns-2 c =
     let one = c .before .before in
-    sym (step-bad _ _ _ _ (one .before .link .ensures) (one .if1 .left) (sym (c .before .bad-link .ensures) ∙ c .if2 .taken))
+    sym (step-bad _ _ _ _ (one .before .link .ensures) (one .if1 .left)
+    (sym (c .before .bad-link .ensures) ∙ c .if2 .taken))
 
 add-t11 : tie.Need-add-t11
 add-t11 c = search needs
@@ -27,7 +28,9 @@ returns-3 : tie.Need-returns-3
 returns-3 c =
     let two = c .before in
     let one = two .before .before in
-    sym (step-on _ _ _ _ (one .before .link .ensures) (one .if1 .left) (sym (two .before .bad-link .ensures) ∙ two .if2 .left))
+    sym (step-on _ _ _ _ (one .before .link .ensures) (one .if1 .left)
+    (sym (two .before .bad-link .ensures) ∙ two .if2 .left))
 
 pub step-spec : {M : Type 1} → statement M
-step-spec = tie.close (tie.spec link-requires returns bad-link-requires returns-2 add-t11 returns-3)
+step-spec =
+    tie.close (tie.spec link-requires returns bad-link-requires returns-2 add-t11 returns-3)
