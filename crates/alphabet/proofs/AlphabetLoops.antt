@@ -143,8 +143,7 @@ judging-none n bytes codes h =
       counted = omega arith;
       passed = passed-none bytes;
       different = refl;
-      above =
-          λ c l. refl;
+      above = λ c l. refl;
     }
 
 module _ {n : ℕ} {bytes codes : List ℕ} {count top at : ℕ} (p : Judging n bytes codes count top at)

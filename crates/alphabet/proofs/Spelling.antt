@@ -110,8 +110,7 @@ module _ {alphabet text xs : List ℕ} {at : ℕ} (p : Spelling alphabet text xs
       (record {
         characters = p .characters ++ (charAt text at ∷ []);
         passed = q .0;
-        spelled =
-            q .1 ∙ rw (lt-ltb _ _ (rw d at l));
+        spelled = q .1 ∙ rw (lt-ltb _ _ (rw d at l));
       })
 
   pub spelling-all : length text ≤ at → keyOfText alphabet text ≡ some xs

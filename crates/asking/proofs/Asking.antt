@@ -77,8 +77,7 @@ module _ {rows : List Row} {left l : List ℕ} {front : Opened} {work′ codes :
             record {
               accepted = o .accepted passed;
               head = o .head passed;
-              ready =
-                  j .ready p;
+              ready = j .ready p;
               letters = j .same p;
             };
       }

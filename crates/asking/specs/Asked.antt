@@ -38,13 +38,13 @@ Asks l work given r work′ = AsksAfter (checkOrder l work) (workAfter l work) l
 
 -- what stands in front of the key tells: which of its rows is heard, and where none is, the image
 -- opened
-pub record Fronted (rows : List Row) (left l : List ℕ) (r : Opened) (work′ codes : List ℕ) : Type 0
-  where
-    pub verdict : rowOf (r .verdict) ≡ first rows
-    pub numbers : work′ ≡ left
-    pub accepted : rowOf (r .verdict) ≡ none → Accepted l
-    pub head : rowOf (r .verdict) ≡ none → r .head ≡ headOf l
-    pub decoded : rowOf (r .verdict) ≡ none → Decoded (alphabetIn (headOf l) l) r codes
+pub record Fronted (rows : List Row) (left l : List ℕ) (r : Opened) (work′ codes : List ℕ)
+    : Type 0 where
+  pub verdict : rowOf (r .verdict) ≡ first rows
+  pub numbers : work′ ≡ left
+  pub accepted : rowOf (r .verdict) ≡ none → Accepted l
+  pub head : rowOf (r .verdict) ≡ none → r .head ≡ headOf l
+  pub decoded : rowOf (r .verdict) ≡ none → Decoded (alphabetIn (headOf l) l) r codes
 
 -- what the judging of a key needs where nothing in front of it is heard
 pub record Judgeable (front : Opened) : Type 0 where

@@ -78,10 +78,8 @@ module _ {h : Head} {l work work′ : List ℕ} {bad : ℕ} (b : BadFrom h l wor
   unfolding rowOf linkRows row6
   linked-bad low =
       record {
-        verdict =
-            sym (first-some _ _ (given-at 6 _ 0 (h .g + 1) (b .lowest-bad) (omega arith)));
-        kept =
-            b .kept;
+        verdict = sym (first-some _ _ (given-at 6 _ 0 (h .g + 1) (b .lowest-bad) (omega arith)));
+        kept = b .kept;
       }
 
   module _ (high : h .g + 1 ≤ bad) {x : ℕ} (sought : FoundFrom work′ (h .g + 1) 2 x) where
@@ -119,10 +117,8 @@ module _ {h : Head} {l work work′ : List ℕ} {bad : ℕ} (b : BadFrom h l wor
       unfolding rowOf row8
       linked-missing low =
           record {
-            verdict =
-                sym (past-7 ∙ first-some _ _ (given-at 8 _ 1 (h .g) eighth (omega arith)));
-            kept =
-                b .kept;
+            verdict = sym (past-7 ∙ first-some _ _ (given-at 8 _ 1 (h .g) eighth (omega arith)));
+            kept = b .kept;
           }
 
       pub linked-all : h .g + 1 ≤ y → LinksJudged h l work Verdict.Passed work′
@@ -156,8 +152,7 @@ audited-few {h} {l} {work} few =
     let e = is-given 5 0 (lt-ltb (length work) (h .g + 1) few) in
     record {
       verdict = sym (first-some _ _ e);
-      numbers =
-          sym (ap (λ r. clearedBy r (h .g + 1) work) (first-some _ [] e));
+      numbers = sym (ap (λ r. clearedBy r (h .g + 1) work) (first-some _ [] e));
     }
 
 pub audited-linked : {h : Head} {l work clear work′ last : List ℕ} {r : Verdict}

@@ -59,8 +59,8 @@ pub record BadFrom (h : Head) (l work : List ℕ) (bad : ℕ) (work′ : List �
 -- stands in them
 pub record LinksCounted (g : ℕ) (t : Table) (q i : ℕ) (work work′ : List ℕ) : Type 0 where
   pub good : holdsBad g t q i ≡ false
-  pub met : (x m : ℕ) → 1 ≤ x → x ≤ g → getD work x 0 ≡ min 2 m → getD work′ x 0
-      ≡ min 2 (m + timesIn t x q i)
+  pub met : (x m : ℕ) → 1 ≤ x → x ≤ g → getD work x 0 ≡ min 2 m
+      → getD work′ x 0 ≡ min 2 (m + timesIn t x q i)
 
 -- the links of a node: all counted, or one is bad
 pub record Tallied (h : Head) (l : List ℕ) (q : ℕ) (work : List ℕ) (r : Bool) (work′ : List ℕ)

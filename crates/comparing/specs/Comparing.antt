@@ -19,12 +19,12 @@ use Rattle.opening.specs.declared.Opened.{Opened}
 use Rattle.opening.specs.Opened.{Decoded}
 
 -- 1 to 8, where only so many of the working numbers are lent
-pub record CheckedBoth (l work : List ℕ) (lent : ℕ) (r : Opened) (work′ codes : List ℕ) : Type 0
-  where
-    pub verdict : rowOf (r .verdict) ≡ first (checkOrder l (take lent work))
-    pub numbers : work′ ≡ workAfter l (take lent work) ++ drop lent work
-    pub head : rowOf (r .verdict) ≡ none → r .head ≡ headOf l
-    pub decoded : rowOf (r .verdict) ≡ none → Decoded (alphabetIn (headOf l) l) r codes
+pub record CheckedBoth (l work : List ℕ) (lent : ℕ) (r : Opened) (work′ codes : List ℕ)
+    : Type 0 where
+  pub verdict : rowOf (r .verdict) ≡ first (checkOrder l (take lent work))
+  pub numbers : work′ ≡ workAfter l (take lent work) ++ drop lent work
+  pub head : rowOf (r .verdict) ≡ none → r .head ≡ headOf l
+  pub decoded : rowOf (r .verdict) ≡ none → Decoded (alphabetIn (headOf l) l) r codes
 
 -- 1 to 8, then 25
 pub record Compared (l work counts : List ℕ) (r : Opened) (work′ codes : List ℕ) : Type 0 where

@@ -60,8 +60,7 @@ module _ (h : Head) (t : Table) where
       let e : h .max - depth ≡ 0 = omega arith in
       record {
         nothing = λ z i. rw e (from-shallow t (h .n) (h .min - depth) q i);
-        deep =
-            λ z. absurd (true≢false z);
+        deep = λ z. absurd (true≢false z);
       }
 
   pub keys-below-asked : (q depth : ℕ) {r : Bool} → depth < h .max

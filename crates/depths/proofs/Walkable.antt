@@ -29,8 +29,7 @@ walkable {h} {l} a e =
     (record {
       opened = accepted-open a;
       within = accepted-linked a .within;
-      few =
-          counted-fits a;
+      few = counted-fits a;
     })
 
 pub short : {h : Head} {l : List ℕ} → Walkable h l → h .max ≤ mostLetters

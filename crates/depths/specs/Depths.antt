@@ -17,8 +17,8 @@ ownValue h t q depth = cond (ltb depth (h .min)) 0 (t .value q)
 -- whether no key lies below a node at a depth, from any letter on; otherwise a letter may follow
 -- there
 pub record KeysBelow (h : Head) (t : Table) (q depth : ℕ) (noKeys : Bool) : Type 0 where
-  pub nothing : noKeys ≡ true → (x : ℕ) → keysFrom t (h .n) (h .min - depth) (h .max - depth) q x
-      ≡ []
+  pub nothing : noKeys ≡ true
+      → (x : ℕ) → keysFrom t (h .n) (h .min - depth) (h .max - depth) q x ≡ []
   pub deep : noKeys ≡ false → depth < h .max
 
 -- the masks by which a walk that meets many nodes reads their links and their data

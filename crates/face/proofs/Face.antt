@@ -21,7 +21,6 @@ told-face = record { back = answerOf; inverse = λ r. refl }
       number = m .number;
       place = m .place;
       length = m .length;
-      change =
-          m .change;
+      change = m .change;
       value = m .value;
     }

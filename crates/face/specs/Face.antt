@@ -7,7 +7,6 @@ numbersOf r = record {
   number = r .number;
   place = r .place;
   length = r .length;
-  change =
-      r .change;
+  change = r .change;
   value = r .value;
 }

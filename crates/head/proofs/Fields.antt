@@ -110,8 +110,7 @@ pub head-total : (l : List ℕ) (g : ℕ) → totalAt + totalLen ≤ length l �
       a = headOf l .a;
       d = headOf l .d;
       f = headOf l .f;
-      min =
-          headOf l .min;
+      min = headOf l .min;
       max = headOf l .max;
     }
 unfolding headOf

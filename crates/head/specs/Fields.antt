@@ -71,9 +71,13 @@ headOf l =
 unfoldable pub headBytes : Head → List ℕ
 unfolding digits
 headBytes h =
-    digits 4 (h .g) ++ (digits 4 (h .n)
-    ++ (digits 4 (h .a) ++ (digits 4 (h .d)
-    ++ (digits 4 (h .f) ++ (digits 4 (h .min) ++ digits 4 (h .max))))))
+    digits 4 (h .g)
+    ++ (digits 4 (h .n)
+    ++ (digits 4 (h .a)
+    ++ (digits 4 (h .d)
+    ++ (digits 4 (h .f)
+    ++ (digits 4 (h .min)
+    ++ digits 4 (h .max))))))
 
 -- "the image with G set to" g
 abbrev pub putTotal : List ℕ → ℕ → List ℕ

@@ -27,5 +27,6 @@ TellsKey l position buffer r buffer′ =
 -- a key's position, or 15 where it is not stored
 unfoldable pub ranksAs : List ℕ → List ℕ → Placed
 unfolding answer tableIn rankIn storedKeys
-ranksAs l key = cond (eqb (answer (tableIn l) key) 0) (Placed.Refused Refusal.NoKey)
+ranksAs l key =
+    cond (eqb (answer (tableIn l) key) 0) (Placed.Refused Refusal.NoKey)
     (Placed.At (rankIn (storedKeys l) key))

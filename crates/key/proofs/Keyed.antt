@@ -72,6 +72,5 @@ module _ {l : List ℕ} {h : Head} (b : Known l h) where
         record {
           told = rw (b .own) at (told _ names);
           ready = λ f. text-ready f .0;
-          same =
-              λ f. ap orEmpty (sym (text-ready f .1));
+          same = λ f. ap orEmpty (sym (text-ready f .1));
         }

@@ -28,8 +28,7 @@ pub typing-none : (alphabet text : List ℕ) → Typing alphabet text (replicate
 typing-none alphabet text = record {
   letters = [];
   spelling = spelling-none alphabet text;
-  array =
-      sym (padded-nil mostLetters);
+  array = sym (padded-nil mostLetters);
   count = refl;
 }
 

@@ -97,8 +97,7 @@ spelling-none l start (x ∷ path) h f =
       some = omega arith;
       within = h;
       inside = f;
-      laid =
-          record { bytes = refl; ends = omega arith };
+      laid = record { bytes = refl; ends = omega arith };
     }
 
 taken : {l : List ℕ} {start : ℕ} {path : List ℕ} {len : ℕ} {s : List ℕ} {end i : ℕ}

@@ -98,8 +98,7 @@ module _ {h : Head} {l path nodes : List ℕ} {n count : ℕ} (w : Meeting h l p
         meeting-on p q =
             record {
               walking = record { letters = p; ends = q; key = met told e };
-              all =
-                  omega (arith, w .all, fewer);
+              all = omega (arith, w .all, fewer);
             }
 
 -- ---- after the check

@@ -128,8 +128,7 @@ module _ {nodes width from : ℕ} {list₀ : List ℕ} where
       record {
         few = omega arith;
         here = omega arith;
-        rest =
-            λ more. ap (λ (k : ℕ). sets list₀ 0 (nodesAt from width k ++ more)) all;
+        rest = λ more. ap (λ (k : ℕ). sets list₀ 0 (nodesAt from width k ++ more)) all;
       }
 
   module _ {list : List ℕ} {i place : ℕ} (w : Noting nodes width from list₀ list i place) where

@@ -19,7 +19,8 @@ use Rattle.storing.specs.StoreStage.{storeAt}
 -- the walk is the key's own, as in `storing`'s StoresIn; the list follows the image
 abbrev pub NotesIn : List ℕ → List ℕ → ℕ → List ℕ → Noted → List ℕ → List ℕ → Type 0
 NotesIn l key value list r l′ list′ =
-    outcome (notedOf r) (l′ ∷ list′ ∷ []) ≡ withWrites (writesIn l key value) list
+    outcome (notedOf r) (l′ ∷ list′ ∷ [])
+    ≡ withWrites (writesIn l key value) list
     (storeAt (headOf l) l (descend (tableIn l) 0 key) value)
 
 -- what a store wrote, given how the key's walk ended, listed from the front of the lent numbers

@@ -23,8 +23,8 @@ pub record Decoded (alphabet : List ℕ) (r : Opened) (decoded : List ℕ) : Typ
   pub codes : take (r .count) decoded ≡ letters alphabet
 
 -- 1 to 4 of a head, an alphabet and the length of an image
-pub record OpensWith (h : Head) (alphabet : List ℕ) (len : ℕ) (r : Opened) (codes : List ℕ) : Type
-    0 where
+pub record OpensWith (h : Head) (alphabet : List ℕ) (len : ℕ) (r : Opened) (codes : List ℕ)
+    : Type 0 where
   pub verdict : rowOf (r .verdict) ≡ first (openingRows h alphabet len)
   pub head : r .head ≡ h
   pub decoded : rowOf (r .verdict) ≡ none → length alphabet ≡ h .f → Decoded alphabet r codes

@@ -25,6 +25,5 @@ known {l} opened own =
     record {
       opened = opened;
       own = own;
-      image =
-          rw own (record { head-permitted = p .head-permitted; room = p .room });
+      image = rw own (record { head-permitted = p .head-permitted; room = p .room });
     }

@@ -317,8 +317,7 @@ module _ (h : Head) (t : Table) (f : Framed t (h .g) (h .n)) where
         within = within;
         rising = none-rising (after6 .0);
         named = none-named none-8;
-        once =
-            none-once within (after7 .0);
+        once = none-once within (after7 .0);
       }
 
 -- a link that is as 01 rules is no bad one

@@ -93,8 +93,7 @@ module _ (image : List ℕ) (n a d : ℕ) (alphabet : List ℕ) (least most : �
       record {
         root-alone = refl;
         all-letters = refl;
-        judged =
-            passed h alphabet (length image) passes;
+        judged = passed h alphabet (length image) passes;
       }
 
   pub make-leaves : makeOf image n a d alphabet least most ≡ outcome (doneNumbers 0 (pos 0) 0)

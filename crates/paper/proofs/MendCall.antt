@@ -91,8 +91,7 @@ module _ (l work : List ℕ) where
           → heard r (workAfter l work ∷ []) done .numbers .number ≡ 8
           → r ≡ some (record {
             number = 8;
-            place =
-                heard r (workAfter l work ∷ []) done .numbers .place;
+            place = heard r (workAfter l work ∷ []) done .numbers .place;
           })
       go none f z = absurd (omega arith)
       go (some s) f z = ap (λ (n : ℕ). some (record { number = n; place = s .place })) z

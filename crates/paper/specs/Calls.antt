@@ -38,7 +38,8 @@ clearedBy (some s) nodes work = work
 
 unfoldable pub workAfter : List ℕ → List ℕ → List ℕ
 unfolding clearedBy first openingRowsOf row5 headOf
-workAfter l work = clearedBy (first (openingRowsOf l ++ (row5 (headOf l) (length work) ∷ [])))
+workAfter l work =
+    clearedBy (first (openingRowsOf l ++ (row5 (headOf l) (length work) ∷ [])))
     (headOf l .g + 1) work
 
 -- make
@@ -65,7 +66,8 @@ makeOf image n a d alphabet least most =
 
 unfoldable pub checkOf : List ℕ → List ℕ → Outcome
 unfolding heard first checkOrder workAfter doneNumbers
-checkOf l work = heard (first (checkOrder l work)) (workAfter l work ∷ [])
+checkOf l work =
+    heard (first (checkOrder l work)) (workAfter l work ∷ [])
     (outcome (doneNumbers 0 (pos 0) 0) (workAfter l work ∷ []))
 
 -- number of keys

@@ -20,33 +20,33 @@ rubbish n = replicate n 0xAA
 -- the file with this G and body, and so many spare bytes
 abbrev pub file : ℕ → List ℕ → ℕ → List ℕ
 file g body spare =
-    (0 ∷ 0 ∷ 0 ∷ g ∷ 0 ∷ 0 ∷ 0 ∷ 3 ∷ 0 ∷ 0 ∷ 0 ∷ 1 ∷ 0 ∷ 0 ∷ 0 ∷ 1 ∷ 0 ∷ 0 ∷ 0 ∷ 3 ∷ 0 ∷ 0 ∷ 0 ∷ 1
-    ∷ 0 ∷ 0 ∷ 0 ∷ 3 ∷ 0x41 ∷ 0x42 ∷ 0x43 ∷ [])
+    (0 ∷ 0 ∷ 0 ∷ g ∷ 0 ∷ 0 ∷ 0 ∷ 3 ∷ 0 ∷ 0 ∷ 0 ∷ 1 ∷ 0 ∷ 0 ∷ 0 ∷ 1
+    ∷ 0 ∷ 0 ∷ 0 ∷ 3 ∷ 0 ∷ 0 ∷ 0 ∷ 1 ∷ 0 ∷ 0 ∷ 0 ∷ 3 ∷ 0x41 ∷ 0x42 ∷ 0x43 ∷ [])
     ++ (body ++ rubbish spare)
 
 abbrev body1 : List ℕ
 body1 = 0 ∷ 0 ∷ 0 ∷ 0 ∷ []
 
-abbrev body2 : List ℕ
+abbrev pub body2 : List ℕ
 body2 = 0 ∷ 1 ∷ 0 ∷ 0 ∷ 2 ∷ 0 ∷ 0 ∷ 0 ∷ 0 ∷ 0 ∷ 0 ∷ 9 ∷ []
 
-abbrev body3 : List ℕ
+abbrev pub body3 : List ℕ
 body3 = 0 ∷ 1 ∷ 0 ∷ 0 ∷ 2 ∷ 0 ∷ 0 ∷ 5 ∷ 0 ∷ 0 ∷ 0 ∷ 9 ∷ []
 
 -- P7's: CCC linked below the root, by three new nodes
-abbrev body7 : List ℕ
+abbrev pub body7 : List ℕ
 body7 =
-    0 ∷ 1 ∷ 3 ∷ 0 ∷ 2 ∷ 0 ∷ 0 ∷ 5 ∷ 0 ∷ 0 ∷ 0 ∷ 9 ∷ 0 ∷ 0 ∷ 4 ∷ 0 ∷ 0 ∷ 0 ∷ 5 ∷ 0 ∷ 0 ∷ 0 ∷ 0 ∷ 1
-    ∷ []
+    0 ∷ 1 ∷ 3 ∷ 0 ∷ 2 ∷ 0 ∷ 0 ∷ 5 ∷ 0 ∷ 0 ∷ 0 ∷ 9
+    ∷ 0 ∷ 0 ∷ 4 ∷ 0 ∷ 0 ∷ 0 ∷ 5 ∷ 0 ∷ 0 ∷ 0 ∷ 0 ∷ 1 ∷ []
 
 -- after P3
-abbrev file3 : List ℕ
+abbrev pub file3 : List ℕ
 file3 = file 2 body3 17
 
-abbrev refused : ℕ → ℕ → List (List ℕ) → Outcome
+abbrev pub refused : ℕ → ℕ → List (List ℕ) → Outcome
 refused number place ls = outcome (refusedNumbers (record { number = number; place = place })) ls
 
-abbrev done : ℕ → ℤ → ℕ → List (List ℕ) → Outcome
+abbrev pub done : ℕ → ℤ → ℕ → List (List ℕ) → Outcome
 done length change value ls = outcome (doneNumbers length change value) ls
 
 abbrev make : ℕ → Outcome
@@ -74,8 +74,7 @@ abbrev checks : List ℕ → ℕ → ℕ → Case
 checks body number place =
     record {
       call = checkOf (file 1 body 0) work;
-      leaves =
-          refused number place ((0 ∷ 0 ∷ 7 ∷ []) ∷ []);
+      leaves = refused number place ((0 ∷ 0 ∷ 7 ∷ []) ∷ []);
     }
 
 abbrev pub cases : List Case
@@ -91,13 +90,11 @@ cases =
     -- P3, by letters and by text
     ∷ record {
       call = storeOf (file 2 body2 17) work (asLetters (1 ∷ [])) 5;
-      leaves =
-          done 0 (pos 1) 0 (file3 ∷ cleared ∷ []);
+      leaves = done 0 (pos 1) 0 (file3 ∷ cleared ∷ []);
     }
     ∷ record {
       call = storeOf (file 2 body2 17) work (asText (0x42 ∷ [])) 5;
-      leaves =
-          done 0 (pos 1) 0 (file3 ∷ cleared ∷ []);
+      leaves = done 0 (pos 1) 0 (file3 ∷ cleared ∷ []);
     }
     ∷ record { call = countOf file3 work; leaves = done 0 (pos 0) 2 (cleared ∷ []) }
     -- P4
@@ -121,24 +118,20 @@ cases =
     -- P6
     ∷ record {
       call = storeOf file3 work (asLetters (1 ∷ 0 ∷ [])) 256;
-      leaves =
-          refused 11 0 (file3 ∷ cleared ∷ []);
+      leaves = refused 11 0 (file3 ∷ cleared ∷ []);
     }
     ∷ record {
       call = storeOf file3 work (asLetters (0 ∷ 1 ∷ 2 ∷ [])) 0;
-      leaves =
-          done 0 (pos 0) 0 (file3 ∷ cleared ∷ []);
+      leaves = done 0 (pos 0) 0 (file3 ∷ cleared ∷ []);
     }
     -- P7
     ∷ record {
       call = storeOf (file 2 body3 11) work (asLetters (2 ∷ 2 ∷ 2 ∷ [])) 1;
-      leaves =
-          refused 13 0 (file 2 body3 11 ∷ cleared ∷ []);
+      leaves = refused 13 0 (file 2 body3 11 ∷ cleared ∷ []);
     }
     ∷ record {
       call = storeOf (file 2 body3 12) work (asLetters (2 ∷ 2 ∷ 2 ∷ [])) 1;
-      leaves =
-          done 0 (pos 1) 0 (file 5 body7 0 ∷ cleared ∷ []);
+      leaves = done 0 (pos 1) 0 (file 5 body7 0 ∷ cleared ∷ []);
     }
     -- P8 to P11
     ∷ checks (0 ∷ 1 ∷ 1 ∷ 0 ∷ 0 ∷ 0 ∷ 0 ∷ 0 ∷ []) 7 1
@@ -148,17 +141,14 @@ cases =
     -- P12
     ∷ record {
       call = nextKeyOf file3 work [] false buffer;
-      leaves =
-          done 1 (pos 0) 5 (cleared ∷ (1 ∷ 0xAA ∷ 0xAA ∷ []) ∷ []);
+      leaves = done 1 (pos 0) 5 (cleared ∷ (1 ∷ 0xAA ∷ 0xAA ∷ []) ∷ []);
     }
     ∷ record {
       call = nextKeyOf file3 work (1 ∷ []) true buffer;
-      leaves =
-          done 2 (pos 0) 9 (cleared ∷ (1 ∷ 0 ∷ 0xAA ∷ []) ∷ []);
+      leaves = done 2 (pos 0) 9 (cleared ∷ (1 ∷ 0 ∷ 0xAA ∷ []) ∷ []);
     }
     ∷ record {
       call = nextKeyOf file3 work (1 ∷ 0 ∷ []) true buffer;
-      leaves =
-          refused 15 0 (cleared ∷ buffer ∷ []);
+      leaves = refused 15 0 (cleared ∷ buffer ∷ []);
     }
     ∷ []

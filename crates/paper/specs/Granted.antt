@@ -24,8 +24,8 @@ pub record Granted (l key : List ℕ) (value : ℕ) : Type 0 where
   -- the value is not "above 256^D - 1"
   pub value-fits : value < 256 ^ headOf l .d
   -- nor is "G + k above 256^A - 1, with k above 0"
-  pub addresses : 0 < newOf (headOf l) l key value → headOf l .g + newOf (headOf l) l key value
-      < 256 ^ headOf l .a
+  pub addresses : 0 < newOf (headOf l) l key value
+      → headOf l .g + newOf (headOf l) l key value < 256 ^ headOf l .a
   -- nor is it that "U + k*W exceeds the image's length, with k above 0"
-  pub room : 0 < newOf (headOf l) l key value → usedLen (headOf l) + newOf (headOf l) l key value *
-      nodeWidth (headOf l) ≤ length l
+  pub room : 0 < newOf (headOf l) l key value
+      → usedLen (headOf l) + newOf (headOf l) l key value * nodeWidth (headOf l) ≤ length l

@@ -63,7 +63,8 @@ nextRows h key = row9next h key ∷ row10 h key ∷ []
 unfoldable pub lookUpOrder : List ℕ → Given → List Row
 unfolding openingRowsOf keyRows keyIn tableOf
 lookUpOrder l given =
-    openingRowsOf l ++ (keyRows l given
+    openingRowsOf l
+    ++ (keyRows l given
     ++ (row6path (headOf l) (tableOf (headOf l) l) (keyIn l given) ∷ []))
 
 -- 11, 12, 13, with k missing nodes
@@ -79,8 +80,9 @@ newOf h l key value = added (missing (descend (tableOf h l) 0 key)) value
 unfoldable pub storeOrder : List ℕ → List ℕ → Given → ℕ → List Row
 unfolding checkOrder keyRows keyIn addingRows newOf
 storeOrder l work given value =
-    checkOrder l work ++ (keyRows l given ++ addingRows (headOf l) value
-    (newOf (headOf l) l (keyIn l given) value) (length l))
+    checkOrder l work
+    ++ (keyRows l given
+    ++ addingRows (headOf l) value (newOf (headOf l) l (keyIn l given) value) (length l))
 
 -- "next key: 1 to 8, 9, 10, 14, 15"
 unfoldable pub nextKeyOrder : List ℕ → List ℕ → List ℕ → ℕ → Option (List ℕ) → List Row

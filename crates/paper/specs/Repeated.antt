@@ -31,5 +31,6 @@ askedAfter l work buffer times k = inTurn (λ j. keyHeard (nextKeyOf l work j tr
 -- the keys heard when one asks for the first key at or after the empty one, then on from there
 unfoldable pub askedForAll : List ℕ → List ℕ → List ℕ → ℕ → List (List ℕ)
 unfolding withKey keyHeard nextKeyOf askedAfter
-askedForAll l work buffer times = withKey (keyHeard (nextKeyOf l work [] false buffer))
+askedForAll l work buffer times =
+    withKey (keyHeard (nextKeyOf l work [] false buffer))
     (λ k. k ∷ askedAfter l work buffer times k)

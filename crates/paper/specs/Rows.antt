@@ -29,8 +29,8 @@ row2 h = rowWhen 2 0 (not (permitted h))
 unfoldable pub row3 : Head → List ℕ → Row
 unfolding rowWhen goodAlphabet
 row3 h alphabet =
-    rowWhen 3 0 (ltb 0 (h .f) && eqb (length alphabet) (h .f)
-    && not (goodAlphabet (h .n) alphabet))
+    rowWhen 3 0
+    (ltb 0 (h .f) && eqb (length alphabet) (h .f) && not (goodAlphabet (h .n) alphabet))
 
 -- U exceeds the image's length
 unfoldable pub row4 : Head → ℕ → Row

@@ -53,8 +53,7 @@ stored-fit l k m =
     let (low, high, _) = stored-exactly l k .0 m in
     record {
       allowed = true-between (length k) (headOf l .min) (headOf l .max) low high;
-      below =
-          stored-askable l k m .below;
+      below = stored-askable l k m .below;
     }
 
 module _ (l work counts : List ℕ) (a : Accepted l) (lent : headOf l .g + 1 ≤ length work)

@@ -3,39 +3,18 @@
 -- lent buffers hold rubbish (AA in key buffers, 7 in working numbers, 9 in counts).
 use Prim.Native.Nat.{ℕ}
 use mathlib.Core.List.{List, [], _∷_}
-use lib.IntN.{ℤ, pos, negsuc}
-use Rattle.paper.specs.Hearing.{Outcome, outcome, refusedNumbers, doneNumbers}
+use lib.IntN.{pos, negsuc}
+use Rattle.paper.specs.Hearing.{Outcome}
 use Rattle.paper.specs.Given.{Given, asLetters, asText}
-use Rattle.paper.specs.Cases.{Case, file}
+use Rattle.paper.specs.Cases.{Case, file, body2, body3, body7, file3, refused, done}
 use Rattle.position.specs.Calls.{countsOf, checkCountsOf, storeCountsOf, keyAtOf, positionOf}
-
--- the bodies after P2, after P3, and after P7
-abbrev body2 : List ℕ
-body2 = 0 ∷ 1 ∷ 0 ∷ 0 ∷ 2 ∷ 0 ∷ 0 ∷ 0 ∷ 0 ∷ 0 ∷ 0 ∷ 9 ∷ []
-
-abbrev body3 : List ℕ
-body3 = 0 ∷ 1 ∷ 0 ∷ 0 ∷ 2 ∷ 0 ∷ 0 ∷ 5 ∷ 0 ∷ 0 ∷ 0 ∷ 9 ∷ []
-
-abbrev body7 : List ℕ
-body7 =
-    0 ∷ 1 ∷ 3 ∷ 0 ∷ 2 ∷ 0 ∷ 0 ∷ 5 ∷ 0 ∷ 0 ∷ 0 ∷ 9 ∷ 0 ∷ 0 ∷ 4 ∷ 0 ∷ 0 ∷ 0 ∷ 5 ∷ 0 ∷ 0 ∷ 0 ∷ 0 ∷ 1
-    ∷ []
 
 -- data at depths 0 and 4, which no key of 1 to 3 letters has
 abbrev bodyHidden : List ℕ
 bodyHidden = 1 ∷ 0 ∷ 0 ∷ 6 ∷ 2 ∷ 0 ∷ 0 ∷ 0 ∷ 3 ∷ 0 ∷ 0 ∷ 5 ∷ 4 ∷ 0 ∷ 0 ∷ 0 ∷ 0 ∷ 0 ∷ 0 ∷ 8 ∷ []
 
-abbrev file3 : List ℕ
-file3 = file 2 body3 17
-
 abbrev hidden : List ℕ
 hidden = file 4 bodyHidden 0
-
-abbrev refused : ℕ → ℕ → List (List ℕ) → Outcome
-refused number place ls = outcome (refusedNumbers (record { number = number; place = place })) ls
-
-abbrev done : ℕ → ℤ → ℕ → List (List ℕ) → Outcome
-done length change value ls = outcome (doneNumbers length change value) ls
 
 abbrev work : List ℕ
 work = 7 ∷ 7 ∷ 7 ∷ 7 ∷ []
@@ -67,8 +46,7 @@ abbrev at : Given → ℕ → Case
 at given position =
     record {
       call = positionOf file3 work right given;
-      leaves =
-          done 0 (pos 0) position (cleared ∷ []);
+      leaves = done 0 (pos 0) position (cleared ∷ []);
     }
 
 abbrev noPosition : Given → ℕ → Case
@@ -80,18 +58,15 @@ cases =
     -- the counts worked out; 5 for either list, and the check's answers; never 25
     record {
       call = countsOf file3 work (9 ∷ 9 ∷ 9 ∷ 9 ∷ []);
-      leaves =
-          done 0 (pos 0) 0 (cleared ∷ right ∷ []);
+      leaves = done 0 (pos 0) 0 (cleared ∷ right ∷ []);
     }
     ∷ record {
       call = countsOf file3 work (9 ∷ 9 ∷ []);
-      leaves =
-          refused 5 0 (work ∷ (9 ∷ 9 ∷ []) ∷ []);
+      leaves = refused 5 0 (work ∷ (9 ∷ 9 ∷ []) ∷ []);
     }
     ∷ record {
       call = countsOf file3 (7 ∷ 7 ∷ []) (9 ∷ 9 ∷ 9 ∷ []);
-      leaves =
-          refused 5 0 ((7 ∷ 7 ∷ []) ∷ (9 ∷ 9 ∷ 9 ∷ []) ∷ []);
+      leaves = refused 5 0 ((7 ∷ 7 ∷ []) ∷ (9 ∷ 9 ∷ 9 ∷ []) ∷ []);
     }
     ∷ record {
       call = countsOf (file 1 (0 ∷ 2 ∷ 0 ∷ 0 ∷ 0 ∷ 0 ∷ 0 ∷ 0 ∷ []) 0) work (9 ∷ 9 ∷ 9 ∷ []);
@@ -100,25 +75,21 @@ cases =
     -- data at other depths than min..max is not counted, and no key passes the nodes below it
     ∷ record {
       call = countsOf hidden work5 (9 ∷ 9 ∷ 9 ∷ 9 ∷ 9 ∷ []);
-      leaves =
-          done 0 (pos 0) 0 (cleared5 ∷ (1 ∷ 1 ∷ 1 ∷ 0 ∷ 0 ∷ []) ∷ []);
+      leaves = done 0 (pos 0) 0 (cleared5 ∷ (1 ∷ 1 ∷ 1 ∷ 0 ∷ 0 ∷ []) ∷ []);
     }
     -- the check with counts: the lowest node that differs, after the check's answers
     ∷ record { call = checkCountsOf file3 work right; leaves = done 0 (pos 0) 0 (cleared ∷ []) }
     ∷ record {
       call = checkCountsOf file3 work (2 ∷ 2 ∷ 2 ∷ []);
-      leaves =
-          refused 25 2 (cleared ∷ []);
+      leaves = refused 25 2 (cleared ∷ []);
     }
     ∷ record {
       call = checkCountsOf file3 work (3 ∷ 2 ∷ 2 ∷ []);
-      leaves =
-          refused 25 0 (cleared ∷ []);
+      leaves = refused 25 0 (cleared ∷ []);
     }
     ∷ record {
       call = checkCountsOf hidden work5 (1 ∷ 1 ∷ 1 ∷ 0 ∷ 1 ∷ []);
-      leaves =
-          refused 25 4 (cleared5 ∷ []);
+      leaves = refused 25 4 (cleared5 ∷ []);
     }
     ∷ record {
       call = checkCountsOf (file 1 (0 ∷ 1 ∷ 1 ∷ 0 ∷ 0 ∷ 0 ∷ 0 ∷ 0 ∷ []) 0) work
@@ -133,8 +104,7 @@ cases =
     }
     ∷ record {
       call = storeCountsOf file3 work (asText (0x42 ∷ [])) 5 right;
-      leaves =
-          done 0 (pos 0) 0 (file3 ∷ cleared ∷ right ∷ []);
+      leaves = done 0 (pos 0) 0 (file3 ∷ cleared ∷ right ∷ []);
     }
     ∷ record {
       call = storeCountsOf file3 work (asText (0x42 ∷ [])) 0 right;
@@ -142,8 +112,7 @@ cases =
     }
     ∷ record {
       call = storeCountsOf file3 work (asLetters (0 ∷ 1 ∷ [])) 0 right;
-      leaves =
-          done 0 (pos 0) 0 (file3 ∷ cleared ∷ right ∷ []);
+      leaves = done 0 (pos 0) 0 (file3 ∷ cleared ∷ right ∷ []);
     }
     -- new nodes have the count 1, whatever the list held there; 5 again where it has no number for
     -- the last of them
@@ -153,8 +122,7 @@ cases =
     }
     ∷ record {
       call = storesAll (2 ∷ 2 ∷ 1 ∷ 9 ∷ 8 ∷ []);
-      leaves =
-          refused 5 0 (file 2 body3 12 ∷ cleared ∷ (2 ∷ 2 ∷ 1 ∷ 9 ∷ 8 ∷ []) ∷ []);
+      leaves = refused 5 0 (file 2 body3 12 ∷ cleared ∷ (2 ∷ 2 ∷ 1 ∷ 9 ∷ 8 ∷ []) ∷ []);
     }
     -- 13 before that 5; 25 before 9 and 10
     ∷ record {
@@ -163,39 +131,32 @@ cases =
     }
     ∷ record {
       call = storeCountsOf file3 work (asLetters []) 1 (2 ∷ 1 ∷ 1 ∷ []);
-      leaves =
-          refused 25 1 (file3 ∷ cleared ∷ (2 ∷ 1 ∷ 1 ∷ []) ∷ []);
+      leaves = refused 25 1 (file3 ∷ cleared ∷ (2 ∷ 1 ∷ 1 ∷ []) ∷ []);
     }
     ∷ record {
       call = storeCountsOf file3 work (asLetters []) 1 right;
-      leaves =
-          refused 9 0 (file3 ∷ cleared ∷ right ∷ []);
+      leaves = refused 9 0 (file3 ∷ cleared ∷ right ∷ []);
     }
     -- the key at a position, from 0; 14 before 15
     ∷ record {
       call = keyAtOf file3 work right 0 buffer;
-      leaves =
-          done 1 (pos 0) 5 (cleared ∷ (1 ∷ 0xAA ∷ 0xAA ∷ 0xAA ∷ []) ∷ []);
+      leaves = done 1 (pos 0) 5 (cleared ∷ (1 ∷ 0xAA ∷ 0xAA ∷ 0xAA ∷ []) ∷ []);
     }
     ∷ record {
       call = keyAtOf file3 work right 1 buffer;
-      leaves =
-          done 2 (pos 0) 9 (cleared ∷ (1 ∷ 0 ∷ 0xAA ∷ 0xAA ∷ []) ∷ []);
+      leaves = done 2 (pos 0) 9 (cleared ∷ (1 ∷ 0 ∷ 0xAA ∷ 0xAA ∷ []) ∷ []);
     }
     ∷ record {
       call = keyAtOf file3 work right 2 buffer;
-      leaves =
-          refused 15 0 (cleared ∷ buffer ∷ []);
+      leaves = refused 15 0 (cleared ∷ buffer ∷ []);
     }
     ∷ record {
       call = keyAtOf file3 work right 2 (0xAA ∷ 0xAA ∷ []);
-      leaves =
-          refused 14 0 (cleared ∷ (0xAA ∷ 0xAA ∷ []) ∷ []);
+      leaves = refused 14 0 (cleared ∷ (0xAA ∷ 0xAA ∷ []) ∷ []);
     }
     ∷ record {
       call = keyAtOf file3 work (2 ∷ 2 ∷ 0 ∷ []) 2 [];
-      leaves =
-          refused 25 2 (cleared ∷ [] ∷ []);
+      leaves = refused 25 2 (cleared ∷ [] ∷ []);
     }
     -- the position of a key
     ∷ at (asLetters (1 ∷ [])) 0

@@ -56,5 +56,6 @@ ifStored l key = cond (eqb (answer (tableIn l) key) 0) none (some key)
 -- "15 for ... a key not stored"
 unfoldable pub positionOrder : List ℕ → List ℕ → List ℕ → Given → List Row
 unfolding checkCountsOrder keyRows keyIn row15 ifStored
-positionOrder l work counts given = checkCountsOrder l work counts
+positionOrder l work counts given =
+    checkCountsOrder l work counts
     ++ (keyRows l given ++ (row15 (ifStored l (keyIn l given)) ∷ []))

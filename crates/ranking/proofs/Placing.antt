@@ -70,8 +70,7 @@ module _ {h : Head} {l counts : List ℕ} (w : Counted h l counts) (k : List ℕ
       record {
         reaches = descend-nil (tableOf h l) 0;
         short = omega arith;
-        same =
-            rw (least, most) (omega arith);
+        same = rw (least, most) (omega arith);
       }
 
   module _ {node depth passed : ℕ} (s : Placing h l k node depth passed) where

@@ -114,8 +114,7 @@ module _ {h : Head} {l counts : List ℕ} (w : Counted h l counts) {position : �
           (own-empty h (tableOf h l) node depth (sym own ∙ empty)) in
           record {
             inside = omega (arith, s .inside, ap length all);
-            same =
-                ap (λ (keys : List (List ℕ)). keyAt keys left) all;
+            same = ap (λ (keys : List (List ℕ)). keyAt keys left) all;
           }
 
     -- such a key needs a letter more

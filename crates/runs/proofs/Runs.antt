@@ -296,8 +296,7 @@ module _ (image : List ℕ) (n a d : ℕ) (alphabet : List ℕ) (least most : �
   fit-same : {k : List ℕ} → Fit (headOf (r .image)) k → Fit h k
   fit-same f = record {
     allowed = rw (at-end .same-head) at (f .allowed);
-    below =
-        rw (at-end .same-head) at (f .below);
+    below = rw (at-end .same-head) at (f .below);
   }
 
   -- 9 and 10 ask what they asked at the start, and the key that is meant is the same

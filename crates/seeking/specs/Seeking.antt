@@ -15,5 +15,5 @@ use Rattle.paper.specs.Promises.{Nexts}
 
 abbrev pub Seeks : List ℕ → List ℕ → Bool → List ℕ → Found → List ℕ → Type 0
 Seeks l key after buffer r buffer′ =
-    (work : List ℕ) → first (checkOrder l work) ≡ none → Nexts l work key after buffer (foundOf r)
-    (workAfter l work) buffer′
+    (work : List ℕ) → first (checkOrder l work) ≡ none
+    → Nexts l work key after buffer (foundOf r) (workAfter l work) buffer′

@@ -24,8 +24,7 @@ seenIn l = record {
   head = headOf l;
   table = tableIn l;
   alphabet = alphabetIn (headOf l) l;
-  len =
-      length l;
+  len = length l;
 }
 
 -- two images answer alike, whatever they are asked that does not write them, with counts beside
@@ -38,10 +37,10 @@ pub record SameAnswers (l m : List ℕ) : Type 0 where
       → nextKeyOf l work key after buffer ≡ nextKeyOf m work key after buffer
   pub lists : storedKeys l ≡ storedKeys m
   pub workedOut : (work counts : List ℕ) → countsOf l work counts ≡ countsOf m work counts
-  pub checksCounts : (work counts : List ℕ) → checkCountsOf l work counts
-      ≡ checkCountsOf m work counts
+  pub checksCounts : (work counts : List ℕ)
+      → checkCountsOf l work counts ≡ checkCountsOf m work counts
   pub keysAt : (work counts : List ℕ) (position : ℕ) (buffer : List ℕ)
       → keyAtOf l work counts position buffer ≡ keyAtOf m work counts position buffer
-  pub positions : (work counts : List ℕ) (given : Given) → positionOf l work counts given
-      ≡ positionOf m work counts given
+  pub positions : (work counts : List ℕ) (given : Given)
+      → positionOf l work counts given ≡ positionOf m work counts given
   pub weighed : countsIn l ≡ countsIn m

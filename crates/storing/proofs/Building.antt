@@ -23,8 +23,8 @@ space few room = record { addresses = few; room = room }
 -- ---- the new nodes
 
 -- The nodes for the letters before this depth are laid, from image l₀ on.
-pub record Laying (h : Head) (k : List ℕ) (from value : ℕ) (l₀ l : List ℕ) (depth node : ℕ) : Type
-    0 where
+pub record Laying (h : Head) (k : List ℕ) (from value : ℕ) (l₀ l : List ℕ) (depth node : ℕ)
+    : Type 0 where
   pub deep : depth ≤ length k
   pub count : node + (length k - depth) ≡ h .g + suc (length k - from)
   pub long : length l ≡ length l₀

@@ -72,5 +72,6 @@ pub record Space (h : Head) (l : List ℕ) (total : ℕ) : Type 0 where
 abbrev pub Builds : Head → List ℕ → ℕ → List ℕ → ℕ → ℕ → List ℕ → Type 0
 Builds h l q left total value l′ =
     (x : ℕ) (xs : List ℕ) → left ≡ x ∷ xs
-    → l′ ≡ carriedOut l (newNodes h (suc (h .g)) xs value
-    ++ (totalWrite total ∷ linkWrite h q x (suc (h .g)) ∷ []))
+    → l′
+    ≡ carriedOut l
+    (newNodes h (suc (h .g)) xs value ++ (totalWrite total ∷ linkWrite h q x (suc (h .g)) ∷ []))

@@ -24,8 +24,7 @@ pub cleared-start : {from : ℕ} {list₀ : List ℕ} → Cleared from from list
 cleared-start = record {
   long = refl;
   within = λ q a b. absurd (omega arith);
-  before =
-      λ q a. refl;
+  before = λ q a. refl;
   behind = λ q a. refl;
 }
 

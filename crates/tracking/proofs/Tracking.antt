@@ -109,8 +109,7 @@ module _ {l : List ℕ} {h : Head} {key : Key} {o : Walked} {value new : ℕ}
           accepted = x .accepted;
           fit = record {
             allowed = rw (x .same) at (x .allowed);
-            below =
-                rw (x .same) at (x .ready .letters);
+            below = rw (x .same) at (x .ready .letters);
           };
           value-fits = p .fits;
           addresses = p .addresses;

@@ -64,8 +64,9 @@ pub record CountsFit (t : Table) (k : List ℕ) (gain loss : ℕ) (list : List �
 -- and they have been; the other numbers are what they were
 pub record Shifted (t : Table) (k : List ℕ) (gain loss : ℕ) (list list′ : List ℕ) : Type 0 where
   pub long : length list′ ≡ length list
-  pub each : (q : ℕ) → getD list′ q 0 + cond (passes t q 0 k) loss 0 ≡ getD list q 0
-      + cond (passes t q 0 k) gain 0
+  pub each : (q : ℕ)
+      → getD list′ q 0 + cond (passes t q 0 k) loss 0
+      ≡ getD list q 0 + cond (passes t q 0 k) gain 0
 
 -- the numbers from one place up to another are 0; the other numbers are what they were
 pub record Cleared (from to : ℕ) (list list′ : List ℕ) : Type 0 where

@@ -107,8 +107,8 @@ pub record Climbing (h : Head) (l path₀ nodes₀ : List ℕ) (end first : ℕ)
   pub deeper : 0 < x → depth < h .max
 
 -- Nothing lies below the path's end, and the path up to there is what it was.
-pub record Nothing (h : Head) (l path nodes : List ℕ) (depth x : ℕ) (path₁ nodes₁ : List ℕ) : Type
-    0 where
+pub record Nothing (h : Head) (l path nodes : List ℕ) (depth x : ℕ) (path₁ nodes₁ : List ℕ)
+    : Type 0 where
   pub missing : firstOf (ahead h l path depth (getD nodes depth 0) x) ≡ none
   pub kept : PathKept depth path nodes path₁ nodes₁
   pub letters : length path₁ ≡ length path
@@ -129,8 +129,7 @@ module _ {h : Head} {l path nodes : List ℕ} {depth x : ℕ} {path₂ nodes₂ 
         missing = was-missing h l told f;
         kept = kept;
         letters = letters;
-        ends =
-            ends;
+        ends = ends;
       })
 
   pub climb-no-keys : {r : Bool} → KeysBelow h (tableOf h l) (getD nodes depth 0) depth r
@@ -156,8 +155,7 @@ climbing-start first deep deeper room along =
       along = along;
       letters = refl;
       ends = refl;
-      same =
-          refl;
+      same = refl;
       deeper = deeper;
     }
 

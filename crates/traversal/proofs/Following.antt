@@ -47,8 +47,7 @@ module _ {h : Head} {l k path₀ nodes₀ path nodes : List ℕ} {q depth : ℕ}
     short = f .short;
     letters = f .same;
     along = f .along;
-    stops =
-        λ low. absurd (omega arith);
+    stops = λ low. absurd (omega arith);
   }
 
   -- x is the letter at hand, and c its link
@@ -62,8 +61,7 @@ module _ {h : Head} {l k path₀ nodes₀ path nodes : List ℕ} {q depth : ℕ}
           short = f .short;
           letters = f .same;
           along = f .along;
-          stops =
-              λ low. rw letter (sym met ∙ empty);
+          stops = λ low. rw letter (sym met ∙ empty);
         }
 
     pub following-on : depth < length k → length k ≤ h .max → LettersBelow (h .n) k → c ≢ 0

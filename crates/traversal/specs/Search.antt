@@ -22,8 +22,8 @@ pub record PathRoom (h : Head) (path nodes : List ℕ) : Type 0 where
 -- the first `depth` letters of the path lead from the root to the nodes that stand beside them
 pub record Along (h : Head) (l : List ℕ) (depth : ℕ) (path nodes : List ℕ) : Type 0 where
   pub letters : LettersBelow (h .n) (take depth path)
-  pub ends : (j : ℕ) → j ≤ depth → descend (tableOf h l) 0 (take j path)
-      ≡ complete (getD nodes j 0)
+  pub ends : (j : ℕ) → j ≤ depth
+      → descend (tableOf h l) 0 (take j path) ≡ complete (getD nodes j 0)
 
 -- the path is that of a key
 pub record Reached (h : Head) (l k path nodes : List ℕ) : Type 0 where

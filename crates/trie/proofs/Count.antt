@@ -113,8 +113,7 @@ turned a = record {
   to = a .from;
   low = a .low;
   high = a .high;
-  others =
-      λ m e. sym (a .others m e);
+  others = λ m e. sym (a .others m e);
 }
 
 -- a key that is listed stays listed, but perhaps for k

@@ -143,8 +143,7 @@ module _ (t : Table) (n : ℕ) where
         reaches = descend-nil t q;
         full = full;
         long = low;
-        deep =
-            omega arith;
+        deep = omega arith;
         letters = tt;
       })
 

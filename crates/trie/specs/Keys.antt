@@ -32,8 +32,8 @@ unfoldable pub keysUnder : Table → ℕ → ℕ → ℕ → ℕ → List (List 
 unfolding ownKey byLetter follow
 keysUnder t n short zero q = ownKey t short q
 keysUnder t n short (suc left) q =
-    ownKey t short q ++ byLetter
-    (λ i. follow (t .child q i) [] (λ c. keysUnder t n (pred short) left c)) 0 n
+    ownKey t short q
+    ++ byLetter (λ i. follow (t .child q i) [] (λ c. keysUnder t n (pred short) left c)) 0 n
 
 -- the listing: the stored keys of a table with n letters, for keys of least to most letters
 abbrev pub listing : Table → ℕ → ℕ → ℕ → List (List ℕ)

@@ -108,8 +108,7 @@ walking-start g t k = record {
   same = refl;
   faults = refl;
   descents = refl;
-  within =
-      omega arith;
+  within = omega arith;
   deep = omega arith;
 }
 

@@ -24,7 +24,8 @@ onTo p c = record { node = c; depth = p .depth + 1 }
 -- one letter, in a table whose greatest address is g
 unfoldable pub stepOf : ℕ → Table → Position → ℕ → Step
 unfolding follow badLink
-stepOf g t p x = follow (t .child (p .node) x) Step.Empty
+stepOf g t p x =
+    follow (t .child (p .node) x) Step.Empty
     (λ c. cond (badLink g (p .node) c) (Step.Bad (p .node)) (Step.At (onTo p c)))
 
 -- The walk behind a step: it goes on from the next position, it stops at this one, or it ends with

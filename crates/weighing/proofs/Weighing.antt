@@ -98,8 +98,8 @@ module _ (h : Head) (l : List ℕ) where
 
 -- before letter i the sum holds the node's own key and those by the letters below i, and each
 -- count what the links of these letters add
-pub record Weighing (h : Head) (l : List ℕ) (p depth : ℕ) (list list′ : List ℕ) (sum i : ℕ) : Type
-    0 where
+pub record Weighing (h : Head) (l : List ℕ) (p depth : ℕ) (list list′ : List ℕ) (sum i : ℕ)
+    : Type 0 where
   pub summed : sum + left h (tableOf h l) p depth i ≡ under h l p depth
   pub long : length list′ ≡ length list
   pub added : (q : ℕ) → getD list′ q 0 + later h l p depth q i ≡ getD list q 0
@@ -161,15 +161,15 @@ module _ {h : Head} {l : List ℕ} {p depth : ℕ} {list list′ : List ℕ} {su
 
 -- ---- a link that is not empty
 
-pub record Onto (h : Head) (l : List ℕ) (p depth : ℕ) (list list′ : List ℕ) (sum i c : ℕ) : Type 0
-  where
-    pub so-far : Weighing h l p depth list list′ sum i
-    pub fits : SumsFit h l p depth list
-    pub deep : depth < h .max
-    pub low : i < h .n
-    pub link : c ≡ tableOf h l .child p i
-    pub full : c ≢ 0
-    pub room : c < length list′
+pub record Onto (h : Head) (l : List ℕ) (p depth : ℕ) (list list′ : List ℕ) (sum i c : ℕ)
+    : Type 0 where
+  pub so-far : Weighing h l p depth list list′ sum i
+  pub fits : SumsFit h l p depth list
+  pub deep : depth < h .max
+  pub low : i < h .n
+  pub link : c ≡ tableOf h l .child p i
+  pub full : c ≢ 0
+  pub room : c < length list′
 
 module _ {h : Head} {l : List ℕ} {p depth : ℕ} {list list′ : List ℕ} {sum i c : ℕ}
     (o : Onto h l p depth list list′ sum i c) where

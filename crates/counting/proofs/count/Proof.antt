@@ -67,8 +67,7 @@ counted-requires c κs =
         (
           record {
             links = c .mask .ensures;
-            values =
-                own .before .before .greatest .ensures;
+            values = own .before .before .greatest .ensures;
           },
           (
             omega arith,

@@ -77,8 +77,7 @@ loop-holds c =
       record {
         letters = search needs;
         ends = search needs;
-        key =
-            record { deep = omega arith; along = started .start .ensures .1 _ };
+        key = record { deep = omega arith; along = started .start .ensures .1 _ };
       },
     )
 

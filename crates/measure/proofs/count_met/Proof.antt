@@ -28,8 +28,7 @@ loop-holds c =
     meeting-start (record {
       letters = search needs;
       ends = search needs;
-      key =
-          record { deep = omega arith; along = c .before .start .ensures .1 _ };
+      key = record { deep = omega arith; along = c .before .start .ensures .1 _ };
     })
 
 slice-aggregate-onward : tie.Need-slice-aggregate-onward Inv-loop μ-loop

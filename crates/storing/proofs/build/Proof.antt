@@ -91,8 +91,7 @@ set-link-requires c κs =
     let p = start .pre in (
       record {
         head-permitted = p .0 .head-permitted;
-        room =
-            omega (arith, long wrote, p .0 .room);
+        room = omega (arith, long wrote, p .0 .room);
       },
       (
         p .1 .1 .0 .node,

@@ -80,8 +80,7 @@ weighed-requires c κs =
         (
           record {
             links = c .before .mask .ensures;
-            values =
-                own .before .before .greatest .ensures;
+            values = own .before .before .greatest .ensures;
           },
           (
             omega arith,
