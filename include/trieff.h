@@ -1,63 +1,101 @@
 /* TRIEFF 0.6.0 images over lent memory: make, check, count, look up, store, mend, list, jump by
    position. Link with libtrieff.a, which `rt staticlib trieff` builds.
 
-   What is lent. Every slice is a pointer and the number of its elements: bytes, but 32-bit numbers
-   for `work` and `counts`. The list of a store's writes is a pointer alone, to exactly
-   TRIEFF_WRITES_LEN 32-bit numbers. A slice is lent for the call alone: the library keeps no
-   pointer, has no variables, allocates nothing and never stops the program. It calls memcpy and
-   memset, and nothing else. It does not trust what the slices hold: any bytes, key, text and value
-   may be handed over, and each has its answer. What C cannot check is the caller's part:
-   - A pointer is not NULL, also where the length is 0, and that many elements are really there.
+   What is lent
+   ------------
+   The caller lends memory: a pointer and a length, for the time of the call. Such a piece of
+   memory is called a slice here. Its length counts elements: 32-bit numbers in `work` and
+   `counts`, bytes in all others. The list of writes is lent as a pointer alone, to exactly
+   TRIEFF_WRITES_LEN 32-bit numbers.
+
+   The library keeps no pointer, has no variables, allocates nothing and never stops the program.
+   It calls memcpy and memset, and nothing else. It does not trust what the slices hold: any bytes,
+   any key, any text and any value may be passed, and each has its answer.
+
+   C cannot check the following. It is the caller's part:
+   - No pointer is NULL, also where the length is 0. As many elements are there as the length says.
    - `work`, `counts` and `writes` are aligned as uint32_t is, as every array of uint32_t is.
    - A slice that a call may write to overlaps no other slice of that call. So `work` and `counts`
      are two lists.
    - Nobody else changes a lent slice during the call.
    - `after` is false or true.
-   Calls that share no slice that is written to may run at the same time. As measured
-   (examples/stack.c), a call takes at most 2,304 bytes of stack, but count 16 KiB, and next_key
-   and each call with counts 32 KiB, since they go down 64 levels.
 
-   What is answered. Each call answers the first refusal that applies, in the order that stands with it, else TRIEFF_DONE. A refused call
-   changes nothing but the working numbers. A call that is done changes only what it is said to write.
+   Calls may run at the same time if they share no slice that one of them writes to.
 
-   Working numbers. Every call but make and the lookups needs one for each node in use, G+1, and
-   the answer does not depend on what they held. Once TRIEFF_TOO_FEW_NUMBERS is passed, where the
-   call's order first names it, the first G+1 of them are 0 when the call returns, with the G of
-   entry, whatever the answer, also where mend lowers G; the rest keep what they held. Before that
-   all keep what they held.
+   As measured by examples/stack.c, a call takes at most 2,304 bytes of stack. The calls that
+   search below a node by recursion, up to TRIEFF_KEY_MOST levels deep, take more: count at most
+   16 KiB, next_key and each call with counts at most 32 KiB.
 
-   The image. Seven big-endian 32-bit fields G, N, A, D, F, min, max, then F bytes of alphabet, then the nodes 0 to G of W = N*A + D bytes:
-   N links of A bytes, then D bytes of data. The used length is U = 28 + F + (G+1)*W; bytes from U on are spare and are never judged.
+   What is answered
+   ----------------
+   The comment of each call has a line `Refusals:`, which gives an order of numbers. The call
+   answers the first refusal in this order that applies, else TRIEFF_DONE. A refused call changes
+   nothing but the working numbers. A call that is done changes only the working numbers and what
+   its comment says after `Done:`.
 
-   A cut between two writes. An image that must outlive a power cut is kept twice: in memory, and in a file, flash or other store that keeps
-   it. Read it into memory at the start and mend it; if that changed its first four bytes, write them back. Store by store_writes or
-   store_text_writes, and write what they list into the kept image: one write after the other, in the list's order, each flushed before the
-   next is begun. examples/bench_file.c does all of this. It rests on what the keeper must promise:
-   - The writes before the cut landed whole, and none after the one that was hit was begun.
-   - A write of G, of a link or of a data field lands whole or not at all. They are 1 to 4 bytes long and stand where the image's numbers put
-     them, so they may lie across the end of a sector; they do not where A and D are 1, 2 or 4 and both divide 28 + F, N*A and W.
-   - A write of a node goes to spare bytes. Any of its bytes may have landed and the others not.
+   Working numbers
+   ---------------
+   Every call but make and the lookups needs G+1 working numbers, one for each node in use. No
+   answer depends on what they held. If the call stops at TRIEFF_TOO_FEW_NUMBERS, where its order
+   first names it, or before that, all working numbers keep what they held. Otherwise the first G+1
+   of them are 0 when the call returns, whatever the answer. G is the one at entry, also where a
+   store raises it or mend lowers it. The rest keep what they held.
+
+   The image
+   ---------
+   An image is seven big-endian 32-bit fields G, N, A, D, F, min, max, then F bytes of alphabet,
+   then the nodes 0 to G. Node 0 is the root. A node takes W = N*A + D bytes: N links of A bytes,
+   then D bytes of data. Keys have min to max letters. The used length is U = 28 + F + (G+1)*W. The
+   bytes from U on are spare and are never judged.
+
+   A cut between two writes
+   ------------------------
+   An image that must survive a power cut is kept twice: in memory, and in a file, in flash or on
+   another device. The second one is called the kept image here.
+   - At the start, read the kept image into memory and mend it. If mend changed its first four
+     bytes, write them back to the kept image.
+   - Store by trieff_store_writes or trieff_store_text_writes. Then carry out the list of writes on
+     the kept image: one write after the other, in the order of the list. Flush each write before
+     the next one begins.
+
+   examples/bench_file.c does all of this. The device must promise:
+   - The writes before the cut landed whole. No write after the one that was hit was begun.
+   - A write of G, of a link or of a data field lands whole or not at all. These fields are 1 to 4
+     bytes long. The head decides where they stand, so one may lie across the end of a sector. None
+     does if the image begins at the start of a sector, A and D are 1, 2 or 4, and both divide
+     28 + F, N*A and W.
+   - A write of a node goes to spare bytes. Any of its bytes may have landed, and the others not.
    - No byte changes that was not written.
-   Then, wherever the cut was, mending answers TRIEFF_DONE, and every answer is the one from before
-   the store or every answer is the one from after it: after, exactly if the last write of the list
-   landed. A key is never half stored, and no other key is touched.
 
-   Positions and counts. The position of a stored key is its place in the listing, from 0: the
-   first key has position 0, the next key after it 1. To jump by position, lend a list of counts
-   beside the image. counts[i] is the number of stored keys at or under node i: those whose path
-   from the root passes that node. So counts[0] is the number of stored keys, and a node that leads
-   to no stored key has 0. The list has one 32-bit number for each node. Lend enough for the
-   greatest G that the image can reach: `static uint32_t counts[nodes]` for an image of
-   TRIEFF_LENGTH(nodes, ..) bytes. Counts after counts[G] are never read. How firmware keeps them:
-   - Work them out once by trieff_counts, after the start or after mend. Then hand the same list to
-     every call with counts.
-   - trieff_store_counts and trieff_store_text_counts keep them right.
-   - No other call that changes the image does. After a listed store (trieff_store_writes,
-     trieff_store_text_writes), carry its writes out, then work the counts out afresh. Do the same
-     after trieff_store, trieff_store_text, trieff_mend and trieff_make.
-   - They are not part of the image, and need not be kept through a power cut.
-   Every call with counts but trieff_counts first compares them with fresh ones. If one differs, it
-   answers TRIEFF_COUNTS_DIFFER. Then work them out afresh, and call again. */
+   Then, wherever the cut was, mending with enough working numbers answers TRIEFF_DONE. After that,
+   all answers are those from before the store, or all answers are those from after it. They are
+   those from after it exactly if the last write of the list landed. A key is never half stored,
+   and no other key is touched.
+
+   Positions and counts
+   --------------------
+   The position of a stored key says where it stands in the listing, from 0: the first key has
+   position 0, the next key after it has position 1.
+
+   To jump by position, lend a list of counts beside the image. It has one 32-bit number for each
+   node: counts[i] is the number of stored keys at or under node i, which are those whose path from
+   the root passes that node. So counts[0] is the number of stored keys, and a node that leads to
+   no stored key has the count 0. Lend enough counts for the greatest G that the image can reach:
+   `static uint32_t counts[nodes]` for an image of TRIEFF_LENGTH(nodes, ..) bytes. Counts after
+   counts[G] are never read.
+
+   How firmware keeps the counts:
+   - Call trieff_counts once, after the start or after mend. It works the counts out. Then lend the
+     same list to every call with counts.
+   - trieff_store_counts and trieff_store_text_counts keep the counts right.
+   - No other call that changes the image does. After a store with writes (trieff_store_writes,
+     trieff_store_text_writes), carry out its writes, then work the counts out afresh. Work them
+     out afresh after trieff_store, trieff_store_text, trieff_mend and trieff_make too.
+   - The counts are not part of the image, and need not be kept through a power cut.
+
+   Every call with counts but trieff_counts compares them with fresh ones, once the image has
+   passed the check. If one differs, the answer is TRIEFF_COUNTS_DIFFER. Then work the counts out
+   afresh and call again. */
 #ifndef TRIEFF_H
 #define TRIEFF_H
 
@@ -69,167 +107,232 @@
 extern "C" {
 #endif
 
-/* The limits of an image's length, and the greatest number of links in a node, of bytes in a link, of bytes of data, of bytes of alphabet
-   and of letters in a key. */
+/* The limits of an image's length in bytes. The least is the length of the seven fields. */
 #define TRIEFF_IMAGE_LEAST 28
 #define TRIEFF_IMAGE_MOST 16777216
+
+/* The most links in a node (N). */
 #define TRIEFF_N_MOST 256
+/* The most bytes in a link (A). */
 #define TRIEFF_A_MOST 4
+/* The most bytes of data in a node (D). */
 #define TRIEFF_D_MOST 4
+/* The most bytes of alphabet (F). */
 #define TRIEFF_F_MOST 1024
+/* The most letters in a key (the limit of max). */
 #define TRIEFF_KEY_MOST 64
 
-/* The most writes that a store lists, 64 new nodes, G and a link, and the numbers of their list, two for each. */
+/* The most writes of one store: TRIEFF_KEY_MOST new nodes, G and a link. */
 #define TRIEFF_WRITES_MOST 66
+/* The numbers that are lent for a list of writes: two for each write. */
 #define TRIEFF_WRITES_LEN 132
 
-/* The used length of an image of so many nodes, for static memory:
+/* The used length of an image with a number of nodes, for static memory:
    `static uint8_t image[TRIEFF_LENGTH(nodes, n, a, d, f)]`. Then `static uint32_t work[nodes]` and
-   `static uint32_t counts[nodes]` are enough as long as the image in it was made with these
+   `static uint32_t counts[nodes]` are enough, as long as the image in it was made with these
    numbers. */
-#define TRIEFF_LENGTH(nodes, n, a, d, f) ((size_t)28 + (size_t)(f) + (size_t)(nodes) * ((size_t)(n) * (size_t)(a) + (size_t)(d)))
+#define TRIEFF_LENGTH(nodes, n, a, d, f)         \
+    ((size_t)TRIEFF_IMAGE_LEAST + (size_t)(f) +  \
+     (size_t)(nodes) * ((size_t)(n) * (size_t)(a) + (size_t)(d)))
 
-/* What the bench may hear. The place is 0 where none is named. */
+/* The number of an answer. The place is 0 where the comment names none. */
 enum trieff_number {
+    /* Done. */
     TRIEFF_DONE = 0,
-    TRIEFF_IMAGE_LENGTH = 1,     /* image shorter than 28 or longer than 16,777,216 bytes */
-    TRIEFF_HEAD_FIELD = 2,       /* a head field outside its limits: N 1..256, A 1..4, D 1..4, F 0..1024, min 0..max, max 0..64 */
-    TRIEFF_ALPHABET = 3,         /* the F bytes, F above 0, are not N different well-formed UTF-8 characters */
-    TRIEFF_IMAGE_ROOM = 4,       /* U exceeds the image's length */
-    TRIEFF_TOO_FEW_NUMBERS = 5,  /* fewer than G+1 working numbers or counts lent; after 13, fewer
-                                    counts than the nodes with the new ones */
-    TRIEFF_LINK = 6,             /* a link is above G, or not above the node that holds it; place: the lowest node that holds one */
-    TRIEFF_LINKED_TWICE = 7,     /* an address stands in two links or more; place: the lowest such address */
-    TRIEFF_NOT_LINKED = 8,       /* an address in 1..G stands in no link; place: the lowest such address */
-    TRIEFF_KEY_LENGTH = 9,       /* key length outside min..max, in letters */
-    TRIEFF_LETTER = 10,          /* a letter number is N or more; or the text is not well-formed or has a character outside the alphabet */
-    TRIEFF_VALUE_TOO_GREAT = 11, /* value above 256^D - 1 */
-    TRIEFF_NO_ADDRESS = 12,      /* new nodes are wanted and G with them would exceed 256^A - 1 */
-    TRIEFF_NO_ROOM = 13,         /* new nodes are wanted and U with them would exceed the image's length */
-    TRIEFF_SHORT_BUFFER = 14,    /* key buffer shorter than max */
-    TRIEFF_NO_KEY = 15,          /* no stored key meets the request */
-    TRIEFF_COUNTS_DIFFER = 25    /* a count is not the fresh one; place: the lowest such node */
+    /* The image is shorter than TRIEFF_IMAGE_LEAST or longer than TRIEFF_IMAGE_MOST bytes. */
+    TRIEFF_IMAGE_LENGTH = 1,
+    /* A head field is outside its limits: N 1 to TRIEFF_N_MOST, A 1 to TRIEFF_A_MOST,
+       D 1 to TRIEFF_D_MOST, F 0 to TRIEFF_F_MOST, min 0 to max, max 0 to TRIEFF_KEY_MOST. */
+    TRIEFF_HEAD_FIELD = 2,
+    /* F is above 0, and the F bytes are not N different well-formed UTF-8 characters. It is given
+       only if all F bytes are inside the image. For make the bytes are the alphabet given. */
+    TRIEFF_ALPHABET = 3,
+    /* U exceeds the image's length. */
+    TRIEFF_IMAGE_ROOM = 4,
+    /* Fewer than G+1 working numbers, or fewer than G+1 counts, are lent. Again after 13, in a
+       store with counts: fewer than G+k+1 counts are lent, for k new nodes. */
+    TRIEFF_TOO_FEW_NUMBERS = 5,
+    /* A link that is not empty is above G, or is not above the address of the node that holds it.
+       Place: the lowest node that holds such a link; in a lookup, the node that holds the first
+       one on the key's path. */
+    TRIEFF_LINK = 6,
+    /* An address stands in two links or more. Place: the lowest such address. */
+    TRIEFF_LINKED_TWICE = 7,
+    /* An address in 1..G stands in no link. Place: the lowest such address. */
+    TRIEFF_NOT_LINKED = 8,
+    /* The key's length in letters is outside min..max. For next_key: it is above max. */
+    TRIEFF_KEY_LENGTH = 9,
+    /* A letter number is N or more. Or the text is not well-formed, or has a character outside the
+       alphabet. */
+    TRIEFF_LETTER = 10,
+    /* The value is above 256^D - 1. */
+    TRIEFF_VALUE_TOO_GREAT = 11,
+    /* New nodes are needed, and G with them would exceed 256^A - 1. */
+    TRIEFF_NO_ADDRESS = 12,
+    /* New nodes are needed, and U with them would exceed the image's length. */
+    TRIEFF_NO_ROOM = 13,
+    /* The key buffer is shorter than max. */
+    TRIEFF_SHORT_BUFFER = 14,
+    /* No stored key meets the request. */
+    TRIEFF_NO_KEY = 15,
+    /* A count differs from the fresh one. Place: the lowest such node. */
+    TRIEFF_COUNTS_DIFFER = 25
 };
 
-/* One answer for every call. What a call does not speak of is 0, and in a refusal all but number and place are 0. */
+/* The answer of every call. A field that a call does not use is 0. In a refusal all fields but
+   number and place are 0. */
 typedef struct trieff_answer {
-    uint32_t number; /* of enum trieff_number: TRIEFF_DONE, else the refusal */
-    uint32_t place;  /* the node or address that the refusal names, else 0 */
-    uint32_t length; /* next_key, key_at: how many letters were written to the key buffer;
-                        store_writes, store_text_writes: how many writes are listed */
-    int32_t change;  /* the stores: the change in the number of stored keys, -1, 0 or 1 */
-    uint64_t value;  /* look_up, next_key, key_at: the value, 0 for absent;
-                        count: the number of stored keys; position: the key's position */
+    /* A number of enum trieff_number: TRIEFF_DONE, else the refusal. */
+    uint32_t number;
+    /* The node or address that the refusal names, else 0. */
+    uint32_t place;
+    /* next_key, key_at: the number of letters written to the key buffer.
+       store_writes, store_text_writes: the number of writes in the list. */
+    uint32_t length;
+    /* Every store: the change in the number of stored keys, -1, 0 or 1. */
+    int32_t change;
+    /* look_up, look_up_text: the value, 0 for absent. next_key, key_at: the value of the key
+       found. count: the number of stored keys. position, position_text: the key's position. */
+    uint64_t value;
 } trieff_answer;
 
-/* Makes a fresh image: N links in a node, A bytes in a link, D bytes of data, keys of min to max letters. Letter i is the i-th character
-   of the alphabet, whose length in bytes is F; an alphabet of no bytes makes an image whose keys are letter numbers alone.
-   Refusals: 1, 2, 3 (of the alphabet given), 4 (the slice has no room for head, alphabet and root).
-   Done: writes head, alphabet and a zero root, 28 + F + W bytes. The spare bytes after them keep what they held. */
+/* Makes a fresh image: N links in a node, A bytes in a link, D bytes of data, keys of min to max
+   letters. Letter i is the i-th character of the alphabet, from 0. F is the length of the alphabet
+   in bytes. An alphabet of no bytes makes an image whose keys are letter numbers alone.
+   Refusals: 1, 2, 3 (for the alphabet given), 4 (the slice has no room for head, alphabet and
+   root).
+   Done: writes head, alphabet and a zero root, 28 + F + W bytes. The spare bytes after them keep
+   what they held. */
 trieff_answer trieff_make(uint8_t *image, size_t image_len, uint32_t n, uint32_t a, uint32_t d,
-                          const uint8_t *alphabet, size_t alphabet_len, uint32_t min, uint32_t max);
+                          const uint8_t *alphabet, size_t alphabet_len,
+                          uint32_t min, uint32_t max);
 
 /* Checks an image: its head, its alphabet and every link. An image that passes is accepted.
    Refusals: 1 to 8. */
-trieff_answer trieff_check(const uint8_t *image, size_t image_len, uint32_t *work, size_t work_len);
+trieff_answer trieff_check(const uint8_t *image, size_t image_len,
+                           uint32_t *work, size_t work_len);
 
 /* The number of stored keys, in `value`: keys of min to max letters whose data is not 0.
    Refusals: 1 to 8. */
-trieff_answer trieff_count(const uint8_t *image, size_t image_len, uint32_t *work, size_t work_len);
+trieff_answer trieff_count(const uint8_t *image, size_t image_len,
+                           uint32_t *work, size_t work_len);
 
-/* The value that is stored under a key, in `value`; 0 for absent. The key is letter numbers, one byte each.
-   It does not check the image, and takes time by the length of the key and the alphabet: 6 speaks only of the links on the key's path, and its
-   place is the node that holds the first bad one.
+/* The value that is stored under a key, in `value`; 0 for absent. The key is letter numbers, one
+   byte each. The call does not check the image. Its time depends on the length of the key and of
+   the alphabet, not on the number of nodes. 6 is given only for links on the key's path. Its place
+   is the node that holds the first bad one.
    Refusals: 1 to 4, 9, 10, 6. */
-trieff_answer trieff_look_up(const uint8_t *image, size_t image_len, const uint8_t *letters, size_t letters_len);
+trieff_answer trieff_look_up(const uint8_t *image, size_t image_len,
+                             const uint8_t *letters, size_t letters_len);
 
-/* The same for a key given as text in UTF-8. Its length is counted in bytes here and in characters for 9.
+/* The same as trieff_look_up, for a key given as text in UTF-8. `text_len` counts bytes; the
+   length that 9 judges counts characters.
    Refusals: 1 to 4, 10, 9, 6. */
-trieff_answer trieff_look_up_text(const uint8_t *image, size_t image_len, const uint8_t *text, size_t text_len);
+trieff_answer trieff_look_up_text(const uint8_t *image, size_t image_len,
+                                  const uint8_t *text, size_t text_len);
 
-/* Stores a value under a key, or deletes the key where the value is 0. `change` is the change in the number of stored keys: 1 for a new key,
-   -1 for one that is deleted, 0 for another value and for deleting what is not there.
-   Refusals: 1 to 8, 9, 10, 11, 12, 13. A value of 0 wants no nodes, so it never hears 12 or 13.
-   Done: where the key's path is complete, writes the D bytes of its data. Where it is not, a value of 0 changes nothing; any other writes
-   the new nodes to the spare bytes at U, then G, then the link to the first of them. */
+/* Stores a value under a key, or deletes the key if the value is 0. `change` is the change in the
+   number of stored keys: 1 for a new key, -1 for a deleted one, 0 for another value of a stored
+   key and for deleting a key that is not stored.
+   Refusals: 1 to 8, 9, 10, 11, 12, 13. A value of 0 needs no new nodes, so 12 and 13 are never
+   given for it.
+   Done: if the key's path is complete, writes the D bytes of its data. If it is not complete, a
+   value of 0 changes nothing. Any other value writes the new nodes to the spare bytes at U, then
+   G, then the link to the first new node. */
 trieff_answer trieff_store(uint8_t *image, size_t image_len, uint32_t *work, size_t work_len,
                            const uint8_t *letters, size_t letters_len, uint32_t value);
 
-/* The same for a key given as text in UTF-8.
+/* The same as trieff_store, for a key given as text in UTF-8.
    Refusals: 1 to 8, 10, 9, 11, 12, 13. */
 trieff_answer trieff_store_text(uint8_t *image, size_t image_len, uint32_t *work, size_t work_len,
                                 const uint8_t *text, size_t text_len, uint32_t value);
 
-/* As trieff_store in every refusal, number and byte, and besides it lists what it wrote: for each write its place and its length in bytes, in
-   order, from the front of `writes`. `length` says how many writes they are, 0 to TRIEFF_WRITES_MOST. The bytes of a write are those of the
-   image after the call. So write i of the list puts the bytes image[p] to image[p + n - 1] at place p, where p is writes[2*i] and n is
-   writes[2*i + 1]. All of them, in order, make the image from before the call into the image after it.
+/* A store with writes: the same as trieff_store in every refusal, in `change` and in every byte of
+   the image. It also leaves the list of its writes at the front of `writes`. `length` is the
+   number of writes, 0 to TRIEFF_WRITES_MOST. Write i begins at offset p = writes[2*i] of the image
+   and has n = writes[2*i + 1] bytes. These bytes are image[p] to image[p + n - 1], as they are
+   after the call. All writes, carried out in order, turn the image from before the call into the
+   image after it.
    Refusals: 1 to 8, 9, 10, 11, 12, 13.
-   Done: writes what trieff_store writes, and the list. Where the key's path is complete it is one write, of the data field, also if
-   the value was there already. Where it is not, a value of 0 lists nothing; any other lists the new nodes, one write each by rising address,
-   then G (place 0, 4 bytes), then the link to the first of them. The numbers after the list keep what they held, and a refusal changes none. */
-trieff_answer trieff_store_writes(uint8_t *image, size_t image_len, uint32_t *work, size_t work_len,
-                                  const uint8_t *letters, size_t letters_len, uint32_t value, uint32_t *writes);
+   Done: writes what trieff_store writes, and the list. If the key's path is complete, the list is
+   one write, of the data field, also if the value was there already. If it is not complete, the
+   list is empty for a value of 0. For any other value it is the new nodes, one write each by
+   rising address, then G (offset 0, 4 bytes), then the link to the first new node. The numbers
+   after the list keep what they held. */
+trieff_answer trieff_store_writes(uint8_t *image, size_t image_len,
+                                  uint32_t *work, size_t work_len,
+                                  const uint8_t *letters, size_t letters_len, uint32_t value,
+                                  uint32_t *writes);
 
-/* The same for a key given as text in UTF-8.
+/* The same as trieff_store_writes, for a key given as text in UTF-8.
    Refusals: 1 to 8, 10, 9, 11, 12, 13. */
-trieff_answer trieff_store_text_writes(uint8_t *image, size_t image_len, uint32_t *work, size_t work_len,
-                                       const uint8_t *text, size_t text_len, uint32_t value, uint32_t *writes);
+trieff_answer trieff_store_text_writes(uint8_t *image, size_t image_len,
+                                       uint32_t *work, size_t work_len,
+                                       const uint8_t *text, size_t text_len, uint32_t value,
+                                       uint32_t *writes);
 
-/* Mends an image after a cut: if the check answers 8 at p, and the image with G set to p - 1 is accepted, G becomes p - 1 and the answer is
-   TRIEFF_DONE. Otherwise nothing changes and the check's answer is returned: TRIEFF_DONE for an image that is accepted as it is.
-   It is fixed for every image, cut or not. What it may change is the first four bytes. Write them back to where the image is kept, as one write
-   that lands whole or not at all; if a cut comes there, the next start mends again. Until they are back, new nodes would not go to spare bytes.
-   Refusals: 1 to 8. */
+/* Mends an image after a cut. If the check answers 8 at p, and the image with G set to p - 1 is
+   accepted, G becomes p - 1 and the answer is TRIEFF_DONE. Otherwise nothing changes and the
+   check's answer is returned: TRIEFF_DONE for an image that is accepted as it is. This holds for
+   every image, cut or not.
+   Refusals: 1 to 8.
+   Done: changes the first four bytes or nothing. If they changed, write them back to the kept
+   image, as one write that lands whole or not at all, before the next store. Until then the kept
+   image still counts the nodes that were cut off, so new nodes would not go to its spare bytes. If
+   a cut comes there, the next start mends again. */
 trieff_answer trieff_mend(uint8_t *image, size_t image_len, uint32_t *work, size_t work_len);
 
-/* The first stored key at or after the key given or, where `after` is true, after it. A key comes before its extensions; otherwise the first
-   different letter number decides. The key given has 0 to max letters and need not be stored; at or after the empty key is the first.
-   Refusals: 1 to 8, 9 (only a key longer than max), 10, 14, 15.
-   Done: writes the key's letters to the front of the key buffer, their number to `length` and its value to `value`. The rest of the buffer
-   keeps what it held. `letters` and `key` are two buffers: to go on from the key found, copy it. */
-trieff_answer trieff_next_key(const uint8_t *image, size_t image_len, uint32_t *work, size_t work_len,
+/* The first stored key at or after the key given or, if `after` is true, after it. A key comes
+   before its extensions; otherwise the first different letter number decides. The key given has 0
+   to max letters and need not be stored. The first stored key of all is the one at or after the
+   empty key.
+   Refusals: 1 to 8, 9 (only for a key longer than max), 10, 14, 15.
+   Done: writes the letters of the key found to the front of the key buffer, their number to
+   `length` and the key's value to `value`. The rest of the buffer keeps what it held. `letters`
+   and `key` are two buffers: to go on from the key found, copy it. */
+trieff_answer trieff_next_key(const uint8_t *image, size_t image_len,
+                              uint32_t *work, size_t work_len,
                               const uint8_t *letters, size_t letters_len, bool after,
                               uint8_t *key, size_t key_len);
 
-/* Works the counts out afresh. What they held does not matter, so it never gives 25.
-   Refusals: 1 to 8, with 5 also where fewer than G+1 counts are lent.
+/* Works the counts out afresh. What the list held does not matter, so 25 is never given.
+   Refusals: 1 to 8 (5 for either list).
    Done: writes counts[0] to counts[G]. The rest of the list keeps what it held. */
 trieff_answer trieff_counts(const uint8_t *image, size_t image_len,
                             uint32_t *work, size_t work_len,
                             uint32_t *counts, size_t counts_len);
 
-/* Checks an image and its counts: each of counts[0] to counts[G] is the fresh one.
+/* Checks an image and its counts: each of counts[0] to counts[G] must be the fresh one.
    Refusals: 1 to 8 (5 for either list), 25. */
 trieff_answer trieff_check_counts(const uint8_t *image, size_t image_len,
                                   uint32_t *work, size_t work_len,
                                   const uint32_t *counts, size_t counts_len);
 
-/* Stores a value under a key, or deletes the key where the value is 0, and keeps the counts right.
-   `change` and every byte of the image are as trieff_store leaves them.
-   Refusals: 1 to 8 (5 for either list), 25, 9, 10, 11, 12, 13, then 5 again where fewer than G+k+1
-   counts are lent for the k nodes that are missing on the key's path. A value of 0 wants no nodes,
-   so it never hears 12, 13 or the second 5.
-   Done: writes what trieff_store writes. counts[0] to counts[G], with the new G, are those of the
-   new image: only those on the key's path change, and those of the new nodes. The rest of the list
-   keeps what it held. */
+/* A store with counts: stores a value under a key, or deletes the key if the value is 0, and keeps
+   the counts right. `change` and every byte of the image are as trieff_store leaves them.
+   Refusals: 1 to 8 (5 for either list), 25, 9, 10, 11, 12, 13, then 5 again if fewer than G+k+1
+   counts are lent. Here k is the number of nodes that are missing on the key's path. A value of 0
+   needs no new nodes, so 12, 13 and the second 5 are never given for it.
+   Done: writes what trieff_store writes, and the counts. counts[0] to counts[G], with the new G,
+   are then those of the new image. Only the counts on the key's path and those of the new nodes
+   change. The rest of the list keeps what it held. */
 trieff_answer trieff_store_counts(uint8_t *image, size_t image_len,
                                   uint32_t *work, size_t work_len,
                                   const uint8_t *letters, size_t letters_len, uint32_t value,
                                   uint32_t *counts, size_t counts_len);
 
-/* The same for a key given as text in UTF-8.
+/* The same as trieff_store_counts, for a key given as text in UTF-8.
    Refusals: 1 to 8 (5 for either list), 25, 10, 9, 11, 12, 13, then 5 again. */
 trieff_answer trieff_store_text_counts(uint8_t *image, size_t image_len,
                                        uint32_t *work, size_t work_len,
                                        const uint8_t *text, size_t text_len, uint32_t value,
                                        uint32_t *counts, size_t counts_len);
 
-/* The stored key at a position: the first stored key moved on by so many steps of next key.
+/* The stored key at a position: the first stored key moved on by `position` steps of next key.
    Refusals: 1 to 8 (5 for either list), 25, 14, 15 (`position` is the number of stored keys or
    more).
-   Done: writes the key's letters to the front of the key buffer, their number to `length` and its
-   value to `value`. The rest of the buffer keeps what it held. */
+   Done: writes the key's letters to the front of the key buffer, their number to `length` and the
+   key's value to `value`. The rest of the buffer keeps what it held. */
 trieff_answer trieff_key_at(const uint8_t *image, size_t image_len,
                             uint32_t *work, size_t work_len,
                             const uint32_t *counts, size_t counts_len, uint64_t position,
@@ -242,8 +345,8 @@ trieff_answer trieff_position(const uint8_t *image, size_t image_len,
                               const uint32_t *counts, size_t counts_len,
                               const uint8_t *letters, size_t letters_len);
 
-/* The same for a key given as text in UTF-8.
-   Refusals: 1 to 8 (5 for either list), 25, 10, 9, 15. */
+/* The same as trieff_position, for a key given as text in UTF-8.
+   Refusals: 1 to 8 (5 for either list), 25, 10, 9, 15 (the key is not stored). */
 trieff_answer trieff_position_text(const uint8_t *image, size_t image_len,
                                    uint32_t *work, size_t work_len,
                                    const uint32_t *counts, size_t counts_len,
