@@ -149,8 +149,8 @@ enum trieff_number {
     TRIEFF_ALPHABET = 3,
     /* U exceeds the image's length. */
     TRIEFF_IMAGE_ROOM = 4,
-    /* Fewer than G+1 working numbers, or fewer than G+1 counts, are lent. Again after 13, in a
-       store with counts: fewer than G+k+1 counts are lent, for k new nodes. */
+    /* Fewer than G+1 working numbers, or fewer than G+1 counts, are lent. A store with counts also
+       gives it after 13: if fewer than G+k+1 counts are lent, for k new nodes. */
     TRIEFF_TOO_FEW_NUMBERS = 5,
     /* A link that is not empty is above G, or is not above the address of the node that holds it.
        Place: the lowest node that holds such a link; in a lookup, the node that holds the first
@@ -271,10 +271,10 @@ trieff_answer trieff_store_text_writes(uint8_t *image, size_t image_len,
                                        const uint8_t *text, size_t text_len, uint32_t value,
                                        uint32_t *writes);
 
-/* Mends an image after a cut. If the check answers 8 at p, and the image with G set to p - 1 is
-   accepted, G becomes p - 1 and the answer is TRIEFF_DONE. Otherwise nothing changes and the
-   check's answer is returned: TRIEFF_DONE for an image that is accepted as it is. This holds for
-   every image, cut or not.
+/* Mends an image after a cut. If the check answers 8 at p, and the image with G set to p-1 is
+   accepted, G becomes p-1 and the answer is TRIEFF_DONE. Otherwise nothing changes and the check's
+   answer is returned: TRIEFF_DONE for an image that is accepted as it is. This holds for every
+   image, cut or not.
    Refusals: 1 to 8.
    Done: changes the first four bytes or nothing. If they changed, write them back to the kept
    image, as one write that lands whole or not at all, before the next store. Until then the kept

@@ -1,5 +1,5 @@
-//! Links `libtrieff.a`, which `rt staticlib trieff` builds: from the folder that the environment variable TRIEFF_LIB names, else from
-//! `target/staticlib` of the repository.
+//! Links `libtrieff.a`, which `rt staticlib trieff` builds. It is taken from the folder that the
+//! environment variable TRIEFF_LIB names, else from `target/staticlib` of the repository.
 
 use std::env;
 use std::path::PathBuf;
@@ -13,7 +13,7 @@ fn main() {
             PathBuf::from(env::var_os("CARGO_MANIFEST_DIR").unwrap()).join("../target/staticlib")
         }
     };
-    // cargo runs this in the crate's folder, so a relative path would not mean what the caller meant
+    // cargo runs this in the crate's folder, so a relative path would lead elsewhere
     if !folder.is_absolute() {
         refuse(&format!("TRIEFF_LIB is {}: give the whole path", folder.display()));
     }

@@ -1,6 +1,7 @@
-//! What a bench's firmware does with the library, in short: labels stored, found, listed and
-//! deleted, what it hears when a worker or the memory goes wrong, an image mended after a cut, and
-//! a label found by its position. examples/bench.txt holds what it must print.
+//! What a bench's firmware does with the library, in short. It stores, finds, lists and deletes
+//! labels. It meets refusals: wrong labels, too little memory, a damaged image. It mends an image
+//! after a cut, and finds a label by its position. rust/examples/bench.txt holds what it must
+//! print.
 //!
 //! ```sh
 //! cargo run --manifest-path rust/Cargo.toml --example bench
@@ -14,11 +15,13 @@ use trieff::{
 const ALPHABET: &[u8] = b"0123456789ABCDE-";
 const SHAPE: Shape = Shape { n: 16, a: 2, d: 4, min: 1, max: 12 };
 const NODES: usize = 30;
-/// A season's labels, in an image of the same numbers but A = 3; lent with room for more nodes.
+/// A season's labels, in an image made with the same numbers but A = 3. `jump` adds room for more
+/// nodes.
 const SEASON: &[u8] = include_bytes!("../../samples/season.trieff");
 const SEASON_NODES: usize = 700;
 
-/// What the bench does after a refusal. The match names them all, so that a new one has to be thought of here.
+/// What the bench does after a refusal. The match names all refusals, so the program does not
+/// compile until a new one has its line here.
 fn advice(refusal: Refusal) -> &'static str {
     match refusal {
         Refusal::KeyLength | Refusal::Letter | Refusal::ValueTooGreat => "tap again",
@@ -47,7 +50,8 @@ fn label(letters: &[u8]) -> String {
     letters.iter().map(|&letter| ALPHABET[letter as usize] as char).collect()
 }
 
-/// Every label in order: the first at or after the empty key, then each after the one before.
+/// Every label in order: first the one at or after the empty key, then always the one after the
+/// last.
 fn list(image: &[u8], work: &mut [u32]) -> Result<(), Refusal> {
     println!("labels: {}", count(image, work)?);
     let mut last = [0; 12];
@@ -64,7 +68,8 @@ fn list(image: &[u8], work: &mut [u32]) -> Result<(), Refusal> {
     }
 }
 
-/// A label is stored in memory and put write by write into the copy that is kept; the power goes before write `cut`.
+/// Stores a label in memory and carries out the first `cut` writes on the kept image. Then the
+/// power is cut.
 fn cut_off(image: &[u8], label: &str, record: u32, cut: usize) -> Result<(), Refusal> {
     let (mut memory, mut kept) = (image.to_vec(), image.to_vec());
     let mut work = [0; NODES];
@@ -80,8 +85,8 @@ fn cut_off(image: &[u8], label: &str, record: u32, cut: usize) -> Result<(), Ref
     Ok(())
 }
 
-/// A season of labels by position. The counts are worked out once, and a store with counts keeps
-/// them right. A store without them does not, and then they are worked out afresh.
+/// Finds labels of a season by position. The counts are worked out once, and a store with counts
+/// keeps them right. A store without counts does not, so they are worked out afresh after it.
 fn jump() -> Result<(), Refusal> {
     let mut image = SEASON.to_vec();
     image.resize(Shape { a: 3, ..SHAPE }.length(SEASON_NODES, ALPHABET.len()), 0);

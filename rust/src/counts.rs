@@ -2,19 +2,18 @@ use crate::raw;
 use crate::{found, heard, Found, Refusal};
 
 /// The counts beside an image, in a list of numbers that is lent: for each node the number of
-/// stored keys at or under it. From them a key is found by its position, and its position by the
-/// key.
+/// stored keys at or under it. They lead from a position to a key, and from a key to its position.
 ///
 /// The list has one 32-bit number for each node. Lend enough for the greatest G that the image can
-/// reach: as many as the nodes given to [`Shape::length`](crate::Shape::length). The counts after
+/// reach: as many as the nodes passed to [`Shape::length`](crate::Shape::length). The counts after
 /// the first G+1 are never read.
 ///
 /// What the list holds at first does not matter: call [`work_out`](Counts::work_out) once, after
-/// the start or after [`mend`](crate::mend). Every other call with counts first compares them with
-/// fresh ones, so wrong counts are never used: the answer is [`Refusal::CountsDiffer`] at the
-/// lowest node whose count differs. The stores here keep the counts right. The functions of the
-/// crate's root do not know them: after one of them has changed the image, also a listed store,
-/// work the counts out afresh.
+/// the start or after [`mend`](crate::mend). Every other call with counts compares them with fresh
+/// ones, once the image has passed the check. So wrong counts are never used: the answer is
+/// [`Refusal::CountsDiffer`] at the lowest node whose count differs. The stores here keep the
+/// counts right. The functions of the crate's root do not change the counts. After one of them has
+/// changed the image, a store with writes too, work the counts out afresh.
 ///
 /// ```
 /// use trieff::{make, store, Counts, Refusal, Shape};
@@ -26,7 +25,7 @@ use crate::{found, heard, Found, Refusal};
 /// counts.store(&mut image, &mut work, &[1, 0], 9)?;
 /// assert_eq!(counts.numbers(), [1, 1, 1]);
 ///
-/// store(&mut image, &mut work, &[1], 5)?; // by a call that does not know the counts
+/// store(&mut image, &mut work, &[1], 5)?; // a store that does not change the counts
 /// assert_eq!(counts.position(&image, &mut work, &[1, 0]), Err(Refusal::CountsDiffer(0)));
 /// counts.work_out(&image, &mut work)?;
 /// assert_eq!(counts.numbers(), [2, 2, 1]);
@@ -39,8 +38,8 @@ pub struct Counts<'a> {
 }
 
 impl<'a> Counts<'a> {
-    /// A list of counts in the numbers lent. They keep what they hold, so counts of the image that
-    /// were worked out before need not be worked out again. Zeros are the counts of a fresh image.
+    /// A list of counts in the numbers lent. They keep what they hold. So counts that were worked
+    /// out for this image before need not be worked out again. Zeros are right for a fresh image.
     pub fn new(numbers: &'a mut [u32]) -> Counts<'a> {
         Counts { numbers }
     }
@@ -50,10 +49,11 @@ impl<'a> Counts<'a> {
         self.numbers
     }
 
-    /// Works the counts out afresh, whatever the list held. Done, it writes the first G+1 of them;
-    /// the rest keep what they held.
+    /// Works the counts out afresh, whatever the list held.
     ///
-    /// Refusals: 1 to 8, with 5 also where fewer than G+1 counts are lent.
+    /// Done: it writes the first G+1 counts. The rest keep what they held.
+    ///
+    /// Refusals: 1 to 8 (5 for either list).
     ///
     /// ```
     /// use trieff::{make, store, Counts, Refusal, Shape};
@@ -70,8 +70,8 @@ impl<'a> Counts<'a> {
     /// # Ok::<(), Refusal>(())
     /// ```
     pub fn work_out(&mut self, image: &[u8], work: &mut [u32]) -> Result<(), Refusal> {
-        // SAFETY: a slice's pointer and length; work and the counts are borrowed for writing, so
-        // no two overlap.
+        // SAFETY: each slice's pointer and length; work and the counts are borrowed for writing,
+        // so no two slices overlap.
         let answer = unsafe {
             raw::trieff_counts(
                 image.as_ptr(),
@@ -102,7 +102,7 @@ impl<'a> Counts<'a> {
     /// # Ok::<(), Refusal>(())
     /// ```
     pub fn check(&self, image: &[u8], work: &mut [u32]) -> Result<(), Refusal> {
-        // SAFETY: a slice's pointer and length; work is borrowed for writing, so no other slice
+        // SAFETY: each slice's pointer and length; work is borrowed for writing, so no other slice
         // overlaps it.
         let answer = unsafe {
             raw::trieff_check_counts(
@@ -117,13 +117,15 @@ impl<'a> Counts<'a> {
         heard(answer).map(|_| ())
     }
 
-    /// The same as [`store`](crate::store) in what it answers and writes to the image; besides it
-    /// keeps the counts right. Done, the first G+1 counts, with the new G, are those of the new
-    /// image: only those on the key's path change, and those of the new nodes.
+    /// The same as [`store`](crate::store) in what it answers and writes to the image. It also
+    /// keeps the counts right.
     ///
-    /// Refusals: 1 to 8 (5 for either list), 25, 9, 10, 11, 12, 13, then 5 again where fewer than
-    /// G+k+1 counts are lent for the k nodes that are missing on the key's path. A value of 0
-    /// wants no nodes, so it never hears 12, 13 or the second 5.
+    /// Done: the first G+1 counts, with the new G, are those of the new image. Only the counts on
+    /// the key's path and those of the new nodes change.
+    ///
+    /// Refusals: 1 to 8 (5 for either list), 25, 9, 10, 11, 12, 13, then 5 again if fewer than
+    /// G+k+1 counts are lent. Here k is the number of nodes that are missing on the key's path. A
+    /// value of 0 needs no new nodes, so 12, 13 and the second 5 are never given for it.
     ///
     /// ```
     /// use trieff::{make, Counts, Refusal, Shape};
@@ -138,7 +140,7 @@ impl<'a> Counts<'a> {
     /// assert_eq!(counts.store(&mut image, &mut work, &[1], 0)?, -1);
     /// assert_eq!(counts.numbers(), [1, 1, 1, 0]);
     ///
-    /// // the image has room for three nodes more, the list for one count
+    /// // the image has room for three more nodes, the list only for one more count
     /// let short = Err(Refusal::TooFewNumbers);
     /// assert_eq!(counts.store(&mut image, &mut work, &[2, 2, 2], 1), short);
     /// assert_eq!(counts.store(&mut image, &mut work, &[2], 1)?, 1);
@@ -152,8 +154,8 @@ impl<'a> Counts<'a> {
         letters: &[u8],
         value: u32,
     ) -> Result<i32, Refusal> {
-        // SAFETY: a slice's pointer and length; image, work and the counts are borrowed for
-        // writing, so no two overlap.
+        // SAFETY: each slice's pointer and length; image, work and the counts are borrowed for
+        // writing, so no two slices overlap.
         let answer = unsafe {
             raw::trieff_store_counts(
                 image.as_mut_ptr(),
@@ -170,7 +172,7 @@ impl<'a> Counts<'a> {
         heard(answer).map(|done| done.change)
     }
 
-    /// The same as [`store`](Counts::store) for a key given by its text in UTF-8.
+    /// The same as [`store`](Counts::store), for a key given as text in UTF-8.
     ///
     /// Refusals: 1 to 8 (5 for either list), 25, 10, 9, 11, 12, 13, then 5 again.
     ///
@@ -194,8 +196,8 @@ impl<'a> Counts<'a> {
         text: &[u8],
         value: u32,
     ) -> Result<i32, Refusal> {
-        // SAFETY: a slice's pointer and length; image, work and the counts are borrowed for
-        // writing, so no two overlap.
+        // SAFETY: each slice's pointer and length; image, work and the counts are borrowed for
+        // writing, so no two slices overlap.
         let answer = unsafe {
             raw::trieff_store_text_counts(
                 image.as_mut_ptr(),
@@ -212,11 +214,11 @@ impl<'a> Counts<'a> {
         heard(answer).map(|done| done.change)
     }
 
-    /// The stored key at a position, from 0: the first stored key moved on by so many steps of
+    /// The stored key at a position, from 0: the first stored key moved on by `position` steps of
     /// [`next_key`](crate::next_key).
     ///
-    /// Done, it writes the key's letters to the front of the key buffer. The rest of the buffer
-    /// keeps what it held. A position past the end is a refusal, [`Refusal::NoKey`].
+    /// Done: it writes the key's letters to the front of the key buffer. The rest of the buffer
+    /// keeps what it held. For a position past the end the refusal is [`Refusal::NoKey`].
     ///
     /// Refusals: 1 to 8 (5 for either list), 25, 14, 15.
     ///
@@ -247,8 +249,8 @@ impl<'a> Counts<'a> {
         position: u64,
         key: &mut [u8],
     ) -> Result<Found, Refusal> {
-        // SAFETY: a slice's pointer and length; work and key are borrowed for writing, so no two
-        // overlap but image and the counts, which are read.
+        // SAFETY: each slice's pointer and length; work and key are borrowed for writing, so no
+        // two slices overlap but perhaps image and the counts, which are only read.
         let answer = unsafe {
             raw::trieff_key_at(
                 image.as_ptr(),
@@ -265,8 +267,8 @@ impl<'a> Counts<'a> {
         heard(answer).map(found)
     }
 
-    /// The position of a stored key given by its letter numbers, from 0. That it is not stored is
-    /// a refusal, [`Refusal::NoKey`].
+    /// The position of a stored key given by its letter numbers, from 0. If the key is not stored,
+    /// the refusal is [`Refusal::NoKey`].
     ///
     /// Refusals: 1 to 8 (5 for either list), 25, 9, 10, 15.
     ///
@@ -290,7 +292,7 @@ impl<'a> Counts<'a> {
         work: &mut [u32],
         letters: &[u8],
     ) -> Result<u64, Refusal> {
-        // SAFETY: a slice's pointer and length; work is borrowed for writing, so no other slice
+        // SAFETY: each slice's pointer and length; work is borrowed for writing, so no other slice
         // overlaps it.
         let answer = unsafe {
             raw::trieff_position(
@@ -307,7 +309,7 @@ impl<'a> Counts<'a> {
         heard(answer).map(|done| done.value)
     }
 
-    /// The same as [`position`](Counts::position) for a key given by its text in UTF-8.
+    /// The same as [`position`](Counts::position), for a key given as text in UTF-8.
     ///
     /// Refusals: 1 to 8 (5 for either list), 25, 10, 9, 15.
     ///
@@ -331,7 +333,7 @@ impl<'a> Counts<'a> {
         work: &mut [u32],
         text: &[u8],
     ) -> Result<u64, Refusal> {
-        // SAFETY: a slice's pointer and length; work is borrowed for writing, so no other slice
+        // SAFETY: each slice's pointer and length; work is borrowed for writing, so no other slice
         // overlaps it.
         let answer = unsafe {
             raw::trieff_position_text(

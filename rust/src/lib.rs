@@ -1,14 +1,17 @@
 //! TRIEFF 0.6.0 images over lent memory, for Rust: make, check, count, look up, store, mend, list,
 //! jump by position.
 //!
-//! Every call works on slices that are lent for the call alone. It allocates nothing and keeps nothing, and any bytes, key, text and value may
-//! be handed over: each has its answer, the first [`Refusal`] that applies or what was asked for. A refused call changes nothing but the
-//! working numbers. The code behind it is `libtrieff.a`, which `rt staticlib trieff` proves and builds; the crate needs no `std`.
+//! The caller lends memory: slices, for the time of the call. A call allocates nothing and keeps
+//! nothing. Any bytes, any key, any text and any value may be passed, and each has its answer: the
+//! first [`Refusal`] that applies, else what was asked for. A refused call changes nothing but the
+//! working numbers. The crate links `libtrieff.a`, which `rt staticlib trieff` proves and builds.
+//! It needs no `std`.
 //!
-//! Working numbers: every call but [`make`] and the lookups needs one for each node in use, G+1,
-//! and the answer does not depend on what they held. Once [`Refusal::TooFewNumbers`] is passed,
-//! where the call's order first names it, the first G+1 of them are 0 when the call returns, with
-//! the G of entry, whatever the answer; before that all keep what they held.
+//! Working numbers: every call but [`make`] and the lookups needs G+1 of them, one for each node
+//! in use. No answer depends on what they held. If the call stops at [`Refusal::TooFewNumbers`],
+//! where its order first names it, or before that, all of them keep what they held. Otherwise the
+//! first G+1 of them are 0 when the call returns, whatever the answer. G is the one at entry. The
+//! rest keep what they held.
 //!
 //! ```
 //! use trieff::{count, look_up_text, make, next_key, store_text, Refusal, Shape};
@@ -29,19 +32,23 @@
 //!
 //! # A cut between two writes
 //!
-//! An image that must outlive a power cut is kept twice: in memory, and in a file, flash or other store that keeps it. Read it into memory at
-//! the start and [`mend`] it; if that changed its first four bytes, write them back. Store by [`store_writes`] or [`store_text_writes`], and
-//! write what they list into the kept image: one write after the other, in the list's order, each flushed before the next is begun. The
-//! keeper must promise that
+//! An image that must survive a power cut is kept twice: in memory, and in a file, in flash or on
+//! another device. The second one is called the kept image here. At the start, read the kept image
+//! into memory and [`mend`] it. If that changed its first four bytes, write them back to the kept
+//! image. Store by [`store_writes`] or [`store_text_writes`]. Then carry out the list of writes on
+//! the kept image: one write after the other, in the order of the list. Flush each write before
+//! the next one begins. The device must promise:
 //!
-//! - the writes before the cut landed whole, and none after the one that was hit was begun;
-//! - a write of G, of a link or of a data field lands whole or not at all. They are 1 to 4 bytes long and may lie across the end of a sector;
-//!   they do not where A and D are 1, 2 or 4 and both divide 28 + F, N*A and W;
-//! - a write of a node, which goes to spare bytes, may land in any part;
-//! - no byte changes that was not written.
+//! - The writes before the cut landed whole. No write after the one that was hit was begun.
+//! - A write of G, of a link or of a data field lands whole or not at all. These fields are 1 to 4
+//!   bytes long and may lie across the end of a sector. None does if the image begins at the start
+//!   of a sector, A and D are 1, 2 or 4, and both divide 28 + F, N*A and W.
+//! - A write of a node goes to spare bytes. Any of its bytes may have landed, and the others not.
+//! - No byte changes that was not written.
 //!
-//! Then, wherever the cut was, mending is done, and every answer is the one from before the store or every answer is the one from after it:
-//! after, exactly if the last write of the list landed.
+//! Then, wherever the cut was, mending with enough working numbers is done. After that, all
+//! answers are those from before the store, or all answers are those from after it. They are those
+//! from after it exactly if the last write of the list landed.
 //!
 //! ```
 //! use trieff::{look_up_text, make, mend, store_text_writes, Refusal, Shape, Writes};
@@ -50,12 +57,12 @@
 //! let mut work = [0; 16];
 //! let mut writes = Writes::new();
 //! make(&mut image, Shape { n: 3, a: 1, d: 1, min: 1, max: 3 }, b"ABC")?;
-//! let mut kept = image; // stands for the file
+//! let mut kept = image; // stands for the image in a file
 //!
 //! store_text_writes(&mut image, &mut work, b"BA", 9, &mut writes)?;
 //! for write in writes.iter().take(3) {
 //!     kept[write.clone()].copy_from_slice(&image[write]);
-//! } // and here the power goes: the link is missing
+//! } // here the power is cut: the link is missing
 //! mend(&mut kept, &mut work)?;
 //! assert_eq!(look_up_text(&kept, b"BA")?, None);
 //!
@@ -69,12 +76,12 @@
 //!
 //! # Positions and counts
 //!
-//! The position of a stored key is its place in the listing, from 0. To jump by position, lend a
-//! list of counts beside the image, as [`Counts`]: for each node the number of stored keys at or
-//! under it. Work the counts out once, after the start or after [`mend`], and hand them to every
-//! call with counts. Its stores keep them right. After any other call that changes the image, such
-//! as a listed store, work them out afresh. They are not part of the image, and need not be kept
-//! through a power cut.
+//! The position of a stored key says where it stands in the listing, from 0. To jump by position,
+//! lend a list of counts beside the image, as [`Counts`]: for each node the number of stored keys
+//! at or under it. Work the counts out once, after the start or after [`mend`]. The stores of
+//! [`Counts`] keep them right. After any other call that changes the image, such as a store with
+//! writes, work them out afresh. They are not part of the image, and need not be kept through a
+//! power cut.
 //!
 //! ```
 //! use trieff::{make, Counts, Refusal, Shape};
@@ -108,7 +115,7 @@ use raw::TrieffAnswer;
 pub use refusal::Refusal;
 pub use writes::{Writes, WRITES_MOST};
 
-/// The numbers that a fresh image is made with. Its alphabet is given beside them; G begins at 0.
+/// The numbers that a fresh image is made with. The alphabet is passed beside them. G begins at 0.
 #[derive(Clone, Copy, Debug, PartialEq, Eq)]
 pub struct Shape {
     /// Links in a node, which is the number of letters: 1 to 256.
@@ -124,11 +131,12 @@ pub struct Shape {
 }
 
 impl Shape {
-    /// The used length U of an image of so many nodes, with an alphabet of `f` bytes. In a slice of this length, as many working numbers as
-    /// nodes are enough as long as the image in it was made with these numbers, and as many
-    /// counts.
+    /// The used length U of an image with this number of nodes and an alphabet of `f` bytes. In a
+    /// slice of this length, as many working numbers as nodes are enough, and as many counts, as
+    /// long as the image in it was made with these numbers.
     ///
-    /// It is a constant function, for static memory. No image that [`make`] would not find too long overflows it.
+    /// It is a constant function, for static memory. It overflows only where the image would be
+    /// too long for [`make`].
     ///
     /// ```
     /// use trieff::{make, Refusal, Shape};
@@ -142,7 +150,7 @@ impl Shape {
     }
 }
 
-/// What [`next_key`] or [`Counts::nth`] found. Its letters are in the key buffer.
+/// The key that [`next_key`] or [`Counts::nth`] found. Its letters are in the key buffer.
 #[derive(Clone, Copy, Debug, PartialEq, Eq)]
 pub struct Found {
     /// How many letters were written to the front of the key buffer.
@@ -151,10 +159,10 @@ pub struct Found {
     pub value: u64,
 }
 
-/// Makes a fresh image in the slice. Letter i is the i-th character of the alphabet; an alphabet of no bytes makes an image whose keys are
-/// letter numbers alone.
+/// Makes a fresh image in the slice. Letter i is the i-th character of the alphabet, from 0. An
+/// alphabet of no bytes makes an image whose keys are letter numbers alone.
 ///
-/// Done, it writes head, alphabet and a zero root. The spare bytes after them keep what they held.
+/// Done: it writes head, alphabet and a zero root. The spare bytes after them keep what they held.
 ///
 /// Refusals: 1, 2, 3, 4.
 ///
@@ -174,7 +182,8 @@ pub struct Found {
 /// ```
 pub fn make(image: &mut [u8], shape: Shape, alphabet: &[u8]) -> Result<(), Refusal> {
     let Shape { n, a, d, min, max } = shape;
-    // SAFETY: a slice's pointer and length; image is borrowed for writing, so alphabet does not overlap it.
+    // SAFETY: each slice's pointer and length; image is borrowed for writing, so alphabet does not
+    // overlap it.
     let answer = unsafe {
         raw::trieff_make(
             image.as_mut_ptr(),
@@ -210,7 +219,8 @@ pub fn make(image: &mut [u8], shape: Shape, alphabet: &[u8]) -> Result<(), Refus
 /// # Ok::<(), Refusal>(())
 /// ```
 pub fn check(image: &[u8], work: &mut [u32]) -> Result<(), Refusal> {
-    // SAFETY: a slice's pointer and length; work is borrowed for writing, so image does not overlap it.
+    // SAFETY: each slice's pointer and length; work is borrowed for writing, so image does not
+    // overlap it.
     let answer =
         unsafe { raw::trieff_check(image.as_ptr(), image.len(), work.as_mut_ptr(), work.len()) };
     heard(answer).map(|_| ())
@@ -233,7 +243,8 @@ pub fn check(image: &[u8], work: &mut [u32]) -> Result<(), Refusal> {
 /// # Ok::<(), Refusal>(())
 /// ```
 pub fn count(image: &[u8], work: &mut [u32]) -> Result<u64, Refusal> {
-    // SAFETY: a slice's pointer and length; work is borrowed for writing, so image does not overlap it.
+    // SAFETY: each slice's pointer and length; work is borrowed for writing, so image does not
+    // overlap it.
     let answer =
         unsafe { raw::trieff_count(image.as_ptr(), image.len(), work.as_mut_ptr(), work.len()) };
     heard(answer).map(|done| done.value)
@@ -241,8 +252,9 @@ pub fn count(image: &[u8], work: &mut [u32]) -> Result<u64, Refusal> {
 
 /// The value that is stored under a key given by its letter numbers, `None` for absent.
 ///
-/// No stored value is 0, so `None` says what the library's value 0 says, and a caller cannot take it for a record number. It does not check the
-/// image: 6 speaks only of the links on the key's path, and its place is the node that holds the first bad one.
+/// No stored value is 0. So `None` means what the value 0 means in C, and a caller cannot take it
+/// for a value. The call does not check the image: 6 is given only for links on the key's path,
+/// and its place is the node that holds the first bad one.
 ///
 /// Refusals: 1 to 4, 9, 10, 6.
 ///
@@ -263,15 +275,16 @@ pub fn count(image: &[u8], work: &mut [u32]) -> Result<u64, Refusal> {
 /// # Ok::<(), Refusal>(())
 /// ```
 pub fn look_up(image: &[u8], letters: &[u8]) -> Result<Option<u64>, Refusal> {
-    // SAFETY: a slice's pointer and length; neither is written to.
+    // SAFETY: each slice's pointer and length; neither slice is written to.
     let answer = unsafe {
         raw::trieff_look_up(image.as_ptr(), image.len(), letters.as_ptr(), letters.len())
     };
     heard(answer).map(present)
 }
 
-/// The value that is stored under a key given by its text in UTF-8, `None` for absent. The text is bytes, since what was tapped in may be
-/// anything; 10 is the answer to bytes that are not well-formed.
+/// The value that is stored under a key given as text in UTF-8, `None` for absent. The text is a
+/// slice of bytes and not a `str`, since any bytes may be passed. Bytes that are not well-formed
+/// are refused with 10.
 ///
 /// Refusals: 1 to 4, 10, 9, 6.
 ///
@@ -289,20 +302,23 @@ pub fn look_up(image: &[u8], letters: &[u8]) -> Result<Option<u64>, Refusal> {
 /// # Ok::<(), Refusal>(())
 /// ```
 pub fn look_up_text(image: &[u8], text: &[u8]) -> Result<Option<u64>, Refusal> {
-    // SAFETY: a slice's pointer and length; neither is written to.
+    // SAFETY: each slice's pointer and length; neither slice is written to.
     let answer = unsafe {
         raw::trieff_look_up_text(image.as_ptr(), image.len(), text.as_ptr(), text.len())
     };
     heard(answer).map(present)
 }
 
-/// Stores a value under a key given by its letter numbers, or deletes the key where the value is 0. The answer is the change in the number of
-/// stored keys: 1 for a new key, -1 for one that is deleted, 0 for another value and for deleting what is not there.
+/// Stores a value under a key given by its letter numbers, or deletes the key if the value is 0.
+/// The answer is the change in the number of stored keys: 1 for a new key, -1 for a deleted one, 0
+/// for another value of a stored key and for deleting a key that is not stored.
 ///
-/// Done, it writes the key's data; where nodes are missing on the key's path and the value is not 0, it writes them to the spare bytes at U, then
-/// G, then the link to the first of them.
+/// Done: if the key's path is complete, it writes the key's data. If it is not complete, a value
+/// of 0 changes nothing. Any other value writes the new nodes to the spare bytes at U, then G,
+/// then the link to the first new node.
 ///
-/// Refusals: 1 to 8, 9, 10, 11, 12, 13. A value of 0 wants no nodes, so it never hears 12 or 13.
+/// Refusals: 1 to 8, 9, 10, 11, 12, 13. A value of 0 needs no new nodes, so 12 and 13 are never
+/// given for it.
 ///
 /// ```
 /// use trieff::{make, store, Refusal, Shape};
@@ -324,7 +340,8 @@ pub fn store(
     letters: &[u8],
     value: u32,
 ) -> Result<i32, Refusal> {
-    // SAFETY: a slice's pointer and length; image and work are borrowed for writing, so no two overlap.
+    // SAFETY: each slice's pointer and length; image and work are borrowed for writing, so no two
+    // slices overlap.
     let answer = unsafe {
         raw::trieff_store(
             image.as_mut_ptr(),
@@ -339,7 +356,7 @@ pub fn store(
     heard(answer).map(|done| done.change)
 }
 
-/// The same as [`store`] for a key given by its text in UTF-8.
+/// The same as [`store`], for a key given as text in UTF-8.
 ///
 /// Refusals: 1 to 8, 10, 9, 11, 12, 13.
 ///
@@ -360,7 +377,8 @@ pub fn store_text(
     text: &[u8],
     value: u32,
 ) -> Result<i32, Refusal> {
-    // SAFETY: a slice's pointer and length; image and work are borrowed for writing, so no two overlap.
+    // SAFETY: each slice's pointer and length; image and work are borrowed for writing, so no two
+    // slices overlap.
     let answer = unsafe {
         raw::trieff_store_text(
             image.as_mut_ptr(),
@@ -375,12 +393,15 @@ pub fn store_text(
     heard(answer).map(|done| done.change)
 }
 
-/// The same as [`store`], in what it answers, refuses and writes to the image; besides it lists its writes, so that they can be put into a kept
-/// copy of the image one by one.
+/// A store with writes: the same as [`store`] in what it answers, refuses and writes to the image.
+/// It also leaves the list of its writes, so that they can be carried out on a kept image one by
+/// one.
 ///
-/// Where the key's path is complete it is one write, of the data field, also if the value was there already. Where it is not, a value of 0
-/// lists nothing; any other lists the new nodes, one write each by rising address, then G, then the link to the first of them. All of them, in
-/// order, make the image from before the call into the image after it. A refusal leaves the list as it was.
+/// If the key's path is complete, the list is one write, of the data field, also if the value was
+/// there already. If it is not complete, the list is empty for a value of 0. For any other value
+/// it is the new nodes, one write each by rising address, then G, then the link to the first new
+/// node. All writes, carried out in order, turn the image from before the call into the image
+/// after it. A refusal leaves the list as it was.
 ///
 /// Refusals: 1 to 8, 9, 10, 11, 12, 13.
 ///
@@ -398,7 +419,8 @@ pub fn store_text(
 /// }
 /// assert_eq!(kept, image);
 ///
-/// assert_eq!(store_writes(&mut image, &mut work, &[2, 2, 2], 1, &mut writes), Err(Refusal::NoRoom));
+/// let refused = store_writes(&mut image, &mut work, &[2, 2, 2], 1, &mut writes);
+/// assert_eq!(refused, Err(Refusal::NoRoom));
 /// assert_eq!(writes.len(), 4);
 /// # Ok::<(), Refusal>(())
 /// ```
@@ -409,7 +431,8 @@ pub fn store_writes(
     value: u32,
     writes: &mut Writes,
 ) -> Result<i32, Refusal> {
-    // SAFETY: a slice's pointer and length, and an array of 132; image, work and writes are borrowed for writing, so no two overlap.
+    // SAFETY: each slice's pointer and length, and an array of 2 * WRITES_MOST numbers; image,
+    // work and writes are borrowed for writing, so no two overlap.
     let answer = unsafe {
         raw::trieff_store_writes(
             image.as_mut_ptr(),
@@ -425,7 +448,7 @@ pub fn store_writes(
     listed(answer, writes)
 }
 
-/// The same as [`store_writes`] for a key given by its text in UTF-8.
+/// The same as [`store_writes`], for a key given as text in UTF-8.
 ///
 /// Refusals: 1 to 8, 10, 9, 11, 12, 13.
 ///
@@ -438,7 +461,8 @@ pub fn store_writes(
 /// make(&mut image, Shape { n: 3, a: 1, d: 1, min: 1, max: 3 }, "AÉ→".as_bytes())?;
 /// assert_eq!(store_text_writes(&mut image, &mut work, "É→".as_bytes(), 9, &mut writes)?, 1);
 /// assert!(writes.iter().eq([38..42, 42..46, 0..4, 35..36]));
-/// assert_eq!(store_text_writes(&mut image, &mut work, b"E", 9, &mut writes), Err(Refusal::Letter));
+/// let refused = store_text_writes(&mut image, &mut work, b"E", 9, &mut writes);
+/// assert_eq!(refused, Err(Refusal::Letter));
 /// # Ok::<(), Refusal>(())
 /// ```
 pub fn store_text_writes(
@@ -448,7 +472,8 @@ pub fn store_text_writes(
     value: u32,
     writes: &mut Writes,
 ) -> Result<i32, Refusal> {
-    // SAFETY: a slice's pointer and length, and an array of 132; image, work and writes are borrowed for writing, so no two overlap.
+    // SAFETY: each slice's pointer and length, and an array of 2 * WRITES_MOST numbers; image,
+    // work and writes are borrowed for writing, so no two overlap.
     let answer = unsafe {
         raw::trieff_store_text_writes(
             image.as_mut_ptr(),
@@ -464,11 +489,13 @@ pub fn store_text_writes(
     listed(answer, writes)
 }
 
-/// Mends an image after a cut: if [`check`] refuses it with 8 at p, and the image with G set to p - 1 is accepted, G becomes p - 1. Otherwise
-/// nothing changes and the check's answer is returned, which is `Ok` for an image that is accepted as it is.
+/// Mends an image after a cut. If [`check`] refuses it with 8 at p, and the image with G set to
+/// p-1 is accepted, G becomes p-1. Otherwise nothing changes and the check's answer is returned:
+/// `Ok` for an image that is accepted as it is. This holds for every image, cut or not.
 ///
-/// It is fixed for every image, cut or not, and changes the first four bytes or none. Where they changed, write them back to where the image is
-/// kept, as one write that lands whole or not at all; if a cut comes there, the next start mends again.
+/// Done: it changes the first four bytes or nothing. If they changed, write them back to the kept
+/// image, as one write that lands whole or not at all, before the next store. If a cut comes
+/// there, the next start mends again.
 ///
 /// Refusals: 1 to 8.
 ///
@@ -484,7 +511,7 @@ pub fn store_text_writes(
 /// assert_eq!(image[..4], [0, 0, 0, 0]);
 /// assert_eq!(check(&image, &mut work), Ok(()));
 ///
-/// // what no cut of a store leaves is not touched: the node without a link is not the last
+/// // no cut of a store leaves this: the root links to node 2, and no link leads to node 1
 /// let mut image = [0; 43];
 /// let mut work = [0; 3];
 /// make(&mut image, Shape { n: 3, a: 1, d: 1, min: 1, max: 3 }, b"ABC")?;
@@ -494,20 +521,23 @@ pub fn store_text_writes(
 /// # Ok::<(), Refusal>(())
 /// ```
 pub fn mend(image: &mut [u8], work: &mut [u32]) -> Result<(), Refusal> {
-    // SAFETY: a slice's pointer and length; image and work are borrowed for writing, so they do not overlap.
+    // SAFETY: each slice's pointer and length; image and work are borrowed for writing, so they do
+    // not overlap.
     let answer = unsafe {
         raw::trieff_mend(image.as_mut_ptr(), image.len(), work.as_mut_ptr(), work.len())
     };
     heard(answer).map(|_| ())
 }
 
-/// The first stored key at or after the key given or, where `after` is true, after it. A key comes before its extensions; otherwise the first
-/// different letter number decides. The key given has 0 to max letters and need not be stored; at or after the empty key is the first.
+/// The first stored key at or after the key given or, if `after` is true, after it. A key comes
+/// before its extensions; otherwise the first different letter number decides. The key given has 0
+/// to max letters and need not be stored. The first stored key of all is the one at or after the
+/// empty key.
 ///
-/// Done, it writes the key's letters to the front of the key buffer. The rest of the buffer keeps what it held. That there is no such key is a
-/// refusal, [`Refusal::NoKey`].
+/// Done: it writes the letters of the key found to the front of the key buffer. The rest of the
+/// buffer keeps what it held. If there is no such key, the refusal is [`Refusal::NoKey`].
 ///
-/// Refusals: 1 to 8, 9 (only a key longer than max), 10, 14, 15.
+/// Refusals: 1 to 8, 9 (only for a key longer than max), 10, 14, 15.
 ///
 /// ```
 /// use trieff::{make, next_key, store, Found, Refusal, Shape};
@@ -533,7 +563,8 @@ pub fn next_key(
     after: bool,
     key: &mut [u8],
 ) -> Result<Found, Refusal> {
-    // SAFETY: a slice's pointer and length; work and key are borrowed for writing, so no two overlap but image and letters, which are read.
+    // SAFETY: each slice's pointer and length; work and key are borrowed for writing, so no two
+    // slices overlap but perhaps image and letters, which are only read.
     let answer = unsafe {
         raw::trieff_next_key(
             image.as_ptr(),

@@ -1,8 +1,11 @@
-//! The C face as it is: `include/trieff.h`, name for name. The functions of the crate's root call it and are safe. Here the caller's part is
-//! what the header says: no pointer is null, also where the length is 0, that many elements are there, `work`, `counts` and `writes` are
-//! aligned, and a slice that is written to overlaps no other and is changed by nobody else meanwhile.
+//! The C functions as they are: `include/trieff.h`, name for name. The functions of the crate's
+//! root call them and are safe. Here the caller's part is what the header says. No pointer is
+//! null, also where the length is 0, and as many elements are there as the length says. `work`,
+//! `counts` and `writes` are aligned. A slice that a call may write to overlaps no other slice of
+//! that call. Nobody else changes a slice during the call.
 
-/// One answer for every call. What a call does not speak of is 0; in a refusal all but `number` and `place` are 0.
+/// The answer of every call. A field that a call does not use is 0. In a refusal all fields but
+/// `number` and `place` are 0.
 #[repr(C)]
 #[derive(Clone, Copy, Debug, PartialEq, Eq, Default)]
 pub struct TrieffAnswer {
@@ -10,13 +13,13 @@ pub struct TrieffAnswer {
     pub number: u32,
     /// The node or address that the refusal names, else 0.
     pub place: u32,
-    /// Next key and key at a position: how many letters were written to the key buffer.
-    /// Store with its writes listed: how many writes.
+    /// Next key and key at a position: the number of letters written to the key buffer. Store with
+    /// writes: the number of writes in the list.
     pub length: u32,
-    /// Store: the change in the number of stored keys, -1, 0 or 1.
+    /// Every store: the change in the number of stored keys, -1, 0 or 1.
     pub change: i32,
-    /// Look up, next key and key at a position: the value, 0 for absent. Count: the number of
-    /// stored keys. Position: the key's position.
+    /// Look up: the value, 0 for absent. Next key and key at a position: the value of the key
+    /// found. Count: the number of stored keys. Position: the key's position.
     pub value: u64,
 }
 
@@ -66,7 +69,8 @@ extern "C" {
         text_len: usize,
     ) -> TrieffAnswer;
 
-    /// Stores a value under a key given by its letters, 0 to delete. Refusals: 1 to 8, 9, 10, 11, 12, 13.
+    /// Stores a value under a key given by its letters, 0 to delete.
+    /// Refusals: 1 to 8, 9, 10, 11, 12, 13.
     pub fn trieff_store(
         image: *mut u8,
         image_len: usize,
@@ -77,7 +81,8 @@ extern "C" {
         value: u32,
     ) -> TrieffAnswer;
 
-    /// Stores a value under a key given by its text, 0 to delete. Refusals: 1 to 8, 10, 9, 11, 12, 13.
+    /// Stores a value under a key given by its text, 0 to delete.
+    /// Refusals: 1 to 8, 10, 9, 11, 12, 13.
     pub fn trieff_store_text(
         image: *mut u8,
         image_len: usize,
@@ -88,7 +93,8 @@ extern "C" {
         value: u32,
     ) -> TrieffAnswer;
 
-    /// As `trieff_store`, and besides lists the writes in the 132 numbers lent. Refusals: as `trieff_store`.
+    /// As `trieff_store`, and also leaves the list of its writes in the 132 numbers lent.
+    /// Refusals: 1 to 8, 9, 10, 11, 12, 13.
     pub fn trieff_store_writes(
         image: *mut u8,
         image_len: usize,
@@ -100,7 +106,8 @@ extern "C" {
         writes: *mut u32,
     ) -> TrieffAnswer;
 
-    /// As `trieff_store_text`, and besides lists the writes in the 132 numbers lent. Refusals: as `trieff_store_text`.
+    /// As `trieff_store_text`, and also leaves the list of its writes in the 132 numbers lent.
+    /// Refusals: 1 to 8, 10, 9, 11, 12, 13.
     pub fn trieff_store_text_writes(
         image: *mut u8,
         image_len: usize,
@@ -112,7 +119,8 @@ extern "C" {
         writes: *mut u32,
     ) -> TrieffAnswer;
 
-    /// Mends an image after a cut: lowers G where that is all it takes. Refusals: 1 to 8, as the check's.
+    /// Mends an image after a cut: lowers G if the check answers 8 and the image is then accepted.
+    /// Refusals: 1 to 8, those of the check.
     pub fn trieff_mend(
         image: *mut u8,
         image_len: usize,
@@ -120,7 +128,8 @@ extern "C" {
         work_len: usize,
     ) -> TrieffAnswer;
 
-    /// The first stored key at or after a key or, with `after`, after it. Refusals: 1 to 8, 9 (longer than max), 10, 14, 15.
+    /// The first stored key at or after a key or, if `after` is true, after it.
+    /// Refusals: 1 to 8, 9 (only for a key longer than max), 10, 14, 15.
     pub fn trieff_next_key(
         image: *const u8,
         image_len: usize,
@@ -133,7 +142,7 @@ extern "C" {
         key_len: usize,
     ) -> TrieffAnswer;
 
-    /// Works the counts out afresh. Refusals: 1 to 8, with 5 for either list.
+    /// Works the counts out afresh. Refusals: 1 to 8 (5 for either list).
     pub fn trieff_counts(
         image: *const u8,
         image_len: usize,
@@ -154,7 +163,7 @@ extern "C" {
     ) -> TrieffAnswer;
 
     /// As `trieff_store`, and keeps the counts right.
-    /// Refusals: 1 to 8 (5 for either list), 25, 9, 10, 11, 12, 13, 5 again.
+    /// Refusals: 1 to 8 (5 for either list), 25, 9, 10, 11, 12, 13, then 5 again.
     pub fn trieff_store_counts(
         image: *mut u8,
         image_len: usize,
@@ -168,7 +177,7 @@ extern "C" {
     ) -> TrieffAnswer;
 
     /// As `trieff_store_text`, and keeps the counts right.
-    /// Refusals: 1 to 8 (5 for either list), 25, 10, 9, 11, 12, 13, 5 again.
+    /// Refusals: 1 to 8 (5 for either list), 25, 10, 9, 11, 12, 13, then 5 again.
     pub fn trieff_store_text_counts(
         image: *mut u8,
         image_len: usize,

@@ -1,6 +1,7 @@
 use core::fmt;
 
-/// What the bench may hear instead of what it asked for. A variant for each number; those whose place is a node or an address carry it.
+/// Why a call was refused. There is a variant for each number. Those whose place is a node or an
+/// address carry the place.
 ///
 /// ```
 /// use trieff::{check, Refusal};
@@ -8,46 +9,51 @@ use core::fmt;
 /// let refusal = check(&[0; 27], &mut []).unwrap_err();
 /// assert_eq!(refusal, Refusal::ImageLength);
 /// assert_eq!((refusal.number(), refusal.place()), (1, 0));
-/// assert_eq!(refusal.to_string(), "refused 1 at 0: image shorter than 28 or longer than 16,777,216 bytes");
+/// let words = "image shorter than 28 or longer than 16,777,216 bytes";
+/// assert_eq!(refusal.to_string(), format!("refused 1 at 0: {words}"));
 /// ```
 #[derive(Clone, Copy, Debug, PartialEq, Eq, Hash)]
 pub enum Refusal {
-    /// 1: image shorter than 28 or longer than 16,777,216 bytes.
+    /// 1: the image is shorter than 28 or longer than 16,777,216 bytes.
     ImageLength,
-    /// 2: a head field outside its limits.
+    /// 2: a head field is outside its limits.
     HeadField,
     /// 3: the bytes of the alphabet are not N different well-formed characters.
     Alphabet,
     /// 4: U exceeds the image's length.
     ImageRoom,
-    /// 5: fewer than G+1 working numbers or counts lent; after 13, fewer counts than the nodes
-    /// with the new ones.
+    /// 5: fewer than G+1 working numbers, or fewer than G+1 counts, are lent. A store with counts
+    /// also gives it after 13: if fewer than G+k+1 counts are lent, for k new nodes.
     TooFewNumbers,
-    /// 6: a link is above G, or not above the node that holds it. The lowest node that holds one; in a lookup, the first on the key's path.
+    /// 6: a link that is not empty is above G, or is not above the address of the node that holds
+    /// it. Place: the lowest node that holds such a link; in a lookup, the node that holds the
+    /// first one on the key's path.
     Link(u32),
-    /// 7: an address stands in two links or more. The lowest such address.
+    /// 7: an address stands in two links or more. Place: the lowest such address.
     LinkedTwice(u32),
-    /// 8: an address in 1..G stands in no link. The lowest such address.
+    /// 8: an address in 1..G stands in no link. Place: the lowest such address.
     NotLinked(u32),
-    /// 9: key length outside min..max; for next key, above max.
+    /// 9: the key's length is outside min..max; for next key, above max.
     KeyLength,
-    /// 10: a letter number is N or more; or the text is not well-formed or has a character outside the alphabet.
+    /// 10: a letter number is N or more; or the text is not well-formed or has a character outside
+    /// the alphabet.
     Letter,
-    /// 11: value above 256^D - 1.
+    /// 11: the value is above 256^D - 1.
     ValueTooGreat,
-    /// 12: new nodes are wanted, and G with them would exceed 256^A - 1.
+    /// 12: new nodes are needed, and G with them would exceed 256^A - 1.
     NoAddress,
-    /// 13: new nodes are wanted, and U with them would exceed the image's length.
+    /// 13: new nodes are needed, and U with them would exceed the image's length.
     NoRoom,
-    /// 14: key buffer shorter than max.
+    /// 14: the key buffer is shorter than max.
     ShortBuffer,
     /// 15: no stored key meets the request.
     NoKey,
-    /// 25: a count is not the fresh one. The lowest such node.
+    /// 25: a count differs from the fresh one. Place: the lowest such node.
     CountsDiffer(u32),
     /// A number that this crate does not know, with its place. The library that the crate was
-    /// written for is proved to answer 0 to 15 and 25, so only a newer `libtrieff.a` can give it;
-    /// it is handed on, since firmware should neither stop for it nor take it for another refusal.
+    /// written for is proved to answer only 0 to 15 and 25, so only a newer `libtrieff.a` can give
+    /// another number. The crate passes it on: firmware should not stop because of it, and should
+    /// not take it for another refusal.
     Unknown {
         /// The number.
         number: u32,
@@ -57,7 +63,7 @@ pub enum Refusal {
 }
 
 impl Refusal {
-    /// The refusal of an answer's number and place; `None` for 0, done.
+    /// The refusal with this number and place; `None` for 0, done.
     pub(crate) fn of(number: u32, place: u32) -> Option<Refusal> {
         Some(match number {
             0 => return None,
@@ -139,7 +145,8 @@ impl Refusal {
     }
 }
 
-/// One line, as the listing program begins it: `refused 7 at 1: an address stands in two links or more`.
+/// One line, which begins as the line of the listing program: `refused 7 at 1: an address stands
+/// in two links or more`.
 impl fmt::Display for Refusal {
     fn fmt(&self, f: &mut fmt::Formatter<'_>) -> fmt::Result {
         write!(f, "refused {} at {}: {}", self.number(), self.place(), self.words())

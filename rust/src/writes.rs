@@ -1,13 +1,15 @@
 use core::fmt;
 use core::ops::Range;
 
-/// The most writes that a store lists: 64 new nodes, G and a link.
+/// The most writes of one store: 64 new nodes, G and a link.
 pub const WRITES_MOST: usize = 66;
 
-/// What [`store_writes`](crate::store_writes) and [`store_text_writes`](crate::store_text_writes) wrote, in order: a range of the image's
-/// bytes for each write. The bytes of a write are those of the image after the call.
+/// The list of writes of [`store_writes`](crate::store_writes) or
+/// [`store_text_writes`](crate::store_text_writes), in order: for each write a range of the
+/// image's bytes. The bytes of a write are those of the image after the call.
 ///
-/// It is lent as the other buffers are, so it may be static. The list in it is that of the last store that was done; a refused one leaves it.
+/// It is lent as the other buffers are, so it may be static. It holds the list of the last store
+/// with writes that was done. A refused store leaves it as it was.
 ///
 /// ```
 /// use trieff::{make, store, store_writes, Refusal, Shape, Writes};
@@ -37,17 +39,18 @@ impl Writes {
         Writes { numbers: [0; 2 * WRITES_MOST], count: 0 }
     }
 
-    /// How many writes there are: 0 to [`WRITES_MOST`].
+    /// The number of writes: 0 to [`WRITES_MOST`].
     pub const fn len(&self) -> usize {
         self.count
     }
 
-    /// Whether there are none: the value was 0 and the key's path not complete.
+    /// Whether the list is empty. After a store it is empty if the value was 0 and the key's path
+    /// was not complete.
     pub const fn is_empty(&self) -> bool {
         self.count == 0
     }
 
-    /// The writes in their order, each as the range of the image's bytes that it puts.
+    /// The writes in order, each as the range of the image's bytes that it writes.
     pub fn iter(
         &self,
     ) -> impl DoubleEndedIterator<Item = Range<usize>> + ExactSizeIterator + Clone + '_ {

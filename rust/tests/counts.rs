@@ -1,5 +1,5 @@
-//! Counts beside an image: stores keep them as working them out afresh would, and the keys by
-//! position are those of the listing, in its order.
+//! Counts beside an image. A store leaves the counts that working them out afresh would give. The
+//! keys by position are those of the listing, in its order.
 
 use trieff::{make, next_key, Counts, Refusal, Shape};
 
@@ -25,7 +25,8 @@ fn listing(image: &[u8], work: &mut [u32]) -> Vec<(Vec<u8>, u64)> {
     }
 }
 
-/// The listing by position is the listing by next key, and each key knows its position.
+/// The keys by position are the keys by next key, and each key's position leads back to it. The
+/// number of keys.
 fn agree(image: &[u8], counts: &Counts, work: &mut [u32]) -> usize {
     let all = listing(image, work);
     for (position, (letters, value)) in all.iter().enumerate() {
@@ -66,7 +67,7 @@ fn stores_keep_the_counts() {
     let mut image = [255; SHAPE.length(8, 3)];
     let (mut work, mut numbers) = ([7; 9], [0; 9]);
     make(&mut image, SHAPE, b"ABC").unwrap();
-    numbers[1..].fill(77); // what comes after the root's count is not read, and is written in time
+    numbers[1..].fill(77); // a store writes these before they are read
     let mut counts = Counts::new(&mut numbers);
     for (letters, value, change) in STORES {
         assert_eq!(counts.store(&mut image, &mut work, letters, value), Ok(change));
@@ -91,8 +92,8 @@ fn a_refusal_leaves_image_and_counts() {
         ("", 1, Refusal::KeyLength),
         ("ABCx", 1, Refusal::Letter),
         ("BA", 256, Refusal::ValueTooGreat),
-        ("CCC", 1, Refusal::NoRoom), // three nodes, room for two: before the second 5
-        ("CC", 1, Refusal::TooFewNumbers), // two nodes and room, but a count for one
+        ("CCC", 1, Refusal::NoRoom), // three nodes, room for two: 13 before the second 5
+        ("CC", 1, Refusal::TooFewNumbers), // two nodes and room for them, but one more count
     ] {
         work.fill(7);
         let heard = counts.store_text(&mut image, &mut work, text.as_bytes(), value);

@@ -1,5 +1,5 @@
-//! Every cut of a list of writes, in memory: after mending, the answers are those from before the store, or those from after it exactly if the
-//! last write landed.
+//! Every cut of a list of writes, in memory. After mending, the answers are those from after the
+//! store if the last write landed, else those from before it.
 
 use trieff::{check, count, look_up, make, mend, next_key, store_writes, Refusal, Shape, Writes};
 
@@ -17,7 +17,8 @@ const STORES: [(&[u8], u32); 9] = [
     (&[0, 1, 2], 2),
 ];
 
-/// What an image answers: the number of keys, and each key with its value, by the listing and by lookup.
+/// What an image answers: the number of keys, and each key of the listing with the value that its
+/// lookup gives.
 fn answers(image: &[u8]) -> (u64, Vec<(Vec<u8>, u64)>) {
     let mut work = [0; 20];
     let (mut all, mut last, mut after) = (Vec::new(), Vec::new(), false);
@@ -37,7 +38,7 @@ fn answers(image: &[u8]) -> (u64, Vec<(Vec<u8>, u64)>) {
 
 #[test]
 fn after_any_cut_the_store_is_whole_or_has_not_been() {
-    // spare bytes hold anything
+    // spare bytes may hold anything
     let mut image: [u8; ROOM] = std::array::from_fn(|i| (i * 37 % 251) as u8);
     let mut work = [0; 20];
     let mut writes = Writes::new();
@@ -52,7 +53,7 @@ fn after_any_cut_the_store_is_whole_or_has_not_been() {
             for write in &list[..cut] {
                 kept[write.clone()].copy_from_slice(&image[write.clone()]);
             }
-            // what a node's write can leave: the bytes by lot
+            // of the write that is hit, if it is a node's, some bytes land: four choices
             for lot in 0..4 {
                 let mut torn = kept;
                 if cut + 2 < list.len() {

@@ -1,4 +1,4 @@
-//! The answer's layout is the header's: programs written elsewhere rely on it.
+//! The answer's layout is the one in the header. Programs written elsewhere depend on it.
 
 use std::mem::{align_of, size_of};
 use trieff::raw::TrieffAnswer;
