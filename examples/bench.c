@@ -1,9 +1,10 @@
-/* What a bench's firmware does with the library: it keeps the labels of buckets in an image, each
-   with its record number, hears every refusal once, mends an image after a cut, and jumps by
-   position in samples/season.trieff. All memory is static; bench_file.c keeps its image in a file.
-   From the repository's root, after `rt staticlib trieff`:
+/* What a bench's firmware does with the library. It keeps the labels of buckets in an image, each
+   with its record number. It meets every refusal at least once, mends an image after a cut, and
+   jumps by position in samples/season.trieff. All memory is static. (bench_file.c keeps its image
+   in a file.) From the repository's root, after `rt staticlib trieff`:
 
-     gcc -std=c11 -O2 -Iinclude -o target/bench-c examples/bench.c target/staticlib/libtrieff.a && target/bench-c
+     gcc -std=c11 -O2 -Iinclude -o target/bench-c examples/bench.c \
+         target/staticlib/libtrieff.a && target/bench-c
 
    examples/bench.txt holds what it must print. */
 #include "trieff.h"
@@ -17,14 +18,16 @@ static const char alphabet[] = "0123456789ABCDE-";
 static uint8_t image[TRIEFF_LENGTH(NODES, N, A, D, sizeof alphabet - 1)];
 static uint32_t work[NODES];
 
-/* A text as the calls take it: pointer and length in bytes. A slice of an array: pointer and number of elements. */
+/* TEXT: a text as the calls take it, a pointer and a length in bytes. ALL: a whole array as a
+   slice, a pointer and the number of elements. */
 #define TEXT(s) (const uint8_t *)(s), strlen(s)
 #define ALL(array) (array), sizeof(array) / sizeof *(array)
 
-/* What the bench shows for an answer. The worker can mend 9 to 11; 12 and 13 need a greater image;
-   5 and 14 are mistakes of the firmware; 15 is the end of the list; 8 may come from a cut, and
-   mending helps; after 25 the counts are worked out afresh. After the others the image isn't one
-   to go on with, and the bench loads its copy; the place says where to look. */
+/* What the bench shows for an answer. After 9 to 11 the worker taps again. 12 and 13 need a
+   greater image. 5 and 14 are mistakes of the firmware. 15 is the end of the list. 8 may come from
+   a cut, and then mending helps. After 25 the counts are worked out afresh. After any other
+   refusal the bench cannot go on with the image and loads its copy. The place says where to
+   look. */
 static void show(const char *asked, trieff_answer heard)
 {
     printf("%s: ", asked);
@@ -73,15 +76,16 @@ static void look_up(const char *label)
         printf("look up %s: record %llu\n", label, (unsigned long long)heard.value);
 }
 
-/* A key's letters are numbers: places in the alphabet. */
+/* A key's letters are numbers: letter i is the i-th character of the alphabet, from 0. */
 static void print_label(const uint8_t *key, size_t length)
 {
     for (size_t i = 0; i < length; i++)
         putchar(alphabet[key[i]]);
 }
 
-/* Every label in order: the first at or after the empty key, then each after the one before. The key found is copied, since the letters that
-   a call reads and the buffer that it writes may not overlap. */
+/* Every label in order: first the one at or after the empty key, then always the one after the
+   last. The key found is copied, since the letters that a call reads and the buffer that it writes
+   may not overlap. */
 static void list(void)
 {
     uint8_t last[MAX] = {0}, key[MAX];
@@ -103,8 +107,9 @@ static void list(void)
     show("after the last", heard);
 }
 
-/* A small image for the refusals: letters ABC, keys of 1 to 3 letters, nodes of 4 bytes, of which the first begins at byte 31. It holds
-   BA = 9 and B = 5, so the root links to node 1 at byte 32 and node 1 to node 2 at byte 35. In 54 bytes there is room for two nodes more. */
+/* A small image for the refusals: letters ABC, keys of 1 to 3 letters, nodes of 4 bytes. Node 0
+   begins at byte 31. The image holds BA = 9 and B = 5. So the root's link to node 1 is at byte 32,
+   and node 1's link to node 2 is at byte 35. In 54 bytes there is room for two more nodes. */
 static uint8_t small[54];
 
 static void refused_images(void)
@@ -118,7 +123,7 @@ static void refused_images(void)
     show("alphabet ABA", trieff_make(ALL(image), 3, 1, 1, TEXT("ABA"), 1, 3));
     show("2 working numbers for 3 nodes", trieff_check(ALL(small), work, 2));
 
-    /* single bytes go wrong; a lookup sees a bad link only on its own path */
+    /* single bytes are damaged; a lookup meets a bad link only on its key's path */
     small[35] = 7;
     show("node 1 links to node 7", trieff_check(ALL(small), ALL(work)));
     show("look up BA", trieff_look_up_text(ALL(small), TEXT("BA")));
@@ -143,7 +148,8 @@ static void refused_keys(void)
     show("next key after BA", trieff_next_key(ALL(small), ALL(work), ALL(letters), true, ALL(key)));
 }
 
-/* Links of one byte reach node 255. Keys of letters, two each, until one finds no address for its nodes. */
+/* Links of one byte reach node 255. Keys of two letters are stored until there is no address for a
+   new node. */
 static void refused_address(void)
 {
     static uint8_t many[TRIEFF_LENGTH(300, 16, 1, 1, 0)];
@@ -159,8 +165,9 @@ static void refused_address(void)
     show("one more", heard);
 }
 
-/* A cut between two writes. `kept` stands for the flash that keeps the small image: the writes of a store of AC = 7 are put into it one by
-   one, and the power goes before the last, which is the link. */
+/* A cut between two writes. `kept` stands for the small image in flash. The writes of a store of
+   AC = 7 are carried out on it one by one, and the power is cut before the last one, which is the
+   link. */
 static void cut_off(void)
 {
     static uint8_t kept[sizeof small];
@@ -185,8 +192,8 @@ static void cut_off(void)
     printf("BA: %llu kept, node %u is the last\n", (unsigned long long)trieff_look_up_text(ALL(kept), TEXT("BA")).value, (unsigned)kept[3]);
 }
 
-/* A season of labels, in an image of the same alphabet, with room for more nodes. The counts lie
-   beside it, one for each node. */
+/* A season of labels, in an image with the same alphabet and with room for more nodes. The counts
+   are a list beside it, one for each node. */
 enum { SEASON_A = 3, SEASON_NODES = 700 };
 static uint8_t season[TRIEFF_LENGTH(SEASON_NODES, N, SEASON_A, D, sizeof alphabet - 1)];
 static uint32_t season_work[SEASON_NODES], counts[SEASON_NODES];
@@ -226,9 +233,9 @@ static void position_of(const char *label)
         printf("position of %s: %llu\n", label, (unsigned long long)heard.value);
 }
 
-/* Jumping by position. The counts are worked out once, and a store with counts keeps them right.
-   A store without counts does not: the next call with counts says so, and they are worked out
-   afresh. */
+/* Jumps by position. The counts are worked out once, and a store with counts keeps them right. A
+   store without counts does not: the next call with counts is refused with 25, and the counts are
+   worked out afresh. */
 static void jump(void)
 {
     show("work the counts out", trieff_counts(SEASON, ALL(counts)));

@@ -1,26 +1,31 @@
-/* A bench that keeps its image in a file and may lose its power at any moment. It takes commands from standard input, a line each, and answers
-   each with a line or more:
+/* A bench that keeps its image in a file and may lose its power at any moment. It takes commands
+   from standard input, one in a line, and answers each with one line or more:
 
-     store LABEL RECORD     puts a record number under a label; 0 deletes the label
-     look LABEL             the record number
-     count                  how many labels there are
+     store LABEL RECORD     stores a record number under a label; 0 deletes the label
+     look LABEL             the label's record number
+     count                  the number of labels
      list                   every label with its record number, in order
 
    From the repository's root, after `rt staticlib trieff`:
 
-     gcc -std=c11 -O2 -Iinclude -o target/bench-file examples/bench_file.c target/staticlib/libtrieff.a
+     gcc -std=c11 -O2 -Iinclude -o target/bench-file examples/bench_file.c \
+         target/staticlib/libtrieff.a
      printf '%s\n' 'store B04-117-2 2402' list | target/bench-file target/labels.trieff
 
-   What it rests on. Every write is one pwrite, and fdatasync comes before the next. A node is written to spare bytes, and any part of it may
-   land. G, a link and a data field must land whole or not at all, and no byte that was not written may change. These fields are 4, 2 and 4
-   bytes long here. In general such a field may lie across the end of a sector, where a disk promises nothing. In this image none does,
-   since each stands at a multiple of its length; the static assertions below say so, and whoever changes the shape must look at them. The
-   rest the disk and the file system must promise: a sector is written whole or stays as it was, its neighbours stay as they were, and
-   fdatasync returns when the sector is where a power cut does not reach it. Bare flash, which is erased in blocks, does not promise this; a
-   layer that moves sectors does. A disk that leaves a sector unreadable when it is cut does not promise it either.
+   What it depends on. Every write is one pwrite, and fdatasync comes before the next write. A node
+   is written to spare bytes, and any part of it may land. G, a link and a data field must land
+   whole or not at all, and no byte that was not written may change. These fields are 4, 2 and 4
+   bytes long here. In general such a field may lie across the end of a sector, where a disk
+   promises nothing. In this image no field does, since each stands at a multiple of its length.
+   The static assertions below say so; whoever changes the shape must look at them.
 
-   A cut leaves the file so that the next start mends it: the store that was hit is then whole or has not been. A store is answered after its
-   last flush, so no store that was answered is lost. */
+   The disk and the file system must promise the rest. A sector is written whole or stays as it
+   was. Its neighbours stay as they were. fdatasync returns when the sector is safe from a power
+   cut. Bare flash, which is erased in blocks, does not promise this; a layer that moves sectors
+   does. A disk that leaves a sector unreadable after a cut does not promise it either.
+
+   After a cut the next start mends the file. The store that was hit is then done as a whole or not
+   at all. A store is answered after its last flush, so no store that was answered is lost. */
 #define _POSIX_C_SOURCE 200809L
 #include "trieff.h"
 
@@ -33,12 +38,15 @@
 #include <sys/stat.h>
 #include <unistd.h>
 
-/* 16 letters, links of 2 bytes, data of 4, labels of 1 to 64 letters, room for 1,024 nodes of 36 bytes. */
+/* 16 letters, links of 2 bytes, data of 4, labels of 1 to 64 letters, room for 1,024 nodes of 36
+   bytes. */
 enum { N = 16, A = 2, D = 4, MIN = 1, MAX = 64, NODES = 1024, F = 16, W = N * A + D };
 static const char alphabet[] = "0123456789ABCDE-";
 _Static_assert(sizeof alphabet - 1 == F, "the alphabet's bytes");
-_Static_assert((28 + F) % A == 0 && W % A == 0 && 512 % A == 0, "no link lies across the end of a sector");
-_Static_assert((28 + F + N * A) % D == 0 && W % D == 0 && 512 % D == 0, "no data field lies across the end of a sector");
+_Static_assert((TRIEFF_IMAGE_LEAST + F) % A == 0 && W % A == 0 && 512 % A == 0,
+               "no link lies across the end of a sector");
+_Static_assert((TRIEFF_IMAGE_LEAST + F + N * A) % D == 0 && W % D == 0 && 512 % D == 0,
+               "no data field lies across the end of a sector");
 
 static uint8_t image[TRIEFF_LENGTH(NODES, N, A, D, F)];
 static uint32_t work[NODES];
@@ -50,7 +58,7 @@ static uint32_t writes[TRIEFF_WRITES_LEN];
 static const char *name; /* of the file */
 static int file;
 
-/* Stops the bench, as the power would; the next start begins with what is in the file. */
+/* Stops the bench, as a power cut would. The next start begins with what is in the file. */
 _Noreturn static void stop(const char *why, ...)
 {
     va_list values;
@@ -63,15 +71,17 @@ _Noreturn static void stop(const char *why, ...)
     exit(1);
 }
 
-/* After a flush that failed nobody knows which of the bytes are kept, and what is read back may come from memory. */
+/* After a failed flush nobody knows which bytes are safe on the disk. What is read back may come
+   from memory. */
 static void flush(int fd)
 {
     if (fdatasync(fd) != 0)
         stop("fdatasync: %s. Do not go on with this file: restart the machine first", strerror(errno));
 }
 
-/* One write into a file, whole, and flushed. A full disk, or one that fails, stops the bench: the file is then as after a cut. Half a field
-   in it could not be mended. Lack of room does not leave one, since every byte of the file was written when it was made. */
+/* One write into a file, whole and flushed. If the disk is full or fails, the bench stops, and the
+   file is then as after a cut. Half a field in it could not be mended. A full disk does not leave
+   half a field, since every byte of the file was written when the file was made. */
 static void put(int fd, const uint8_t *bytes, size_t length, size_t place)
 {
     ssize_t landed = pwrite(fd, bytes, length, (off_t)place);
@@ -82,7 +92,7 @@ static void put(int fd, const uint8_t *bytes, size_t length, size_t place)
     flush(fd);
 }
 
-/* The folder holds the file's name, so it is flushed too, or a cut would take a new file with it. */
+/* The folder holds the file's name. It is flushed too, since a cut could lose a new name. */
 static void flush_folder(void)
 {
     char folder[4096] = ".";
@@ -101,8 +111,9 @@ static void flush_folder(void)
     close(fd);
 }
 
-/* Puts the fresh image under another name, and gives it its own when all of it is kept. So there is no file, or an empty one, or a whole
-   image under the name at any moment. */
+/* Writes the fresh image to a file with another name. When all of it is flushed, the file gets its
+   own name. So at any moment there is no file under this name, or the empty file from before, or a
+   whole image. */
 static void create(void)
 {
     char fresh[4096];
@@ -138,10 +149,11 @@ static off_t length_of(int fd)
     return is.st_size;
 }
 
-/* The file's image into memory. All that make wrote but G must be as this bench makes it. */
+/* Reads the file's image into memory. Its head and alphabet, except G, must be those of this
+   bench. */
 static void load(void)
 {
-    uint8_t head[28 + F];
+    uint8_t head[TRIEFF_IMAGE_LEAST + F];
     size_t had = 0;
     memcpy(head, image, sizeof head);
     while (had < sizeof image) {
@@ -184,7 +196,8 @@ static void start(void)
     }
 }
 
-/* Memory first, by the library; then the file, write by write. Where the file fails the bench stops, so memory never runs ahead of it. */
+/* The library stores in memory first. Then the file is written, write by write. If a write fails,
+   the bench stops, so the bench never goes on with an image that the file does not hold. */
 static void store(const char *label, uint32_t record)
 {
     trieff_answer heard = trieff_store_text_writes(ALL(image), ALL(work), TEXT(label), record, writes);
@@ -242,7 +255,7 @@ static void list(void)
         printf("list: refused %u at %u\n", (unsigned)heard.number, (unsigned)heard.place);
 }
 
-/* A record number as it was tapped in: digits alone, and no more than 32 bits hold. */
+/* A record number as it was tapped in: digits alone, and a number of at most 32 bits. */
 static bool record_of(const char *digits, uint32_t *record)
 {
     unsigned long long number = 0;

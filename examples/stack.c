@@ -1,8 +1,11 @@
-/* Measures the stack that each call takes, on an image as deep as keys go: a firmware engineer needs the figure, and the header names it.
-   Each call runs on a stack of its own that was painted before; what is no longer painted was used. It fails if a call takes more than the
-   header says. From the repository's root, after `rt staticlib trieff`:
+/* Measures the stack that each call takes, on an image with a key of the greatest length. A
+   firmware engineer needs these figures, and the header gives their limits. Each call runs on a
+   stack of its own, which was filled with the byte A5. The part that no longer holds it was used.
+   The program fails if a call takes more than the header says. From the repository's root, after
+   `rt staticlib trieff`:
 
-     gcc -std=c11 -O2 -Iinclude -o target/stack examples/stack.c target/staticlib/libtrieff.a && target/stack */
+     gcc -std=c11 -O2 -Iinclude -o target/stack examples/stack.c target/staticlib/libtrieff.a \
+         && target/stack */
 #define _XOPEN_SOURCE 700
 #include "trieff.h"
 
@@ -22,7 +25,7 @@ static trieff_answer heard;
 #define WORK work, NODES
 #define COUNTS counts, NODES
 
-/* One key of 64 letters, so that each call goes down as far as it can. */
+/* The calls, with one key of TRIEFF_KEY_MOST letters, so that each goes down as far as it can. */
 static void call_make(void) { heard = trieff_make(IMAGE, 2, 1, 1, (const uint8_t *)"AB", 2, 0, DEEP); }
 static void call_store(void) { heard = trieff_store(IMAGE, WORK, letters, DEEP, 7); }
 static void call_store_text(void) { heard = trieff_store_text(IMAGE, WORK, text, DEEP, 7); }
@@ -52,9 +55,10 @@ static void call_position_text(void)
 }
 static void call_nothing(void) { heard = (trieff_answer){0}; }
 
-/* The image before the call: fresh, with the key stored, or cut between G and the link, which is
-   the second of the root's two. With counts: with the key stored, so that comparing goes down all
-   levels, and the empty key too, so that the long key has position 1. */
+/* The image before the call. whole: with the key stored. cut: as a store that was cut between G
+   and the link leaves it; the link is the second of the root's two. whole_counted: with its
+   counts, the key stored, so that comparing them goes down all levels, and the empty key stored
+   too, so that the long key has position 1. */
 static void whole(void)
 {
     call_make();
@@ -63,7 +67,7 @@ static void whole(void)
 static void cut(void)
 {
     whole();
-    image[28 + 2 + 1] = 0;
+    image[TRIEFF_IMAGE_LEAST + 2 + 1] = 0;
 }
 
 static void whole_counted(void)
@@ -114,7 +118,7 @@ int main(void)
     int failed = 0;
     memset(letters, 1, DEEP);
     memset(text, 'B', DEEP);
-    whole(); /* the linker's own work at a first memset is done here */
+    whole(); /* so that the linker's work at the first memset is not measured */
     size_t bare = taken_by(call_nothing);
     for (size_t i = 0; i < sizeof calls / sizeof *calls; i++) {
         calls[i].before();
