@@ -210,7 +210,7 @@ static void store(const char *label, uint32_t record)
     for (uint32_t i = 0; i < heard.length; i++) {
         size_t place = writes[2 * i], length = writes[2 * i + 1];
         if (place > sizeof image || length > sizeof image - place)
-            stop("a write of %zu bytes at %zu: no store lists it", length, place);
+            stop("a write of %zu bytes at %zu: no store writes there", length, place);
         put(file, image + place, length, place);
     }
     printf("%s = %u: change %d, writes %u\n", label, (unsigned)record, (int)heard.change, (unsigned)heard.length);

@@ -1,14 +1,14 @@
-//! The calls, each with its name, the numbers that documents 01 and 02 let it answer, and how the
-//! model and the library are asked.
+//! The calls. Each has its name and the numbers that documents 01 and 02 let it answer. The model
+//! and the library are called here.
 //!
-//! To add a call: a variant of `Call`, its row in `KINDS`, an arm in `ask_model` and in
-//! `ask_library`, and a choice in `cases::Case::draw`.
+//! To add a call, add a variant of `Call`, its row in `KINDS`, an arm in `Call::kind`, `ask_model`
+//! and `ask_library`, and a choice in `cases::Case::draw`.
 
 use crate::model::{self, Answer, WRITES};
 use trieff::raw;
 
-/// A call without the memory lent to it. What it is given to read (alphabet, letters or text) is
-/// lent memory too.
+/// A call without the memory lent to it. The alphabet, letters or text that it reads are lent
+/// memory too.
 #[derive(Clone, Copy, Debug, PartialEq, Eq)]
 pub enum Call {
     Make { n: u32, a: u32, d: u32, min: u32, max: u32 },
@@ -33,9 +33,9 @@ pub enum Call {
 
 pub struct Kind {
     pub name: &'static str,
-    /// What `given` is.
+    /// What is lent to be read: `alphabet`, `letters`, `text` or `nothing`.
     pub given: &'static str,
-    /// The numbers that its order names, and 0.
+    /// The numbers of its order, and 0.
     pub numbers: &'static [u32],
 }
 
@@ -100,7 +100,7 @@ pub const KINDS: [Kind; 18] = [
 pub const NUMBERS: usize = 26;
 
 impl Call {
-    /// Its row in `KINDS`.
+    /// The index of its row in `KINDS`.
     pub fn kind(&self) -> usize {
         match self {
             Call::Make { .. } => 0,
@@ -124,7 +124,7 @@ impl Call {
         }
     }
 
-    /// The value that a store is given.
+    /// The value of a store; nothing for other calls.
     pub fn stored(&self) -> Option<u32> {
         match *self {
             Call::Store { value } | Call::StoreText { value } => Some(value),
@@ -144,12 +144,12 @@ impl Call {
         self.takes_counts() && *self != Call::Counts
     }
 
-    /// A store with counts, by letters or by text.
+    /// Whether it is a store with counts, by letters or by text.
     pub fn stores_counts(&self) -> bool {
         self.takes_counts() && self.stored().is_some()
     }
 
-    /// How many numbers it is lent for its list of writes.
+    /// The length of the list of writes that is lent: 0 for a call that is no store with writes.
     pub fn writes_len(&self) -> usize {
         match self {
             Call::StoreWrites { .. } | Call::StoreTextWrites { .. } => WRITES,
@@ -196,8 +196,8 @@ pub fn ask_model(call: Call, lent: Lent) -> Answer {
     }
 }
 
-/// The memory lent to the library. All pointers may be written through, so that a write where none
-/// is allowed is seen and is no trap for the compiler.
+/// The memory lent to the library. All pointers are mutable. So a write through one of them where
+/// none is allowed is seen afterwards, and is no undefined behaviour.
 pub struct Pointers {
     pub image: (*mut u8, usize),
     pub given: (*mut u8, usize),
@@ -207,7 +207,7 @@ pub struct Pointers {
     pub counts: (*mut u32, usize),
 }
 
-/// Safe where the six pieces of memory are there, each its own.
+/// Safe if the six pieces of memory exist and do not overlap.
 pub unsafe fn ask_library(call: Call, lent: &Pointers) -> Answer {
     let ((image, image_len), (given, given_len), (work, work_len)) =
         (lent.image, lent.given, lent.work);

@@ -1,5 +1,5 @@
-//! A random case: from one seed an image and a run of calls on it, of which some are asked while
-//! the image is damaged.
+//! A random case: one seed gives an image and a run of calls on it. Some of the calls are made
+//! while the image is damaged.
 
 use crate::calls::Call;
 use crate::damage::damage;
@@ -10,22 +10,22 @@ use crate::rng::Rng;
 use crate::shapes::{self, Shape};
 use crate::twins::{Arena, Asked};
 
-/// How a case goes.
+/// Which calls a case makes.
 #[derive(Clone, Copy, PartialEq)]
 enum Sort {
     /// All calls on one image.
     Usual,
-    /// A make, then stores more than other calls.
+    /// A make, then mostly stores.
     Fresh,
-    /// Calls with counts more than others, mostly with the list that the one before left.
+    /// Mostly calls with counts, and mostly with the list that the call before left.
     Counted,
-    /// Makes alone, at every limit.
+    /// Only makes, at every limit.
     Makes,
-    /// 16,777,216 bytes, one less or one more: a few calls, for they are slow.
+    /// An image of 16,777,216 bytes, one less or one more: only a few calls, since they are slow.
     Huge,
 }
 
-/// A call and the lengths of what is lent beside the image and what is given.
+/// A call, and the lengths of the key buffer and of the working numbers that it is lent.
 #[derive(Clone, Copy)]
 pub struct Step {
     pub call: Call,
@@ -37,17 +37,17 @@ pub struct Case {
     rng: Rng,
     image: Vec<u8>,
     given: Vec<u8>,
-    /// The letters that `given` was made from.
+    /// The letters from which `given` was made.
     letters: Vec<u8>,
-    /// The list of counts that the call is lent.
+    /// The list of counts that is lent to the call.
     counts: Vec<u32>,
-    /// The list that the last call left that wrote one.
+    /// The list that the last call that wrote counts left.
     kept: Vec<u32>,
-    /// The list kept was refused, so it is to be worked out afresh.
+    /// Counts were refused with 25, so they are to be worked out afresh.
     stale: bool,
     sort: Sort,
     shape: Shape,
-    /// The image from before it was damaged.
+    /// The image as it was before it was damaged.
     whole: Option<Vec<u8>>,
     last_found: Vec<u8>,
     asked: u64,
@@ -101,7 +101,7 @@ impl Case {
         Some(Step { call, key_len: self.draw_key_len(), work_len: self.draw_work_len(call) })
     }
 
-    /// The call that was drawn last, with what it is lent.
+    /// The call that was drawn last, with what is lent to it.
     pub fn asked(&self, step: &Step) -> Asked<'_> {
         Asked {
             call: step.call,
@@ -113,7 +113,7 @@ impl Case {
         }
     }
 
-    /// The case goes on from what the call left.
+    /// Takes over what the call left, so that the case goes on from there.
     pub fn learn(&mut self, call: Call, answer: &Answer, left: &Arena) {
         self.stale |= answer.number == 25;
         if answer.number > 0 {
@@ -129,7 +129,7 @@ impl Case {
         }
     }
 
-    /// A damaged image stays for some calls, then the whole one is back.
+    /// Damages the image at times. It stays damaged for some calls, then it is restored.
     fn damage_or_restore(&mut self) {
         let often = match self.sort {
             Sort::Makes => return,
@@ -151,7 +151,7 @@ impl Case {
         }
     }
 
-    /// The call, and in `given` what it is given.
+    /// Draws a call, and what it reads in `given`.
     fn draw(&mut self) -> Call {
         self.given.clear();
         self.letters.clear();
@@ -221,7 +221,7 @@ impl Case {
         call
     }
 
-    /// Draws the list of counts for a call that takes one, and the position where it is given one.
+    /// Draws the list of counts for a call that takes one, and the position for `KeyAt`.
     fn beside_counts(&mut self, call: Call) -> Call {
         self.counts.clear();
         if !call.takes_counts() {
@@ -236,7 +236,8 @@ impl Case {
         }
     }
 
-    /// Right, wrong in one way, kept, or rubbish; in a length that is drawn by itself.
+    /// Draws a list of counts that is right, wrong in one way, kept from the last call, or
+    /// rubbish. Its length is drawn independently.
     fn draw_counts(&mut self, call: Call, right: Option<Vec<u32>>) {
         let k = right.as_ref().map_or(0, |_| self.new_nodes(call));
         let len = self.draw_counts_len(k);
@@ -254,7 +255,7 @@ impl Case {
         self.counts = lists::of_length(&mut self.rng, counts, len);
     }
 
-    /// The k of a store in an accepted image; 0 of other calls, and where a letter is bad.
+    /// The k of a store in an accepted image; 0 for other calls, and if a letter is bad.
     fn new_nodes(&self, call: Call) -> usize {
         let head = Head::read(&self.image);
         match call.stored() {
@@ -265,7 +266,8 @@ impl Case {
         }
     }
 
-    /// 0, the last, the number of keys, past that, and some that are 0 in 32 bits.
+    /// Draws a position: 0, any, the last, the number of keys, one more, the greatest number, or
+    /// one that would be valid if it were read in 32 bits.
     fn draw_position(&mut self, keys: u64) -> u64 {
         let any = self.rng.below(keys);
         let wraps = (1 + self.rng.below(3)) << 32 | any;
@@ -273,7 +275,8 @@ impl Case {
         self.rng.pick(&[0, any, any, any, last, last, keys, keys + 1, wraps, u64::MAX])
     }
 
-    /// At times from the key found last, or from the empty key: the listing.
+    /// Draws a next key, at times from the key found last or from the empty key, as a listing
+    /// does.
     fn draw_next_key(&mut self) -> Call {
         let after = self.rng.one_in(2);
         match self.rng.below(4) {
@@ -298,7 +301,7 @@ impl Case {
         Call::Make { n, a, d, min, max }
     }
 
-    /// Another shape and slice: around what the make needs, and far from it.
+    /// Draws another shape and slice: of about the length that the make needs, or far from it.
     fn draw_make_limits(&mut self) {
         let n = self.rng.pick(&[1, 2, 3, 255, 256]);
         self.shape = Shape::of(&mut self.rng, n);
@@ -361,13 +364,14 @@ impl Case {
         }
     }
 
-    /// G as far as it matters: where G+1 is above this, 4 comes before 5.
+    /// G, but at most half the image's length plus 1. With a greater G the image is refused with 4
+    /// or earlier, never with 5.
     fn g(&self) -> usize {
         let g = if self.image.len() < 28 { 3 } else { Head::read(&self.image).g as usize };
         g.min(self.image.len() / 2 + 1)
     }
 
-    /// Around G+1 and, for a store that adds k nodes, around G+k+1.
+    /// Draws a length near G+1 or, for a store with k new nodes, near G+k+1.
     fn draw_counts_len(&mut self, k: usize) -> usize {
         let g = self.g();
         let more = self.rng.below(6) as usize;
@@ -389,7 +393,8 @@ impl Case {
         let more = self.rng.below(6) as usize;
         let fewer = self.rng.below(g as u64 + 1) as usize;
         match self.rng.below(20) {
-            // a list of counts may be short as well, and should not always be
+            // with counts the working numbers are short less often, since the list may be short
+            // too
             0..=3 if call.takes_counts() && self.rng.below(3) > 0 => g + 1,
             0 => 0,
             1..=2 => g,
@@ -412,8 +417,8 @@ impl Case {
     }
 }
 
-/// The choices of `draw` in a run of calls with counts: stores most, then the others, and a store
-/// or a mend after which the counts are to be worked out afresh.
+/// The choices of `draw` in a run of calls with counts: most are stores with counts, then the
+/// other calls with counts, and a mend, after which the counts may have to be worked out afresh.
 const COUNTED_RUN: [u64; 16] = [31, 32, 33, 34, 35, 36, 37, 31, 35, 38, 38, 41, 43, 29, 27, 20];
 
 // ---- how the cases begin ----
@@ -433,7 +438,7 @@ fn fresh(rng: &mut Rng) -> (Sort, Shape, Vec<u8>) {
     (Sort::Fresh, shape, image)
 }
 
-/// A tree with room for more, to store with counts.
+/// A tree with room for more nodes, for stores with counts.
 fn counted(rng: &mut Rng) -> (Sort, Shape, Vec<u8>) {
     let (_, shape, mut image) = tree(rng);
     let spare = shape.draw_spare(rng) + shape.draw_spare(rng);
@@ -446,7 +451,7 @@ fn makes(rng: &mut Rng) -> (Sort, Shape, Vec<u8>) {
     (Sort::Makes, Shape::draw(rng), Vec::new())
 }
 
-/// No image at all, or only a head that could be one.
+/// Rubbish, or a head that could be an image's with rubbish after it.
 fn rubbish(rng: &mut Rng) -> (Sort, Shape, Vec<u8>) {
     let shape = Shape::draw(rng);
     let length = rng.below(200) as usize;
@@ -457,7 +462,7 @@ fn rubbish(rng: &mut Rng) -> (Sort, Shape, Vec<u8>) {
     (Sort::Usual, shape, image)
 }
 
-/// A = 1 and all addresses taken, or nearly.
+/// A = 1, and all addresses or nearly all are in use.
 fn full_of_one_byte(rng: &mut Rng) -> (Sort, Shape, Vec<u8>) {
     let n = if rng.one_in(40) { 256 } else { rng.between(1, 6) as u32 };
     let mut shape = Shape::of(rng, n);
@@ -468,7 +473,7 @@ fn full_of_one_byte(rng: &mut Rng) -> (Sort, Shape, Vec<u8>) {
     (Sort::Usual, shape, image)
 }
 
-/// A = 2 and all addresses taken, or nearly.
+/// A = 2, and all addresses or nearly all are in use.
 fn full_of_two_bytes(rng: &mut Rng) -> (Sort, Shape, Vec<u8>) {
     let mut shape = Shape::of(rng, 2);
     shape.head.a = 2;
@@ -478,8 +483,8 @@ fn full_of_two_bytes(rng: &mut Rng) -> (Sort, Shape, Vec<u8>) {
     (Sort::Usual, shape, image)
 }
 
-/// As long as an image may be, or a byte longer or shorter: with all nodes that fit, in one chain
-/// or in a tree, or with few.
+/// An image of the greatest length, or one byte longer or shorter. It has all nodes that fit, in
+/// one chain or in a tree, or only a few nodes.
 fn huge(rng: &mut Rng) -> (Sort, Shape, Vec<u8>) {
     let length = LONGEST_IMAGE + rng.below(3) as usize - 1;
     let mut shape = match rng.below(3) {

@@ -1,5 +1,5 @@
-//! Holds the model's calls with counts to document 01's small file, with the counts worked out by
-//! hand, and to next key.
+//! Compares the model's calls with counts with counts of document 01's small file that were worked
+//! out by hand, and with next key.
 
 use super::*;
 
@@ -8,8 +8,8 @@ fn p7() -> Vec<u8> {
     abc("00000005", "00010300 02000005 00000009 00000400 00000500 00000001")
 }
 
-/// A chain of A, with data at depths 0, 3 and 4, of which min 1 and max 3 hide the first and the
-/// last.
+/// A chain by the letter A, with data at depths 0, 3 and 4. min 1 and max 3 hide the first and the
+/// last data.
 fn hiding() -> Vec<u8> {
     abc("00000004", "01000007 02000000 03000000 04000008 00000009")
 }
@@ -79,7 +79,8 @@ fn order_of_25() {
     assert_eq!(position_text(&p3(), &mut work, &wrong, b"DDDD"), refused(25, 2));
 }
 
-/// The store with counts by letters and by text: the counts that both leave. It stores in `image`.
+/// Stores with counts by letters, in `image`, and by text, in a copy. Returns the counts that both
+/// leave.
 fn store_both_ways(
     image: &mut Vec<u8>,
     key: (&[u8], &[u8]),
@@ -186,8 +187,8 @@ fn positions_of_keys() {
     );
 }
 
-/// "the first stored key moved on by i steps of next key", for every i, and back by the key's
-/// position.
+/// The key at position i is "the first stored key moved on by i steps of next key", for every i,
+/// and its position is i.
 fn held_to_next_key(image: &[u8], list: &[u32]) {
     let (mut work, mut last, mut next, mut at) = ([7; 400], Vec::new(), [0; 4], [0; 4]);
     let mut begun = false;
@@ -203,7 +204,7 @@ fn held_to_next_key(image: &[u8], list: &[u32]) {
     assert_eq!(key_at(image, &mut work, list, u64::from(list[0]), &mut at), refused(15, 0));
 }
 
-/// "A store changes counts only on the key's path and at the new nodes", there by the store's
+/// "A store changes counts only on the key's path and at the new nodes". There it adds the store's
 /// change.
 #[test]
 fn a_store_changes_counts_on_its_path_alone() {

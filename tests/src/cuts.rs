@@ -1,8 +1,8 @@
-//! Cuts: what request 1 of document 02 asks of a store that is cut short. The library's own list
-//! of its writes is carried out on the image from before, up to every cut; each image so left is
-//! mended and then asked everything. What it must answer comes from a map of last values that is
-//! kept beside the image. Each store is made with counts too, with the list that the one before
-//! left or, after a cut, with one that is worked out afresh.
+//! Cuts: what request 1 of document 02 asks of a store that is cut. The library's own list of
+//! writes is carried out on the image from before the store, up to every cut. Each image that is
+//! left is mended, and then the calls that read are made on it. The expected answers come from a
+//! map of last values that is kept beside the image. Each store is made with counts too, with the
+//! list that the store before left or, after a cut, with one that is worked out afresh.
 
 use crate::calls::{ask_library, Call, Pointers};
 use crate::keys;
@@ -20,13 +20,14 @@ use std::ptr::NonNull;
 use std::sync::atomic::{AtomicU64, Ordering};
 use std::sync::Mutex;
 
-/// After so many failures a run stops.
+/// A run stops after this number of failures.
 const ENOUGH: usize = 5;
 
-/// A write to spare bytes lands in every part if it has so many bytes or fewer.
+/// A write to spare bytes is tried with every set of its bytes landed if it has at most this
+/// number of bytes.
 const EVERY_PART: usize = 4;
 
-/// The values of the stored keys. A key comes before its extensions, as 01 orders them.
+/// The values of the stored keys, in 01's order: a key comes before its extensions.
 type Stored = BTreeMap<Vec<u8>, u64>;
 
 /// An accepted image and what it holds.
@@ -34,7 +35,7 @@ type Stored = BTreeMap<Vec<u8>, u64>;
 struct Held {
     image: Vec<u8>,
     stored: Stored,
-    /// Its counts, where a store with counts has left them.
+    /// Its counts, if a store with counts has left them.
     counts: Option<Vec<u32>>,
 }
 
@@ -45,8 +46,8 @@ impl Held {
     }
 }
 
-/// What was tried: stores that were not refused, the images that their cuts left, and of these
-/// those with a write in part and those whose G was lowered.
+/// What was tried: the stores that were not refused, the images that their cuts left, and of these
+/// images those with a write that landed in part and those whose G was lowered.
 #[derive(Clone, Copy, Default)]
 pub struct Tried {
     pub images: u64,
@@ -76,17 +77,18 @@ fn claim(holds: bool, broken: impl Fn() -> String) -> Result<(), String> {
     }
 }
 
-/// Whether the key can be asked by text. Without an alphabet only the empty one can.
+/// Whether the key has a text. Without an alphabet only the empty key has one.
 fn has_text(key: &Key) -> bool {
     key.letters.is_empty() || !key.text.is_empty()
 }
 
-/// Asks the library alone, and only calls that change nothing but working numbers and key buffer.
+/// Calls the library alone, without the model, and makes only calls that change no image. They
+/// change the working numbers, the key buffer and the counts.
 struct Reader {
     work: Vec<u32>,
     key: [u8; 64],
     counts: Vec<u32>,
-    /// Positions are asked in turn.
+    /// Chooses the position to be tried: the positions come in turn.
     turn: usize,
 }
 
@@ -103,8 +105,8 @@ impl Reader {
         unsafe { ask_library(call, &lent) }
     }
 
-    /// Look ups by letters and, where there is text, by text. Only an image that is not mended yet
-    /// may refuse them.
+    /// Looks up the keys by letters and, if they have a text, by text. Only an image that is not
+    /// mended yet may refuse a lookup.
     fn look_ups(
         &mut self,
         image: &[u8],
@@ -135,7 +137,7 @@ impl Reader {
         Ok(())
     }
 
-    /// Everything that a mended image answers.
+    /// Makes the calls that read on a mended image.
     fn all(&mut self, image: &[u8], stored: &Stored, keys: &[Key]) -> Result<(), String> {
         let checked = self.ask(Call::Check, image, &[]);
         claim(checked == Answer::default(), || {
@@ -160,7 +162,8 @@ impl Reader {
         self.positions(image, stored)
     }
 
-    /// Has the library work the counts out afresh, in a list of G+1 that holds what it did.
+    /// The library works the counts out afresh, in a list of G+1 numbers that keeps what it held
+    /// before.
     fn work_out_counts(&mut self, image: &[u8]) -> Result<(), String> {
         let nodes = Head::read(image).g as usize + 1;
         self.work.resize(nodes, 7);
@@ -171,8 +174,8 @@ impl Reader {
         })
     }
 
-    /// The counts worked out afresh are not refused. By them one of the keys is found at its
-    /// position and its position by the key, or none is found past the last.
+    /// The counts worked out afresh are not refused. With them one of the keys is found by its
+    /// position, and its position by the key, or no key is found past the last position.
     fn positions(&mut self, image: &[u8], stored: &Stored) -> Result<(), String> {
         self.work_out_counts(image)?;
         let checked = self.ask(Call::CheckCounts, image, &[]);
@@ -209,8 +212,8 @@ struct Worker {
     twins: Twins,
     rng: Rng,
     reader: Reader,
-    /// Spoils the listed store, the store with counts and mend, and is to be found with no look at
-    /// the model.
+    /// Spoils the store with writes, the store with counts and mend. It must be found without the
+    /// model.
     saboteur: Option<&'static Saboteur>,
     done: Tried,
 }
@@ -231,7 +234,7 @@ impl Worker {
         self.ask_beside(call, image, given, &[])
     }
 
-    /// A call compared with the model, with enough working numbers.
+    /// Makes a call, lent enough working numbers, and compares it with the model.
     fn ask_beside(
         &mut self,
         call: Call,
@@ -250,8 +253,8 @@ impl Worker {
         }
     }
 
-    /// A store with all its cuts. If it is not refused: one of the mended images, and what that
-    /// one holds.
+    /// Tries a store with all its cuts. If it is not refused, returns one of the mended images and
+    /// what it holds.
     fn store(
         &mut self,
         held: &Held,
@@ -288,16 +291,16 @@ impl Worker {
         let after = self.twins.library.image().to_vec();
         self.ask(Call::Store { value }, &held.image, &key.letters)?;
         claim(self.twins.library.image() == after, || {
-            "the store leaves other bytes than the listed store".to_string()
+            "the store leaves other bytes than the store with writes".to_string()
         })?;
         let counts = self.store_with_counts(held, key, value, &after)?;
         let next = self.cuts(held, key, value, &list, &after, keys)?;
         Ok(Some(Held { counts: if next.image == after { Some(counts) } else { None }, ..next }))
     }
 
-    /// The same store with counts, with the list that the store before left, or with one that is
-    /// worked out afresh: the counts that it leaves. They are those of the image after it, worked
-    /// out afresh.
+    /// Makes the same store with counts, with the list that the store before left or with one that
+    /// is worked out afresh. Returns the counts that it leaves. They must be those of the image
+    /// after it, worked out afresh.
     fn store_with_counts(
         &mut self,
         held: &Held,
@@ -377,8 +380,8 @@ impl Worker {
         Ok(Held { image: left.swap_remove(any), stored: held.stored.clone(), counts: None })
     }
 
-    /// The bytes of a write that land if it is the one hit: none, or if it goes to spare bytes
-    /// some of them, in every way or in some.
+    /// The sets of bytes that land of the write that is hit. If it does not go to spare bytes, no
+    /// byte lands. Otherwise every set but the whole is tried if the write is short, else some.
     fn parts(&mut self, write: &Range<usize>, spare: bool) -> Vec<Vec<usize>> {
         let bytes: Vec<usize> = write.clone().collect();
         if !spare {
@@ -403,7 +406,7 @@ impl Worker {
         vec![Vec::new(), vec![first], vec![last], one_side.to_vec(), all_but_one, any]
     }
 
-    /// Mends what a cut left and asks it everything. The mended image.
+    /// Mends what a cut left, and makes the calls that read on it. Returns the mended image.
     fn mend(&mut self, left: Vec<u8>, stored: &Stored, keys: &[Key]) -> Result<Vec<u8>, String> {
         self.done.cuts += 1;
         self.reader.work.resize(Head::read(&left).g as usize + 1, 7);
@@ -418,7 +421,7 @@ impl Worker {
     }
 }
 
-/// The writes of a list, each as the bytes that it goes to.
+/// The writes of a list, each as the range of bytes that it writes.
 fn listed(writes: &[u32], many: usize, image_len: usize) -> Result<Vec<Range<usize>>, String> {
     let range = |pair: &[u32]| pair[0] as usize..pair[0] as usize + pair[1] as usize;
     let list: Vec<Range<usize>> = writes.chunks(2).take(many).map(range).collect();
@@ -428,7 +431,7 @@ fn listed(writes: &[u32], many: usize, image_len: usize) -> Result<Vec<Range<usi
     Ok(list)
 }
 
-/// Those of the keys that the image does not refuse, each once, with their text where there is an
+/// Those of the keys that the image does not refuse, each once, with their text if there is an
 /// alphabet.
 fn keys_of(image: &[u8], mut keys: Vec<Vec<u8>>) -> Vec<Key> {
     let head = Head::read(image);
@@ -452,13 +455,13 @@ fn keys_of(image: &[u8], mut keys: Vec<Vec<u8>>) -> Vec<Key> {
 
 // ---- small images ----
 
-/// All accepted images with A = D = 1 of so many links and so great a G.
+/// All accepted images with A = D = 1 and this N and G.
 struct Family {
     n: u32,
     g: u32,
     /// The data values of every node.
     data: &'static [u8],
-    /// An image is tried in one of so many settings.
+    /// An image is tried in every n-th setting, where n is this number.
     settings: usize,
 }
 
@@ -479,7 +482,7 @@ const FAMILIES: [Family; 14] = [
     Family { n: 3, g: 3, data: &[0, 1], settings: 56 },
 ];
 
-/// Every key and these values are stored.
+/// Each of these values is stored under every key.
 const VALUES: [u32; 3] = [0, 1, 255];
 
 fn run_tree(
@@ -508,7 +511,7 @@ fn run_tree(
     Ok(())
 }
 
-/// Every cut of every store on the small images, in two threads.
+/// Tries every cut of every store on the small images, in two threads.
 pub fn run_small() -> Tried {
     let tried = Mutex::new(Tried::default());
     std::thread::scope(|scope| {
@@ -564,7 +567,7 @@ fn keys_near(rng: &mut Rng, held: &Held, key: &[u8]) -> Vec<Key> {
     keys_of(&held.image, near)
 }
 
-/// A small image to begin with: fresh, or grown with data also where min and max hide it.
+/// A small image to begin with: fresh, or grown, then also with data that min and max hide.
 fn begin(rng: &mut Rng) -> Held {
     let mut shape = Shape::draw(rng);
     let spare = shape.draw_spare(rng) + shape.draw_spare(rng);
@@ -580,8 +583,8 @@ fn begin(rng: &mut Rng) -> Held {
     Held::of(image)
 }
 
-/// A run of stores from one image on, each with all its cuts. It goes on from one of the images
-/// that were mended.
+/// A run of stores that begins with one image. Each store is tried with all its cuts. The next one
+/// begins with one of the mended images.
 fn history(worker: &mut Worker, seed: u64) -> Result<(), String> {
     let mut rng = Rng::new(seed);
     worker.rng = Rng::new(!seed);
@@ -602,7 +605,7 @@ fn history(worker: &mut Worker, seed: u64) -> Result<(), String> {
     Ok(())
 }
 
-/// So many histories from the starting seed on, in two threads.
+/// Tries a number of histories, from the starting seed on, in two threads.
 pub fn run_random(start: u64, histories: u64) -> Tried {
     let next = AtomicU64::new(0);
     let tried = Mutex::new(Tried::default());
@@ -633,7 +636,7 @@ pub fn run_random(start: u64, histories: u64) -> Tried {
     tried.into_inner().unwrap()
 }
 
-/// Repeats one history and tells of its failure. Returns whether there was none.
+/// Repeats one history and prints its failure. Returns whether there was none.
 pub fn replay(seed: u64) -> bool {
     let mut worker = Worker::new(0, None);
     let outcome = history(&mut worker, seed);
@@ -647,8 +650,8 @@ pub fn replay(seed: u64) -> bool {
     outcome.is_ok()
 }
 
-/// Every saboteur of the cuts must be reported within the same histories, by what the images
-/// answer alone. Returns how many were not.
+/// Every saboteur of the cuts must be reported within the same histories, by the answers of the
+/// images alone. Returns the number of saboteurs that were not.
 pub fn self_test(start: u64, histories: u64) -> usize {
     let mut missed = 0;
     for saboteur in &CUT_SABOTEURS {

@@ -26,7 +26,8 @@ pub fn damage(rng: &mut Rng, image: &mut Vec<u8>) {
     }
 }
 
-/// The head, where its nodes can be read: all but the alphabet is right.
+/// The head, if the nodes can be read: the fields N, A, D and F are permitted and U is inside the
+/// image. The alphabet, min and max are not judged.
 pub fn readable(image: &[u8]) -> Option<Head> {
     if image.len() < 28 {
         return None;
@@ -91,7 +92,7 @@ fn head_field(rng: &mut Rng, image: &mut [u8]) {
     write_number(&mut image[4 * field as usize..4 * field as usize + 4], u64::from(value));
 }
 
-/// A great G whose (G+1)*W, or U, falls inside the image if it is worked out in 32 bits.
+/// A great G such that (G+1)*W, or U, would fit the image if it were computed in 32 bits.
 fn wrapping_g(rng: &mut Rng, image: &mut [u8]) {
     let head = Head::read(image);
     let w = head.w() as u32;
@@ -100,12 +101,12 @@ fn wrapping_g(rng: &mut Rng, image: &mut [u8]) {
     }
     let twos = w.trailing_zeros();
     let odd = w >> twos;
-    // the inverse of an odd number in 32 bits, by Newton's steps
+    // the inverse of an odd number modulo 2^32, by Newton's method
     let inverse = (0..5).fold(odd, |x, _| x.wrapping_mul(2u32.wrapping_sub(odd.wrapping_mul(x))));
     let room = (image.len() as u64).saturating_sub(28 + u64::from(head.f)) >> twos;
     let any = rng.below(room + 1);
     let body = rng.pick(&[0, 1, room, any]) as u32;
-    // nodes * odd = body in 32 - twos bits, so nodes * W = body << twos in 32
+    // nodes * odd = body modulo 2^(32 - twos), so nodes * W = body << twos modulo 2^32
     let low = body.wrapping_mul(inverse);
     let nodes = if twos > 0 {
         (low & (u32::MAX >> twos)) | ((rng.next() as u32) << (32 - twos))
@@ -143,7 +144,8 @@ fn alphabet(rng: &mut Rng, image: &mut [u8]) {
     }
 }
 
-/// F a little lower: a last character that is cut has its missing bytes in the first node.
+/// Lowers F a little: the last character may be cut then, with its missing bytes after the F
+/// bytes.
 fn cut_alphabet(rng: &mut Rng, image: &mut [u8]) {
     let f = Head::read(image).f;
     let lower = f.saturating_sub(rng.between(1, 3) as u32);
@@ -180,7 +182,7 @@ fn byte(rng: &mut Rng, image: &mut [u8]) {
     image[at] = rng.next() as u8;
 }
 
-/// Links and data, where they can be read.
+/// Damages links or data, if they can be read.
 fn body(rng: &mut Rng, image: &mut [u8]) {
     let head = match readable(image) {
         Some(head) => head,
@@ -205,7 +207,7 @@ fn body(rng: &mut Rng, image: &mut [u8]) {
     }
 }
 
-/// A node down some way that a key may go, or any node.
+/// A node on a path that a key may take, or any node.
 fn some_node(rng: &mut Rng, image: &[u8], head: &Head) -> u64 {
     if rng.one_in(3) {
         return rng.between(0, u64::from(head.g));
@@ -222,14 +224,14 @@ fn some_node(rng: &mut Rng, image: &[u8], head: &Head) -> u64 {
     node
 }
 
-/// One of the letters whose link is not empty.
+/// A letter whose link is not empty, if there is one.
 pub fn taken_letter(rng: &mut Rng, image: &[u8], head: &Head, node: u64) -> Option<u64> {
     let n = u64::from(head.n);
     let start = rng.below(n);
     (0..n).map(|i| (start + i) % n).find(|letter| link(image, head, node, *letter) != 0)
 }
 
-/// A link becomes 0, itself, a lower one, one above G, or any.
+/// A link becomes 0, the address of its own node, a lower address, one above G, or any.
 fn tear(rng: &mut Rng, image: &mut [u8], head: &Head) {
     let node = some_node(rng, image, head);
     let any = rng.below(u64::from(head.n));
@@ -244,8 +246,8 @@ fn tear(rng: &mut Rng, image: &mut [u8], head: &Head) {
     write_number(&mut image[at..at + head.a as usize], address.min(most));
 }
 
-/// A link becomes 0, so that its address stands in none. Nodes before that address may link past
-/// it.
+/// A link becomes 0, so that its address stands in no link. Nodes below that address may link to
+/// addresses above it.
 fn empty_link(rng: &mut Rng, image: &mut [u8], head: &Head) {
     let node = some_node(rng, image, head);
     if let Some(letter) = taken_letter(rng, image, head, node) {
@@ -254,7 +256,8 @@ fn empty_link(rng: &mut Rng, image: &mut [u8], head: &Head) {
     }
 }
 
-/// One link's bytes over another's: an address that stands twice, or in no link, or both.
+/// Copies one link over another: an address then stands in two links, or in no link, or both
+/// occur.
 fn copy_link(rng: &mut Rng, image: &mut [u8], head: &Head) {
     let from = some_node(rng, image, head);
     let letter = match taken_letter(rng, image, head, from) {
@@ -267,8 +270,9 @@ fn copy_link(rng: &mut Rng, image: &mut [u8], head: &Head) {
     image.copy_within(start..start + head.a as usize, at);
 }
 
-/// G some nodes higher, where there is room, as after a cut before the old link: the first of them
-/// stands in no link, and perhaps no link could hold it; each other mostly in the one before.
+/// Raises G by some nodes, if there is room, as after a cut before the old link. The first of them
+/// stands in no link, and perhaps A bytes cannot hold its address. Each other one mostly stands in
+/// the node before it.
 fn unlinked_nodes(rng: &mut Rng, image: &mut [u8], head: &Head) {
     let (first, many) = (u64::from(head.g) + 1, rng.pick(&[1, 1, 2, 3]));
     let (start, end) = (head.node(first) as usize, head.node(first + many) as usize);
@@ -285,8 +289,8 @@ fn unlinked_nodes(rng: &mut Rng, image: &mut [u8], head: &Head) {
     write_number(&mut image[..4], first + many - 1);
 }
 
-/// Bytes that are no well-formed character, in each way: overlong, surrogate, past the end, stray,
-/// cut.
+/// Bytes that are no well-formed character, of every kind: overlong, a surrogate, above 10FFFF, a
+/// stray byte, a character that is cut.
 pub const ILL_FORMED: [&[u8]; 20] = [
     &[0xC0, 0x80],
     &[0xC1, 0xBF],

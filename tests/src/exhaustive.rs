@@ -1,9 +1,11 @@
-//! The exhaustive part: all small images with A = D = 1. Every link holds every value of its
-//! family, those that matter (0 to G+1, and 255) or all 256, and every node every data value of
-//! its family. The calls are asked with every key over the letters 0 to N (N is bad) up to length
-//! 3: on every image with N and G up to 2, refused or not; of greater families the images that are
-//! refused are asked less, as `Asks` says. The calls with counts are asked beside right, wrong and
-//! short lists; those that take a key, of accepted images alone.
+//! The exhaustive part: all small images with A = D = 1, in families. Every link takes every link
+//! value of its family: those that matter (0 to G+1, and 255) or all 256. Every node takes every
+//! data value of its family. The calls, without make, are made with every key of at most three
+//! letters from 0 to N, where the letter N is bad. With N and G up to 2, and the link values that
+//! matter, this is done on every image, refused or not. In some other families fewer calls, or
+//! none, are made on the refused images, as `Asks` says. The calls with counts are made with
+//! right, wrong and short lists; those that take a key or a position are made on accepted images
+//! only.
 
 use crate::calls::Call;
 use crate::lists;
@@ -15,31 +17,31 @@ use crate::small::{self, keys, settings, trees, tuples, Key, Setting};
 use crate::twins::{Asked, Twins};
 use std::sync::Mutex;
 
-/// After so many failures the run stops.
+/// The run stops after this number of failures.
 const ENOUGH: usize = 5;
 
-/// How much is asked of the images that the check refuses. Those that it accepts are asked
-/// everything.
+/// Which calls are made on the images that the check refuses. All calls are made on those that it
+/// accepts.
 #[derive(Clone, Copy, PartialEq)]
 enum Asks {
     /// Every call with every key.
     All,
-    /// The check and mend, of one image for all data.
+    /// The check and mend, with one choice of data.
     Check,
-    /// Nothing: only the accepted ones are made.
+    /// None: only accepted images are built.
     Nothing,
 }
 
-/// All images of so many links and so great a G.
+/// All images with this N and G.
 struct Family {
     n: u32,
     g: u32,
-    /// The values of every link; empty: those that matter.
+    /// The values of every link; an empty list stands for the values that matter.
     links: &'static [u8],
     /// The data values of every node.
     data: &'static [u8],
     refused: Asks,
-    /// Accepted images are tried in one of so many settings.
+    /// An accepted image is tried in every n-th setting, where n is this number.
     settings: usize,
 }
 
@@ -108,7 +110,7 @@ impl Worker {
         self.ask_beside(call, image, given, key_len, work_len, &[])
     }
 
-    /// With a list of counts.
+    /// Makes a call with a list of counts.
     fn ask_beside(
         &mut self,
         call: Call,
@@ -134,7 +136,7 @@ impl Worker {
         small::image(&mut self.rng, family.n, links, data, setting)
     }
 
-    /// Check, mend and number of keys, with enough working numbers and with too few.
+    /// Makes check, mend and number of keys, with enough working numbers and with too few.
     fn ask_without_key(&mut self, image: &[u8], g: usize) {
         self.ask(Call::Check, image, &[], 0, g + 1);
         self.ask(Call::Check, image, &[], 0, g);
@@ -151,7 +153,7 @@ impl Worker {
         }
     }
 
-    /// Stores and next keys of one key, each on the image as it is.
+    /// Makes the stores and next keys with one key, each on the image as it was.
     fn ask_others(&mut self, image: &[u8], key: &Key, setting: &Setting, g: usize) {
         let max = setting.lengths.1 as usize;
         for value in [0, 1, 256] {
@@ -168,8 +170,8 @@ impl Worker {
         self.ask(Call::NextKey { after: true }, image, &key.letters, max.saturating_sub(1), g + 2);
     }
 
-    /// The counts worked out and compared, beside lists that are long enough and short. `list`:
-    /// the right counts, or of a refused image any.
+    /// Works the counts out and compares them, in lists that are long enough and in a short one.
+    /// `list` holds the right counts or, for a refused image, any counts.
     fn ask_counts(&mut self, image: &[u8], list: &[u32]) {
         let nodes = list.len();
         self.ask_beside(Call::Counts, image, &[], 0, nodes, &vec![9; nodes + 1]);
@@ -177,8 +179,8 @@ impl Worker {
         self.ask_beside(Call::CheckCounts, image, &[], 0, nodes, &list[..nodes - 1]);
     }
 
-    /// What does not depend on spare bytes: the count of one node wrong, of each in turn, the key
-    /// at every position and past the last, and the position of every key.
+    /// Tries what does not depend on spare bytes: a wrong count at each node in turn, the key at
+    /// every position and past the last one, and the position of every key.
     fn ask_positions(&mut self, image: &[u8], keys: &[Key], right: &[u32], setting: &Setting) {
         let (nodes, max) = (right.len(), setting.lengths.1 as usize);
         let mut wrong = [right, &[1]].concat();
@@ -213,8 +215,8 @@ impl Worker {
         }
     }
 
-    /// The stores of one key with counts, beside a list that just suffices, and one that is a
-    /// number short.
+    /// Makes the stores with counts of one key, with a list that is just long enough and with one
+    /// that is one number too short.
     fn ask_stores_beside(&mut self, image: &[u8], key: &Key, right: &[u32], text: bool) {
         let nodes = right.len();
         let (head, letters) = (Head::read(image), &key.letters);
@@ -260,7 +262,7 @@ impl Worker {
         }
     }
 
-    /// One pattern of links with all data and, where it is accepted, in all settings of the
+    /// Tries one pattern of links with all data and, if it is accepted, in all settings of the
     /// family.
     fn try_links(
         &mut self,
@@ -292,7 +294,7 @@ impl Worker {
     }
 }
 
-/// The patterns of links of a family: all of them, or those of the accepted trees.
+/// The patterns of links of a family: all of them, or only those of accepted images.
 fn patterns(family: &Family) -> Box<dyn Iterator<Item = Vec<u8>>> {
     let (n, g) = (family.n as usize, family.g as usize);
     if family.refused == Asks::Nothing {
@@ -319,7 +321,7 @@ fn run_family(worker: &mut Worker, family: &Family, thread: usize, progress: &mu
     }
 }
 
-/// All families, in two threads.
+/// Tries all families, in two threads.
 pub fn run() -> Exhausted {
     let tried = Mutex::new([Exhausted::default(); FAMILIES.len()]);
     std::thread::scope(|scope| {

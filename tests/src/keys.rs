@@ -1,12 +1,12 @@
-//! Keys by letters and by text: on the tree's paths and off them, at every limit and past it,
-//! ill-formed in every way.
+//! Keys by letters and by text: on paths of the tree and beside them, at every limit and past it,
+//! and texts that are ill-formed in every way.
 
 use crate::damage::{readable, taken_letter, ILL_FORMED};
 use crate::model::{greatest, link, Head};
 use crate::rng::Rng;
 use crate::shapes::character;
 
-/// The lengths that a key may have; where the head cannot be read, any.
+/// N, min and max, kept within their limits; if the head cannot be read, those of 01's small file.
 fn limits(image: &[u8]) -> (u64, u64, u64) {
     if image.len() < 28 {
         return (3, 1, 3);
@@ -39,7 +39,8 @@ pub fn letters(rng: &mut Rng, image: &[u8], last_found: &[u8]) -> Vec<u8> {
     letters
 }
 
-/// Down the tree as far as it goes and at times off it; past its end the letters are any.
+/// Letters along links that are not empty, as far as these go, at times with a letter that leaves
+/// the path. The letters after that are random.
 fn walked(rng: &mut Rng, image: &[u8], length: u64, min: u64) -> Vec<u8> {
     let (n, _, _) = limits(image);
     let head = readable(image);
@@ -65,7 +66,8 @@ fn walked(rng: &mut Rng, image: &[u8], length: u64, min: u64) -> Vec<u8> {
     letters
 }
 
-/// The text of a key; the characters of letters that the alphabet lacks are any.
+/// The text of a key. A letter that the alphabet does not have becomes a random character. The
+/// text is spoiled at times.
 pub fn text(rng: &mut Rng, alphabet: &[Vec<u8>], letters: &[u8]) -> Vec<u8> {
     let mut characters: Vec<Vec<u8>> = letters
         .iter()
@@ -90,7 +92,8 @@ fn any_character(rng: &mut Rng) -> Vec<u8> {
     character(rng, sort)
 }
 
-/// Changes one character, or makes the text long with something bad far out.
+/// Changes or adds one character, or makes the text long, at times with a bad character at its
+/// end.
 fn spoil(rng: &mut Rng, alphabet: &[Vec<u8>], characters: &mut Vec<Vec<u8>>) {
     let at = rng.below(characters.len() as u64 + 1) as usize;
     match rng.below(7) {
@@ -125,7 +128,7 @@ fn spoil(rng: &mut Rng, alphabet: &[Vec<u8>], characters: &mut Vec<Vec<u8>>) {
     }
 }
 
-/// A letter's character with its last byte one off: half of it matches.
+/// A letter's character with its last byte changed by one: only its first bytes match.
 fn near_character(rng: &mut Rng, alphabet: &[Vec<u8>]) -> Vec<u8> {
     if alphabet.is_empty() {
         return any_character(rng);

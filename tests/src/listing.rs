@@ -1,5 +1,6 @@
-//! The listing program, as a child process, against the lines that document 01 asks for: cases
-//! with the text written out by hand, then random images against the model's listing.
+//! Runs the listing program as a child process and compares its output with the lines that
+//! document 01 asks for: first in cases whose lines are written out by hand, then on random
+//! images, with the model's listing.
 
 use crate::damage::damage;
 use crate::model::{self, write_number, LISTING_WORK, LONGEST_INPUT};
@@ -26,13 +27,13 @@ fn start(input: Stdio) -> Result<Child, String> {
     started.map_err(|error| format!("{PROGRAM} does not start: {error}"))
 }
 
-/// What the program writes of a file.
+/// What the program writes for a file.
 fn written_of_file(path: &Path) -> Result<Vec<u8>, String> {
     let file = File::open(path).map_err(|error| error.to_string())?;
     lines_of(start(Stdio::from(file))?.wait_with_output())
 }
 
-/// What the program writes of the input, delivered in pieces with a pause between them.
+/// What the program writes for an input that comes in pieces, with a pause between them.
 fn written(pieces: &[&[u8]]) -> Result<Vec<u8>, String> {
     let mut child = start(Stdio::piped())?;
     let mut input = child.stdin.take().expect("it is piped");
@@ -55,7 +56,7 @@ fn written(pieces: &[&[u8]]) -> Result<Vec<u8>, String> {
 
 fn lines_of(output: std::io::Result<Output>) -> Result<Vec<u8>, String> {
     let output = output.map_err(|error| error.to_string())?;
-    // 01 names no exit status; a program that was killed has none
+    // 01 names no exit status, so any is good; a program that was killed has none
     match output.status.code() {
         Some(_) => Ok(output.stdout),
         None => Err(format!("{PROGRAM} was killed: {}", output.status)),
@@ -95,7 +96,7 @@ impl Listed {
         println!("FAILED: listing: {name}: {fault}");
     }
 
-    /// A case whose text is written out by hand; the model's listing is held to it too.
+    /// A case whose lines are written out by hand. The model's listing is compared with them too.
     fn case(&mut self, name: &str, image: &[u8], expected: &str) {
         self.hold(name, &[image], expected);
         if model::listing(image) != expected {
@@ -104,7 +105,7 @@ impl Listed {
         }
     }
 
-    /// A sample of the repository with the text that stands beside it.
+    /// A sample of the repository, with the text file beside it.
     fn sample(&mut self, name: &str) {
         let path = |ending: &str| Path::new("samples").join(name).with_extension(ending);
         match (std::fs::read(path("trieff")), std::fs::read_to_string(path("txt"))) {
@@ -146,14 +147,14 @@ fn abc(g: u32, body: &[u8]) -> Vec<u8> {
 const P3_BODY: [u8; 12] = [0, 1, 0, 0, 2, 0, 0, 5, 0, 0, 0, 9];
 const P3_LINES: &str = "entries 2\n1 5\n1.0 9\n";
 
-/// P3 with rubbish after it, up to so many bytes.
+/// P3 with rubbish after it, `length` bytes in all.
 fn p3_of(length: usize) -> Vec<u8> {
     let mut image = abc(2, &P3_BODY);
     image.resize(length, 0xFF);
     image
 }
 
-/// A chain of one link of `a` bytes and one byte of data, 1 in every node.
+/// A chain of nodes with one link of `a` bytes and one byte of data, which is 1 in every node.
 fn chain(g: u32, a: usize) -> Vec<u8> {
     let node = |address: u32| {
         let next = if address < g { address + 1 } else { 0 };
@@ -162,7 +163,7 @@ fn chain(g: u32, a: usize) -> Vec<u8> {
     with_head([g, 1, a as u32, 1, 0, 0, 3], &(0..=g).flat_map(node).collect::<Vec<u8>>())
 }
 
-/// 65 nodes in a chain by letter 230: keys of up to 64 letters of three digits.
+/// 65 nodes in a chain by letter 230, so keys of up to 64 letters with three digits each.
 fn deep() -> (Vec<u8>, String) {
     let mut body = Vec::new();
     for node in 0..=64u8 {
@@ -178,8 +179,7 @@ fn deep() -> (Vec<u8>, String) {
     (with_head([64, 256, 1, 1, 0, 0, 64], &body), lines)
 }
 
-/// The full tree of two letters with 8,191 nodes, node q with the value q + 1; the root's is
-/// hidden.
+/// The full tree of two letters with 8,191 nodes. Node q has the data q + 1. min hides the root's.
 fn full_tree() -> (Vec<u8>, String) {
     let mut body = Vec::new();
     for node in 0..=8_190u16 {
@@ -257,7 +257,8 @@ fn limits(listed: &mut Listed) {
     let all_data = "entries 4\n- 1\n0 1\n0.0 1\n0.0.0 1\n";
     listed.case("16,384 nodes", &chain(most - 1, 2), all_data);
     listed.case("16,385 nodes", &chain(most, 2), "refused 5 at 0\n");
-    // W = 2: more nodes than a link of one byte can name, so the last link is broken
+    // W = 2: there are more nodes than a link of one byte can name. Node 255 has an empty link,
+    // and node 256 holds the first bad one
     let mut narrow = chain(most - 1, 1);
     listed.case("16,384 nodes of two bytes", &narrow, "refused 6 at 256\n");
     write_number(&mut narrow[..4], u64::from(most));
@@ -274,7 +275,7 @@ fn limits(listed: &mut Listed) {
     );
 }
 
-/// An image for the program: mostly small; some near its limits of length and nodes.
+/// An image for the program: mostly a small one, at times one near the limits of length or nodes.
 fn random_image(rng: &mut Rng) -> Vec<u8> {
     let mut shape = Shape::draw(rng);
     shape.draw_g(rng);

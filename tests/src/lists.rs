@@ -1,10 +1,10 @@
-//! Lists of counts to lend: right ones, ones that are wrong in one way, rubbish; of every length
-//! that matters.
+//! Lists of counts to lend: right ones, ones that are wrong in one way, and rubbish, in every
+//! length that matters.
 
 use crate::model::{self, Head};
 use crate::rng::Rng;
 
-/// The right counts of an image, where it is accepted.
+/// The right counts of an image, if it is accepted.
 pub fn right(image: &[u8]) -> Option<Vec<u32>> {
     let head = model::one_to_four(image).ok()?;
     let mut work = vec![0; head.g as usize + 1];
@@ -12,13 +12,13 @@ pub fn right(image: &[u8]) -> Option<Vec<u32>> {
     Some(model::fresh_counts(image, &head))
 }
 
-/// Rubbish that looks like counts, or like nothing.
+/// Random numbers: 0 alone, small ones as counts are, or any.
 pub fn rubbish(rng: &mut Rng, len: usize) -> Vec<u32> {
     let mask = rng.pick(&[0, 1, 3, u32::MAX]);
     (0..len).map(|_| rng.next() as u32 & mask).collect()
 }
 
-/// The list made longer by rubbish or cut to a length.
+/// The list with rubbish added or its end cut off, so that it has a length.
 pub fn of_length(rng: &mut Rng, mut counts: Vec<u32>, len: usize) -> Vec<u32> {
     let more = rubbish(rng, len.saturating_sub(counts.len()));
     counts.truncate(len);
@@ -26,8 +26,8 @@ pub fn of_length(rng: &mut Rng, mut counts: Vec<u32>, len: usize) -> Vec<u32> {
     counts
 }
 
-/// Makes the right counts of an accepted image wrong in one way. At times they stay right, where
-/// the image has nothing of the sort.
+/// Makes the right counts of an accepted image wrong in one way. They stay right if the image has
+/// nothing to which the chosen way applies.
 pub fn spoil(rng: &mut Rng, image: &[u8], counts: &mut [u32]) {
     let head = Head::read(image);
     let last = counts.len() - 1;
@@ -51,7 +51,7 @@ pub fn spoil(rng: &mut Rng, image: &[u8], counts: &mut [u32]) {
     }
 }
 
-/// A node that no stored key passes, or that is deeper than max, has a count.
+/// Gives a count of 1 to a node whose count is 0: no stored key passes it.
 fn count_where_none_is(rng: &mut Rng, counts: &mut [u32]) {
     let start = rng.below(counts.len() as u64) as usize;
     let many = counts.len();
@@ -61,7 +61,7 @@ fn count_where_none_is(rng: &mut Rng, counts: &mut [u32]) {
     }
 }
 
-/// As if data were stored keys that min or max hides.
+/// The counts that there would be if data that min or max hides were stored keys.
 fn recount(image: &[u8], wider: &Head, counts: &mut [u32]) {
     counts.copy_from_slice(&model::fresh_counts(image, wider));
 }

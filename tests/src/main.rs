@@ -1,5 +1,5 @@
 //! The judge: compares libtrieff.a and the listing program with a model written from documents 01
-//! and 02 alone. README.md tells how.
+//! and 02 alone. tests/README.md says how.
 
 mod calls;
 mod cases;
@@ -23,13 +23,13 @@ mod twins;
 use std::process::exit;
 use std::time::Instant;
 
-/// What the gate runs: these cases make more than a million calls.
+/// What the gate runs: these cases make a million calls or more.
 const GATE_SEED: u64 = 20_240_601;
 const GATE_CASES: u64 = 26_000;
 const GATE_CALLS: u64 = 1_000_000;
 const LONG_CASES: u64 = 10 * GATE_CASES;
-/// These histories leave more than a million images that were cut; the long ones make more than a
-/// million stores.
+/// These histories leave a million cut images or more. The histories of a long run make a million
+/// stores or more.
 const GATE_HISTORIES: u64 = 16_000;
 const GATE_CUTS: u64 = 1_000_000;
 const LONG_HISTORIES: u64 = 250_000;
@@ -59,7 +59,7 @@ fn number(word: &str) -> u64 {
     })
 }
 
-/// From the clock and the process: for a run that was not run before.
+/// A seed from the clock and the process, so that each run is a new one.
 fn fresh_seed() -> u64 {
     let since = std::time::SystemTime::now()
         .duration_since(std::time::UNIX_EPOCH)
@@ -80,7 +80,7 @@ fn grouped(number: u64) -> String {
     grouped
 }
 
-/// The random part; what was met and how many failures.
+/// Runs the random part. Returns what was met and the number of failures.
 fn random_part(seed: u64, cases: u64) -> (random::Tally, usize) {
     println!("random: {} cases from seed {seed}", grouped(cases));
     let begun = Instant::now();
@@ -90,7 +90,7 @@ fn random_part(seed: u64, cases: u64) -> (random::Tally, usize) {
     (tally, failures.len())
 }
 
-/// The cuts of random stores.
+/// Runs the cuts of random stores.
 fn random_cuts(seed: u64, histories: u64) -> cuts::Tried {
     let begun = Instant::now();
     let tried = cuts::run_random(seed, histories);
@@ -98,6 +98,7 @@ fn random_cuts(seed: u64, histories: u64) -> cuts::Tried {
     tried
 }
 
+/// Prints what was tried.
 fn told(sort: &str, tried: &cuts::Tried, begun: Instant) {
     let cuts::Tried { images, stores, cuts, partly, lowered, .. } = *tried;
     let [images, stores, cuts, partly, lowered] =

@@ -1,8 +1,8 @@
-//! The model: every call as documents 01 and 02 word it, in their order, plain rather than quick.
-//! It knows nothing of the library.
+//! The model: every call as documents 01 and 02 say it, in their order. It is plain, not quick,
+//! and uses nothing of the library.
 //!
-//! A refusal is one function, named by its number. A call is the list of its refusals in its
-//! order, then what it does when it is done.
+//! A refusal is one function, named by its number. A call is its refusals in order, then what it
+//! does when it is done.
 
 use std::collections::BTreeSet;
 
@@ -17,11 +17,11 @@ pub const LONGEST_ALPHABET: u32 = 1_024;
 pub const LONGEST_KEY: u32 = 64;
 /// The numbers lent for a list of writes: two for each of 64 new nodes, G and the link.
 pub const WRITES: usize = 2 * (LONGEST_KEY as usize + 2);
-/// What the listing program reads and has.
+/// The most bytes that the listing program reads, and its number of working numbers.
 pub const LONGEST_INPUT: usize = 65_536;
 pub const LISTING_WORK: usize = 16_384;
 
-/// All that a call answers. What it does not speak of is 0.
+/// The answer of a call. A field that the call does not use is 0.
 #[derive(Clone, Copy, Debug, PartialEq, Eq, Default)]
 pub struct Answer {
     pub number: u32,
@@ -59,7 +59,7 @@ fn refuse_at(place: Option<u64>, number: u32) -> Result<(), Refusal> {
 
 // ---- the image ----
 
-/// "All numbers are big-endian."
+/// "All numbers are big-endian"
 pub fn read_number(bytes: &[u8]) -> u64 {
     bytes.iter().fold(0, |so_far, byte| so_far * 256 + u64::from(*byte))
 }
@@ -73,7 +73,7 @@ pub fn write_number(bytes: &mut [u8], number: u64) {
     assert_eq!(rest, 0, "{} does not fit {} bytes", number, bytes.len());
 }
 
-/// The greatest number that so many bytes hold: 256^width - 1.
+/// The greatest number in `width` bytes: 256^width - 1.
 pub fn greatest(width: u32) -> u64 {
     256u64.pow(width) - 1
 }
@@ -91,7 +91,7 @@ pub struct Head {
 }
 
 impl Head {
-    /// Of an image that has 28 bytes or more.
+    /// The head of an image of 28 bytes or more.
     pub fn read(image: &[u8]) -> Head {
         let field = |i: usize| read_number(&image[4 * i..4 * i + 4]) as u32;
         Head {
@@ -128,7 +128,7 @@ impl Head {
         self.node(u64::from(self.g) + 1)
     }
 
-    /// Where a link stands. Only for a head that 2 permits and a node inside the image.
+    /// Where a link begins. Only for a head that 2 permits and a node inside the image.
     pub fn link_at(&self, node: u64, letter: u64) -> usize {
         self.node(node) as usize + letter as usize * self.a as usize
     }
@@ -173,7 +173,7 @@ const WELL_FORMED: [[u8; 5]; 9] = [
     [0xF4, 0xF4, 0x80, 0x8F, 4],
 ];
 
-/// How many bytes the well-formed character takes that stands at the front, if one does.
+/// The length in bytes of the well-formed character at the front, if there is one.
 fn character_length(bytes: &[u8]) -> Option<usize> {
     let first = *bytes.first()?;
     let row = WELL_FORMED.iter().find(|row| row[0] <= first && first <= row[1])?;
@@ -190,7 +190,7 @@ fn character_length(bytes: &[u8]) -> Option<usize> {
     }
 }
 
-/// The characters that the bytes are, or nothing if they are not well-formed.
+/// The characters in the bytes, or nothing if these are not well-formed.
 pub fn characters(bytes: &[u8]) -> Option<Vec<&[u8]>> {
     let mut found = Vec::new();
     let mut rest = bytes;
@@ -202,7 +202,7 @@ pub fn characters(bytes: &[u8]) -> Option<Vec<&[u8]>> {
     Some(found)
 }
 
-/// The letters' characters, from 0. Only for an image that passed 4.
+/// The characters of the letters, from letter 0. Only for an image that passed 4.
 fn alphabet<'a>(image: &'a [u8], head: &Head) -> Vec<&'a [u8]> {
     characters(&image[28..28 + head.f as usize]).expect("3 was passed")
 }
@@ -223,7 +223,7 @@ fn refusal_2(head: &Head) -> Result<(), Refusal> {
     refuse_if(!permitted, 2)
 }
 
-/// `alphabet`: the F bytes, or nothing where they are not all inside the image.
+/// `alphabet` is the F bytes, or nothing if they are not all inside the image.
 fn refusal_3(head: &Head, alphabet: Option<&[u8]>) -> Result<(), Refusal> {
     let bytes = match alphabet {
         Some(bytes) if head.f > 0 => bytes,
@@ -271,7 +271,8 @@ fn refusal_6(image: &[u8], head: &Head) -> Result<(), Refusal> {
     refuse_at((0..=u64::from(head.g)).find(holds_one), 6)
 }
 
-/// In how many links each address from 0 to G stands. Only where no link breaks the first rule.
+/// The number of links in which each address from 0 to G stands. Only for an image in which no
+/// link breaks the first rule.
 fn standing(image: &[u8], head: &Head) -> Vec<u32> {
     let mut times = vec![0; head.g as usize + 1];
     for node in 0..=u64::from(head.g) {
@@ -303,7 +304,7 @@ fn refusal_10_of_letters(head: &Head, letters: &[u8]) -> Result<(), Refusal> {
     refuse_if(letters.iter().any(|letter| u32::from(*letter) >= head.n), 10)
 }
 
-/// The letters that the text names.
+/// If it does not refuse: the letters of the text.
 fn refusal_10_of_text(image: &[u8], head: &Head, text: &[u8]) -> Result<Vec<u8>, Refusal> {
     let refused = Err(Refusal { number: 10, place: 0 });
     let found = match characters(text) {
@@ -337,7 +338,7 @@ fn refusal_14(head: &Head, key_len: usize) -> Result<(), Refusal> {
     refuse_if(key_len < head.max as usize, 14)
 }
 
-/// "25, counts differ": the place is the lowest node whose count does. Only for a list of G+1
+/// "25, counts differ": the place is the lowest node whose count differs. Only for a list of G+1
 /// counts or more.
 fn refusal_25(image: &[u8], head: &Head, counts: &[u32]) -> Result<(), Refusal> {
     let fresh = fresh_counts(image, head);
@@ -364,7 +365,7 @@ pub fn one_to_eight(image: &[u8], work: &mut [u32]) -> Result<Head, Refusal> {
     six_to_eight(image, head, work)
 }
 
-/// Beside a list of counts: its length belongs to 5.
+/// 1 to 8 of a call with counts: 5 is also for the list of counts.
 fn one_to_eight_beside(image: &[u8], work: &mut [u32], counts: &[u32]) -> Result<Head, Refusal> {
     let head = one_to_four(image)?;
     refusal_5(&head, work.len())?;
@@ -372,8 +373,8 @@ fn one_to_eight_beside(image: &[u8], work: &mut [u32], counts: &[u32]) -> Result
     six_to_eight(image, head, work)
 }
 
-/// "Once 5 is passed, the first G+1 of them are 0 when the call returns." The model uses no
-/// working numbers, so it clears them here.
+/// "Once 5 is passed, the first G+1 of them are 0 when the call returns, with the G of entry". The
+/// model uses no working numbers, so it clears them here.
 fn six_to_eight(image: &[u8], head: Head, work: &mut [u32]) -> Result<Head, Refusal> {
     work[..=head.g as usize].fill(0);
     refusal_6(image, &head)?;
@@ -392,7 +393,7 @@ fn one_to_eight_and_25(image: &[u8], work: &mut [u32], counts: &[u32]) -> Result
 
 // ---- stored keys ----
 
-/// Every stored key of an accepted image with its value, to `met`, in no promised order.
+/// Passes every stored key of an accepted image and its value to `met`, in no promised order.
 fn each_stored_key(image: &[u8], head: &Head, met: &mut dyn FnMut(&[u8], u64)) {
     each_below(image, head, 0, &mut Vec::new(), met);
 }
@@ -444,8 +445,8 @@ pub fn stored_keys(image: &[u8], head: &Head) -> Vec<(Vec<u8>, u64)> {
 
 // ---- counts ----
 
-/// "one for each node: how many stored keys lie at or under it", so how many of their walks from
-/// the root pass it. Of an accepted image.
+/// The counts of an accepted image, "one for each node: how many stored keys lie at or under it".
+/// So a count is the number of stored keys whose path from the root passes the node.
 pub fn fresh_counts(image: &[u8], head: &Head) -> Vec<u32> {
     let mut counts = vec![0; head.g as usize + 1];
     each_stored_key(image, head, &mut |key, _| {
@@ -459,7 +460,7 @@ pub fn fresh_counts(image: &[u8], head: &Head) -> Vec<u32> {
     counts
 }
 
-/// The counts at the front of the list; the rest keeps what it held.
+/// Writes the fresh counts to the front of the list. The rest keeps what it held.
 fn write_counts(counts: &mut [u32], image: &[u8]) {
     let fresh = fresh_counts(image, &Head::read(image));
     counts[..fresh.len()].copy_from_slice(&fresh);
@@ -490,7 +491,7 @@ fn try_make(
     max: u32,
 ) -> Result<Answer, Refusal> {
     refusal_1(image.len())?;
-    // an F that no field holds is above 1,024 like any other
+    // a length that does not fit 32 bits is above 1,024 in any case
     let f = alphabet.len().min(u32::MAX as usize) as u32;
     let head = Head { g: 0, n, a, d, f, min, max };
     refusal_2(&head)?;
@@ -554,7 +555,7 @@ fn try_look_up_text(image: &[u8], text: &[u8]) -> Result<Answer, Refusal> {
     walk(image, &head, &letters)
 }
 
-/// The descent of a look up, in an image that nobody has checked.
+/// The descent of a lookup, in an image that was not checked.
 fn walk(image: &[u8], head: &Head, letters: &[u8]) -> Result<Answer, Refusal> {
     let mut node = 0;
     for letter in letters {
@@ -577,7 +578,7 @@ pub fn store(image: &mut [u8], work: &mut [u32], letters: &[u8], value: u32) -> 
     )
 }
 
-/// Store by letters with its writes listed: the same.
+/// Store with writes by letters: the same refusals.
 pub fn store_writes(
     image: &mut [u8],
     work: &mut [u32],
@@ -610,7 +611,7 @@ pub fn store_text(image: &mut [u8], work: &mut [u32], text: &[u8], value: u32) -
     )
 }
 
-/// Store by text with its writes listed: the same.
+/// Store with writes by text: the same refusals.
 pub fn store_text_writes(
     image: &mut [u8],
     work: &mut [u32],
@@ -634,14 +635,15 @@ fn before_store_text(
     Ok((head, letters))
 }
 
-/// "For text, 10 stands before 9." The letters that the text names.
+/// "For text, 10 stands before 9." If they do not refuse: the letters of the text.
 fn ten_and_nine(image: &[u8], head: &Head, text: &[u8]) -> Result<Vec<u8>, Refusal> {
     let letters = refusal_10_of_text(image, head, text)?;
     refusal_9(head, letters.len())?;
     Ok(letters)
 }
 
-/// How far the key's path goes in an accepted image: the last node and how many letters led there.
+/// How far the key's path goes in an accepted image: the last node and the number of letters up to
+/// it.
 pub fn path(image: &[u8], head: &Head, letters: &[u8]) -> (u64, usize) {
     let mut node = 0;
     for (depth, letter) in letters.iter().enumerate() {
@@ -663,7 +665,7 @@ pub fn new_nodes(image: &[u8], head: &Head, letters: &[u8], value: u32) -> u64 {
     }
 }
 
-/// 11, 12, 13 of a store whose key is not refused; k.
+/// 11, 12, 13 of a store whose key is not refused. If they do not refuse: k.
 fn eleven_to_thirteen(
     image: &[u8],
     head: &Head,
@@ -677,7 +679,7 @@ fn eleven_to_thirteen(
     Ok(k)
 }
 
-/// What is left of a store once the check, 9 and 10 are passed: 11, 12, 13, then the writes.
+/// The part of a store after the check, 9 and 10: 11, 12, 13, then what it writes.
 fn store_at(image: &mut [u8], head: &Head, letters: &[u8], value: u32) -> Result<Answer, Refusal> {
     let k = eleven_to_thirteen(image, head, letters, value)?;
     let (last, depth) = path(image, head, letters);
@@ -700,7 +702,8 @@ fn store_at(image: &mut [u8], head: &Head, letters: &[u8], value: u32) -> Result
     Ok(Answer { change, ..Answer::default() })
 }
 
-/// The store, and its list at the front of the numbers lent; a refusal leaves them all.
+/// The same part of a store with writes. The list of writes goes to the front of the numbers lent.
+/// A refusal changes none of them.
 fn store_and_list(
     image: &mut [u8],
     head: &Head,
@@ -716,7 +719,8 @@ fn store_and_list(
     Ok(Answer { length: listed.len() as u32, ..done })
 }
 
-/// The store with counts: 11, 12, 13, 5 again; "the result equals the counts worked out afresh".
+/// The same part of a store with counts: 11, 12, 13, 5 again. "the result equals the counts worked
+/// out afresh"
 fn store_and_count(
     image: &mut [u8],
     head: &Head,
@@ -731,8 +735,8 @@ fn store_and_count(
     Ok(done)
 }
 
-/// Where the writes of a store go and how many bytes each has: "first the new nodes, one write
-/// each by rising address, then G, then the old link; for a complete path, the data field alone".
+/// The offset and the length of each write of a store: "first the new nodes, one write each by
+/// rising address, then G, then the old link; for a complete path, the data field alone".
 fn list(image: &[u8], head: &Head, letters: &[u8], value: u32) -> Vec<(usize, usize)> {
     let (last, depth) = path(image, head, letters);
     let k = (letters.len() - depth) as u64;
@@ -750,7 +754,7 @@ fn list(image: &[u8], head: &Head, letters: &[u8], value: u32) -> Vec<(usize, us
     writes
 }
 
-/// Next key: 1 to 8, 9 (longer than max), 10, 14, 15. `after`: else "at or after".
+/// Next key: 1 to 8, 9 (longer than max), 10, 14, 15. If `after` is false, it is "at or after".
 pub fn next_key(
     image: &[u8],
     work: &mut [u32],
@@ -787,7 +791,7 @@ fn try_next_key(
 
 // ---- calls with counts ----
 
-/// Work out counts: 1 to 8, with 5 for either list.
+/// Work out counts: 1 to 8 (5 for either list).
 pub fn counts(image: &[u8], work: &mut [u32], counts: &mut [u32]) -> Answer {
     answer(one_to_eight_beside(image, work, counts).map(|_| {
         write_counts(counts, image);
@@ -898,7 +902,7 @@ fn position_of(image: &[u8], head: &Head, letters: &[u8]) -> Result<Answer, Refu
 
 // ---- the listing program ----
 
-/// What the listing program writes of its input.
+/// What the listing program writes for its input.
 pub fn listing(input: &[u8]) -> String {
     if input.len() > LONGEST_INPUT {
         return "refused 1 at 0\n".to_string();

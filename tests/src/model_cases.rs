@@ -1,5 +1,5 @@
-//! Holds the model to document 01's cases, and to their lists and cuts, with the bytes written out
-//! by hand, and to the UTF-8 table.
+//! Compares the model with document 01's cases, with their lists of writes and their cuts, whose
+//! bytes are written out by hand, and with Rust's own UTF-8.
 
 use super::*;
 
@@ -164,7 +164,7 @@ fn listed(length: u32, change: i32) -> Answer {
     Answer { length, change, ..Answer::default() }
 }
 
-/// The numbers lent for a list: its writes, then the 7s that were there.
+/// The numbers lent for a list of writes: the writes, then the 7s that were there.
 fn list_of(writes: &[(u32, u32)]) -> [u32; WRITES] {
     let mut numbers = [7; WRITES];
     for (i, (place, length)) in writes.iter().enumerate() {
@@ -174,7 +174,7 @@ fn list_of(writes: &[(u32, u32)]) -> [u32; WRITES] {
     numbers
 }
 
-/// Asks both listed stores and the store: the image that all three leave.
+/// Makes both stores with writes and the plain store. Returns the image that all three leave.
 fn store_all_ways(
     image: &[u8],
     letters: &[u8],
@@ -384,7 +384,7 @@ fn changes_add_up_to_the_number_of_keys() {
     assert!(sum > 20);
 }
 
-/// Well-formedness is held to Rust's own, which is not written from 01's table.
+/// Compares well-formedness with Rust's own, which was not written from 01's table.
 fn held_to_rust(bytes: &[u8]) {
     let ours = characters(bytes).map(|found| found.len());
     let theirs = std::str::from_utf8(bytes).ok().map(|text| text.chars().count());

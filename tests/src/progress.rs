@@ -1,5 +1,5 @@
-//! Notes where each thread is, so that a call that never returns or kills the judge can be found:
-//! `tests/run` prints the notes then.
+//! Notes which case each thread is at. If a call never returns or kills the judge, the scripts
+//! print the notes (`tests/build.sh`).
 
 use std::fs::File;
 use std::os::unix::fs::FileExt;
@@ -8,7 +8,7 @@ use std::path::Path;
 pub struct Progress(Option<File>);
 
 impl Progress {
-    /// In the folder that JUDGE_NOTES names; without it nothing is noted.
+    /// The notes of a thread, in the folder that JUDGE_NOTES names. Without it nothing is noted.
     pub fn of(thread: usize) -> Progress {
         Progress(std::env::var_os("JUDGE_NOTES").and_then(|folder| {
             File::create(Path::new(&folder).join(format!("thread{thread}"))).ok()

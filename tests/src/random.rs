@@ -1,5 +1,5 @@
-//! The random part: cases by their seeds, in two threads, each call compared; and the self-test
-//! with the saboteurs.
+//! The random part: runs cases by their seeds, in two threads, and compares each call. And the
+//! self-test with the saboteurs.
 
 use crate::calls::{KINDS, NUMBERS};
 use crate::cases::Case;
@@ -12,10 +12,11 @@ use crate::twins::Twins;
 use std::sync::atomic::{AtomicU64, Ordering};
 use std::sync::Mutex;
 
-/// Every pair of call and number, and every situation, is to be met so often in a run.
+/// How often a run must meet each number of each call.
 const OFTEN: u64 = 50;
+/// How often a run must meet each situation.
 const SITUATION_OFTEN: u64 = 5;
-/// After so many failures a run stops.
+/// A run stops after this number of failures.
 const ENOUGH: usize = 5;
 
 /// What a run met.
@@ -63,7 +64,8 @@ impl Tally {
         (0..NUMBERS).filter(|number| allowed(*number) || met(*number)).collect()
     }
 
-    /// Prints the tables; true if all that is allowed was met often, and nothing else.
+    /// Prints the tables. Returns whether everything that is allowed was met often enough, and
+    /// nothing else was met.
     pub fn print(&self) -> bool {
         let mut good = true;
         println!("answers by call and number:");
@@ -107,7 +109,7 @@ impl Tally {
     }
 }
 
-/// Runs the case; the first difference ends it and is told.
+/// Runs a case. The first difference ends it and is returned as text.
 fn run_case(
     seed: u64,
     twins: &mut Twins,
@@ -135,7 +137,8 @@ fn run_case(
     Ok(())
 }
 
-/// So many cases from the starting seed on, in two threads. Returns what was met and the failures.
+/// Runs a number of cases, from the starting seed on, in two threads. Returns what was met and the
+/// failures.
 pub fn run(start: u64, cases: u64) -> (Tally, Vec<String>) {
     let next = AtomicU64::new(0);
     let all = Mutex::new((Tally::new(), Vec::new()));
@@ -165,7 +168,8 @@ pub fn run(start: u64, cases: u64) -> (Tally, Vec<String>) {
     all.into_inner().unwrap()
 }
 
-/// Every saboteur must be reported within the same cases. Returns how many were not.
+/// Every saboteur must be reported within the same cases. Returns the number of those that were
+/// not.
 pub fn self_test(start: u64, cases: u64) -> usize {
     let mut missed = 0;
     for saboteur in saboteurs::all() {

@@ -1,15 +1,15 @@
-//! Tells a call and its outcome to a person.
+//! A call and its outcome as text for people.
 
 use crate::calls::{Call, KINDS};
 use crate::model::Answer;
 use crate::twins::{Asked, Outcome};
 use std::io::Write;
 
-/// Longer images, and longer lists of counts, are printed only so far.
+/// The most bytes of an image, and the most counts of a list, that are printed.
 const PRINTED: usize = 65_536;
 const PRINTED_COUNTS: usize = 300;
 
-/// Prints; a reader who has seen enough ends the program.
+/// Prints the text. If the reader has closed the output, the program ends.
 pub fn say(text: &str) {
     if std::io::stdout().write_all(text.as_bytes()).is_err() {
         std::process::exit(1);
@@ -20,7 +20,7 @@ pub fn hex(bytes: &[u8]) -> String {
     bytes.iter().map(|byte| format!("{byte:02X}")).collect()
 }
 
-/// 32 bytes to a line, with the position in front.
+/// The bytes in hexadecimal, 32 to a line, with the offset in front.
 pub fn hex_lines(bytes: &[u8]) -> String {
     let shown = &bytes[..bytes.len().min(PRINTED)];
     let mut lines: String = shown

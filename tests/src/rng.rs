@@ -1,4 +1,4 @@
-//! Random numbers from a seed: splitmix64. The same seed gives the same numbers for ever, since a
+//! Random numbers from a seed: splitmix64. The same seed always gives the same numbers, since a
 //! case is named by its seed.
 
 pub struct Rng(u64);
@@ -6,7 +6,7 @@ pub struct Rng(u64);
 impl Rng {
     pub fn new(seed: u64) -> Rng {
         let mut rng = Rng(seed);
-        // neighbouring seeds part at once
+        // so that neighbouring seeds differ from the first number on
         rng.0 = rng.next() ^ seed.rotate_left(32);
         rng
     }
@@ -19,7 +19,7 @@ impl Rng {
         z ^ (z >> 31)
     }
 
-    /// From 0 to limit - 1; 0 for limit 0.
+    /// A number from 0 to limit - 1; 0 for limit 0.
     pub fn below(&mut self, limit: u64) -> u64 {
         if limit == 0 {
             0
@@ -28,12 +28,12 @@ impl Rng {
         }
     }
 
-    /// From low to high, both included; low where high is lower.
+    /// A number from low to high, both included; low if high is lower.
     pub fn between(&mut self, low: u64, high: u64) -> u64 {
         low + self.below(high.saturating_sub(low).saturating_add(1))
     }
 
-    /// True once in so many.
+    /// True once in `many` times, on average.
     pub fn one_in(&mut self, many: u64) -> bool {
         self.below(many) == 0
     }

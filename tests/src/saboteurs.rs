@@ -1,5 +1,5 @@
-//! Saboteurs: each spoils what the library did in one small way. The judge must report every one
-//! of them, else it is no judge.
+//! Saboteurs: each spoils the library's outcome in one small way. The judge must report every one
+//! of them. Otherwise it would not find such a fault in the library either.
 
 use crate::calls::Call;
 use crate::model::{self, Answer, Head};
@@ -23,12 +23,12 @@ impl Spoiled<'_> {
         self.call.stored().is_some()
     }
 
-    /// A store that was done and listed its writes.
+    /// Whether it is a store with writes that was done.
     fn listed(&self) -> bool {
         self.call.writes_len() > 0 && self.done()
     }
 
-    /// A mend that was done and lowered G.
+    /// Whether it is a mend that was done and lowered G.
     fn lowered(&self) -> bool {
         self.call == Call::Mend && self.done() && self.g() < self.head().unwrap().g
     }
@@ -55,13 +55,13 @@ impl Spoiled<'_> {
         model::write_number(&mut self.after.bytes[start..start + 4], u64::from(g));
     }
 
-    /// The numbers of the list in use.
+    /// The numbers of the list of writes that are in use.
     fn list(&mut self) -> &mut [u32] {
         let start = self.after.writes.start;
         &mut self.after.words[start..start + 2 * self.answer.length as usize]
     }
 
-    /// The head at entry, where there is one.
+    /// The head at entry, if there is one.
     fn head(&self) -> Option<Head> {
         if self.before.image.len() >= 28 {
             Some(Head::read(self.before.image()))
@@ -70,7 +70,7 @@ impl Spoiled<'_> {
         }
     }
 
-    /// U at return, where it is inside the image.
+    /// U at return, if it is inside the image.
     fn used(&self) -> Option<usize> {
         if self.after.image.len() < 28 {
             return None;
@@ -111,13 +111,13 @@ impl Spoiled<'_> {
         &mut self.after.words[self.after.counts.clone()]
     }
 
-    /// A node's count becomes again what it was.
+    /// Puts a node's count back to what it was.
     fn restore_count(&mut self, node: usize) {
         let at = self.after.counts.start + node;
         self.after.words[at] = self.before.words[at];
     }
 
-    /// A store with counts that was done: by how many nodes it raised G.
+    /// For a store with counts that was done: the number by which it raised G.
     fn counted_store(&self) -> Option<u32> {
         if self.call.stores_counts() && self.done() {
             Some(self.g() - self.head().unwrap().g)
@@ -126,8 +126,8 @@ impl Spoiled<'_> {
         }
     }
 
-    /// A call beside counts that stopped at its first 5, and whether the working numbers were
-    /// enough, and the list.
+    /// For a call with counts that answered 5: whether the working numbers were enough for the
+    /// first 5, and whether the list was.
     fn five_beside(&self) -> Option<(bool, bool)> {
         if self.call.takes_counts() && self.number() == 5 {
             Some((
@@ -139,8 +139,8 @@ impl Spoiled<'_> {
         }
     }
 
-    /// As if a list were long enough: the check's own answer, and the working numbers that are
-    /// there cleared.
+    /// As if a list that is too short were long enough: gives the check's own answer, and clears
+    /// the working numbers that are there.
     fn pass_five(&mut self) {
         let (nodes, start) = (self.nodes(), self.after.work.start);
         *self.answer = model::check(self.before.image(), &mut vec![0; nodes]);
@@ -148,26 +148,26 @@ impl Spoiled<'_> {
         self.after.words[start..end].fill(0);
     }
 
-    /// The stored keys at entry of an image that the call accepted.
+    /// The stored keys at entry, of an image that the call accepted.
     fn stored_keys(&self) -> Vec<(Vec<u8>, u64)> {
         model::stored_keys(self.before.image(), &self.head().unwrap())
     }
 
-    /// Key at answers this key.
+    /// Makes key at answer this key.
     fn find(&mut self, key: &[u8], value: u64) {
         let start = self.after.key.start;
         self.after.bytes[start..start + key.len()].copy_from_slice(key);
         *self.answer = Answer { length: key.len() as u32, value, ..Answer::default() };
     }
 
-    /// Works out counts as if the image had another head.
+    /// Works the counts out as if the image had another head.
     fn recount(&mut self, other: Head) {
         let counts = model::fresh_counts(self.before.image(), &other);
         self.counts()[..counts.len()].copy_from_slice(&counts);
     }
 
-    /// The letters of a store's key at entry, or of its text where that is well-formed and in the
-    /// alphabet.
+    /// The letters of a store's key. Nothing if a letter is bad, or if the text is not well-formed
+    /// or not in the alphabet.
     fn letters(&self) -> Option<Vec<u8>> {
         let (given, head) = (self.before.given().to_vec(), self.head()?);
         match self.call {
@@ -184,7 +184,7 @@ impl Spoiled<'_> {
         }
     }
 
-    /// The nodes that the key's path passes at return, from the root on.
+    /// The nodes on the key's path at return, from the root on.
     fn passed(&self) -> Vec<usize> {
         let (image, head) = (self.after.image(), Head::read(self.after.image()));
         let letters = self.letters().unwrap_or_default();
@@ -193,7 +193,7 @@ impl Spoiled<'_> {
     }
 }
 
-/// All of them.
+/// All saboteurs.
 pub fn all() -> impl Iterator<Item = &'static Saboteur> {
     SABOTEURS.iter().chain(&COUNT_SABOTEURS).chain(&CUT_SABOTEURS)
 }
@@ -542,7 +542,7 @@ const SABOTEURS: [Saboteur; 39] = [
         },
     },
     Saboteur {
-        name: "a refused store touches the list",
+        name: "a refused store touches the list of writes",
         spoil: |s| {
             if s.call.writes_len() > 0 && !s.done() {
                 let at = s.after.writes.end - 1;
@@ -551,7 +551,7 @@ const SABOTEURS: [Saboteur; 39] = [
         },
     },
     Saboteur {
-        name: "a value that is there already is not listed",
+        name: "a value that is there already is not in the list of writes",
         spoil: |s| {
             if s.listed() && s.answer.length == 1 && s.before.image() == s.after.image() {
                 s.restore_work();
@@ -589,7 +589,7 @@ const SABOTEURS: [Saboteur; 39] = [
     },
 ];
 
-/// Those of the calls with counts.
+/// The saboteurs of the calls with counts.
 const COUNT_SABOTEURS: [Saboteur; 32] = [
     Saboteur {
         name: "the counts are compared only before G",
@@ -915,11 +915,11 @@ const COUNT_SABOTEURS: [Saboteur; 32] = [
     },
 ];
 
-/// Those that the cuts must report too, by what a mended image answers and with no look at the
-/// model's own list and mend.
+/// The saboteurs that the cuts must report too, by the answers of a mended image and without the
+/// model's own list of writes and mend.
 pub const CUT_SABOTEURS: [Saboteur; 16] = [
     Saboteur {
-        name: "the old link is listed before G",
+        name: "in the list of writes the old link comes before G",
         spoil: |s| {
             if s.listed() && s.answer.length > 1 {
                 let list = s.list();
@@ -929,7 +929,7 @@ pub const CUT_SABOTEURS: [Saboteur; 16] = [
         },
     },
     Saboteur {
-        name: "the old link is listed first",
+        name: "in the list of writes the old link comes first",
         spoil: |s| {
             if s.listed() && s.answer.length > 1 {
                 s.list().rotate_right(2);
@@ -937,7 +937,7 @@ pub const CUT_SABOTEURS: [Saboteur; 16] = [
         },
     },
     Saboteur {
-        name: "G is listed before the nodes",
+        name: "in the list of writes G comes before the nodes",
         spoil: |s| {
             if s.listed() && s.answer.length > 1 {
                 let list = s.list();

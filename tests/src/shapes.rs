@@ -1,19 +1,18 @@
-//! Images that the check accepts, of many shapes: alphabets, heads, trees with rising addresses,
-//! spare bytes.
+//! Accepted images of many shapes: alphabets, heads, trees with rising addresses, spare bytes.
 
 use crate::model::{greatest, write_number, Head};
 use crate::rng::Rng;
 
-/// What does not change while stores go on.
+/// What stores do not change in an image, and the G at the start.
 #[derive(Clone)]
 pub struct Shape {
-    /// With the G at the start.
+    /// The head with the G at the start.
     pub head: Head,
-    /// The letters' characters; none where F is 0.
+    /// The characters of the letters; none if F is 0.
     pub alphabet: Vec<Vec<u8>>,
 }
 
-/// How the nodes of a tree hang together.
+/// The form of a tree.
 #[derive(Clone, Copy, PartialEq)]
 enum Growth {
     Chain,
@@ -53,7 +52,7 @@ impl Shape {
         Shape { head, alphabet }
     }
 
-    /// Of one letter: the shape with most nodes.
+    /// A shape with N = 1 and D = 1: it has the most nodes.
     pub fn narrow(rng: &mut Rng, a: u32) -> Shape {
         let mut shape = Shape::of(rng, 1);
         shape.head.a = a;
@@ -65,13 +64,12 @@ impl Shape {
         self.alphabet.concat()
     }
 
-    /// How many nodes fit so many bytes, at least one, and no more than A permits.
+    /// The number of nodes in a number of bytes: at least one, and no more than A permits.
     fn nodes_in(&self, bytes: u64) -> u64 {
         (bytes / self.head.w() as u64).clamp(1, greatest(self.head.a) + 1)
     }
 
-    /// A G for an image of mostly small size; at times all addresses that one byte holds are
-    /// taken, or nearly.
+    /// Draws a G, mostly for a small image. It is at most the greatest address in A bytes.
     pub fn draw_g(&mut self, rng: &mut Rng) {
         let budget = rng.pick(&[60, 200, 200, 600, 600, 2_000, 6_000]);
         let most = self.nodes_in(budget) - 1;
@@ -79,7 +77,7 @@ impl Shape {
         self.head.g = rng.pick(&[0, 1.min(most), any, any, most]) as u32;
     }
 
-    /// The accepted image with rubbish in `spare` bytes after U.
+    /// An accepted image with `spare` bytes of rubbish after U.
     pub fn grow(&self, rng: &mut Rng, spare: usize) -> Vec<u8> {
         let head = &self.head;
         let mut image = vec![0; head.u() as usize];
@@ -108,8 +106,8 @@ impl Shape {
         image
     }
 
-    /// An empty link in a node below `address`: where the next node may hang. The node before has
-    /// none taken, so there is one.
+    /// The offset of an empty link in a node below `address`, for the node at `address`. There is
+    /// one, since all links of the node before it are empty.
     fn free_link(&self, rng: &mut Rng, image: &[u8], growth: Growth, address: u64) -> usize {
         let head = &self.head;
         let mut tries = 0;
@@ -129,7 +127,8 @@ impl Shape {
         }
     }
 
-    /// How many spare bytes: none, exact room for some nodes, a byte less, a byte more, or plenty.
+    /// Draws a number of spare bytes: none, exact room for some nodes, a byte less, a byte more,
+    /// or half a node more.
     pub fn draw_spare(&self, rng: &mut Rng) -> usize {
         let w = self.head.w() as u64;
         let nodes = match rng.below(8) {
@@ -168,20 +167,20 @@ fn lengths(rng: &mut Rng) -> (u32, u32) {
     }
 }
 
-/// A value that D bytes hold, not 0: the limits as well as any.
+/// A value in D bytes, not 0: a limit or any.
 pub fn value(rng: &mut Rng, d: u32) -> u64 {
     let most = greatest(d);
     let any = rng.between(1, most);
     rng.pick(&[1, 2, 255, 256.min(most), most, any, any])
 }
 
-/// Characters at the ends of the table's rows, and the two that text tools like least.
+/// Characters at or near the ends of the rows of Table 3-7, the newline and an ordinary letter.
 const BOUNDARIES: [u32; 20] = [
     0x00, 0x0A, 0x41, 0x7F, 0x80, 0xBF, 0x7FF, 0x800, 0xFFF, 0x1000, 0xCFFF, 0xD000, 0xD7FF,
     0xE000, 0xFFFF, 0x10000, 0x3FFFF, 0x40000, 0xFFFFF, 0x10FFFF,
 ];
 
-/// One character: of so many bytes, or at a boundary (0), or near a boundary (5).
+/// One character: of 1 to 4 bytes for `sort` 1 to 4, at a boundary for 0, else near a boundary.
 pub fn character(rng: &mut Rng, sort: u64) -> Vec<u8> {
     loop {
         let code = match sort {
@@ -198,13 +197,13 @@ pub fn character(rng: &mut Rng, sort: u64) -> Vec<u8> {
     }
 }
 
-/// So many different characters, in any order.
+/// N different characters, in any order.
 pub fn alphabet(rng: &mut Rng, n: usize) -> Vec<Vec<u8>> {
     let sort = rng.below(8);
     let mut letters: Vec<Vec<u8>> = Vec::new();
     let mut tries = 0;
     while letters.len() < n {
-        // few characters are of one byte or at a boundary
+        // there are not enough characters of one byte, or at a boundary, for every N
         let short_of = (sort < 2 && n > 10 && tries > 2 * n) || sort > 5;
         let drawn = character(rng, if short_of { [1, 2, 3, 4, 5][tries % 5] } else { sort });
         tries += 1;

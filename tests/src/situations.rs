@@ -1,5 +1,5 @@
-//! Situations that the random cases must meet beyond each number of each call. A run that never
-//! met one of them fails.
+//! Situations that the random cases must meet, besides each number of each call. A run that meets
+//! one of them too seldom fails.
 
 use crate::calls::Call;
 use crate::damage::readable;
@@ -7,7 +7,7 @@ use crate::lists;
 use crate::model::{self, Answer, Head};
 use crate::twins::Asked;
 
-/// A call as it was asked, and what the model answered.
+/// A call with what was lent to it, and what the model answered.
 pub struct Seen<'a> {
     pub asked: Asked<'a>,
     pub answer: Answer,
@@ -31,7 +31,7 @@ impl Seen<'_> {
         self.asked.call
     }
 
-    /// The head at entry of an image that has one.
+    /// The head at entry, of an image that has one.
     fn head(&self) -> Head {
         Head::read(self.asked.image)
     }
@@ -48,12 +48,12 @@ impl Seen<'_> {
         self.call().stored().is_some()
     }
 
-    /// A store that was done and listed so many writes.
+    /// Whether it is a store with writes that was done, with this number of writes.
     fn lists(&self, writes: u32) -> bool {
         self.call().writes_len() > 0 && self.done() && self.answer.length == writes
     }
 
-    /// A mend that was done: the address that stood in no link, or 0 where the image was accepted
+    /// For a mend that was done: the address that stood in no link, or 0 if the image was accepted
     /// as it was.
     fn mended_at(&self) -> Option<u32> {
         if self.call() == Call::Mend && self.done() {
@@ -89,7 +89,7 @@ impl Seen<'_> {
         self.call().stored().unwrap_or(0)
     }
 
-    /// How many nodes the path of a store by letters lacks.
+    /// The number of nodes that are missing on the path of a store by letters.
     fn missing(&self) -> usize {
         if self.by_letters() && matches!(self.number(), 0 | 11 | 12 | 13) {
             self.asked.given.len()
@@ -103,8 +103,8 @@ impl Seen<'_> {
         self.head().g as usize + 1
     }
 
-    /// A call beside a list of counts that was refused with 5: whether the working numbers were
-    /// enough, and whether the list was.
+    /// For a call with counts that was refused with 5: whether the working numbers were enough for
+    /// the first 5, and whether the list was.
     fn five_beside(&self) -> Option<(bool, bool)> {
         if self.call().takes_counts() && self.number() == 5 {
             Some((self.asked.work_len >= self.nodes(), self.asked.counts.len() >= self.nodes()))
@@ -113,7 +113,8 @@ impl Seen<'_> {
         }
     }
 
-    /// A store with counts by letters that stopped at its second 5, or later: its k.
+    /// The k of a store with counts by letters that stopped at 12, 13 or its second 5, or was
+    /// done.
     fn k(&self) -> Option<usize> {
         let accepted =
             matches!(self.number(), 0 | 12 | 13) || self.five_beside() == Some((true, true));
@@ -126,12 +127,12 @@ impl Seen<'_> {
         }
     }
 
-    /// Whether the list of a store with counts has so many numbers more than G+k. For k above 0.
+    /// Whether the list of a store with counts has `more` numbers more than G+k, for k above 0.
     fn counts_past_k(&self, more: usize) -> bool {
         self.k().map_or(false, |k| k > 0 && self.asked.counts.len() + 1 == self.nodes() + k + more)
     }
 
-    /// A call with counts on a small image that was refused with 25: the right counts.
+    /// For a call with counts on a small image that was refused with 25: the right counts.
     fn differing(&self) -> Option<Vec<u32>> {
         if self.number() == 25 && self.asked.image.len() < 300 {
             lists::right(self.asked.image)
@@ -146,7 +147,7 @@ impl Seen<'_> {
         self.differing().map(|right| self.asked.counts[at].wrapping_sub(right[at]))
     }
 
-    /// The position asked for, and the number of keys; of an image whose counts are right.
+    /// For a key at a position with right counts: the position, and the number of keys.
     fn position(&self) -> Option<(u64, u64)> {
         match self.call() {
             Call::KeyAt { position } if matches!(self.number(), 0 | 14 | 15) => {
@@ -164,7 +165,7 @@ impl Seen<'_> {
         model::characters(self.asked.given).map_or(0, |found| found.len())
     }
 
-    /// What the check of the image answers. It takes time, so only small images are looked at.
+    /// What the check of the image answers. It takes time, so it is done for small images only.
     fn check(&self) -> Option<Answer> {
         if self.asked.image.len() < 300 {
             Some(model::check(self.asked.image, &mut [0; 300]))
@@ -594,7 +595,7 @@ fn hidden_is_counted(s: &Seen, widen: fn(Head) -> Head) -> bool {
     s.differing().map_or(false, wider)
 }
 
-/// The depth of the place of 25, found by climbing.
+/// Whether the place of 25 is deeper than max. Its depth is found by climbing from it to the root.
 fn deeper_than_max(s: &Seen) -> bool {
     if s.differing().is_none() {
         return false;

@@ -1,15 +1,14 @@
-//! Small images with A = D = 1, and the keys that go with them: what the exhaustive part and the
-//! cuts have in common.
+//! Small images with A = D = 1 and their keys, for the exhaustive part and for the cuts.
 
 use crate::model::Head;
 use crate::rng::Rng;
 
-/// What stands around the body.
+/// All of an image but its body: the lengths of keys, the alphabet, the spare bytes.
 #[derive(Clone, Copy)]
 pub struct Setting {
     pub lengths: (u32, u32),
     pub alphabet: bool,
-    /// Spare bytes: so many nodes and so many bytes.
+    /// Spare bytes: room for this number of nodes, and this number of bytes more.
     pub spare: (usize, usize),
 }
 
@@ -26,18 +25,18 @@ pub fn settings() -> Vec<Setting> {
     all
 }
 
-/// Letters of one, two and three bytes; the last is outside every alphabet and shares a byte with
-/// a letter.
+/// The characters of the letters have one, two and three bytes. `OUTSIDE` is in no alphabet and
+/// shares a byte with a letter's character.
 pub const CHARACTERS: [&str; 3] = ["A", "é", "€"];
 const OUTSIDE: &str = "ê";
 
-/// A key by its letters and as text.
+/// A key as letters and as text.
 pub struct Key {
     pub letters: Vec<u8>,
     pub text: Vec<u8>,
 }
 
-/// Every key over the letters 0 to n up to length 3.
+/// Every key of at most three letters from 0 to n, where n is bad.
 pub fn keys(n: u32) -> Vec<Key> {
     let mut all: Vec<Vec<u8>> = vec![Vec::new()];
     let mut longest = all.clone();
@@ -63,7 +62,7 @@ pub fn keys(n: u32) -> Vec<Key> {
         .collect()
 }
 
-/// The image of so many links in a node, with rubbish in its spare bytes.
+/// An image with `n` links in a node, and with rubbish in its spare bytes.
 pub fn image(rng: &mut Rng, n: u32, links: &[u8], data: &[u8], setting: &Setting) -> Vec<u8> {
     let alphabet: String =
         if setting.alphabet { CHARACTERS[..n as usize].concat() } else { String::new() };
@@ -82,7 +81,7 @@ pub fn image(rng: &mut Rng, n: u32, links: &[u8], data: &[u8], setting: &Setting
     image
 }
 
-/// Every tuple of so many of the values.
+/// Every tuple of the values with this length.
 pub fn tuples(values: &[u8], length: usize) -> impl Iterator<Item = Vec<u8>> {
     let values = values.to_vec();
     let many = values.len().pow(length as u32);
@@ -97,7 +96,7 @@ pub fn tuples(values: &[u8], length: usize) -> impl Iterator<Item = Vec<u8>> {
     })
 }
 
-/// The links of every accepted tree: each address from 1 to G in an empty link of a lower node.
+/// The links of every accepted image: each address from 1 to G stands in one link of a lower node.
 pub fn trees(n: usize, g: usize) -> Vec<Vec<u8>> {
     let mut all = vec![vec![0; n * (g + 1)]];
     for address in 1..=g {

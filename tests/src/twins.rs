@@ -1,6 +1,6 @@
-//! Lays the memory lent to a call between guards, twice with the same content: one for the
-//! library, one for the model. After the call the two must be the same in every byte, so also in
-//! the guards, in what was lent to be read only, and in all that a call must not touch.
+//! Lays out the memory lent to a call between guards, twice with the same content: once for the
+//! library, once for the model. After the call the two must be equal in every byte: also in the
+//! guards, in what was lent to be read only, and in all that a call must not touch.
 
 use crate::calls::{ask_library, ask_model, Call, Lent, Pointers};
 use crate::model::Answer;
@@ -8,8 +8,8 @@ use crate::rng::Rng;
 use crate::saboteurs::{Saboteur, Spoiled};
 use std::ops::Range;
 
-/// A call with what it is lent; key buffer and working numbers are given by their lengths, for
-/// they hold rubbish, as does a list of writes. The counts are empty where the call takes none.
+/// A call with what is lent to it. The key buffer and the working numbers have only a length here,
+/// since they hold rubbish, as the list of writes does. `counts` is empty if the call takes none.
 #[derive(Clone, Copy)]
 pub struct Asked<'a> {
     pub call: Call,
@@ -35,8 +35,7 @@ pub struct Arena {
 }
 
 impl Arena {
-    /// Guards are of 9 to 16 bytes, so that buffers start at odd addresses as well as at even
-    /// ones.
+    /// Guards have 9 to 16 bytes, so that buffers start at odd addresses as well as at even ones.
     fn guard(&mut self, rng: &mut Rng) {
         let len = 9 + rng.below(8) as usize;
         self.bytes.extend_from_slice(&rng.next().to_le_bytes());
@@ -65,8 +64,8 @@ impl Arena {
         self.lay_counts(asked.counts, rng);
     }
 
-    /// After the guard of the list of writes. The guard behind them is of numbers that look like
-    /// counts, or of any.
+    /// Lays the counts after the guard of the list of writes. The guard after them holds a 1,
+    /// which could be a count, and random numbers.
     fn lay_counts(&mut self, counts: &[u32], rng: &mut Rng) {
         let start = self.words.len();
         self.counts = start..start + counts.len();
@@ -75,8 +74,9 @@ impl Arena {
         self.words.extend_from_slice(&[1, rubbish as u32, (rubbish >> 32) as u32]);
     }
 
-    /// Rubbish of three sorts: any, small numbers that look like counts, and one that looks like
-    /// neither. In the list of writes it rises by steps, for that is quick.
+    /// Lays the working numbers and the list of writes, with rubbish in them. In the working
+    /// numbers it is random: any numbers or small ones. In the list of writes it rises by steps,
+    /// which is quick.
     fn lay_words(&mut self, work_len: usize, writes_len: usize, rng: &mut Rng) {
         let start = 2 + rng.below(3) as usize;
         self.work = start..start + work_len;
@@ -90,7 +90,7 @@ impl Arena {
             .extend((0..writes_len as u32 + 3).map(|i| first.wrapping_add(i.wrapping_mul(step))));
     }
 
-    /// As `clone`, in the memory that is there.
+    /// As `clone`, but without new memory.
     fn copy_from(&mut self, other: &Arena) {
         self.bytes.clone_from(&other.bytes);
         self.words.clone_from(&other.words);
@@ -172,7 +172,7 @@ impl Arena {
     }
 }
 
-/// Where `at` is among the pieces; a guard is told from the nearer of its two ends.
+/// Says where `at` is among the pieces of memory. In a guard it is counted from the nearer piece.
 fn name(what: &str, at: usize, pieces: &[(&str, &Range<usize>)]) -> String {
     if let Some((name, range)) = pieces.iter().find(|(_, range)| range.contains(&at)) {
         return format!("{what} {} of the {name}", at - range.start);
@@ -190,7 +190,7 @@ fn name(what: &str, at: usize, pieces: &[(&str, &Range<usize>)]) -> String {
     format!("guard {what} {far} {side} the {name}")
 }
 
-/// What both answered, and where they differ, in words.
+/// What both answered, and where they differ, as text.
 pub struct Outcome {
     pub model: Answer,
     pub library: Answer,
@@ -204,7 +204,8 @@ pub struct Twins {
 }
 
 impl Twins {
-    /// Asks both and compares. With a saboteur, the library's outcome is spoiled first.
+    /// Makes the call in both and compares. With a saboteur, the library's outcome is spoiled
+    /// first.
     pub fn ask(&mut self, asked: &Asked, rng: &mut Rng, saboteur: Option<&Saboteur>) -> Outcome {
         self.library.lay(asked, rng);
         self.model.copy_from(&self.library);
@@ -224,7 +225,7 @@ impl Twins {
         Outcome { model, library, difference }
     }
 
-    /// The answers, then the first byte, then the first number.
+    /// Where the two differ: in the answers, the first byte, the first number.
     fn difference(&self, model: &Answer, library: &Answer) -> Option<String> {
         let answers = if model != library { Some("the answers".to_string()) } else { None };
         let found: Vec<String> =
