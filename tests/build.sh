@@ -1,4 +1,5 @@
-# Builds the judge for tests/run, tests/long and tests/replay, which read this file at the repository's root. Afterwards `judge` runs it.
+# Builds the judge for tests/run, tests/long and tests/replay, which read this file from the
+# repository's root. After that the function `judge` runs it.
 export CARGO_TARGET_DIR="$PWD/target/cargo"
 library=${TRIEFF_LIB:-target/staticlib}/libtrieff.a
 [ -f "$library" ] || {
@@ -6,7 +7,7 @@ library=${TRIEFF_LIB:-target/staticlib}/libtrieff.a
     exit 2
 }
 
-# quietly COMMAND..: what it writes is shown only if it fails
+# quietly COMMAND..: runs the command, and shows what it writes only if it fails
 quietly() {
     local said
     said=$("$@" 2>&1) || {
@@ -16,7 +17,8 @@ quietly() {
 }
 quietly cargo build --quiet --release --offline --locked --manifest-path tests/Cargo.toml
 
-# judge SECONDS ARGS..: if a call kills the judge or never returns, the notes tell which case each thread was at
+# judge SECONDS ARGS..: runs the judge. If a call kills it or never returns, prints the notes,
+# which name the case that each thread was at
 judge() {
     local status=0
     export JUDGE_NOTES="$PWD/target/judge"

@@ -1,18 +1,25 @@
-/* Pulls the plug on examples/bench_file.c: a library that is loaded before the C library (LD_PRELOAD) and stands in for its pwrite, rename,
-   fdatasync and fsync. Writes and renames are counted from 1, and at one of them the process is stopped. It promises of a file what the
-   bench's head asks for, and no more: what was flushed is kept, the write that was hit is in the file whole, not at all or, to
-   spare bytes, in any part. tests/cuts/cuts.py sets the variables:
+/* Stops examples/bench_file.c as a power cut would. This is a library that is loaded before the C
+   library (LD_PRELOAD) and replaces its pwrite, rename, fdatasync and fsync. Writes and renames
+   are counted from 1, and at one of them the process is stopped. It gives the bench the promises
+   of a disk that the comment at the top of bench_file.c asks for, and no more: what was flushed
+   stays, and the write that was hit is in the file whole, not at all or, if it goes to spare
+   bytes, in any part. tests/cuts/cuts.py sets the variables:
 
-     CUT_AT      which write or rename, in decimal; without it none
-     CUT_HOW     before: stopped, and nothing of it landed     after: stopped, and all of it landed
-                 torn: stopped, and a part landed, by CUT_SEED: 0 the front half, 1 the back half, otherwise bytes by lot
-                 full: the disk is full, nothing landed        short: half landed, and pwrite says so
+     CUT_AT      the number of the write or rename, in decimal; without it there is no cut
+     CUT_HOW     before: stopped, and nothing of it landed
+                 after: stopped, and all of it landed
+                 torn: stopped, and a part landed, chosen by CUT_SEED: 0 is the front half, 1 the
+                 back half, any other a random set of bytes
+                 full: the disk is full, nothing landed
+                 short: half of it landed, and pwrite says so
                  sick: all of it landed, and the flush fails
-     CUT_TRACE   a file to which each is added: its place and length, or `rename`
-     CUT_WRONG   a mistake that must be found: `link-first` puts G behind the link, `g-lost` loses a write that lowers G
+     CUT_TRACE   a file that gets a line for each: its offset and length, or `rename`
+     CUT_WRONG   a mistake that must be found: `link-first` writes G after the link, `g-lost`
+                 loses a write that lowers G
 
-   It stops with 77 at the cut, 98 if it should tear a write that does not go to spare bytes, 99 if a write is begun, or the process ends,
-   before the last write was flushed. A flush is only noted: no power is cut here, so the disk need not be waited for.
+   The exit status is 77 at the cut. It is 98 if the write to be torn does not go to spare bytes.
+   It is 99 if a write begins, or the process ends, before the last write was flushed. A flush is
+   only noted: no power is cut here, so nothing waits for the disk.
 
      gcc -std=c11 -O2 -shared -fPIC -o target/cut_shim.so tests/cuts/cut_shim.c */
 #define _POSIX_C_SOURCE 200809L
@@ -28,7 +35,7 @@
 enum { CUT = 77, NOT_SPARE = 98, NOT_FLUSHED = 99 };
 
 static unsigned long count;
-static bool unflushed, spoilt; /* the last write is not flushed; the bench was told of a failure */
+static bool unflushed, spoilt; /* the last write is not flushed; a call has reported a failure */
 static struct { bool held; uint8_t bytes[4]; } g;
 
 static bool is(const char *variable, const char *word)
@@ -49,7 +56,8 @@ static void leave(int status, const char *why)
     _exit(status);
 }
 
-/* Counts a write or rename, whose name is for the trace; whether it is the one. */
+/* Counts a write or rename, and adds its line to the trace. Returns whether it is the one to stop
+   at. */
 static bool next_is_it(const char *written)
 {
     const char *trace = getenv("CUT_TRACE");
@@ -70,7 +78,7 @@ static void land(int fd, const uint8_t *bytes, size_t length, off_t place)
         leave(1, "a write failed");
 }
 
-/* U as the file's head tells it; 0 for a file that has no head. */
+/* U by the head in the file; 0 for a file that has no head. */
 static uint64_t used(int fd)
 {
     uint8_t head[28];
@@ -123,7 +131,7 @@ static ssize_t one(int fd, const uint8_t *bytes, size_t length, off_t place)
     return (ssize_t)length;
 }
 
-/* Whether a write of G, by its place and length, lowers it. */
+/* Whether these bytes, written as G, lower it. */
 static bool lowers(int fd, const uint8_t *bytes)
 {
     uint8_t old[4];
@@ -177,7 +185,7 @@ int fsync(int fd)
     return fdatasync(fd);
 }
 
-/* A store that was answered and not flushed would be lost by a cut after the end. */
+/* A store that was answered but not flushed would be lost in a cut after the end. */
 __attribute__((destructor)) static void end(void)
 {
     if (unflushed && !spoilt)

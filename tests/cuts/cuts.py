@@ -1,12 +1,15 @@
 #!/usr/bin/env python3
-"""Stops examples/bench_file.c at every write of a session, in every way that tests/cuts/cut_shim.c knows, and asks it after the next start.
+"""Stops examples/bench_file.c at every write of a session, in every way that tests/cuts/cut_shim.c
+knows, and compares its answers after the next start.
 
 cuts.py BENCH SHIM FOLDER [MISTAKE]
 
-BENCH is the compiled bench, SHIM the compiled shim, FOLDER one to work in. Every answer after a start is held to a plain list of labels that is
-kept here: as before the store that was hit, or as after it if the last of its writes landed. Then the session goes on to its end, and the file
-must hold what the list tells. MISTAKE is a CUT_WRONG of the shim, which must be reported. The last line says how many stops were tried; exit
-status 1 if anything was wrong.
+BENCH is the compiled bench, SHIM the compiled shim, FOLDER a folder to work in. Every answer after
+a start is compared with a plain list of labels that is kept here: the list from after the store
+that was hit if the last of its writes landed, else the list from before it. Then the session goes
+on to its end, and the file must hold the labels of the list. MISTAKE is a CUT_WRONG of the shim,
+which must be reported. The last line gives the number of stops. The exit status is 1 if anything
+was wrong.
 """
 import itertools
 import os
@@ -20,12 +23,12 @@ ALPHABET = "0123456789ABCDE-"
 LONGEST = 64
 WIDTH = 16 * 2 + 4  # bytes of a node
 FIRST = 28 + 16  # where node 0 begins
-CUT, TOLD = 77, 1  # how the bench ends: by the shim, or by itself since the disk failed
-SEEDS = (0, 1, 2, 3)  # of the shim: the front half, the back half, by lot twice
+CUT, TOLD = 77, 1  # exit status of the bench: stopped by the shim, or by itself after a failure
+SEEDS = (0, 1, 2, 3)  # CUT_SEED of the shim: the front half, the back half, two random sets
 
 SESSION = [
     ("B04-117-2", 2402),  # a new path
-    ("B04-117-1", 2401),  # one that shares all but its last letter
+    ("B04-117-1", 2401),  # a path that shares all but its last letter
     ("A01-101-1", 2400),
     ("B04", 16),  # the path is there, nothing stored
     ("B04-117-2", 2409),  # another value
@@ -33,7 +36,7 @@ SESSION = [
     ("C99-1", 0),  # nothing to delete, and no path
     ("B04-117-1", 0),
     ("B04-117-1", 0),  # nothing to delete, with a path
-    ("B04-117-12", 70000),  # beneath a deleted label
+    ("B04-117-12", 70000),  # under a deleted label
     ("B04/117", 5),  # no such letter
     ("0" * 65, 5),  # too long
     ("0123456789ABCDE-" * 4, 4294967295),  # as many writes as there can be
@@ -47,11 +50,12 @@ SESSION = [
     ("A01", 77),
 ]
 ANOTHER = ("5A-5", 99)  # stored after a cut instead of the store that was hit
-NEVER = ["A", "B04-117-3", "C99-1", "5", "5A-5-1", "E-E", "--"]  # asked for, never stored
+NEVER = ["A", "B04-117-3", "C99-1", "5", "5A-5-1", "E-E", "--"]  # looked up, never stored
 
 
 class Labels:
-    """What the bench must know: the labels with their records. The address of each prefix that has a node tells the writes of a store."""
+    """What the bench must hold: the labels with their records. `nodes` has the address of each
+    prefix that has a node; from these follow the writes of a store."""
 
     def __init__(self):
         self.records, self.nodes = {}, {"": 0}
@@ -65,7 +69,8 @@ class Labels:
         return FIRST + self.nodes[prefix] * WIDTH
 
     def store(self, label, record):
-        """Stores, and answers the place and length of each write in order, and the line that the bench answers with."""
+        """Stores. Returns the offset and length of each write in order, and the line that the
+        bench must answer."""
         if any(c not in ALPHABET for c in label):
             return [], f"{label}: refused 10 at 0"
         if not 1 <= len(label) <= LONGEST:
@@ -88,7 +93,7 @@ class Labels:
         return writes, f"{label} = {record}: change {change}, writes {len(writes)}"
 
     def image(self):
-        """The bytes of the image, as far as they are used."""
+        """The bytes of the image up to U."""
         nodes = [bytearray(WIDTH) for _ in self.nodes]
         for prefix, address in self.nodes.items():
             if prefix:
@@ -112,13 +117,14 @@ def commands(stores):
 
 
 def told(labels, stores):
-    """The lines that the stores answer, and the labels afterwards."""
+    """The lines that the bench must answer to the stores, and the labels after them."""
     labels = labels.copy()
     return [labels.store(*s)[1] for s in stores], labels
 
 
 class Bench:
-    """The bench with its file in a folder, and the tally of what was tried and what was wrong."""
+    """The bench with its file in a folder, and the numbers of what was tried and what was
+    wrong."""
 
     def __init__(self, bench, shim, folder, mistake):
         self.bench, self.shim, self.mistake = bench, shim, mistake
@@ -127,7 +133,7 @@ class Bench:
         self.stops = self.starts = self.wrong = 0
 
     def put(self, image):
-        """The file as it is before a session: an image, an empty file, or none."""
+        """Makes the file as it is before a session: an image, an empty file, or no file."""
         for name in (self.file, self.file + ".new"):
             if os.path.exists(name):
                 os.remove(name)
@@ -167,7 +173,7 @@ class Bench:
         sys.exit(1 if self.wrong else 0)
 
     def expect(self, what, ran, code, lines, mended=None):
-        """Whether a run ended and answered as it must."""
+        """Returns whether a run ended and answered as it must; reports it if not."""
         got = ran.stdout.splitlines()
         if ran.returncode != code:
             self.report(what, f"ended with {ran.returncode} instead of {code}: {ran.stderr.strip()}")
@@ -181,21 +187,23 @@ class Bench:
         return False
 
     def goes_on(self, what, labels, rest, mended=None):
-        """A start without a cut: all is as the labels say, the rest of the session can be stored, and the file then holds it."""
+        """A start without a cut. All answers are as the labels say, the rest of the session can
+        be stored, and then the file holds it."""
         lines, end = told(labels, rest)
         ran = self.run(ASKING + commands(rest) + ASKING)
         if self.expect(what, ran, 0, labels.answers(ASKED) + lines + end.answers(ASKED), mended):
             self.holds(what, end)
 
     def stop(self, what, stores, done, at, how, seed=0):
-        """A start that is stopped at a write, in the midst of the session, with the first stores done."""
+        """A start that is stopped at a write of the session. `done` holds the lines of the stores
+        before it."""
         self.stops += 1
         ran = self.run(commands(stores), at=at, how=how, seed=seed)
         return self.expect(what, ran, TOLD if how in ("full", "short", "sick") else CUT, done)
 
 
 def ways(length):
-    """The ways to stop a write, and whether it landed whole."""
+    """The ways to stop a write of this length, each with whether the write landed whole."""
     yield from (("before", 0, False), ("after", 0, True), ("full", 0, False), ("sick", 0, True))
     if length == WIDTH:
         yield from (("torn", seed, False) for seed in SEEDS)
@@ -203,7 +211,8 @@ def ways(length):
 
 
 def each_stop(bench, image, labels, stores, counted=0, then=()):
-    """Stops the stores at each write in each way. `counted` writes of the start come before them; what is stored then is not stopped."""
+    """Stops the stores at each write in each way. The start itself has `counted` writes before
+    them. The stores of `then` follow and are not stopped."""
     lines = []
     for i, (label, record) in enumerate(stores):
         after = labels.copy()
@@ -225,7 +234,7 @@ def each_stop(bench, image, labels, stores, counted=0, then=()):
 
 
 def each_creation(bench, stores):
-    """Stops the making of the file: it is not there, or empty, or a fresh image."""
+    """Stops the making of the file, where there was no file or an empty one."""
     for image in (None, b""):
         written = [(1, how, 0) for how in ("before", "after", "full", "short", "sick")] + [(1, "torn", seed) for seed in SEEDS]
         for at, how, seed in written + [(2, "before", 0), (2, "after", 0)]:
@@ -236,7 +245,8 @@ def each_creation(bench, stores):
 
 
 def each_second_stop(bench, image, stores):
-    """Cut between G and the link, and then a second time: while G is put back, and in the store of another label."""
+    """Cuts between G and the link, and then a second time: while G is written back, and in the
+    store of another label."""
     labels, counted = Labels(), 0
     for i, (label, record) in enumerate(stores):
         after = labels.copy()
@@ -263,7 +273,8 @@ def main():
     os.makedirs(folder)
     bench = Bench(os.path.abspath(sys.argv[1]), os.path.abspath(sys.argv[2]), folder, (sys.argv[4:] or [""])[0])
 
-    # the whole session with no cut, first flushed in earnest; then the shim sees the writes that the labels tell
+    # the whole session with no cut, first without the shim, so with real flushes; then with the
+    # shim, whose trace must have the writes that the labels give
     lines, end = told(Labels(), SESSION)
     bench.put(None)
     bench.expect("the session", bench.run(commands(SESSION) + ASKING, shim=False), 0, lines + end.answers(ASKED), False)
@@ -281,7 +292,7 @@ def main():
             bench.report("the session", f"write {i + 1} is {got} instead of {must}")
             break
 
-    # a fresh image with spare bytes that hold anything, some of them good addresses
+    # a fresh image whose spare bytes hold random values, some of them good addresses
     lot = random.Random(1)
     bench.put(None)
     bench.run([])
