@@ -1,5 +1,5 @@
-/* The table of the calls that are measured, and the comparison of their three versions on one input.
-   Every version gets copies of its own, each as long as what is lent, so that a write past an end can be found. */
+/* The table of the calls that are measured, and the comparison of their three versions on one
+   input. Every version gets its own copies of what is lent. */
 #include "calls.h"
 #include <stdio.h>
 #include <stdlib.h>
@@ -115,7 +115,7 @@ static bool same_answer(trieff_answer a, trieff_answer b)
     return a.number == b.number && a.place == b.place && a.length == b.length && a.change == b.change && a.value == b.value;
 }
 
-/* Are two versions' answers and buffers the same? Says so if not. */
+/* Are the answers and buffers of two versions the same? Prints the difference if not. */
 static bool same(const char *call, int version, const struct lent *a, const struct lent *b, trieff_answer x, trieff_answer y)
 {
     bool answer = same_answer(x, y);

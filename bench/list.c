@@ -1,5 +1,6 @@
-/* The listing program over a listing in C, with document 01's limits: 65,536 bytes of input and 16,384 working numbers.
-   Built once for each version, with -DLIST=naive_list or tuned_list. */
+/* The listing program with a listing in C, and with document 01's limits: 65,536 bytes of input
+   and 16,384 working numbers. It is built once for each version, with -DLIST=naive_list or
+   -DLIST=tuned_list. */
 #include "calls.h"
 #include <stdio.h>
 

@@ -1,5 +1,6 @@
-/* Performs the rows of bench/plan that are for one image: compared in all versions, counted in one of them by callgrind, or timed in all.
-   It writes lines IMAGE|ROW|VERSION|FIGURE; those of `count` stand in callgrind's dumps. Usage:
+/* Performs the rows of bench/plan for one image. They are compared in all versions, counted in one
+   version by callgrind, or timed in all versions. It writes lines IMAGE|ROW|VERSION|FIGURE; the
+   figures of `count` are in callgrind's dumps. Usage:
      measure compare|time PLAN FOLDER IMAGE
      measure count PLAN FOLDER IMAGE VERSION */
 #define _POSIX_C_SOURCE 200809L
@@ -68,8 +69,8 @@ static void read_image(const char *folder)
         fail("no memory for", path);
 }
 
-/* The image's counts by the project, with room for the nodes of a new key. A row of the plan holds
-   them against those of the other versions. */
+/* The image's counts as the project works them out, with room for the nodes of a new key. A row of
+   the plan compares them with those of the other versions. */
 static void make_counts(void)
 {
     counts_len = work_len + KEY_MOST;
@@ -82,8 +83,7 @@ static void make_counts(void)
         fail("no counts of", image_name);
 }
 
-/* A row's key: the text as it stands, or the letter numbers of its one-byte characters, or a
-   position. */
+/* A row's key: its text, or the letter numbers of its one-byte characters, or a position. */
 static void set_key(struct row *row, const char *text)
 {
     uint32_t f = field(kept_image + 16, 4);
@@ -145,7 +145,7 @@ static size_t read_plan(const char *path, struct row *rows)
     return count;
 }
 
-/* Empties the link to a key's own node: the store of the last new key, cut before its last write. */
+/* Empties the link to a key's own node, as a cut before the last write of its store leaves it. */
 static void cut(const struct row *row)
 {
     uint32_t n = field(image + 4, 4), a = field(image + 8, 4), d = field(image + 12, 4), f = field(image + 16, 4), node = 0;
@@ -159,8 +159,8 @@ static void cut(const struct row *row)
     memset(link, 0, a);
 }
 
-/* The image as it was read, and its counts; to be mended without the last link of its row's key,
-   if there is one. */
+/* Restores the image as it was read, and its counts. For a row of mend with a key, the link to the
+   key's node is then emptied. */
 static void put_back(const struct row *row)
 {
     memcpy(image, kept_image, image_len);
@@ -169,7 +169,7 @@ static void put_back(const struct row *row)
         cut(row);
 }
 
-/* What a row lends: its image, the counts of it, and rubbish in the other buffers. */
+/* What a row lends: its image, the image's counts, and rubbish in the other buffers. */
 static struct lent lend(const struct row *row)
 {
     put_back(row);
@@ -213,7 +213,8 @@ static bool compare(const struct row *row)
     return false;
 }
 
-/* Callgrind collects inside the version's functions alone; here it is told where one row ends. */
+/* Callgrind counts only inside the functions of the version. Here a dump is made at the end of
+   each row. */
 static void count(const struct row *row, int version)
 {
     struct lent lent = lend(row);
@@ -231,13 +232,14 @@ static double seconds(void)
     return (double)now.tv_sec + (double)now.tv_nsec / 1e9;
 }
 
-/* A row that changes its image is called once a run. */
+/* A row that changes its image is called once in a run. */
 static bool changes(const struct row *row)
 {
     return row->stores || row->mends;
 }
 
-/* The time of so many calls in a row. A store or a mending finds the image as it was. */
+/* The mean time of a number of calls, one after the other. For a store or a mend the image is
+   restored before. */
 static double one_run(const struct row *row, int version, struct lent *lent, int calls)
 {
     if (changes(row))
@@ -248,7 +250,8 @@ static double one_run(const struct row *row, int version, struct lent *lent, int
     return (seconds() - start) / calls;
 }
 
-/* So many calls take 100 microseconds or more. */
+/* The number of calls that take tuned C 100 microseconds or more; 1 if the row changes its
+   image. */
 static int calls_in_a_run(const struct row *row, struct lent *lent)
 {
     int calls = 1;

@@ -1,5 +1,6 @@
-/* The calls in plain C, as a good programmer writes them first: a rule of document 01 at a time, a byte at a time, no tricks.
-   Refusals come in document 01's order, and the working numbers are left as it says. */
+/* The calls in plain C, as a good programmer writes them first: one rule of document 01 after the
+   other, byte by byte, no tricks. Refusals come in document 01's order, and the working numbers
+   end as it says. */
 #include "calls.h"
 #include <stdio.h>
 #include <string.h>
@@ -8,7 +9,7 @@ struct head {
     uint32_t g, n, a, d, f, min, max;
 };
 
-/* A key in hand. A length above 64 is longer than any max, and only 64 letters are kept. */
+/* A key in hand. A length above 64 is above any max, so only 64 letters are kept. */
 struct key {
     uint8_t letters[KEY_MOST];
     size_t len;
@@ -85,7 +86,7 @@ static const uint8_t ROWS[9][5] = {
     {0xF0, 0xF0, 0x90, 0xBF, 4}, {0xF1, 0xF3, 0x80, 0xBF, 4}, {0xF4, 0xF4, 0x80, 0x8F, 4},
 };
 
-/* The bytes of the well-formed character at s, 0 where none stands in the bytes left. */
+/* The length of the well-formed character at s; 0 if there is none in the bytes left. */
 static size_t char_len(const uint8_t *s, size_t left)
 {
     for (int i = 0; i < 9; i++) {
@@ -103,7 +104,8 @@ static size_t char_len(const uint8_t *s, size_t left)
     return 0;
 }
 
-/* The letter number of a character among the first f bytes of an alphabet whose characters are well-formed, or -1. */
+/* The letter number of a character in the first f bytes of an alphabet whose characters are
+   well-formed; -1 if it is not there. */
 static int letter_of(const uint8_t *alphabet, size_t f, const uint8_t *character, size_t len)
 {
     int letter = 0;
@@ -134,7 +136,7 @@ static bool permitted(const struct head *h)
            h->min <= h->max && h->max <= KEY_MOST;
 }
 
-/* 1 to 4: the number of the first that is given, or 0. */
+/* 1 to 4: the number of the first refusal that applies, or 0. */
 static uint32_t open_image(const uint8_t *image, size_t len, struct head *h)
 {
     if (len < 28 || IMAGE_MOST < len)
@@ -153,7 +155,8 @@ static uint32_t open_image(const uint8_t *image, size_t len, struct head *h)
 
 /* ---- 5 to 8 */
 
-/* 6 to 8, over working numbers that are 0: each then holds how often its address stands in a link. */
+/* 6 to 8, with working numbers that are 0 at first. Each then counts the links in which its
+   address stands. */
 static trieff_answer judge_links(const uint8_t *image, const struct head *h, uint32_t *work)
 {
     for (uint32_t node = 0; node <= h->g; node++)
@@ -173,7 +176,7 @@ static trieff_answer judge_links(const uint8_t *image, const struct head *h, uin
     return valued(0);
 }
 
-/* 1 to 8. It stays a function of its own, so that what a call takes beyond it can be told. */
+/* 1 to 8. It is not inlined, so that what a call takes beyond it can be measured. */
 __attribute__((noinline)) static trieff_answer check(const uint8_t *image, size_t len, uint32_t *work, size_t work_len,
                                                      struct head *h)
 {
@@ -218,7 +221,7 @@ static bool letters_good(const struct head *h, const struct key *key)
     return true;
 }
 
-/* 9, then 10, of a key given by its letters. */
+/* 9, then 10, for a key given by its letters. */
 static uint32_t judge_key(const struct head *h, const struct key *key)
 {
     if (!length_allowed(h, key->len))
@@ -226,7 +229,7 @@ static uint32_t judge_key(const struct head *h, const struct key *key)
     return letters_good(h, key) ? 0 : 10;
 }
 
-/* 10, then 9, of a key given by its text, which is read to its end. */
+/* 10, then 9, for a key given by its text, which is read to its end. */
 static uint32_t judge_text(const uint8_t *image, const struct head *h, const uint8_t *text, size_t len, struct key *key)
 {
     *key = (struct key){.len = 0};
@@ -288,7 +291,7 @@ static uint32_t greatest(uint32_t width)
     return width == 4 ? 0xFFFFFFFF : (1u << 8 * width) - 1;
 }
 
-/* The list of a store's writes, where there is one. */
+/* The list of writes of a store with writes. */
 struct list {
     uint32_t *numbers;
     uint32_t len;
@@ -303,8 +306,9 @@ static void note(struct list *list, size_t place, size_t len)
     list->len++;
 }
 
-/* The path stops at a node at a depth: nodes for the letters left, then G, then the link that was
-   empty. A list of counts has room for `most` nodes; SIZE_MAX where there is no such list. */
+/* The path stops at a node at a depth. Writes the nodes for the letters left, then G, then the
+   link that was empty. `most` is the length of the list of counts, or SIZE_MAX if there is
+   none. */
 __attribute__((always_inline)) static inline trieff_answer extend(
     uint8_t *image, size_t len, const struct head *h, const struct key *key, uint32_t node,
     size_t depth, uint32_t value, struct list *list, size_t most)
@@ -333,8 +337,8 @@ __attribute__((always_inline)) static inline trieff_answer extend(
     return (trieff_answer){.change = 1};
 }
 
-/* A store behind the check and the judging of the key; without a list for its writes or of counts
-   the tests for one fall out. */
+/* A store after the check and once the key has passed. It is inlined: where there is no list of
+   writes, or no list of counts, the compiler drops the tests for it. */
 __attribute__((always_inline)) static inline trieff_answer store_in(
     uint8_t *image, size_t len, const struct head *h, const struct key *key, uint32_t value,
     struct list *list, size_t most)
@@ -354,7 +358,7 @@ __attribute__((always_inline)) static inline trieff_answer store_in(
     return (trieff_answer){.change = (value != 0) - (old != 0)};
 }
 
-/* It stays a function of its own, so that it can be counted alone. */
+/* It is not inlined, so that it can be counted alone. */
 __attribute__((noinline)) static trieff_answer inner_store(uint8_t *image, size_t len, const struct head *h,
                                                            const struct key *key, uint32_t value)
 {
@@ -435,7 +439,8 @@ trieff_answer naive_mend(uint8_t *image, size_t image_len, uint32_t *work, size_
 
 /* ---- the stored keys in order */
 
-/* The stored keys at and under a node at a depth, each handed to the sink; the letters so far stand at the front of the path. */
+/* Passes the stored keys at and under a node at a depth to the sink. The letters up to the node
+   are at the front of the path. */
 static void walk(const uint8_t *image, const struct head *h, uint32_t node, size_t depth, uint8_t *path, key_sink *sink,
                  void *context)
 {
@@ -453,7 +458,7 @@ static void walk(const uint8_t *image, const struct head *h, uint32_t node, size
     }
 }
 
-/* The context is a sum of keys. */
+/* Adds 1 to the context, which is a number of keys. */
 static void add_key(void *context, const uint8_t *letters, size_t len, uint64_t value)
 {
     (void)letters, (void)len, (void)value;
@@ -494,7 +499,8 @@ struct request {
     uint64_t value;
 };
 
-/* The first key at or under a node that meets the request. `tied`: the letters so far are the front of the key given. */
+/* Finds the first key at or under a node that meets the request. `tied` says that the letters up
+   to the node are the front of the key given. */
 static bool search(struct request *r, uint32_t node, size_t depth, bool tied)
 {
     bool within = tied && depth < r->key->len;
@@ -550,8 +556,8 @@ static bool stored_at(const uint8_t *image, const struct head *h, uint32_t node,
     return h->min <= depth && data_of(image, h, node) != 0;
 }
 
-/* The number of stored keys at and under a node at a depth. The counts of all these nodes are put
-   into the list; what is deeper than max keeps the 0 it has. */
+/* The number of stored keys at and under a node at a depth. Writes the counts of all these nodes
+   to the list. Nodes deeper than max keep the 0 that they have. */
 static uint32_t count_under(const uint8_t *image, const struct head *h, uint32_t node,
                             size_t depth, uint32_t *counts)
 {
@@ -577,8 +583,8 @@ trieff_answer naive_counts(const uint8_t *image, size_t image_len, uint32_t *wor
     return valued(0);
 }
 
-/* 1 to 8, where 5 speaks of the counts too, and 25: fresh counts stand in the working numbers
-   while they are compared. */
+/* 1 to 8, where 5 is for the counts too, and 25. The fresh counts are in the working numbers while
+   they are compared. */
 __attribute__((noinline)) static trieff_answer compare(
     const uint8_t *image, size_t len, uint32_t *work, size_t work_len, const uint32_t *counts,
     size_t counts_len, struct head *h)
@@ -602,7 +608,7 @@ trieff_answer naive_check_counts(const uint8_t *image, size_t image_len, uint32_
     return compare(image, image_len, work, work_len, counts, counts_len, &h);
 }
 
-/* A store, then the counts on the path of its key; the new nodes are those above the old G. */
+/* A store, then the counts on its key's path. The new nodes are those above the old G. */
 static trieff_answer inner_store_counts(uint8_t *image, size_t len, const struct head *h,
                                         const struct key *key, uint32_t value, uint32_t *counts,
                                         size_t counts_len)
@@ -649,8 +655,8 @@ trieff_answer naive_store_text_counts(uint8_t *image, size_t image_len, uint32_t
     return inner_store_counts(image, image_len, &h, &key, value, counts, counts_len);
 }
 
-/* The link under which the key at a position below a node is, as its letter; the position becomes
-   the one below that link. */
+/* The letter of the link that leads from a node to the key at a position under it. The position
+   becomes the one under that link. */
 static uint32_t letter_towards(const uint8_t *image, const struct head *h, uint32_t node,
                                const uint32_t *counts, uint64_t *position)
 {
@@ -686,7 +692,8 @@ trieff_answer naive_key_at(const uint8_t *image, size_t image_len, uint32_t *wor
     return (trieff_answer){.length = (uint32_t)depth, .value = data_of(image, &h, node)};
 }
 
-/* The position of a key: what is stored at the nodes before its own, and under lower letters. */
+/* The position of a key: the number of keys stored on its path before its own node, and under
+   lower letters. */
 static trieff_answer position_of(const uint8_t *image, const struct head *h,
                                  const uint32_t *counts, const struct key *key)
 {

@@ -1,8 +1,9 @@
-/* Compares the three versions on random small images and calls: whole images, damaged ones, every
-   limit of 9 to 15 nearby, and lists of counts that are right, wrong and too short. What naive C
-   answers to the calls with counts is compared with its other calls too.
-   Each number from 0 to 15 and 25 must be heard, images be mended and 8 stay 8, a store find its
-   list of counts too short for its new nodes, and every call be done, or the run fails.
+/* Compares the three versions on random small images and calls. The images are whole or damaged,
+   the arguments are near the limits of 9 to 15, and the lists of counts are right, wrong or too
+   short. The answers of naive C to the calls with counts are compared with its other calls too.
+   The run fails unless each number from 0 to 15 and 25 is answered, some images are mended and
+   some stay at 8, some store finds its list of counts too short for its new nodes, and every call
+   is done at least once.
    Usage: random SEED IMAGES */
 #include "calls.h"
 #include <stdio.h>
@@ -68,7 +69,8 @@ static const char *const BROKEN[] = {"\x80", "\xC0\x80", "\xC2", "\xE0\x80\x80",
                                      "\xE2\x82", "\xF0\x90\x80", "\xC1\xBF", "\xC2\xC0", "\xE2\x82\xC0", "\xF0\x90\x80\xC0"};
 #define BROKEN_MANY (sizeof BROKEN / sizeof *BROKEN)
 
-/* N characters from a random place on, all different for N up to 20; at times one is the same or broken. */
+/* N characters, from a random one on, all different for N up to 20. At times one of them is
+   repeated or broken. */
 static void add_alphabet(struct small *s)
 {
     uint32_t from = any_below(CHARACTERS_MANY), fault = one_in(12) ? any_below(s->n) : s->n;
@@ -82,7 +84,8 @@ static void add_alphabet(struct small *s)
     }
 }
 
-/* Links node c from an empty link of a lower node; false if the link that was tried is not empty. */
+/* Writes the address c to an empty link of a lower node; false if the link that was tried is not
+   empty. */
 static bool link_up(struct small *s, uint32_t c)
 {
     uint8_t *link = node_of(s, one_in(2) ? c - 1 : any_below(c)) + any_below(s->n) * s->a;
@@ -100,7 +103,8 @@ static void write_head(struct small *s)
         put_field(s->bytes + 4 * i, 4, fields[i]);
 }
 
-/* A whole image of some nodes, then rubbish in its spare bytes. Now and then A is 1 and the addresses are used up. */
+/* A whole image of some nodes, with rubbish in its spare bytes. Now and then A is 1 and nearly all
+   addresses are in use. */
 static void make_whole(struct small *s)
 {
     memset(s, 0, sizeof *s);
@@ -131,8 +135,9 @@ static void make_whole(struct small *s)
         s->bytes[s->len++] = (uint8_t)any_below(256);
 }
 
-/* Empties the link to one of the last nodes, as a store that is cut before its last write leaves it. The nodes behind it may be the rest of
-   its path, or stand elsewhere too, so that mending is of no use. */
+/* Empties the link to one of the last nodes, as a store that is cut before its last write leaves
+   it. The nodes after it may be the rest of its path. Or other nodes link to them, and then
+   mending changes nothing. */
 static void lose_link(struct small *s)
 {
     uint32_t lost = s->g - any_below(3);
@@ -144,8 +149,8 @@ static void lose_link(struct small *s)
         }
 }
 
-/* Swaps two links, or copies one over the other: a tree whose addresses do not rise, a ring that
-   hangs in the air, or an address in two links, at any depth. */
+/* Swaps two links, or copies one over the other. The result may be a tree whose addresses do not
+   rise, a ring that no link from outside leads to, or an address in two links, at any depth. */
 static void entangle(struct small *s)
 {
     uint8_t *one = node_of(s, any_below(s->g + 1)) + any_below(s->n) * s->a;
@@ -156,8 +161,8 @@ static void entangle(struct small *s)
     put_field(other, s->a, to);
 }
 
-/* One harm: a head field near its limits, a link, two links, any byte, G, the length, or a link
-   that is missing. */
+/* Does one harm: to a head field, a link, two links, any byte, G or the length; or a link is
+   missing. */
 static void harm(struct small *s)
 {
     static const uint32_t ODD[] = {0, 1, 2, 4, 5, 64, 65, 256, 257, 1024, 1025, 0xFFFFFFFF};
@@ -191,7 +196,7 @@ static void harm(struct small *s)
 
 /* ---- calls */
 
-/* Letters below N, but now and then one that is not, of a length near min..max. */
+/* Letters below N, now and then one that is not. The length is mostly at most max + 1. */
 static size_t any_letters(const struct small *s, uint8_t *key)
 {
     size_t len = one_in(20) ? any_below(80) : any_below(s->max + 2);
@@ -200,8 +205,8 @@ static size_t any_letters(const struct small *s, uint8_t *key)
     return len;
 }
 
-/* Letters along links that are there, from the root, and at times one to three letters more. Their
-   nodes may hold a value or not. */
+/* Letters along links that are not empty, from the root, and at times one to three letters more.
+   The last node may hold a value or not. */
 static size_t any_path(struct small *s, uint8_t *key)
 {
     uint32_t node = 0, len = 0, most = any_below(s->max + 2);
@@ -221,7 +226,7 @@ static size_t any_path(struct small *s, uint8_t *key)
     return len;
 }
 
-/* Where the characters of the alphabet start, and how many there are. */
+/* Finds where the characters of the alphabet start; returns their number. */
 static size_t starts_of(const struct small *s, size_t *starts)
 {
     size_t many = 0;
@@ -231,7 +236,8 @@ static size_t starts_of(const struct small *s, size_t *starts)
     return many;
 }
 
-/* Puts the character that starts at a place of the alphabet behind a text, and answers its end. */
+/* Appends the character that starts at an offset of the alphabet to a text, and returns the text's
+   new length. */
 static size_t add_character(const struct small *s, size_t at, uint8_t *text, size_t len)
 {
     do
@@ -240,7 +246,7 @@ static size_t add_character(const struct small *s, size_t at, uint8_t *text, siz
     return len;
 }
 
-/* Characters of the image's alphabet, but now and then another or a broken one. */
+/* Characters of the image's alphabet, now and then another one or a broken one. */
 static size_t any_text(const struct small *s, uint8_t *key)
 {
     size_t len = 0, starts[80], many = one_in(20) ? any_below(80) : any_below(s->max + 2);
@@ -258,7 +264,7 @@ static size_t any_text(const struct small *s, uint8_t *key)
     return len;
 }
 
-/* The text of letters along links that are there. */
+/* The text of letters along links that are not empty. */
 static size_t any_path_text(struct small *s, uint8_t *key)
 {
     uint8_t letters[KEY_MOST + 2];
@@ -269,7 +275,7 @@ static size_t any_path_text(struct small *s, uint8_t *key)
     return len;
 }
 
-/* A key as a call takes it: half of them lead along links that are there. */
+/* A key as a call takes it. Half of the keys go along links that are not empty. */
 static size_t any_key(struct small *s, bool text, uint8_t *key)
 {
     if (one_in(2))
@@ -277,8 +283,9 @@ static size_t any_key(struct small *s, bool text, uint8_t *key)
     return text ? any_text(s, key) : any_letters(s, key);
 }
 
-/* Puts the image's counts into a list of NODES_MOST, if it is accepted; one or two are made wrong
-   at times. The lent list ends before G, or there, or a few nodes behind it. */
+/* Writes the image's counts, if it is accepted, to a list of NODES_MOST numbers. At times one or
+   two of them are made wrong. The list that is lent has G counts or fewer, or G+1, or a few
+   more. */
 static void lend_counts(const struct small *s, struct lent *lent)
 {
     static const uint32_t WRONG[] = {0, 1, 2, 0x7FFFFFFF, 0xFFFFFFFF};
@@ -301,12 +308,12 @@ static uint32_t any_value(const struct small *s)
     return one_in(4) ? 0 : one_in(6) ? most + 1 : one_in(4) ? most : any_below(most);
 }
 
-/* ---- naive C's calls with counts against its other calls */
+/* ---- the calls with counts of naive C, compared with its other calls */
 
 static uint32_t held_work[NODES_MOST];
 #define HELD held_work, NODES_MOST
 
-/* Does a list say what the number of keys says, and is it accepted as the image's counts? */
+/* Is the root's count the number of keys, and does the list pass the check with counts? */
 static bool held_counts(const struct lent *lent, const uint32_t *counts, size_t len)
 {
     uint64_t keys = naive_count(lent->image, lent->image_len, HELD).value;
@@ -314,7 +321,7 @@ static bool held_counts(const struct lent *lent, const uint32_t *counts, size_t 
            naive_check_counts(lent->image, lent->image_len, HELD, counts, len).number == 0;
 }
 
-/* Is the key at a position the first one moved on by so many steps of next key? */
+/* Is the key at a position the first stored key, moved on by this number of steps of next key? */
 static bool held_key_at(const struct lent *lent)
 {
     uint8_t from[KEY_MOST], at[KEY_MOST], key[KEY_MOST];
@@ -330,7 +337,7 @@ static bool held_key_at(const struct lent *lent)
            step.length == said.length && memcmp(key, at, step.length) == 0;
 }
 
-/* Is the key at the position of a key that key? */
+/* Does the position of a key lead back to that key? */
 static bool held_position(const struct lent *lent)
 {
     uint8_t key[KEY_MOST];
@@ -342,8 +349,8 @@ static bool held_position(const struct lent *lent)
            memcmp(key, lent->key, lent->key_len) == 0;
 }
 
-/* Does a store with counts leave the plain store's image, and the counts of it? It is carried out
-   on what is lent. */
+/* Does a store with counts leave the image of the plain store, and the right counts of it? It
+   changes what is lent. */
 static bool held_store(const struct lent *lent)
 {
     static uint8_t image[ROOM];
@@ -355,7 +362,7 @@ static bool held_store(const struct lent *lent)
            held_counts(lent, lent->counts, lent->counts_len);
 }
 
-/* Of a call that is done: does its answer agree with naive C's other calls? */
+/* For a call that is done: does its answer agree with the other calls of naive C? */
 static bool held(const char *name, const struct lent *lent)
 {
     if (strcmp(name, "counts") == 0) {
@@ -372,8 +379,9 @@ static bool held(const char *name, const struct lent *lent)
 
 /* ---- a call */
 
-/* What was heard: each number, each call done, what became of the images that a mending found to
-   have an address in no link, and stores whose list of counts has no room for the new nodes. */
+/* How often each number was answered, how often each call was done, how many images with an
+   address in no link were mended and how many were left, and how many stores found their list of
+   counts too short for the new nodes. */
 struct heard {
     uint64_t numbers[NUMBERS], done[CALLS_MOST];
     uint64_t mended, left, no_counts;
@@ -395,7 +403,7 @@ static void note(struct heard *heard, size_t place, const struct lent *lent, tri
     heard->mended += answer.number == 0 && was == 8;
 }
 
-/* A random call on an image, compared; what is heard is noted. */
+/* Makes a random call on an image and compares it. Its answer is noted. */
 static bool try_call(struct small *s, struct heard *heard)
 {
     static uint8_t image[ROOM], key[400], buffer[80];
@@ -427,7 +435,7 @@ static bool try_call(struct small *s, struct heard *heard)
     return false;
 }
 
-/* Was all heard that must be? Says what was. */
+/* Was everything answered that must be? Prints how often. */
 static bool all_heard(const struct heard *heard)
 {
     bool all = heard->mended > 0 && heard->left > 0 && heard->no_counts > 0;

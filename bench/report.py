@@ -1,5 +1,6 @@
 #!/usr/bin/env python3
-"""Prints what bench/run measured: a table of counts, one of times and one of goals. Exit status 1 where a goal is missed.
+"""Prints what bench/run measured: a table of counts, one of times and one of goals. The exit
+status is 1 if a goal is missed.
 
 report.py FOLDER
 """
@@ -18,7 +19,7 @@ PROGRAM = "listing program with its lines, per key beyond the check"
 
 
 def figures(name):
-    """Lines IMAGE|ROW|VERSION|FIGURE as a table by (row, image), in their order."""
+    """The lines IMAGE|ROW|VERSION|FIGURE as a table by (row, image), in their order."""
     table = {}
     with open(os.path.join(folder, name)) as file:
         for line in file:
@@ -28,14 +29,14 @@ def figures(name):
 
 
 def dumped(path):
-    """Callgrind's dumps in a file: what each was triggered by, and its instructions."""
+    """Callgrind's dumps in a file: the trigger and the number of instructions of each."""
     with open(path, errors="replace") as file:
         text = file.read()
     return re.findall(r"^desc: Trigger: (?:Client Request: )?(.*)$(?:.|\n)*?^summary: (\d+)$", text, re.M)
 
 
 def counts():
-    """The counts of the plan's rows; of the inner store by the row's name with `inner` in front of it."""
+    """The counts of the plan's rows. Those of the inner store have `inner` before their name."""
     table = {}
     for path in glob.glob(os.path.join(folder, "calls-*.count")) + glob.glob(os.path.join(folder, "inner-*.count")):
         inner = os.path.basename(path).startswith("inner-")
@@ -66,7 +67,7 @@ def each(of):
 
 
 def beyond(row, other, image):
-    """What a row takes more than another one on the same image."""
+    """How much more a row takes than another row on the same image."""
     return each(lambda version: counted[row, image][version] - counted[other, image][version])
 
 
@@ -75,7 +76,8 @@ def beyond_check(row, image):
 
 
 def compares(row):
-    """Does a row compare counts before anything else?"""
+    """Does a row compare counts before it does its work? The check with counts itself is not
+    meant."""
     return row.startswith(("store with counts", "key at", "position"))
 
 
@@ -85,7 +87,8 @@ def walk_per_key(image):
 
 
 def program_per_key():
-    """Two images, so that what a program's start takes falls out; the check of each is counted by itself."""
+    """The difference of two images, so that the program's start cancels out. The check of each is
+    counted by itself and subtracted."""
     many, few = "listing-65536", "listing-10"
     keys = answers["count", many]["answer"] - answers["count", few]["answer"]
 
@@ -96,8 +99,8 @@ def program_per_key():
 
 
 def all_counts():
-    """The counts in the plan's order, each with what follows from it: the inner store, what is
-    beyond the check or the check with counts, the walk per key."""
+    """The counts in the plan's order, each followed by those derived from it: the inner store,
+    what is beyond the check or the check with counts, the walk per key."""
     table = {}
     for row, image in answers:
         table[row, image] = counted[row, image]
@@ -114,7 +117,8 @@ def all_counts():
 
 
 def joined(lines):
-    """Lines (name, image, figures ..): neighbours with the same name and figures are one, with the first and the last image."""
+    """Joins neighbours among the lines (name, image, figures ..) that have the same name and
+    figures into one line, with the first and the last image."""
     groups = []
     for name, image, *figures in lines:
         if groups and groups[-1][0] == name and groups[-1][2] == figures:
@@ -126,7 +130,8 @@ def joined(lines):
 
 
 def print_table(title, heads, lines):
-    """Every column as wide as its widest cell, figures to the right."""
+    """Prints a table. Every column is as wide as its widest cell, and figures are aligned to the
+    right."""
     lines = [heads, *lines]
     widths = [max(len(line[i]) for line in lines) for i in range(len(heads))]
     print("\n%s\n" % title)
@@ -138,7 +143,7 @@ def print_table(title, heads, lines):
 
 
 def by_row(table):
-    """The table's rows and images, those of one row together."""
+    """The rows and images of the table, those of one row together."""
     for row in dict.fromkeys(row for row, _ in table):
         for image in (image for other, image in table if other == row):
             yield row, image
@@ -155,7 +160,8 @@ def print_versions(title, table, form):
 
 
 def goals(table):
-    """The house plan's: what, the image, the project's count, the most that it may be."""
+    """The goals of the house plan: the row, the image, the project's count, the most that it may
+    be."""
     full, twenty = "full-16MiB", "labels-20000"
 
     def goal(row, image, most):

@@ -1,11 +1,12 @@
-/* The calls in C tuned by hand for speed: masked loads of four bytes, 32 bytes of empty links at a time, one pass for the check.
-   It leans on what document 01's base gives, such as that a child's address is above its node's;
-   the calls with counts do not lean on that. No vector instruction is written out. */
+/* The calls in C, tuned by hand for speed: masked loads of four bytes, 32 bytes of empty links at
+   a time, one pass for the check. It uses what document 01 gives, such as that a child's address
+   is above its node's. The calls with counts do not use that. No vector instruction is written by
+   hand. */
 #include "calls.h"
 #include <string.h>
 #include <unistd.h>
 
-/* An image that 1 to 4 have passed. */
+/* An image that has passed 1 to 4. */
 struct opened {
     const uint8_t *nodes;
     size_t links_len, width; /* N*A and W */
@@ -15,7 +16,8 @@ struct opened {
 
 #define SLOTS 512
 
-/* Letters by character. One-byte characters have a table of letter + 1; others a hash table of the same, over their bytes as numbers. */
+/* Letters by character. For one-byte characters there is a table of letter + 1. For the others
+   there is a hash table of the same, by their bytes as a number. */
 struct alphabet {
     uint16_t one[128];
     uint16_t slots[SLOTS];
@@ -46,13 +48,14 @@ static inline uint64_t load8(const uint8_t *at)
     return v;
 }
 
-/* The field that ends at `end`. A node has the head in front of it, so that four bytes can always be read. */
+/* The field that ends at `end`. The head is in front of every node, so four bytes can always be
+   read. */
 static inline uint32_t field(const uint8_t *end, uint32_t mask)
 {
     return load4(end - 4) & mask;
 }
 
-/* Writes the field that ends at `end`, and the bytes in front of it as they are. */
+/* Writes the field that ends at `end`. The bytes in front of it keep what they hold. */
 static inline void put_field(uint8_t *end, uint32_t mask, uint32_t v)
 {
     uint32_t four = __builtin_bswap32((load4(end - 4) & ~mask) | v);
@@ -74,13 +77,13 @@ static inline uint32_t data_of(const struct opened *o, const uint8_t *node)
     return field(node + o->width, o->data_mask);
 }
 
-/* 32 bytes, or'ed together. */
+/* The bitwise or of 32 bytes, as 8 bytes. */
 static inline uint64_t any_of_32(const uint8_t *at)
 {
     return load8(at) | load8(at + 8) | load8(at + 16) | load8(at + 24);
 }
 
-/* Are 8 to 31 bytes all 0? The last eight may be looked at twice. */
+/* Are 8 to 31 bytes all 0? The last eight may be read twice. */
 static inline bool few_blank(const uint8_t *at, size_t len)
 {
     uint64_t any = load8(at + len - 8);
@@ -89,7 +92,8 @@ static inline bool few_blank(const uint8_t *at, size_t len)
     return any == 0;
 }
 
-/* Are all links of a node empty? Links of less than eight bytes are never said to be. The last 32 bytes may be looked at twice. */
+/* Are all links of a node empty? If they have fewer than eight bytes in all, the answer is false.
+   The last 32 bytes may be read twice. */
 static inline bool childless(const struct opened *o, const uint8_t *node)
 {
     size_t len = o->links_len;
@@ -104,7 +108,8 @@ static inline bool childless(const struct opened *o, const uint8_t *node)
 
 /* ---- 1 to 4 */
 
-/* The bytes of the well-formed character of two bytes or more at s, 0 where none stands in the bytes left. */
+/* The length of the well-formed character of two bytes or more at s; 0 if there is none in the
+   bytes left. */
 static size_t wide_len(const uint8_t *s, size_t left)
 {
     uint8_t first = s[0];
@@ -128,7 +133,7 @@ static uint32_t code_of(const uint8_t *s, size_t len)
     return len > 3 ? code << 8 | s[3] : code;
 }
 
-/* The slot of a code: the one that holds its letter, or the empty one where it would stand. */
+/* The slot of a code: the one that holds its letter, or the empty one where it belongs. */
 static inline uint16_t *slot_of(struct alphabet *al, uint32_t code)
 {
     uint32_t at = code * 0x9E3779B1u >> 23;
@@ -137,7 +142,8 @@ static inline uint16_t *slot_of(struct alphabet *al, uint32_t code)
     return &al->slots[at];
 }
 
-/* Puts a character of two bytes or more into the table as a letter: its bytes, 0 where it is not well-formed or not new. */
+/* Puts a character of two bytes or more into the table as a letter. Returns its length; 0 if it is
+   not well-formed or not new. */
 static size_t add_wide(struct alphabet *al, const uint8_t *s, size_t left, uint32_t letter)
 {
     size_t len = wide_len(s, left);
@@ -156,7 +162,8 @@ static size_t add_wide(struct alphabet *al, const uint8_t *s, size_t left, uint3
     return len;
 }
 
-/* Are these bytes exactly n different well-formed characters? Then the tables have their letters. */
+/* Are these bytes exactly n different well-formed characters? If so, the tables hold their
+   letters. */
 static bool read_alphabet(struct alphabet *al, const uint8_t *bytes, size_t len, uint32_t n)
 {
     memset(al->one, 0, sizeof al->one);
@@ -184,7 +191,8 @@ static uint32_t ones(uint32_t width)
     return 0xFFFFFFFFu >> (32 - 8 * width);
 }
 
-/* 1 to 4: the number of the first that is given, or 0. Without an alphabet no letter is in the tables. */
+/* 1 to 4: the number of the first refusal that applies, or 0. Without an alphabet the tables are
+   not filled. */
 static uint32_t open_image(const uint8_t *image, size_t len, struct opened *o, struct alphabet *al)
 {
     if (len - 28 > IMAGE_MOST - 28)
@@ -207,15 +215,17 @@ static uint32_t open_image(const uint8_t *image, size_t len, struct opened *o, s
 
 /* ---- 5 to 8 */
 
-/* What one pass over all links tells. Working number x holds, once x has been met in a link, the depth of x. */
+/* The results of one pass over all links. Once x has been met in a link, working number x holds
+   the depth of x. */
 struct pass {
-    uint32_t bad;   /* the lowest node that holds a bad link, above G where there is none */
-    uint32_t links; /* how many links are not empty */
-    uint32_t twice; /* not 0 where an address was met again */
-    uint64_t keys;  /* how many stored keys there are, where they are counted */
+    uint32_t bad;   /* the lowest node that holds a bad link; above G if there is none */
+    uint32_t links; /* the number of links that are not empty */
+    uint32_t twice; /* not 0 if an address was met again */
+    uint64_t keys;  /* the number of stored keys, if they are counted */
 };
 
-/* A node's depth is known when the pass comes to it, since its address is above that of the node that links to it. */
+/* The depth of a node is known when the pass comes to it, since its address is above that of the
+   node that links to it. */
 static inline struct pass pass_links(const struct opened *o, uint32_t *work, bool counting)
 {
     struct pass p = {.bad = o->g + 1};
@@ -244,7 +254,7 @@ static inline struct pass pass_links(const struct opened *o, uint32_t *work, boo
     return p;
 }
 
-/* 8 of an image that has it and neither 6 nor 7: the lowest address that no link was met for. */
+/* 8, for an image that has no 6 and no 7: the lowest address that was met in no link. */
 static trieff_answer not_linked(const uint32_t *work)
 {
     uint32_t x = 1;
@@ -253,7 +263,8 @@ static trieff_answer not_linked(const uint32_t *work)
     return refusal(8, x);
 }
 
-/* 7 or 8 of an image that has one of them and no bad link: how often each address stands in a link, after all. */
+/* 7 or 8, for an image that has one of them and no bad link. Counts the links in which each
+   address stands. */
 static trieff_answer blame(const struct opened *o, uint32_t *work)
 {
     memset(work, 0, ((size_t)o->g + 1) * sizeof *work);
@@ -266,8 +277,8 @@ static trieff_answer blame(const struct opened *o, uint32_t *work)
     return x <= o->g ? refusal(7, x) : not_linked(work);
 }
 
-/* 5 to 8; the answer's value is the number of stored keys where they are counted. `*links` is how many links are not empty, if there is no 5
-   and no 6. */
+/* 5 to 8. If keys are counted, the answer's value is the number of stored keys. `*links` is the
+   number of links that are not empty, unless 5 or 6 is given. */
 static inline trieff_answer judge_links(const struct opened *o, uint32_t *work, size_t work_len, bool counting, uint32_t *links)
 {
     size_t nodes = (size_t)o->g + 1;
@@ -280,15 +291,15 @@ static inline trieff_answer judge_links(const struct opened *o, uint32_t *work, 
         *links = p.links;
     if (p.bad <= o->g)
         answer = refusal(6, p.bad);
-    else if (!counting && p.twice == 0 && p.links != o->g) /* with the counting it would cost the pass a register */
-        answer = not_linked(work);
+    else if (!counting && p.twice == 0 && p.links != o->g)
+        answer = not_linked(work); /* if keys are counted, this would cost the pass a register */
     else if (p.links != o->g || p.twice != 0)
         answer = blame(o, work);
     memset(work, 0, nodes * sizeof *work);
     return answer;
 }
 
-/* 1 to 8. It stays a function of its own, so that what a call takes beyond it can be told. */
+/* 1 to 8. It is not inlined, so that what a call takes beyond it can be measured. */
 __attribute__((noinline)) static trieff_answer check(const uint8_t *image, size_t len, uint32_t *work, size_t work_len, struct opened *o,
                                                      struct alphabet *al, uint32_t *links)
 {
@@ -328,7 +339,8 @@ static uint32_t judge_key(const struct opened *o, const uint8_t *letters, size_t
     return letters_good(o, letters, len) ? 0 : 10;
 }
 
-/* 10, then 9, of a text; its first 64 letters are written to `letters`, and `*count` is how many it has. */
+/* 10, then 9, for a text. Its first 64 letters are written to `letters`; `*count` is the number of
+   its letters. */
 static uint32_t judge_text(const struct opened *o, struct alphabet *al, const uint8_t *text, size_t len,
                            uint8_t *letters, size_t *count)
 {
@@ -396,7 +408,7 @@ trieff_answer tuned_look_up_text(const uint8_t *image, size_t image_len, const u
 
 /* ---- store: 11, 12, 13 */
 
-/* Puts a write into a list, where there is one; what is behind it. */
+/* Adds a write to the list of writes, if there is one. Returns where the next one goes. */
 static inline uint32_t *note(uint32_t *list, size_t place, size_t len)
 {
     if (list == NULL)
@@ -406,14 +418,14 @@ static inline uint32_t *note(uint32_t *list, size_t place, size_t len)
     return list + 2;
 }
 
-/* The nodes that were there on a key's path, for a store whose list of counts holds `most`. */
+/* The old nodes on a key's path, for a store whose list of counts has `most` numbers. */
 struct trail {
     uint32_t nodes[KEY_MOST + 1];
     size_t len, most;
 };
 
-/* The path stops at a link: nodes for the letters behind it, then G, then that link. The letters
-   are those behind the link's own. */
+/* The path stops at a link. Writes the new nodes, then G, then that link. `letters` are those
+   after the link's own letter. */
 __attribute__((always_inline)) static inline trieff_answer extend(
     uint8_t *image, size_t image_len, const struct opened *o, uint8_t *link_end,
     const uint8_t *letters, size_t len, uint32_t value, uint32_t *list, const struct trail *trail)
@@ -443,8 +455,8 @@ __attribute__((always_inline)) static inline trieff_answer extend(
     return (trieff_answer){.change = 1, .length = (uint32_t)k + 2};
 }
 
-/* A store behind the check and the judging of the key; without a list for its writes or a trail
-   the tests for one fall out. */
+/* A store after the check and once the key has passed. It is inlined: where there is no list of
+   writes, or no trail, the compiler drops the tests for it. */
 __attribute__((always_inline)) static inline trieff_answer store_in(
     uint8_t *image, size_t image_len, const struct opened *o, const uint8_t *letters, size_t len,
     uint32_t value, uint32_t *list, struct trail *trail)
@@ -474,7 +486,7 @@ __attribute__((always_inline)) static inline trieff_answer store_in(
     return (trieff_answer){.change = (value != 0) - (old != 0), .length = end != NULL};
 }
 
-/* It stays a function of its own, so that it can be counted alone. */
+/* It is not inlined, so that it can be counted alone. */
 __attribute__((noinline)) static trieff_answer inner_store(uint8_t *image, size_t image_len, const struct opened *o,
                                                            const uint8_t *letters, size_t len, uint32_t value)
 {
@@ -542,7 +554,7 @@ trieff_answer tuned_store_text_writes(uint8_t *image, size_t image_len, uint32_t
 
 /* ---- mending */
 
-/* How many links of the nodes from q on are not empty. */
+/* The number of links in the nodes from q on that are not empty. */
 static uint32_t links_from(const struct opened *o, uint32_t q)
 {
     uint32_t links = 0;
@@ -555,8 +567,9 @@ static uint32_t links_from(const struct opened *o, uint32_t q)
     return links;
 }
 
-/* Where 8 at p is heard no address stands in two links, and each below p stands in one of a node below p. So the image is accepted with p
-   nodes exactly if these hold p - 1 links, and no second pass over them is needed. */
+/* If 8 at p is given, no address stands in two links, and each address from 1 to p - 1 stands in a
+   link of a node below p. So the image is accepted with p nodes exactly if these hold p - 1 links,
+   and no second pass over them is needed. */
 trieff_answer tuned_mend(uint8_t *image, size_t image_len, uint32_t *work, size_t work_len)
 {
     struct opened o;
@@ -578,7 +591,8 @@ struct path {
     size_t depth;
 };
 
-/* The first link of a node that is not empty, from a letter on, which is moved to it; 0 where there is none. */
+/* The first link of a node that is not empty, from a letter on; 0 if there is none. The letter
+   becomes that of the link. */
 static inline uint32_t next_link(const struct opened *o, const uint8_t *node, uint32_t *letter)
 {
     if (*letter == 0 && childless(o, node))
@@ -591,7 +605,8 @@ static inline uint32_t next_link(const struct opened *o, const uint8_t *node, ui
     return 0;
 }
 
-/* Moves the path to the first stored key below its end from a letter on or, where there is none, behind it. Its value, 0 for none. */
+/* Moves the path to the first stored key under its last node, from a letter on, or else to the
+   next stored key after these. Returns its value, 0 for none. */
 static uint32_t move_on(const struct opened *o, struct path *p, uint32_t letter)
 {
     size_t depth = p->depth;
@@ -614,7 +629,7 @@ static uint32_t move_on(const struct opened *o, struct path *p, uint32_t letter)
     }
 }
 
-/* Follows a key as far as its links go, and takes the first stored key from there. */
+/* Follows a key as far as its links go, and finds the first stored key from there on. */
 static uint32_t seek(const struct opened *o, const uint8_t *letters, size_t len, bool after, struct path *p)
 {
     p->nodes[0] = o->nodes;
@@ -655,34 +670,35 @@ trieff_answer tuned_next_key(const uint8_t *image, size_t image_len, uint32_t *w
 
 /* ---- counts */
 
-/* Has a node no link that is not empty? Fewer than eight bytes are read with what is in front. */
+/* Are all links of a node empty? Fewer than eight bytes are read together with the bytes in front
+   of them. */
 static inline bool leaf(const struct opened *o, const uint8_t *node)
 {
     size_t len = o->links_len;
     return len < 8 ? load8(node + len - 8) >> (64 - 8 * len) == 0 : childless(o, node);
 }
 
-/* The same for links of 32 to 64 bytes, the usual ones, without a loop. */
+/* The same for links of 32 to 64 bytes in all, the usual case, without a loop. */
 static inline bool leaf_of_64(const uint8_t *node, size_t len)
 {
     return (any_of_32(node) | any_of_32(node + len - 32)) == 0;
 }
 
-/* A walk from the root that judges the links as it goes, and leaves a node's count, plus 1, in its
-   working number. So 0 says that a node was not met. No address needs to be above another. */
+/* A walk from the root that judges the links on its way and leaves each node's count, plus 1, in
+   its working number. So 0 means that a node was not met. It does not use that addresses rise. */
 struct tally {
     const struct opened *o;
     uint32_t *work;
-    uint32_t met;  /* how many nodes were met, without the root */
+    uint32_t met;  /* the number of nodes that were met, without the root */
     uint32_t odd;  /* not 0: a bad link, an address met again, or nodes deeper than max */
-    uint32_t deep; /* 1 where nodes deeper than max are odd */
+    uint32_t deep; /* 1 if nodes deeper than max are odd */
 };
 
 typedef uint32_t tally_function(struct tally *t, uint32_t q, uint32_t depth, uint32_t own);
 
-/* The number of stored keys at and under a node that is not at max, `own` of them its own. Leaves
-   are counted in its loop, and it goes on at most max levels deep. A node is entered only once,
-   since none is entered after an address that was met again. */
+/* The number of stored keys at and under a node that is not at depth max; `own` is 1 if the node
+   itself stores one. Leaves are counted in the loop. The recursion is at most max levels deep. A
+   node is entered only once: after an address was met again, no node is entered. */
 __attribute__((always_inline)) static inline uint32_t tally_in(
     struct tally *t, uint32_t q, uint32_t depth, uint32_t own, bool usual, tally_function *enter)
 {
@@ -730,7 +746,7 @@ static uint32_t tally_other(struct tally *t, uint32_t q, uint32_t depth, uint32_
     return tally_in(t, q, depth, own, false, tally_other);
 }
 
-/* The walk over working numbers that are 0. */
+/* The walk, with working numbers that are 0 at first. */
 static struct tally tally(const struct opened *o, uint32_t *work, uint32_t deep)
 {
     struct tally t = {.o = o, .work = work, .deep = deep};
@@ -744,9 +760,9 @@ static struct tally tally(const struct opened *o, uint32_t *work, uint32_t deep)
     return t;
 }
 
-/* 1 to 8, where 5 speaks of the counts too. Done, every working number is a count plus 1. A walk
-   that meets every node, and nothing odd, has judged the image; otherwise the check has the word,
-   and of an image that it accepts there are nodes deeper than max, whose counts are 0. */
+/* 1 to 8, where 5 is for the counts too. When it is done, every working number is a count plus 1.
+   If the walk meets every node and nothing odd, the image is accepted. Otherwise the check
+   decides. An image that it then accepts has nodes deeper than max, whose counts are 0. */
 static trieff_answer fresh(const uint8_t *image, size_t len, uint32_t *work, size_t work_len,
                            size_t counts_len, struct opened *o, struct alphabet *al)
 {
@@ -771,7 +787,7 @@ static trieff_answer fresh(const uint8_t *image, size_t len, uint32_t *work, siz
 
 #define BLOCK 32
 
-/* Moves the counts out of the working numbers, which become 0. */
+/* Moves the counts from the working numbers to the list. The working numbers become 0. */
 static void move_counts(uint32_t *restrict counts, uint32_t *restrict work, size_t nodes)
 {
     size_t x = 0;
@@ -786,8 +802,8 @@ static void move_counts(uint32_t *restrict counts, uint32_t *restrict work, size
     }
 }
 
-/* The lowest node whose count is not the one in its working number, `nodes` where there is none.
-   The working numbers become 0. */
+/* The lowest node whose count differs from the one in its working number; `nodes` if there is
+   none. The working numbers become 0. */
 static size_t first_other(const uint32_t *restrict counts, uint32_t *restrict work, size_t nodes)
 {
     size_t x = 0;
@@ -817,7 +833,7 @@ trieff_answer tuned_counts(const uint8_t *image, size_t image_len, uint32_t *wor
     return answer;
 }
 
-/* 1 to 8 and 25. It stays a function of its own, so that what is beyond it can be told. */
+/* 1 to 8 and 25. It is not inlined, so that what a call takes beyond it can be measured. */
 __attribute__((noinline)) static trieff_answer compare(
     const uint8_t *image, size_t len, uint32_t *work, size_t work_len, const uint32_t *counts,
     size_t counts_len, struct opened *o, struct alphabet *al)
@@ -837,7 +853,7 @@ trieff_answer tuned_check_counts(const uint8_t *image, size_t image_len, uint32_
     return compare(image, image_len, work, work_len, counts, counts_len, &o, &al);
 }
 
-/* A store, then the counts of the nodes that were on the path and of the new ones. */
+/* A store, then the counts of the old nodes on the path and of the new nodes. */
 static trieff_answer inner_store_counts(uint8_t *image, size_t image_len, const struct opened *o,
                                         const uint8_t *letters, size_t len, uint32_t value,
                                         uint32_t *counts, size_t counts_len)
@@ -887,7 +903,7 @@ trieff_answer tuned_store_text_counts(uint8_t *image, size_t image_len, uint32_t
     return inner_store_counts(image, image_len, &o, letters, len, value, counts, counts_len);
 }
 
-/* The count of what a link leads to, 0 where it is empty. */
+/* The count of the node that a link leads to; 0 if the link is empty. */
 static inline uint32_t count_at(const uint32_t *counts, uint32_t link)
 {
     return link == 0 ? 0 : counts[link];
@@ -927,7 +943,8 @@ trieff_answer tuned_key_at(const uint8_t *image, size_t image_len, uint32_t *wor
     }
 }
 
-/* The position of a key: what is stored at the nodes before its own, and under lower letters. */
+/* The position of a key: the number of keys stored on its path before its own node, and under
+   lower letters. */
 static inline trieff_answer position_of(const struct opened *o, const uint32_t *counts,
                                         const uint8_t *letters, size_t len)
 {
@@ -979,7 +996,7 @@ trieff_answer tuned_position_text(const uint8_t *image, size_t image_len, uint32
 
 /* ---- the walk of a listing, and its lines */
 
-/* The stored keys below a node at a depth, each handed to the sink. A leaf is not entered. */
+/* Passes the stored keys under a node at a depth to the sink. A leaf is not entered. */
 static void walk_below(const struct opened *o, const uint8_t *node, size_t depth, uint8_t *letters, key_sink *sink,
                        void *context)
 {
@@ -999,7 +1016,7 @@ static void walk_below(const struct opened *o, const uint8_t *node, size_t depth
     }
 }
 
-/* The context is a sum of keys. */
+/* Adds 1 to the context, which is a number of keys. */
 static void add_key(void *context, const uint8_t *letters, size_t len, uint64_t value)
 {
     (void)letters, (void)len, (void)value;

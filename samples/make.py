@@ -1,7 +1,8 @@
 #!/usr/bin/env python3
-"""Makes images by a store of its own.
+"""Makes images with its own store, independent of the library.
 
-make.py                 writes the samples p3.trieff and season.trieff beside this file, and what `list` must write of each, p3.txt and season.txt
+make.py                 writes the samples p3.trieff and season.trieff beside this file, and what
+                        `list` must write for each of them: p3.txt and season.txt
 make.py bench FOLDER    writes the images that bench/run measures
 """
 import os
@@ -11,7 +12,7 @@ import sys
 
 
 class Image:
-    """An image as document 01 draws it; nodes are added at the end, as a store does."""
+    """An image as document 01 defines it. Nodes are added at the end, as a store does."""
 
     def __init__(self, room, n, a, d, alphabet, least, most):
         self.n, self.a, self.d, self.alphabet, self.least, self.most = n, a, d, alphabet.encode(), least, most
@@ -23,7 +24,7 @@ class Image:
         self.stored = {}
 
     def store(self, key, value):
-        """False, and nothing stored, where there is no room."""
+        """Stores a value under a key. If there is no room, stores nothing and returns False."""
         node = 0
         for depth, letter in enumerate(key):
             at = self.first + node * self.width + letter * self.a
@@ -46,14 +47,14 @@ class Image:
         return bytes(self.bytes)
 
     def listing(self):
-        """Document 01's lines, from what was stored and not from the bytes."""
+        """Document 01's lines of the listing, made from what was stored and not from the bytes."""
         lines = ["entries %d" % len(self.stored)]
         for key, value in sorted(self.stored.items()):
             lines.append("%s %d" % (".".join(map(str, key)) or "-", value))
         return "".join(line + "\n" for line in lines).encode()
 
     def used(self, spare=0):
-        """The used bytes, with room for so many nodes more."""
+        """The image up to U, with room for `spare` more nodes."""
         return self.whole()[:self.first + (self.g + 1 + spare) * self.width]
 
 
@@ -68,7 +69,8 @@ LETTERS = "0123456789ABCDE-"
 
 
 def season():
-    """Labels as they are tapped in: trench, square, context, bucket, as in B04-117-2. Contexts are dug one after the other."""
+    """Labels as they are tapped in: trench, square, context, bucket, as in B04-117-2. Contexts are
+    dug one after the other."""
     image = Image(65536, 16, 3, 4, LETTERS, 1, 12)
     record = 2401
     context = 100
@@ -85,7 +87,8 @@ def season():
 
 
 def numbered(room, most):
-    """At most so many labels of nine digits to the base 16, counted up. Their values have six digits."""
+    """At most `most` labels of nine digits in base 16, counted up from 0. Their values have six
+    digits."""
     image = Image(room, 16, 3, 4, "0123456789ABCDEF", 1, 12)
     stored = 0
     while stored < most and image.store([(stored >> shift) & 15 for shift in range(32, -1, -4)], stored + 100000):
@@ -94,7 +97,7 @@ def numbered(room, most):
 
 
 def wide(alphabet, text):
-    """200 letters, and one label."""
+    """An image with this alphabet and one label."""
     image = Image(65536, len(alphabet), 3, 4, alphabet, 1, 12)
     image.store([alphabet.index(c) for c in text], 2401)
     return image.used()
@@ -112,7 +115,8 @@ def samples(folder):
 
 
 def bench(folder):
-    """The full image has no room for a node more, those of so many labels have room for sixteen."""
+    """Writes the images for bench/run. The full image has no room for one more node. The
+    labels-NUMBER images have room for sixteen more."""
     write(folder, "full-16MiB.trieff", numbered(16777216, 1 << 36).whole())
     for most in (1000, 20000, 100000):
         write(folder, "labels-%d.trieff" % most, numbered(16777216, most).used(16))
