@@ -160,8 +160,7 @@ def print_versions(title, table, form):
 
 
 def goals(table):
-    """The goals of the house plan: the row, the image, the project's count, the most that it may
-    be."""
+    """The goals: the row, the image, the project's count, the most that it may be."""
     full, twenty = "full-16MiB", "labels-20000"
 
     def goal(row, image, most):
