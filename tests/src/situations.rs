@@ -370,10 +370,10 @@ pub const SITUATIONS: [Situation; 97] = [
         name: "store: FFFFFFFF",
         met: |s| s.is_store() && s.done() && s.value() == u32::MAX,
     },
-    Situation { name: "list: no write", met: |s| s.lists(0) },
-    Situation { name: "list: one write", met: |s| s.lists(1) },
+    Situation { name: "list of writes: empty", met: |s| s.lists(0) },
+    Situation { name: "list of writes: one write", met: |s| s.lists(1) },
     Situation {
-        name: "list: one write, of the value already there",
+        name: "list of writes: one write, of the value already there",
         met: |s| {
             s.lists(1)
                 && s.by_letters()
@@ -381,8 +381,8 @@ pub const SITUATIONS: [Situation; 97] = [
                 && model::look_up(s.asked.image, s.asked.given).value == u64::from(s.value())
         },
     },
-    Situation { name: "list: three writes", met: |s| s.lists(3) },
-    Situation { name: "list: 66 writes", met: |s| s.lists(66) },
+    Situation { name: "list of writes: three writes", met: |s| s.lists(3) },
+    Situation { name: "list of writes: 66 writes", met: |s| s.lists(66) },
     Situation { name: "mend: accepted as it is", met: |s| s.mended_at() == Some(0) },
     Situation {
         name: "mend: G lowered by one",
