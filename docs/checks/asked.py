@@ -157,9 +157,9 @@ def proves(span):
 
 
 def tests(span):
-    """Is it a file of the tests, the examples or the samples, or a program?"""
+    """Is it a file of the tests, the examples or the samples, a program, or the gate?"""
     programs = "|".join(crate_of(path) for path in files("crates/*/src/main.rt"))
-    return re.match(rf"(tests|examples|samples)/|(target/bin/|crates/)?({programs})(/|$)", span)
+    return re.match(rf"(tests|examples|samples|\.ci)/|(target/bin/|crates/)?({programs})(/|$)", span)
 
 
 def groups(page):
@@ -178,14 +178,14 @@ def status():
             _, by, said = cells
             spans = re.findall(r"`([^`]+)`", by)
             used = re.findall(r"(?<![*\w])\*([^*]+)\*(?![*\w])", re.sub(r"`[^`]*`", "", by))
-            if said not in ("proved", "tested", "open", "asks nothing"):
+            if said not in ("proved", "in part", "tested", "open", "asks nothing"):
                 yield at(page, line, f"no status: {said}")
             for name in used:
                 if name.lower() not in known:
                     yield at(page, line, f"no group *{name}* is defined")
             named = any(name.lower() in known for name in used)
-            if said == "proved" and not named and not any(proves(span) for span in spans):
-                yield at(page, line, "proved, and it cites no name of a file in proofs/ or src/")
-            if said == "tested" and not any(tests(span) for span in spans):
+            if said in ("proved", "in part") and not named and not any(map(proves, spans)):
+                yield at(page, line, f"{said}, and it cites no name of a file in proofs/ or src/")
+            if said == "tested" and not any(map(tests, spans)):
                 yield at(page, line, "tested, and it cites no test, example, sample or program")
     return f"{read:,} rows"

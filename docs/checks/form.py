@@ -3,7 +3,7 @@ import re
 from collections import defaultdict
 
 from checks.house import (
-    CRATES, PAGES, ROOT, SOURCES, at, crate_of, declared, files, found_in, prose, tables, text,
+    PAGES, ROOT, SOURCES, at, crate_of, declared, files, found_in, prose, tables, text,
     variants)
 
 # files that say the same kind of thing in each crate that has them
@@ -18,18 +18,16 @@ def homonyms():
         for path in found[stem]:
             if crate_of(path) != crate_of(found[stem][0]):
                 yield at(path, 1, f"{found[stem][0].relative_to(ROOT)} has the same name")
-    seen = {crate.lower(): (crate, "a crate") for crate in CRATES}
+    first = {}
     for path in files("crates/*/specs/*.antt"):
         for line, name, _, public in declared(path):
             if not public or name == "cases" and path.stem == "Cases":
                 continue
             read += 1
-            other, where = seen.get(name.lower(), (name, "a crate"))
-            if other != name:
-                yield at(path, line, f"{name} differs in case alone from {other}, {where}")
-            elif where != "a crate":
-                yield at(path, line, f"{name} is declared twice, {where}")
-            seen[name.lower()] = name, f"in {path.relative_to(ROOT)}"
+            other, where = first.setdefault(name.lower(), (name, path))
+            if where != path:  # in one file a type and what builds it may differ in case alone
+                how = "is declared twice" if other == name else f"differs in case alone from {other}"
+                yield at(path, line, f"{name} {how}, in {where.relative_to(ROOT)}")
     return f"{len(found):,} names of files and {read:,} of definitions"
 
 

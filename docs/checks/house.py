@@ -48,12 +48,17 @@ def declared(path):
     """(line, name, `record` or `data`, is it `pub`) of each declaration of an antt file.
 
     It stands at column 0 or in a module. The fields of a record, the constructors of data and what
-    stands under a function's `where` belong to the name above them.
+    stands under a function's `where` belong to the name above them. The head of a module may take
+    several lines and ends with its own `where`.
     """
-    found, inside = [], None
+    found, inside, module = [], None, False
     for number, line in enumerate(text(path).splitlines(), 1):
         words, depth = line.strip(), len(line) - len(line.lstrip())
         if not words or words.startswith("--") or inside is not None and depth > inside:
+            continue
+        module = module or words.startswith("module ")
+        if module:
+            inside, module = None, not words.endswith("where")
             continue
         head = DECLARED.match(words)
         inside = depth if head and head["kind"] or words == "where" else None
