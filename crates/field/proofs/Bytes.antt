@@ -1,5 +1,5 @@
--- What is a list of bytes. Each law follows the list that it speaks of; past a list's end `getD`
--- answers 0, which is a byte, so no law asks for a place within the list.
+-- Which lists are lists of bytes. After a list's end `getD` answers 0, which is a byte, so no
+-- law needs a place within the list.
 use mathlib.Core.Bool.{Bool, true, _&&_}
 use Prim.Native.Nat.{ℕ, zero, suc, _<_}
 use native.Mathlib.Omega.{arith}
@@ -25,7 +25,7 @@ bytes-take (suc n) (x ∷ l) p = bytes-cons x (take n l) (p 0) (bytes-take n l (
 pub bytes-drop : (n : ℕ) (l : List ℕ) → Bytes l → Bytes (drop n l)
 bytes-drop n l p k = rw getD-drop (p _)
 
--- for a list that is written out: the test computes, so `bytes l tt` is the proof
+-- for a list that is written out: the test computes, so that `bytes l tt` is the proof
 abbrev pub allBytes : List ℕ → Bool
 allBytes [] = true
 allBytes (b ∷ l) = ltb b 256 && allBytes l

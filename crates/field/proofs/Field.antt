@@ -1,6 +1,6 @@
--- The number in a field. It depends on the field's bytes alone (`field-same`) and, of bytes,
--- determines them (`same-bytes`): all else that is said of a field follows from what is known of
--- the bytes.
+-- The number in a field. It depends only on the field's bytes (`field-same`), and if they are
+-- below 256 it determines them (`same-bytes`). The other laws follow from what is known of the
+-- bytes.
 use mathlib.Core.Path.{_≡_, refl, sym, ap, ap₂, _∙_}
 use mathlib.Core.Logic.{_⊎_, inl, inr, ⊎-elim}
 use Prim.Native.Nat.{ℕ, zero, suc, _+_, _-_, _*_, _/_, _%_, _^_, _≤_, _<_}
@@ -19,7 +19,7 @@ use Rattle.field.specs.Field.{Bytes, Zeros, fieldAt, digits, putField}
 use Rattle.field.proofs.Sets.{sets-over, getD-outside, getD-inside, sets-append, set-sets}
 use Rattle.field.proofs.Sets.{sets-same}
 
--- ---- a field is what its bytes are
+-- ---- the number depends only on the field's bytes
 
 pub field-same : (l m : List ℕ) (at bt w : ℕ)
     → ((k : ℕ) → k < w → getD l (at + k) 0 ≡ getD m (bt + k) 0) → fieldAt l at w ≡ fieldAt m bt w
@@ -34,7 +34,7 @@ unfolding fieldAt
 field-bound l at zero p = omega arith
 field-bound l at (suc w) p = rw (pow-suc 256 w) (digits-lt (field-bound l at w p) (p (at + w)))
 
--- a field of one byte, and of one byte more
+-- a field of one byte, and a field with one byte more
 pub field-one : (l : List ℕ) (at : ℕ) → fieldAt l at 1 ≡ getD l at 0
 unfolding fieldAt
 field-one l at = let q : getD l (at + 0) 0 ≡ getD l at 0 = rw (add-zero at) in omega arith
@@ -44,7 +44,7 @@ pub field-more : (l : List ℕ) (at i : ℕ) {v b : ℕ} → v ≡ fieldAt l at 
 unfolding fieldAt
 field-more l at i e f = ap₂ (λ (x y : ℕ). x * 256 + y) e f
 
--- where a field is 0, each of its bytes is
+-- if a field is 0, each of its bytes is 0
 pub field-zero : (l : List ℕ) (at w : ℕ) → fieldAt l at w ≡ 0 → (k : ℕ) → k < w → getD l (at + k) 0
     ≡ 0
 unfolding fieldAt
@@ -55,8 +55,8 @@ field-zero l at (suc w) e k h = go (ℕ-discrete k w) (field-zero l at w (omega 
     go (yes f) on = rw f (omega arith)
     go (no other) on = on (omega arith)
 
--- a field is what its first bytes and its last bytes are, and of bytes the last w are what is left
--- by 256 ^ w
+-- a field is made of its first u bytes and its last w; if they are bytes, the remainder by
+-- 256 ^ w is the number in the last w
 pub field-join : (l : List ℕ) (at u w : ℕ) → fieldAt l at (u + w) ≡ fieldAt l at u * 256 ^ w
     + fieldAt l (at + u) w
 unfolding fieldAt
@@ -78,7 +78,7 @@ pub field-last : (l : List ℕ) (at u w : ℕ) → Bytes l → fieldAt l at (u +
 field-last l at u w p =
     rw (field-join l at u w) (digits-mod (fieldAt l at u) (field-bound l (at + u) w p))
 
--- 256 ^ w - 1 is w bytes of ones
+-- 256 ^ w - 1 has all bits of w bytes set
 low : (w : ℕ) → w ≤ 4 → 256 ^ w ≡ 2 ^ (8 * w)
 low zero h = refl
 low (suc zero) h = refl
@@ -87,7 +87,7 @@ low (suc (suc (suc zero))) h = refl
 low (suc (suc (suc (suc zero)))) h = refl
 low (suc (suc (suc (suc (suc w))))) h = absurd (omega arith)
 
--- so of the four bytes that end at `end` such a mask leaves the last w
+-- so such a mask leaves the last w of the four bytes that end at `end`
 pub field-masked : (l : List ℕ) (end w mask : ℕ) → Bytes l → w ≤ 4 → 4 ≤ end → mask + 1 ≡ 256 ^ w
     → bitAnd (fieldAt l (end - 4) 4) mask ≡ fieldAt l (end - w) w
 field-masked l end w mask p h four e =
@@ -100,7 +100,7 @@ field-masked l end w mask p h four e =
     ∙ field-last l (end - 4) (4 - w) w p
     ∙ ap (λ (x : ℕ). fieldAt l x w) from
 
--- ---- of an append, of zeros
+-- ---- a field of two lists joined, and of zeros
 
 pub field-left : (a b : List ℕ) (at w : ℕ) → at + w ≤ length a → fieldAt (a ++ b) at w
     ≡ fieldAt a at w
@@ -117,9 +117,9 @@ unfolding fieldAt
 field-zeros n at zero = refl
 field-zeros n at (suc w) = omega (arith, field-zeros n at w, zero-at n (at + w))
 
--- ---- after bytes were laid
+-- ---- a field after bytes were written
 
--- zeros make a field 0
+-- a field inside a range of zeros is 0
 pub field-blank : (l : List ℕ) (from to at w : ℕ) → Zeros l from to → from ≤ at → at + w ≤ to
     → fieldAt l at w ≡ 0
 field-blank l from to at w z low high =
@@ -173,7 +173,7 @@ digits-field l at (suc w) p h =
     )
     (sym (take-suc (drop at l) w 0 (simp length-drop (omega arith))))
 
--- no two runs of bytes have the same number
+-- two runs of w bytes that have the same number are the same bytes
 pub same-bytes : (l m : List ℕ) (at bt w : ℕ) → Bytes l → Bytes m → fieldAt l at w ≡ fieldAt m bt w
     → (k : ℕ) → k < w → getD l (at + k) 0 ≡ getD m (bt + k) 0
 unfolding fieldAt
@@ -189,7 +189,7 @@ pub same-part : (l m : List ℕ) (at bt w : ℕ) → Bytes l → Bytes m → at 
 same-part l m at bt w p q hl hm e =
     sym (digits-field l at w p hl) ∙ ap (digits w) e ∙ digits-field m bt w q hm
 
--- ---- after a number was written
+-- ---- a field after a number was written
 
 pub read-written : (l : List ℕ) (at w v : ℕ) → at + w ≤ length l → fieldAt (putField l at w v) at w
     ≡ v % 256 ^ w
@@ -203,20 +203,21 @@ pub read-written-fits : (l : List ℕ) (at w v : ℕ) → at + w ≤ length l �
     → fieldAt (putField l at w v) at w ≡ v
 read-written-fits l at w v h b = read-written l at w v h ∙ mod-eq-of-lt b
 
+-- writing back the number that is there changes nothing
 pub write-back : (l : List ℕ) (at w : ℕ) → Bytes l → at + w ≤ length l
     → putField l at w (fieldAt l at w) ≡ l
 write-back l at w p h =
     ap (λ (r : List ℕ). sets l at r) (digits-field l at w p h) ∙ sets-same l at w h
 
--- and so does writing it back where another number was written meanwhile
+-- nor does it if another number was written in between
 pub written-back : (l : List ℕ) (at w v : ℕ) → Bytes l → at + w ≤ length l
     → putField (putField l at w v) at w (fieldAt l at w) ≡ l
 written-back l at w v p h =
     sets-over l (digits w v) (digits w (fieldAt l at w)) at
     (length-digits w v ∙ sym (length-digits w (fieldAt l at w))) ∙ write-back l at w p h
 
--- the last byte first, then the rest of the number in the width that is left: how a loop from the
--- end writes
+-- The last byte is stored first. Then the rest of the number is written in the width that is
+-- left: this is how a loop from the end writes.
 pub put-last : (l : List ℕ) (at w v : ℕ) → putField l at (suc w) v
     ≡ putField (set l (at + w) (v % 256)) at w (v / 256)
 unfolding digits

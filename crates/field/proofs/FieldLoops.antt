@@ -1,6 +1,6 @@
--- What the loops keep. Laying from the front, a turn's store is one more element of the list
--- (`sets-append`). Writing from the last byte, the rest of the number is still to be written in
--- the width that is left (`put-last`).
+-- What the loops keep. In a copy from the front, each turn stores one more element of the list
+-- (`sets-append`). In a write from the last byte, the rest of the number is still to be written,
+-- in the width that is left (`put-last`).
 use mathlib.Core.Path.{_≡_, refl, sym, ap, ap₂, _∙_, subst}
 use Prim.Native.Nat.{ℕ, zero, suc, _+_, _-_, _*_, _/_, _%_, _≤_, _<_}
 use native.Mathlib.Nat.{add-zero, not-suc-le-zero}
@@ -14,7 +14,7 @@ use Rattle.field.specs.Field.{Zeros, fieldAt, digits, putField}
 use Rattle.field.proofs.Sets.{sets-append}
 use Rattle.field.proofs.Field.{field-zero, put-last}
 
--- s is l with the first i of vs laid at `at`
+-- s is l with the first i elements of vs written from `at` on
 pub record Laying (l : List ℕ) (at : ℕ) (vs s : List ℕ) (i : ℕ) : Type 0 where
   pub within : i ≤ length vs
   pub long : length s ≡ length l
@@ -43,7 +43,8 @@ pub laying-all : {l : List ℕ} {at : ℕ} {vs s : List ℕ} {i : ℕ} → Layin
     → s ≡ sets l at vs
 laying-all {l} {at} {vs} {i} p h = p .laid ∙ ap (λ (r : List ℕ). sets l at r) (take-all i vs h)
 
--- what is left of the number is x, and of the width i: writing it into s is writing v into l
+-- x is what is left of the number and i what is left of the width: writing x into s gives what
+-- writing v into l gives
 pub record Writing (l : List ℕ) (at w v : ℕ) (s : List ℕ) (x i : ℕ) : Type 0 where
   pub within : i ≤ w
   pub long : length s ≡ length l
@@ -69,13 +70,13 @@ unfolding digits
 writing-all {i = zero} p h = p .left
 writing-all {i = suc i} p h = absurd (not-suc-le-zero h)
 
--- eight bytes whose number is 0, byte by byte
+-- eight bytes whose number is 0 are zeros, each of them
 eight-zeros : (l : List ℕ) (at : ℕ) → fieldAt l at 8 ≡ 0 → Zeros l at (at + 8)
 eight-zeros l at e k low high =
     let f : at + (k - at) ≡ k = omega arith in
     subst (λ (j : ℕ). getD l j 0 ≡ 0) f (field-zero l at 8 e (k - at) (omega arith))
 
--- zeros that begin where others end, or before
+-- two ranges of zeros that meet or overlap are one range
 zeros-join : (l : List ℕ) (from mid low to : ℕ) → Zeros l from mid → low ≤ mid → Zeros l low to
     → Zeros l from to
 zeros-join l from mid low to a h b k above below = go (decLt k mid)
@@ -84,7 +85,7 @@ zeros-join l from mid low to a h b k above below = go (decLt k mid)
     go (yes i) = a k above i
     go (no i) = b k (omega arith) below
 
--- `short_blank`: the first eight bytes and the last
+-- `short_blank`: the first eight bytes and the last eight are zeros, and so are all
 pub short-zeros : (l : List ℕ) (from to : ℕ) → from + 8 ≤ to → to < from + 16 → fieldAt l from 8
     ≡ 0 → fieldAt l (to - 8) 8 ≡ 0
     → Zeros l from to
@@ -92,14 +93,14 @@ short-zeros l from to low high a b k above below =
     zeros-join l from (from + 8) (to - 8) (to - 8 + 8) (eight-zeros l from a) (omega arith)
     (eight-zeros l (to - 8) b) k above (omega arith)
 
--- sixteen bytes, of which eight are 0 and eight more
+-- twice eight zeros are sixteen zeros
 sixteen-zeros : (l : List ℕ) (at : ℕ) → fieldAt l at 8 ≡ 0 → fieldAt l (at + 8) 8 ≡ 0
     → Zeros l at (at + 16)
 sixteen-zeros l at a b k low high =
     zeros-join l at (at + 8) (at + 8) (at + 8 + 8) (eight-zeros l at a) (omega arith)
     (eight-zeros l (at + 8) b) k low (omega arith)
 
--- `blank`: if the number of the first eight bytes is 0, those up to `at` are 0
+-- `blank`: if the number of the first eight bytes is 0, the bytes up to `at` are 0
 pub record Blanking (l : List ℕ) (from to first at : ℕ) : Type 0 where
   pub within : at ≤ to
   pub zeros : first ≡ 0 → Zeros l from at
@@ -120,7 +121,7 @@ blanking-more {l} {from} {to} {first} {at} p h a b =
           (sixteen-zeros l at (a z) (b z));
     }
 
--- the last sixteen bytes are what is left, and more
+-- the last sixteen bytes cover what is left
 pub blanking-all : {l : List ℕ} {from to first at : ℕ} → Blanking l from to first at → to ≤ at + 16
     → from + 16 ≤ to → first ≡ 0
     → fieldAt l (to - 16) 8 ≡ 0 → fieldAt l (to - 8) 8 ≡ 0 → Zeros l from to
@@ -131,7 +132,8 @@ blanking-all {l} {from} {to} {first} {at} p h long z a b =
     zeros-join l from at (to - 16) to (p .zeros z) (omega arith)
     (λ k low high. last k low (omega arith))
 
--- `eight`: bytes whose number from the last on is 0 are zeros
+-- `eight`: eight bytes that give 0, read with the last byte the most significant, are a field
+-- that is 0
 pub turned : (l : List ℕ) (at : ℕ) {a b c d e f g h : ℕ} → a ≡ getD l at 0 → b ≡ getD l (at + 1) 0
     → c ≡ getD l (at + 2) 0
     → d ≡ getD l (at + 3) 0 → e ≡ getD l (at + 4) 0 → f ≡ getD l (at + 5) 0 → g ≡ getD l (at + 6) 0

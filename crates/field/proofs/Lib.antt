@@ -1,6 +1,6 @@
--- Laws over plain lists and numbers. For the crates above: `Laid` on bytes laid into a list at a
--- place, `Bytes` on what is a list of bytes, `Fields` on the numbers in it, `Range` on numbers
--- within limits. For this crate's own proofs: `Loops`.
+-- Laws over plain lists and numbers. For the crates above: `Sets` on bytes written into a list,
+-- `Bytes` on lists of bytes, `Field` on the numbers in them, `Range` on numbers within limits.
+-- For this crate's own proofs: `FieldLoops`.
 pub mod Sets
 pub mod Bytes
 pub mod Field

@@ -1,4 +1,4 @@
--- A number within two limits: the test holds exactly where both bounds do.
+-- A number within two limits: the test holds exactly if both bounds hold.
 use mathlib.Core.Path.{_≡_, refl}
 use mathlib.Core.Bool.{Bool, true, false, _&&_, false≢true}
 use Prim.Native.Nat.{ℕ, _≤_}

@@ -1,6 +1,6 @@
--- A list laid into another at a place, `sets l at vs`, for a number written, a range cleared and
--- bytes copied alike. Each store of the run goes to a place of its own, so the run can be read,
--- cut and moved store by store. That the length is kept is `length-sets` of `lib.Seq`.
+-- A list written into another from a place on, `sets l at vs`: a number written, a range cleared
+-- and bytes copied are all of this form. It is a run of single stores, each at its own place, so
+-- each law goes by induction on the run. `length-sets` of `lib.Seq` says that the length stays.
 use mathlib.Core.Path.{_≡_, refl, sym, ap, _∙_}
 use mathlib.Core.Logic.{_⊎_, inl, inr, ⊎-elim}
 use Prim.Native.Nat.{ℕ, zero, suc, _+_, _≤_, _<_}
@@ -12,7 +12,7 @@ use lib.ListN.{take-append-drop}
 use lib.Seq.{sets, sets-eq, set-set, set-comm, getD-set-same, getD-set-other, take-add}
 
 module _ {ℓ} {A : Type ℓ} where
-  -- ---- read
+  -- ---- what is read after a run
 
   pub getD-outside : (l vs : List A) (at k : ℕ) (d : A) → (k < at) ⊎ (at + length vs ≤ k)
       → getD (sets l at vs) k d ≡ getD l k d
@@ -33,7 +33,7 @@ module _ {ℓ} {A : Type ℓ} where
       rw (add-suc at k, ← suc-add at k)
       (getD-inside (set l at v) vs (suc at) k d (omega arith) (simp length-set (omega arith)))
 
-  -- ---- cut
+  -- ---- a run in two parts
 
   pub sets-append : (l : List A) (at : ℕ) (a b : List A) → sets l at (a ++ b) ≡ sets (sets l at a)
       (at + length a) b
@@ -41,7 +41,7 @@ module _ {ℓ} {A : Type ℓ} where
   sets-append l at (x ∷ a) b =
       sets-append (set l at x) (suc at) a b ∙ rw (add-suc at (length a), suc-add at (length a))
 
-  -- ---- moved: a store, then a whole run, past a run that lies elsewhere
+  -- ---- a store, then a whole run, moved past a run at other places
 
   pub set-sets : (l vs : List A) (at i : ℕ) (a : A) → (i < at) ⊎ (at + length vs ≤ i)
       → sets (set l i a) at vs ≡ set (sets l at vs) i a
@@ -62,7 +62,7 @@ module _ {ℓ} {A : Type ℓ} where
       ∙ sets-comm (set l bt u) vs us at (suc bt)
       (⊎-elim (λ b. inl (omega arith)) (λ c. inr (omega arith)) h)
 
-  -- ---- laid over: what was laid there before is gone
+  -- ---- a second run at the same places replaces the first
 
   pub sets-over : (l us vs : List A) (at : ℕ) → length us ≡ length vs → sets (sets l at us) at vs
       ≡ sets l at vs
@@ -75,7 +75,7 @@ module _ {ℓ} {A : Type ℓ} where
       ∙ sets-over (set (set l at u) at v) us vs (suc at) (omega arith)
       ∙ ap (λ (r : List A). sets r (suc at) vs) (set-set l at u v)
 
-  -- ---- laying what is there changes nothing
+  -- ---- writing what is there changes nothing
 
   pub sets-same : (l : List A) (at w : ℕ) → at + w ≤ length l → sets l at (take w (drop at l)) ≡ l
   sets-same l at w h =

@@ -1,4 +1,5 @@
--- A number within two limits, both of them allowed: 01's "N 1 to 256", "80..BF".
+-- A number within two limits, both of them allowed: the ranges of 01's tables, such as
+-- "1 to 256" for N and "80..BF" for a second byte.
 use Prim.Native.Nat.{ℕ}
 use mathlib.Core.Bool.{Bool, _&&_}
 use lib.Dec.{leb}

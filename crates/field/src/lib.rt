@@ -1,6 +1,6 @@
-// Big-endian fields in a slice of bytes: read, written and cleared at a place. Widths are 1 to 8
-// bytes, values 64 bits wide. A caller shows that the field lies inside the slice; nothing is
-// assumed beyond that.
+// Big-endian fields in a slice of bytes: read, written and cleared. A read takes 1 to 4 bytes; a
+// write takes a 64-bit number and any width. The caller shows that the field is inside the
+// slice, and nothing else is assumed.
 ghost use mathlib.Core.Path.{_≡_};
 ghost use mathlib.Core.Bool.{true};
 ghost use Prim.Native.Nat.{ℕ, _+_, _-_, _^_, _≤_, _<_};
@@ -8,8 +8,8 @@ ghost use lib.ListN.{length};
 ghost use lib.Seq.{sets};
 ghost use Rattle.field.specs.Field.{fieldAt, putField, cleared, Zeros};
 
-// The number in four bytes. Written straight, since the compiler makes one load of it; the head's
-// fields are read so.
+// The number in four bytes, such as a field of the head. It has no loop, so that the compiler
+// makes one load of it.
 pub fn read4(s: &[u8], at: usize) -> u32
     requires { ⌜ at + 4 ≤ length (now s) ⌝ }
     ensures { λ r. ⌜ r ≡ fieldAt (now (s .entry)) at 4 ⌝ }
@@ -21,7 +21,7 @@ pub fn read4(s: &[u8], at: usize) -> u32
     (((a * 256 + b) * 256 + c) * 256 + d) as u32
 }
 
-// The number in 1 to 4 bytes, with no loop: characters are read so.
+// The number in 1 to 4 bytes, such as those of a character. It has no loop.
 pub fn read_few(s: &[u8], at: usize, w: usize) -> u32
     requires { ⌜ (1 ≤ w) × (w ≤ 4) × (at + w ≤ length (now s)) ⌝ }
     ensures { λ r. ⌜ r ≡ fieldAt (now (s .entry)) at w ⌝ }
@@ -41,9 +41,9 @@ pub fn read_few(s: &[u8], at: usize, w: usize) -> u32
     (three * 256 + wide(s[at + 3])) as u32
 }
 
-// The number in the w bytes that end at `end`, by the mask 256^w - 1. Four bytes are loaded
-// whatever the width is, so that no loop and no choice stands in the way of a reader of many
-// fields; the caller has four bytes in front of `end`.
+// The number in the w bytes that end at `end`, where the mask is 256^w - 1. It loads four bytes
+// for every width, so that a caller who reads many fields has neither a loop nor a branch for
+// the width. The caller shows that there are four bytes before `end`.
 pub fn load_masked(s: &[u8], end: usize, mask: u32) -> u32
     requires { ⌜ (4 ≤ end) × (end ≤ length (now s)) ⌝ }
     ensures { λ r. ⌜ ((w : ℕ) → w ≤ 4 → mask + 1 ≡ 256 ^ w → r ≡ fieldAt (now (s .entry))
@@ -52,10 +52,10 @@ pub fn load_masked(s: &[u8], end: usize, mask: u32) -> u32
     read4(s, end - 4) & mask
 }
 
-// Are the bytes from `from` up to `to` all 0? The first sixteen and the last are looked at, then
-// what is between, sixteen a turn. What is shorter than eight bytes is answered false: a caller
-// then reads it. All are held against the first eight and only these against 0, since the compiler
-// makes one comparison of that.
+// True only if the bytes from `from` up to `to` are all 0. It answers false for fewer than eight
+// bytes, and the caller then reads them. It compares the first sixteen bytes, the last sixteen,
+// then those between, sixteen in each turn. It compares all of them with the first eight, and
+// only these with 0, since the compiler makes one comparison of that.
 pub fn blank(s: &[u8], from: usize, to: usize) -> bool
     requires { ⌜ (from ≤ to) × (to ≤ length (now s)) ⌝ }
     ensures { λ r. ⌜ (r ≡ true → Zeros (now (s .entry)) from to) ⌝ }
@@ -86,7 +86,7 @@ pub fn blank(s: &[u8], from: usize, to: usize) -> bool
     first == 0
 }
 
-// The same of less than sixteen bytes: the first eight and the last are all of them.
+// The same for fewer than sixteen bytes: the first eight and the last eight cover all of them.
 fn short_blank(s: &[u8], from: usize, to: usize) -> bool
     requires { ⌜ (from ≤ to) × (to < from + 16) × (to ≤ length (now s)) ⌝ }
     ensures { λ r. ⌜ (r ≡ true → Zeros (now (s .entry)) from to) ⌝ }
@@ -101,8 +101,9 @@ fn short_blank(s: &[u8], from: usize, to: usize) -> bool
     first == 0
 }
 
-// Eight bytes as one number, the last of them highest. It is the sum of two numbers of four bytes,
-// since the compiler then makes one load of each. The contract covers only the result 0.
+// Eight bytes as one number, the last byte the most significant. It is the sum of two numbers of
+// four bytes, since the compiler then makes one load of each. The contract covers only the
+// result 0.
 fn eight(s: &[u8], at: usize) -> u64
     requires { ⌜ at + 8 ≤ length (now s) ⌝ }
     ensures { λ r. ⌜ (r ≡ 0 → fieldAt (now (s .entry)) at 8 ≡ 0) ⌝ }
@@ -120,7 +121,7 @@ fn eight(s: &[u8], at: usize) -> u64
     low + high * 4294967296
 }
 
-// Writes v into the w bytes from `at` on, the last byte first; what does not fit the width is
+// Writes v into the w bytes from `at` on, the last byte first. What does not fit the width is
 // lost.
 pub fn write(s: &mut [u8], at: usize, w: usize, v: u64)
     requires { ⌜ at + w ≤ length (now s) ⌝ }
@@ -147,7 +148,7 @@ pub fn clear(s: &mut [u8], at: usize, n: usize)
     }
 }
 
-// Copies `from` to `at`.
+// Copies all of `from` into s, from `at` on.
 pub fn copy(s: &mut [u8], at: usize, from: &[u8])
     requires { ⌜ at + length (now from) ≤ length (now s) ⌝ }
     ensures { λ _. ⌜ now (s .exit) ≡ sets (now (s .entry)) at (now (from .entry)) ⌝ }
@@ -159,7 +160,7 @@ pub fn copy(s: &mut [u8], at: usize, from: &[u8])
     }
 }
 
-// A byte as a wide number: its bound is then known from its type.
+// A byte as a 64-bit number. The type of x says that it is below 256.
 pub fn wide(x: u8) -> u64
     ensures { λ r. ⌜ r ≡ x ⌝ }
 {

@@ -1,6 +1,6 @@
--- The character at a place. All that is owed of it follows from one row of the table that it fits,
--- and from the table's own rule, which is one computed test: at most four bytes, and a first byte
--- that is not 0 where there are more than one.
+-- The character at a place. Everything follows from the row of the table that it fits, and from
+-- a rule of the whole table, which is one computed test: a row has at most four bytes, and a
+-- first byte above 0 if it has more than one.
 use mathlib.Core.Path.{_≡_, refl, sym, ap, _∙_, subst}
 use mathlib.Core.Logic.{_≢_, ⊎-elim}
 use mathlib.Core.Bool.{Bool, true, false, _&&_, _||_}
@@ -26,7 +26,7 @@ pub length-passes : (row : List ℕ) (more : List (List ℕ)) (l : List ℕ) (at
 unfolding lengthBy
 length-passes row more l at e = rw e
 
--- the rule of a row, and of a table
+-- the rule, for a row and for a table
 abbrev ruled : List ℕ → Bool
 ruled row = leb (getD row 4 0) 4 && (leb (getD row 4 0) 1 || ltb 0 (getD row 0 0))
 
@@ -34,7 +34,7 @@ abbrev allRuled : List (List ℕ) → Bool
 allRuled [] = true
 allRuled (row ∷ more) = ruled row && allRuled more
 
--- n bytes from place at on are a character
+-- what is known of n bytes from `at` on that are a character
 pub record Character (l : List ℕ) (at n : ℕ) : Type 0 where
   pub some : 0 < n
   pub few : n ≤ 4
@@ -107,15 +107,15 @@ pub char-at : (l : List ℕ) (at n : ℕ) → n ≡ charLen l at → charAt l at
 unfolding charAt
 char-at l at n e = ap (fieldAt l at) (sym e)
 
--- ---- equal numbers are equal characters
+-- ---- characters with equal numbers are equal
 
--- a number of n + 1 bytes of which the first is not 0
+-- a number of n + 1 bytes is at least 256 ^ n if the first byte is not 0
 field-low : (l : List ℕ) (at n : ℕ) → 0 < getD l at 0 → 256 ^ n ≤ fieldAt l at (suc n)
 unfolding fieldAt
 field-low l at zero h = rw (add-zero at) (omega arith)
 field-low l at (suc n) h = rw (pow-suc 256 n) (omega (arith, field-low l at n h))
 
--- of two characters the one with more bytes is the greater number
+-- of two characters, the one with more bytes is the greater number
 greater : (l m : List ℕ) (at bt n k : ℕ) → Bytes l → 0 < n → Character m bt k → n < k
     → fieldAt l at n < fieldAt m bt k
 greater l m at bt n zero p h d less = omega arith
@@ -135,7 +135,7 @@ same l m at bt n k p q c d e =
           ∙ ap (λ (j : ℕ). take j (drop bt m)) w,
     )
 
--- so a character is the number of its bytes
+-- so two characters with one number have the same bytes
 pub same-character : (l m : List ℕ) (at bt : ℕ) → Bytes l → Bytes m → charLen l at ≢ 0
     → charLen m bt ≢ 0 → charAt l at ≡ charAt m bt
     → (charLen l at ≡ charLen m bt)

@@ -1,6 +1,6 @@
--- The characters of a text, one at a time from a place on. Each takes a byte at least, so a number
--- that only counts down and is enough to reach the text's end tells the same as any other that is
--- (`charsFrom-enough`): the laws need no count.
+-- The characters of a text, one at a time from a place on. Each has at least one byte, so every
+-- count that is enough to reach the text's end gives the same characters (`chars-enough`). The
+-- other laws therefore need no count.
 use mathlib.Core.Path.{_≡_, refl, sym, ap, _∙_}
 use mathlib.Core.Logic.{_≢_}
 use mathlib.Core.Bool.{Bool, true, false}
@@ -15,7 +15,7 @@ use Rattle.utf8.specs.Table37.{charLen}
 use Rattle.utf8.specs.Text.{charAt, inFront, charsFrom, chars}
 use Rattle.utf8.proofs.Characters.{character}
 
--- characters in front of the characters of the rest
+-- characters put before the characters of the rest
 abbrev pub prepend : List ℕ → Option (List ℕ) → Option (List ℕ)
 prepend cs none = none
 prepend cs (some ds) = some (cs ++ ds)
@@ -35,7 +35,7 @@ in-front zero c r h = absurd (h refl)
 in-front (suc n) c none h = refl
 in-front (suc n) c (some cs) h = refl
 
--- ---- charsFrom, unfolded
+-- ---- `charsFrom`, unfolded
 
 at-end : (more : ℕ) (l : List ℕ) (at : ℕ) → length l ≤ at → charsFrom more l at ≡ some []
 unfolding charsFrom
@@ -93,7 +93,7 @@ chars-start l = refl
 pub chars-end : (l : List ℕ) (at : ℕ) → length l ≤ at → charsAt l at ≡ some []
 chars-end l at h = at-end (length l) l at h
 
--- what stands before the end is the first of some characters
+-- before the end, one step more may be counted: the first character is then taken
 enough : (l : List ℕ) (at : ℕ) → at < length l → charsAt l at ≡ charsFrom (suc (length l)) l at
 enough l at h = chars-enough (length l) (suc (length l)) l at (omega arith) (omega arith)
 
@@ -104,7 +104,7 @@ pub chars-more : (l : List ℕ) (at : ℕ) → at < length l → charLen l at �
     ≡ prepend (charAt l at ∷ []) (charsAt l (at + charLen l at))
 chars-more l at h e = enough l at h ∙ one-more (length l) l at h e
 
--- ---- a loop over the characters: cs are those before place at
+-- ---- a loop over the characters: cs are those before `at`
 
 pub record Passed (l cs : List ℕ) (at : ℕ) : Type 0 where
   pub within : at ≤ length l

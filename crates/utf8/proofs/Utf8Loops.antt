@@ -1,5 +1,6 @@
--- What the loops keep. Testing a row, the tests passed leave those of the later bytes; consulting
--- the table, the rows passed leave the later rows. Either loop is done where nothing is left.
+-- What the loops keep. In a row, once the first bytes are in their ranges, only the later bytes
+-- decide. In the table, once the first rows do not fit, only the later rows decide. Each loop
+-- ends when nothing is left.
 use mathlib.Core.Path.{_≡_, refl, _∙_}
 use mathlib.Core.Bool.{true, false, _&&_}
 use Prim.Native.Nat.{ℕ, zero, suc, _+_, _-_, _≤_, _<_}
@@ -22,7 +23,7 @@ third-byte row zero b h k = absurd (h refl)
 third-byte row (suc zero) b h k = absurd (k refl)
 third-byte row (suc (suc i)) b h k = refl
 
--- the first i of n bytes are in their ranges
+-- the test of all n bytes is the test of those from byte i on: the first i are in their ranges
 pub record Testing (row l : List ℕ) (at n i : ℕ) : Type 0 where
   pub within : i ≤ n
   pub tests : inRanges row l at 0 n ≡ inRanges row l at i (n - i)
@@ -58,7 +59,7 @@ fits-if row l at h = rw (le-leb (at + getD row 4 0) (length l) h)
 
 -- ---- a table
 
--- no row before row i fits
+-- the whole table answers as its rows from row i on: no row before row i fits
 pub record Consulting (rs : List (List ℕ)) (l : List ℕ) (at i : ℕ) : Type 0 where
   pub within : i ≤ length rs
   pub rest : lengthBy rs l at ≡ lengthBy (drop i rs) l at

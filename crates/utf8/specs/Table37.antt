@@ -1,7 +1,7 @@
 -- 01, "The image": "Well-formed is Table 3-7 of the Unicode Standard, nine rows of ranges, each
--- telling the first and second byte ... Third and fourth bytes are 80..BF." A row: the lowest and
--- the highest first byte, the lowest and the highest second byte (0 where the character has none),
--- and the character's bytes.
+-- telling the first and second byte [..] Third and fourth bytes are 80..BF." A row: the lowest
+-- and the highest first byte, the lowest and the highest second byte (0 if the character has
+-- none), and how many bytes the character has.
 use Prim.Native.Nat.{ℕ, zero, suc, _+_}
 use mathlib.Core.Bool.{Bool, true, _&&_, cond}
 use mathlib.Core.List.{List, [], _∷_}
@@ -22,32 +22,32 @@ rows =
     ∷ (0xF4 ∷ 0xF4 ∷ 0x80 ∷ 0x8F ∷ 4 ∷ [])
     ∷ []
 
--- the range for byte i of a character of this row: the row tells the first and the second, all
--- others are 80..BF
+-- b is in the range for byte i of a character of this row: the row has the ranges of the first
+-- and the second byte, and all others are 80..BF
 unfoldable pub inRange : List ℕ → ℕ → ℕ → Bool
 inRange row zero b = between b (getD row 0 0) (getD row 1 0)
 inRange row (suc zero) b = between b (getD row 2 0) (getD row 3 0)
 inRange row (suc (suc i)) b = between b 0x80 0xBF
 
--- the bytes from at on, of which m are left from byte i of the character on, are in their ranges
+-- the m bytes from byte i of the character on are in their ranges; the character begins at `at`
 unfoldable pub inRanges : List ℕ → List ℕ → ℕ → ℕ → ℕ → Bool
 unfolding inRange
 inRanges row l at i zero = true
 inRanges row l at i (suc m) = inRange row i (getD l (at + i) 0) && inRanges row l at (suc i) m
 
--- a character of this row stands at place at, whole
+-- a whole character of this row begins at `at`
 unfoldable pub fitsRow : List ℕ → List ℕ → ℕ → Bool
 unfolding inRanges
 fitsRow row l at = leb (at + getD row 4 0) (length l) && inRanges row l at 0 (getD row 4 0)
 
--- the bytes of the character at place at by the first of the given rows that it fits, 0 where it
--- fits none
+-- the length of the character at `at` by the first of the given rows that it fits, 0 if it fits
+-- none
 unfoldable pub lengthBy : List (List ℕ) → List ℕ → ℕ → ℕ
 unfolding fitsRow
 lengthBy [] l at = 0
 lengthBy (row ∷ more) l at = cond (fitsRow row l at) (getD row 4 0) (lengthBy more l at)
 
--- the bytes of the well-formed character at place at, 0 where none stands there
+-- the length of the well-formed character at `at`, 0 if there is none
 unfoldable pub charLen : List ℕ → ℕ → ℕ
 unfolding lengthBy
 charLen l at = lengthBy rows l at

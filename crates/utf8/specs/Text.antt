@@ -1,7 +1,7 @@
--- 01, "The image": "exactly N well-formed characters", and "What the bench may hear": "the text is
--- not well-formed". A character is the number that its bytes make as one big-endian field: the
--- first byte of a longer character is never 0, so two characters are the same exactly if their
--- numbers are, and half a character is no character.
+-- 01, "The image": "exactly N well-formed characters", and "What the bench may hear": "the text
+-- is not well-formed". A character is the number that its bytes make as one big-endian field.
+-- The first byte of a longer character is never 0, so two characters are the same exactly if
+-- their numbers are.
 use Prim.Native.Nat.{ℕ, zero, suc, _+_}
 use mathlib.Core.Bool.{cond}
 use mathlib.Core.Option.{Option, none, some}
@@ -11,20 +11,19 @@ use lib.Dec.{leb}
 use Rattle.field.specs.Field.{fieldAt}
 use Rattle.utf8.specs.Table37.{charLen}
 
--- the character at place at, where one stands there
+-- the character at `at`, 0 if there is none
 unfoldable pub charAt : List ℕ → ℕ → ℕ
 unfolding charLen fieldAt
 charAt l at = fieldAt l at (charLen l at)
 
--- a character of so many bytes in front of the characters of the rest; no bytes are no character
+-- a character before the characters of the rest; `none` if it has 0 bytes or the rest is `none`
 unfoldable pub inFront : ℕ → ℕ → Option (List ℕ) → Option (List ℕ)
 inFront zero c rest = none
 inFront (suc m) c none = none
 inFront (suc m) c (some cs) = some (c ∷ cs)
 
--- The characters from place at on, where each is well-formed and the last ends with the text. The
--- first number only counts down: each character takes a byte at least, so the text's length is
--- enough.
+-- The characters from `at` on, if each is well-formed and the last ends with the text. The first
+-- number only counts down. Each character has at least one byte, so the text's length is enough.
 unfoldable pub charsFrom : ℕ → List ℕ → ℕ → Option (List ℕ)
 unfolding charAt inFront
 charsFrom zero l at = cond (leb (length l) at) (some []) none
@@ -32,7 +31,7 @@ charsFrom (suc more) l at =
     cond (leb (length l) at) (some [])
     (inFront (charLen l at) (charAt l at) (charsFrom more l (at + charLen l at)))
 
--- the characters of a text, none where it is not well-formed
+-- the characters of a text, none if it is not well-formed
 unfoldable pub chars : List ℕ → Option (List ℕ)
 unfolding charsFrom
 chars l = charsFrom (length l) l 0

@@ -1,11 +1,11 @@
-// Characters of UTF-8: Table 3-7 of the Unicode Standard, consulted by row. Any place of any bytes
-// may be asked for; what stands past the end is no character.
+// Characters of UTF-8, by the rows of Table 3-7 of the Unicode Standard. Any bytes and any place
+// may be given; a character that does not end within the bytes is not one.
 ghost use mathlib.Core.Path.{_≡_};
 ghost use Rattle.utf8.specs.Table37.{inRange, fitsRow, charLen};
 ghost use Rattle.utf8.specs.Text.{charAt};
 
-// A row: the lowest and the highest first byte, the lowest and the highest second byte, and the
-// character's bytes.
+// A row: the lowest and the highest first byte, the lowest and the highest second byte, and how
+// many bytes the character has. A character of one byte has 0 for both second bytes.
 const ROWS: [[u8; 5]; 9] = [
     [0x00, 0x7F, 0x00, 0x00, 1],
     [0xC2, 0xDF, 0x80, 0xBF, 2],
@@ -18,8 +18,8 @@ const ROWS: [[u8; 5]; 9] = [
     [0xF4, 0xF4, 0x80, 0x8F, 4],
 ];
 
-// The bytes of the well-formed character at `at`, 0 where none stands there. The table is bound
-// before the loop, so that the compiler makes the loop nine tests against constants.
+// How many bytes the well-formed character at `at` has, 0 if there is none. The table is bound
+// before the loop, so that the compiler makes nine tests against constants of it.
 pub fn char_len(s: &[u8], at: usize) -> usize
     ensures { λ r. ⌜ r ≡ charLen (now (s .entry)) at ⌝ }
 {
@@ -35,8 +35,8 @@ pub fn char_len(s: &[u8], at: usize) -> usize
     0
 }
 
-// The same, with the first row asked before the table: a loop over characters that mostly have one
-// byte has that test in it.
+// The same, but the first row is tried before the table: in a loop over characters that mostly
+// have one byte, one test is then enough for each of these.
 pub fn quick_len(s: &[u8], at: usize) -> usize
     ensures { λ r. ⌜ r ≡ charLen (now (s .entry)) at ⌝ }
 {
@@ -48,7 +48,7 @@ pub fn quick_len(s: &[u8], at: usize) -> usize
     char_len(s, at)
 }
 
-// The character of n bytes at `at` as the number that its bytes make, 0 where none stands there.
+// The character of n bytes at `at`, as the number that its bytes make; 0 if there is none.
 pub fn char_at(s: &[u8], at: usize, n: usize) -> u32
     requires { ⌜ n ≡ charLen (now s) at ⌝ }
     ensures { λ r. ⌜ r ≡ charAt (now (s .entry)) at ⌝ }
@@ -59,7 +59,7 @@ pub fn char_at(s: &[u8], at: usize, n: usize) -> u32
     field::read_few(s, at, n)
 }
 
-// Does a character of this row stand at `at`, whole?
+// Whether a whole character of this row begins at `at`.
 fn fits(row: [u8; 5], s: &[u8], at: usize) -> bool
     ensures { λ r. ⌜ r ≡ fitsRow row (now (s .entry)) at ⌝ }
 {
@@ -81,7 +81,7 @@ fn fits(row: [u8; 5], s: &[u8], at: usize) -> bool
     true
 }
 
-// Is b in the range for byte i of a character of this row?
+// Whether b is in the range for byte i of a character of this row.
 fn in_range(row: [u8; 5], i: usize, b: u8) -> bool
     ensures { λ r. ⌜ r ≡ inRange row i b ⌝ }
 {

@@ -1,6 +1,6 @@
--- `field::blank` meets its contract. A turn shows sixteen bytes more to be as the first eight are;
--- the last sixteen cover what is then left, since there are sixteen at least. The measure is how
--- many bytes are left. Assumes nothing.
+-- `field::blank` meets its contract. Each turn adds sixteen bytes to those that are 0 if the
+-- first eight are. At the end at most sixteen bytes are left, and the last sixteen cover them.
+-- The measure is how many bytes are left. Assumes nothing.
 use mathlib.Core.Path.{sym}
 use mathlib.Core.Bool.{true≢false}
 use Prim.Native.Nat.{_-_}

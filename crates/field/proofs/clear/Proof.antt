@@ -1,5 +1,5 @@
--- `field::clear` meets its contract. Clearing is laying zeros, and the zero that a turn stores is
--- the next of them. The measure is how many are left. Assumes nothing.
+-- `field::clear` meets its contract. Clearing writes a list of zeros, and each turn stores the
+-- next of them. The measure is how many are left. Assumes nothing.
 use mathlib.Core.Path.{sym}
 use Prim.Native.Nat.{ℕ, _-_}
 use native.Mathlib.Omega.{arith}

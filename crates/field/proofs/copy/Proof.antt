@@ -1,5 +1,5 @@
--- `field::copy` meets its contract. A turn stores the next element of what is copied.
--- The measure is how many are left. Assumes nothing.
+-- `field::copy` meets its contract. A turn stores the next element of what is copied. The
+-- measure is how many are left. Assumes nothing.
 use mathlib.Core.Path.{refl}
 use Prim.Native.Nat.{_-_}
 use native.Mathlib.Omega.{arith}

@@ -1,5 +1,5 @@
--- `field::eight` meets its contract: eight bytes whose number is 0, the last of them highest, are
--- eight zeros, and so is their number with the first of them highest. Assumes nothing.
+-- `field::eight` meets its contract. If eight bytes give 0, read with the last byte the most
+-- significant, they are eight zeros, and the field is 0 as well. Assumes nothing.
 use Prim.Native.Nat.{_+_, _<_}
 use native.Mathlib.Omega.{arith}
 use borrow.Author.Needs.{needs}

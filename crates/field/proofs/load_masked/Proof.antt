@@ -1,5 +1,5 @@
--- `field::load_masked` meets its contract: of the four bytes that end at `end`, the mask leaves
--- the last w. Assumes nothing.
+-- `field::load_masked` meets its contract: the mask leaves the last w of the four bytes that end
+-- at `end`. Assumes nothing.
 use borrow.Author.Needs.{needs}
 use Rattle.field.proofs.Field.{field-masked}
 use Rattle.field.proofs.load_masked.Statement.{statement}

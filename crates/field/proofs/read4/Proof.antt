@@ -1,5 +1,5 @@
--- `field::read4` meets its contract. What it computes is the definition at width 4, written out;
--- the four numbers are bytes, so that 32 bits hold the result. Assumes nothing.
+-- `field::read4` meets its contract. It computes the definition at width 4, written out. The
+-- four numbers are bytes, so that 32 bits hold the result. Assumes nothing.
 use mathlib.Core.Path.{ap}
 use Prim.Native.Nat.{ℕ, _+_, _<_}
 use native.Mathlib.Nat.{add-zero}

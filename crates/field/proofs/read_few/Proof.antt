@@ -1,5 +1,5 @@
--- `field::read_few` meets its contract: byte by byte, the number so far is that of the bytes so
--- far, and four of them fit 32 bits. Assumes nothing.
+-- `field::read_few` meets its contract. After each byte the number is that of the bytes read,
+-- and four bytes fit 32 bits. Assumes nothing.
 use mathlib.Core.Path.{_≡_, sym, ap, _∙_}
 use Prim.Native.Nat.{ℕ, _+_, _*_, _<_, _^_}
 use native.Mathlib.Omega.{arith}
@@ -15,7 +15,7 @@ shared-slice-read-wide c = search needs
 wide-requires : tie.Need-wide-requires
 wide-requires c κs = search needs
 
--- what has been read after each byte
+-- the number after each byte
 read-1 : (c : tie.After-wide) → c .wide .result ≡ fieldAt (c .before .before .before .args .s .now)
     (c .before .before .before .args .at) 1
 read-1 c = c .wide .ensures ∙ sym (field-one _ _)
@@ -44,7 +44,7 @@ read-4 : (c : tie.After-wide4)
     (one .before .before .before .args .at) 4
 read-4 c = field-more _ _ 3 (read-3 (c .before .before .before)) (c .wide4 .ensures)
 
--- and what each number is below
+-- the bound of each number
 bound : (c : tie.After-wide) (i : ℕ) → fieldAt (c .before .before .before .args .s .now)
     (c .before .before .before .args .at) i < 256 ^ i
 bound c i = field-bound _ _ i (λ k. c .before .shared-slice-known2 .given k .fits)

@@ -1,5 +1,5 @@
--- `field::short_blank` meets its contract: less than sixteen bytes are the first eight and the
--- last. Assumes nothing.
+-- `field::short_blank` meets its contract: the first eight and the last eight cover eight to
+-- fifteen bytes. Assumes nothing.
 use mathlib.Core.Path.{sym}
 use mathlib.Core.Bool.{true≢false}
 use native.Mathlib.Omega.{arith}

@@ -1,5 +1,6 @@
 -- `field::write` meets its contract. A turn stores the last byte of the number and goes on with
--- the rest in a field one byte shorter. The measure is the width that is left. Assumes nothing.
+-- the rest of it, in a field that is one byte shorter. The measure is the width that is left.
+-- Assumes nothing.
 use native.Mathlib.Omega.{arith}
 use Rattle.field.proofs.FieldLoops.{Writing, writing-none, writing-more, writing-all}
 use Rattle.field.proofs.write.Statement.{statement}

@@ -1,6 +1,6 @@
--- `utf8::char_at` meets its contract. The character is the number in a field of n bytes by
--- definition, and one of no bytes is 0. A character stands whole inside the bytes and has at most
--- four, so it may be read. Assumes nothing.
+-- `utf8::char_at` meets its contract. By definition the character is the number in a field of n
+-- bytes, and a field of no bytes is 0. A character ends within the bytes and has at most four,
+-- so it may be read. Assumes nothing.
 use mathlib.Core.Path.{sym, _∙_}
 use Rattle.field.specs.Field.{fieldAt}
 use native.Mathlib.Omega.{arith}

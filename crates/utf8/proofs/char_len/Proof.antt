@@ -1,6 +1,6 @@
--- `utf8::char_len` meets its contract. The rows passed do not fit, so the table answers as the
--- rows that are left; the table in the code is the table of the definition by computing. The
--- measure is the rows that are left. Assumes nothing.
+-- `utf8::char_len` meets its contract. The rows tried so far do not fit, so the table answers as
+-- its later rows do. By computing, the table in the code is the table of the definition. The
+-- measure is how many rows are left. Assumes nothing.
 use Prim.Native.Nat.{_-_}
 use mathlib.Core.Path.{_≡_, sym, _∙_}
 use native.Mathlib.Omega.{arith}
@@ -35,7 +35,7 @@ fits-requires c κs = tt
 array-read-result : tie.Need-array-read-result Inv-loop μ-loop
 array-read-result c = search needs
 
--- the row that fits tells the length
+-- the row that fits gives the length
 found : (c : tie.Then1 Inv-loop μ-loop)
     → getD (getD rows (c .before .before .before .before .loop .i) []) 4 0
     ≡ charLen (c .before .before .before .before .before .before .args .s .now)

@@ -1,6 +1,6 @@
--- `utf8::fits` meets its contract. The bytes tested are in their ranges, so the row's test is that
--- of the bytes that are left; they stand inside, since the length was tested first. The measure is
--- the bytes that are left. Assumes nothing.
+-- `utf8::fits` meets its contract. The bytes tested so far are in their ranges, so the row's
+-- test is that of the later bytes. The length is tested first, so all of them are inside the
+-- slice. The measure is how many bytes are left. Assumes nothing.
 use Prim.Native.Nat.{_-_}
 use mathlib.Core.Path.{sym, _∙_}
 use native.Mathlib.Omega.{arith}

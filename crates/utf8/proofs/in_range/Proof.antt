@@ -1,5 +1,5 @@
--- `utf8::in_range` meets its contract: each way out is a case of the definition, and the last is
--- that of every byte from the third on. Assumes nothing.
+-- `utf8::in_range` meets its contract: each return is a case of the definition, the last one the
+-- case of every byte from the third on. Assumes nothing.
 use mathlib.Core.Path.{sym}
 use Rattle.utf8.specs.Table37.{inRange}
 use Rattle.utf8.proofs.Utf8Loops.{third-byte}

@@ -1,5 +1,5 @@
--- `utf8::quick_len` meets its contract: the table answers by its first row where that fits.
--- Assumes nothing.
+-- `utf8::quick_len` meets its contract: if the first row fits, the table answers by it. Assumes
+-- nothing.
 use mathlib.Core.Path.{sym, _∙_}
 use native.Mathlib.Omega.{arith}
 use borrow.Author.Needs.{needs}
