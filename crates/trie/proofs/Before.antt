@@ -1,5 +1,6 @@
--- 01's order of keys is strict and total. Keys that begin alike are ordered by what follows,
--- others by their first letter (`before-cases`): each law is that fact followed letter by letter.
+-- 01's order of keys is strict and total. Keys with the same first letter are ordered by what
+-- follows it, others by their first letter (`before-cases`). Each law follows from that, letter
+-- by letter.
 use Prim.Native.Nat.{ℕ, _<_, _≤_}
 use native.Mathlib.Omega.{arith}
 use mathlib.Core.Bool.{Bool, true, false, not, true≢false}
@@ -11,7 +12,7 @@ use borrow.Author.Tests.{eqb-true, eqb-false, ltb-true, ltb-false, lt-ltb, eq-eq
 use borrow.Author.Tests.{not-true}
 use Rattle.trie.specs.Keys.{before, meets}
 
--- keys that begin with one letter are ordered by what follows it
+-- keys with the same first letter are ordered by what follows it
 pub before-cons : (i : ℕ) (k m : List ℕ) → before (i ∷ k) (i ∷ m) ≡ before k m
 unfolding before
 before-cons i k m = rw (eq-eqb i i refl)
@@ -20,7 +21,7 @@ pub before-lower : (x y : ℕ) (k m : List ℕ) → x < y → before (x ∷ k) (
 unfolding before
 before-lower x y k m h = let ne : x ≡ y → ⊥ = λ e. omega arith in rw (ne-eqb x y ne) (lt-ltb x y h)
 
--- what decides between two keys that both have a letter
+-- what decides between two keys that are not empty
 pub before-cases : (x y : ℕ) (k m : List ℕ) → before (x ∷ k) (y ∷ m) ≡ true
     → (x < y) ⊎ ((x ≡ y) × (before k m ≡ true))
 unfolding before
@@ -88,7 +89,7 @@ unfolding before
 before-extension [] x m = refl
 before-extension (y ∷ k) x m = before-cons y k (k ++ x ∷ m) ∙ before-extension k x m
 
--- "after" a key is "at or after" it, and not that key
+-- "after" a key means "at or after" it, and not the key itself
 pub meets-after : (given k : List ℕ) → (meets true given k ≡ true)
     ↔ ((meets false given k ≡ true) × (k ≢ given))
 unfolding meets
@@ -104,9 +105,9 @@ meets-after given k = (
     go at-or-after other false e =
         absurd (other (before-total k given (not-true (before k given) at-or-after) e))
 
--- What decides a request at a key's first letter, "after" and "at or after" alike: the empty key
--- comes before, a lower letter too, the same letter leaves it to what follows, and a higher one
--- comes after.
+-- What decides a request, "after" or "at or after", at the first letter of the key given. The
+-- empty key does not meet it, and neither does a key with a lower letter. A key with the same
+-- letter meets it if what follows does. A key with a higher letter meets it.
 pub meets-empty : (after : Bool) (y : ℕ) (k : List ℕ) → meets after (y ∷ k) [] ≡ false
 unfolding meets before
 meets-empty true y k = refl

@@ -1,6 +1,6 @@
--- What is still to come of a listing, letter by letter and node by node. Behind a path that is
--- walked stands exactly what meets the path's key: at each node of the path all that comes by a
--- lower letter is before the key, all that comes by a higher one is after it.
+-- What of a listing is still to come, letter by letter and node by node. What comes after a path
+-- is exactly what meets a request for its key: at each node of the path the keys with a lower
+-- letter come before that key, and those with a higher letter after it.
 use Prim.Native.Nat.{ℕ, zero, suc, pred, _+_, _-_, _<_, _≤_}
 use native.Mathlib.Omega.{arith}
 use native.Mathlib.Decide.{ℕ-discrete}
@@ -25,7 +25,7 @@ use Rattle.trie.proofs.Filter.{filter-all, first-filter}
 use Rattle.trie.proofs.Listing.{under, byLetter-cases, own-cases, follow-cases}
 use Rattle.trie.proofs.Walk.{Walk, end, on, walk, follow-empty, follow-on}
 
--- one letter in front of a path's keys, and what follows them
+-- a letter put before the keys of a path and what follows them; c comes after both
 lead : (y : ℕ) (k : List ℕ) (a b c : List (List ℕ)) {l : List (List ℕ)} → l ≡ map (k ++_) a ++ b
     → map (y ∷_) l ++ c ≡ map ((y ∷ k) ++_) a ++ (map (y ∷_) b ++ c)
 lead y k a b c e =
@@ -34,7 +34,7 @@ lead y k a b c e =
     (map-map (y ∷_) (k ++_) a))
     ∙ append-assoc (map ((y ∷ k) ++_) a) (map (y ∷_) b) c
 
--- A node's own key.
+-- ---- a node's own key
 
 pub own-none : (t : Table) (short q : ℕ) → t .value q ≡ 0 → ownKey t short q ≡ []
 unfolding ownKey
@@ -61,8 +61,8 @@ unfolding byLetter
 byLetter-none keys i zero h = refl
 byLetter-none keys i (suc m) h = rw (h i) (byLetter-none keys (suc i) m h)
 
--- What meets a request among keys that stand by rising letter: those that begin as the request
--- does and meet in what follows, and all those that begin with a later letter.
+-- What meets a request among keys that go letter by letter: those that begin with the request's
+-- first letter and meet in what follows, and all that begin with a later letter.
 
 filter-later : (after : Bool) (y : ℕ) (k : List ℕ) (keys : ℕ → List (List ℕ)) (i m : ℕ) → y < i
     → filter (meets after (y ∷ k)) (byLetter keys i m) ≡ byLetter keys i m
@@ -101,7 +101,7 @@ filter-letter after y k keys n i (suc m) size low high =
         (rest (omega arith))
 
 module _ (t : Table) (n : ℕ) where
-  -- The keys below a node from a letter on.
+  -- ---- the keys below a node from a letter on
 
   -- the keys at or under a node: its own, then those from letter 0 on
   pub under-split : (short left q : ℕ) → keysUnder t n short left q ≡ ownKey t short q
@@ -110,13 +110,13 @@ module _ (t : Table) (n : ℕ) where
   under-split short zero q = sym (append-nil (ownKey t short q))
   under-split short (suc left) q = rw (sub-zero n)
 
-  -- past the last letter
+  -- none after the last letter
   pub from-none : (short left q x : ℕ) → n ≤ x → keysFrom t n short left q x ≡ []
   unfolding keysFrom byLetter
   from-none short zero q x h = refl
   from-none short (suc left) q x h = let e : n - x ≡ 0 = omega arith in rw e
 
-  -- where no letter is allowed
+  -- none if no letter is allowed
   pub from-shallow : (short q x : ℕ) → keysFrom t n short 0 q x ≡ []
   unfolding keysFrom
   from-shallow short q x = refl
@@ -127,7 +127,7 @@ module _ (t : Table) (n : ℕ) where
   unfolding keysFrom byLetter
   from-letter short left q x h = let e : n - x ≡ suc (n - suc x) = omega arith in rw e
 
-  -- an empty link is passed over
+  -- an empty link adds none
   pub from-empty : (short left q x : ℕ) → x < n → t .child q x ≡ 0 → keysFrom t n short left q x
       ≡ keysFrom t n short left q (suc x)
   unfolding keysFrom
@@ -138,7 +138,7 @@ module _ (t : Table) (n : ℕ) where
       (λ (l : List (List ℕ)). map (x ∷_) l ++ keysFrom t n short (suc left) q (suc x))
       (follow-empty (t .child q x) [] (λ c. keysUnder t n (pred short) left c) e)
 
-  -- any other gives the keys at or under its node
+  -- any other link adds the keys at or under its node
   pub from-on : (short left q x : ℕ) {c : ℕ} → x < n → t .child q x ≡ c → c ≢ 0
       → keysFrom t n short (suc left) q x
       ≡ map (x ∷_) (keysUnder t n (pred short) left c) ++ keysFrom t n short (suc left) q (suc x)
@@ -155,7 +155,7 @@ module _ (t : Table) (n : ℕ) where
   from-childless short (suc left) q x h =
       byLetter-none _ x (n - x) (λ i. follow-empty (t .child q i) [] _ (h i))
 
-  -- such a key has a first letter that is linked, and what follows is listed there
+  -- such a key begins with a letter whose link is not empty, and what follows is listed there
   from-cases : {k : List ℕ} (short left q x : ℕ) → List·Memᴰ k (keysFrom t n short left q x)
       → (y : ℕ) × (r : List ℕ) × (k ≡ y ∷ r) × (y < n) × (0 < left) × (t .child q y ≢ 0)
       × List·Memᴰ r (keysUnder t n (pred short) (pred left) (t .child q y))
@@ -166,14 +166,14 @@ module _ (t : Table) (n : ℕ) where
       let (full, c) = follow-cases (t .child q y) _ b in
       (y, r, e, omega arith, omega arith, full, c)
 
-  -- The keys behind a path.
+  -- ---- the keys after a path
 
   pub beyond-nil : (short left q x : ℕ) → beyond t n short left q [] x ≡ keysFrom t n short left q
       x
   unfolding beyond
   beyond-nil short left q x = refl
 
-  -- where nothing comes below a link any more, its node's later letters are next
+  -- if nothing is left below a link, the later letters of the node that holds it come next
   up : {q p : ℕ} {k : List ℕ} → Walk t q k (complete p) → (short left x y : ℕ)
       → keysFrom t n (short - suc (length k)) (left - suc (length k)) (t .child p y) x ≡ []
       → beyond t n short left q (k ++ (y ∷ [])) x ≡ beyond t n short left q k (suc y)
@@ -196,8 +196,8 @@ module _ (t : Table) (n : ℕ) where
       → beyond t n short left q (k ++ (y ∷ [])) x ≡ beyond t n short left q k (suc y)
   beyond-up short left q k x y e f empty = up (walk t q k e) short left x y (rw f empty)
 
-  -- all of it: what comes below the path's end from a letter on, then what stands behind the path,
-  -- which is what comes past the last letter
+  -- all of them: what is below the path's end from letter x on, then what is left once all
+  -- letters are done there
   split : {q p : ℕ} {k : List ℕ} → Walk t q k (complete p) → (short left x : ℕ)
       → beyond t n short left q k x
       ≡ map (k ++_) (keysFrom t n (short - length k) (left - length k) p x)
@@ -222,7 +222,7 @@ module _ (t : Table) (n : ℕ) where
       (keysFrom t n short left q (suc y))
       (rw (s, l) at (split w (pred short) (pred left) x))
 
-  -- where something comes below the path's end, that is next
+  -- if there is a key below the path's end, it is next
   pub beyond-found : (short left q : ℕ) (k : List ℕ) (x : ℕ) {p : ℕ} {m : List ℕ}
       {ms : List (List ℕ)} → descend t q k ≡ complete p
       → keysFrom t n (short - length k) (left - length k) p x ≡ m ∷ ms
@@ -230,9 +230,9 @@ module _ (t : Table) (n : ℕ) where
   unfolding firstOf
   beyond-found short left q k x e f = rw (split (walk t q k e) short left x, f)
 
-  -- What meets a request.
+  -- ---- what meets a request
 
-  -- at a node with a letter left, by the request's first letter; the node's own key comes before
+  -- at a node with a letter left, by the request's first letter; its own key comes before
   filter-node : (after : Bool) (y : ℕ) (k : List ℕ) (short left q : ℕ) → y < n
       → filter (meets after (y ∷ k)) (keysUnder t n short (suc left) q)
       ≡ map (y ∷_) (filter (meets after k) (under t n short left q y)) ++ keysFrom t n short
@@ -247,7 +247,7 @@ module _ (t : Table) (n : ℕ) where
       own = filter-none _ _ (λ j a. ap (meets after (y ∷ k)) (own-cases t short q a .0)
           ∙ meets-empty after y k)
 
-  -- along a path: what meets below its end, then all that stands behind it
+  -- along a path: what meets below its end, then all that comes after the path
   filter-path : {q p : ℕ} {k : List ℕ} → Walk t q k (complete p) → (after : Bool) (s : List ℕ)
       (short left : ℕ)
       → LettersBelow n k → length k ≤ left
@@ -278,7 +278,7 @@ module _ (t : Table) (n : ℕ) where
       (ap (filter (meets after (k ++ s))) (follow-on (t .child q y) [] _ h)
       ∙ (rw (e, f) at (filter-path w after s (pred short) left (letters .1) (omega arith))))
 
-  -- at the path's end: all but the node's own key is after the empty key
+  -- at the path's end: all keys but the node's own are after the empty key
   filter-below : (short left q : ℕ) → filter (meets true []) (keysUnder t n short left q)
       ≡ keysFrom t n short left q 0
   filter-below short left q =
@@ -318,7 +318,7 @@ module _ (t : Table) (n : ℕ) where
       (filter-path w false [] short left letters deep))
       ∙ ap (map (k ++_) (ownKey t s p) ++_) (sym (split w short left 0))
 
-  -- either, where the key goes on at an empty link
+  -- either one, if the key goes on at an empty link
   filter-stop : (after : Bool) (y : ℕ) (ys : List ℕ) (short left q : ℕ) → 0 < left → y < n
       → t .child q y ≡ 0
       → filter (meets after (y ∷ ys)) (keysUnder t n short left q) ≡ keysFrom t n short left q

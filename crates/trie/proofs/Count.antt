@@ -1,6 +1,6 @@
--- How many keys are listed. A list in order is known by its keys, so two tables that answer alike
--- for every key but one have listings that differ in that key at most; and a node with no link and
--- no data lists nothing.
+-- How many keys are listed. A list in order is determined by its keys. So if two tables answer
+-- alike for every key but one, their listings differ at most in that key. A node with no link
+-- and no data lists no key.
 use Prim.Native.Nat.{ℕ, zero, suc, _+_, _-_, _≤_}
 use native.Mathlib.Omega.{arith}
 use native.Mathlib.Decide.{ℕ-discrete}
@@ -21,7 +21,7 @@ use Rattle.trie.proofs.Listing.{listing-holds, keysUnder-ascending, hel
 use Rattle.trie.proofs.Beyond.{own-none, under-split, from-childless}
 use Rattle.trie.proofs.Storing.{stored-answer, stored-answer-other, stored-linked}
 
--- One key more.
+-- ---- one key more
 
 with-key : {j : List ℕ} (l m : List (List ℕ)) (k : List ℕ) → List·Memᴰ j (l ++ m)
     → List·Memᴰ j (l ++ k ∷ m)
@@ -42,7 +42,7 @@ without-ascending [] m k h = h .1
 without-ascending (x ∷ l) m k h =
     (λ j a. h .0 j (with-key l m k a), without-ascending l m k (h .1))
 
--- where a list holds a key
+-- a list that holds a key, cut at that key
 split : {k : List ℕ} {m : List (List ℕ)} → List·Memᴰ k m → (xs : List (List ℕ))
     × (ys : List (List ℕ)) × (m ≡ xs ++ k ∷ ys)
 split (List·Memᴰ·head {xs = ys} e) = ([], ys, ap (_∷ ys) (sym e))
@@ -63,7 +63,7 @@ inserted l xs ys k hl hm out others =
     from : (j : List ℕ) → List·Memᴰ j (xs ++ ys) → List·Memᴰ j l
     from j a = others j (λ e. held-once xs ys k hm (Memᴰ·cast (sym e) a)) .1 (with-key xs ys k a)
 
--- a list in order that has k besides the keys of another
+-- a list in order that has the keys of another, and k besides
 pub one-more : (l m : List (List ℕ)) (k : List ℕ) → Ascending l → Ascending m
     → ¬ List·Memᴰ k l
     → List·Memᴰ k m
@@ -79,7 +79,7 @@ one-more l m k hl hm out held others =
     hm
     others
 
--- lists in order that differ in k at most, and both hold it or neither
+-- lists in order that differ at most in k, if both hold k or neither does
 pub same-but : (l m : List (List ℕ)) (k : List ℕ) → Ascending l → Ascending m
     → (List·Memᴰ k l ↔ List·Memᴰ k m)
     → ((j : List ℕ) → j ≢ k → List·Memᴰ j l ↔ List·Memᴰ j m)
@@ -97,7 +97,7 @@ same-but l m k hl hm own others = same-keys l m hl hm (λ j. both j .0) (λ j. b
     both : (j : List ℕ) → List·Memᴰ j l ↔ List·Memᴰ j m
     both j = go j (List-discrete ℕ-discrete j k)
 
--- Two tables that answer alike for every key but k, whose length is allowed.
+-- ---- two tables that answer alike for every key but k, whose length is within the limits
 
 pub record Alike (t s : Table) (g h n least most : ℕ) (k : List ℕ) : Type 0 where
   pub from : Framed t g n
@@ -116,7 +116,7 @@ turned a = record {
   others = λ m e. sym (a .others m e);
 }
 
--- a key that is listed stays listed, but perhaps for k
+-- every other key that is listed stays listed
 kept : {t s : Table} {g h n least most : ℕ} {k : List ℕ} → Alike t s g h n least most k
     → (m : List ℕ) → m ≢ k
     → List·Memᴰ m (listing t n least most)
@@ -130,7 +130,7 @@ pub listed-others : {t s : Table} {g h n least most : ℕ} {k : List ℕ}
     → List·Memᴰ m (listing t n least most) ↔ List·Memᴰ m (listing s n least most)
 listed-others a m other = (kept a m other, kept (turned a) m other)
 
--- k answers in both tables, or in neither
+-- k is present in both tables, or in neither
 same-listing : {t s : Table} {g h n least most : ℕ} {k : List ℕ} → Alike t s g h n least most k
     → ((answer t k ≡ 0) ↔ (answer s k ≡ 0))
     → listing s n least most ≡ listing t n least most
@@ -148,7 +148,7 @@ same-listing {t} {s} {n = n} {least} {most} {k} a e =
     )
     (listed-others (turned a))
 
--- k answers in s alone
+-- k is present in s alone
 longer-listing : {t s : Table} {g h n least most : ℕ} {k : List ℕ} → Alike t s g h n least most k
     → answer t k ≡ 0
     → answer s k ≢ 0
@@ -164,7 +164,7 @@ longer-listing {t} {s} {n = n} {least} {most} {k} a e f =
     (listing-holds (a .to) least most k .1 (a .low, a .high, f))
     (listed-others a)
 
--- the change as a whole number
+-- one more and one fewer, as whole numbers
 up : {a b : ℕ} → a ≡ suc b → pos a ≡ pos b +ℤ pos 1
 up {b = b} e = ap pos (e ∙ sym (add-one b))
 
@@ -213,9 +213,9 @@ stored-count l k letters v least most low high =
     rw (stored-answer l k letters v) at
     (listing-change (stored-alike l k letters v least most low high))
 
--- ---- a node with nothing in it
+-- ---- a node with no link and no data
 
--- a node with no link and no data lists nothing
+-- it lists no key
 pub blank-keys : (t : Table) (n short left c : ℕ) → ((i : ℕ) → t .child c i ≡ 0) → t .value c ≡ 0
     → keysUnder t n short left c ≡ []
 blank-keys t n short left c no-links no-data =

@@ -1,6 +1,6 @@
--- Numbers summed one after the other, from none on: how often an address stands in the links of a
--- node, and in those of all nodes, are such sums. A sum is at least each of its parts and any two
--- of them; and where it is above 0, one of its parts is.
+-- Sums of numbers, part by part. How often an address stands in the links of a node, and in
+-- those of all nodes, are such sums. A sum is at least each of its parts, and at least any two
+-- of them together. If it is above 0, one of its parts is.
 use Prim.Native.Nat.{ℕ, zero, suc, _+_, _-_, _≤_, _<_}
 use mathlib.Core.Path.{_≡_}
 use mathlib.Core.Logic.{_≢_}
@@ -18,7 +18,7 @@ module _ {s part : ℕ → ℕ} (sums : Sums s part) where
   grows j zero = rw (add-zero j) (omega arith)
   grows j (suc d) = rw (add-suc j d) (omega (arith, grows j d, sums .more (j + d)))
 
-  -- the sum has grown by part i
+  -- the sum of k parts has part i on top of the sum of the first i
   after : (i k : ℕ) → i < k → s i + part i ≤ s k
   after i k h =
       let e : suc i + (k - suc i) ≡ k = omega arith in
@@ -43,7 +43,7 @@ module _ {s part : ℕ → ℕ} (sums : Sums s part) where
       go (yes h) on = (k, omega arith, h)
       go (no b) on = let (i, u, v) = on (omega (arith, sums .more k)) in (i, omega arith, v)
 
-  -- no part is above 1, and no two parts are above 0
+  -- if no part is above 1 and no two parts are above 0, the sum is at most 1
   pub one-at-most : (k : ℕ) → ((i : ℕ) → part i ≤ 1)
       → ((i j : ℕ) → 1 ≤ part i → 1 ≤ part j → i ≡ j) → s k ≤ 1
   one-at-most zero small same = omega (arith, sums .start)

@@ -1,5 +1,5 @@
--- A key's walk, one letter at a time: its first bad link, where there is one, and what it answers.
--- Each law is one way that a link can be: none is left, empty, bad, or neither.
+-- A key's walk, one letter at a time: its first bad link, if there is one, and its answer. There
+-- is a law for each case: no letter is left, the link is empty, it is bad, or it is neither.
 use Prim.Native.Nat.{ℕ}
 use mathlib.Core.Path.{_≡_, refl, sym, ap, _∙_}
 use mathlib.Core.Logic.{_≢_}
@@ -36,7 +36,7 @@ module _ (bad : ℕ → ℕ → Bool) (t : Table) (q : ℕ) where
         ≡ fault bad t c xs
     fault-on e h b = tested e h ∙ rw b
 
-    -- a link that is not empty on a path without bad links
+    -- a link that is not empty, on a path without bad links
     pub fault-none : {c : ℕ} → t .child q x ≡ c → c ≢ 0 → fault bad t q (x ∷ xs) ≡ none
         → (bad q c ≡ false) × (fault bad t c xs ≡ none)
     fault-none {c} e h f = go (bad q c) refl

@@ -1,6 +1,6 @@
--- A table has at most as many stored keys as nodes: each ends at a node, and two that end at one
--- node are equal (`one-key`). That no more keys than numbers below g can have different numbers
--- goes down g: at most one key has the greatest.
+-- A table has at most as many stored keys as nodes: each key ends at a node, and two keys that
+-- end at one node are equal (`one-key`). At most g keys can have different numbers below g, by
+-- induction on g: at most one key has the greatest number.
 use Prim.Native.Nat.{ℕ, zero, suc, _<_, _≤_}
 use native.Mathlib.Omega.{arith}
 use mathlib.Core.Bool.{Bool, true, false, not}
@@ -17,7 +17,7 @@ use Rattle.trie.proofs.Filter.{by-test, filter-every, filter-holds, fil
 use Rattle.trie.proofs.Listing.{under-listed, keysUnder-ascending}
 use Rattle.trie.proofs.Walk.{one-key, complete-within}
 
--- a test that one key fails at most takes out one key at most
+-- a test that at most one key fails removes at most one key
 one-out : (p : List ℕ → Bool) (l : List (List ℕ)) → Ascending l
     → ((j k : List ℕ) → List·Memᴰ j l → List·Memᴰ k l → p j ≡ false → p k ≡ false → j ≡ k)
     → length l ≤ suc (length (filter p l))
@@ -35,7 +35,7 @@ one-out p (x ∷ l) up alone =
         (λ f. absurd (before-apart x k (up .0 k a)
         (alone x k (List·Memᴰ·head refl) (List·Memᴰ·tail a) e f)))
 
--- keys in order, each with a number of its own below g
+-- keys in order, each with a different number below g
 few : (node : List ℕ → ℕ) (g : ℕ) (l : List (List ℕ)) → Ascending l
     → ((k : List ℕ) → List·Memᴰ k l → node k < g)
     → ((j k : List ℕ) → List·Memᴰ j l → List·Memᴰ k l → node j ≡ node k → j ≡ k)

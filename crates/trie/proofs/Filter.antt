@@ -1,5 +1,5 @@
--- Those keys of a list that meet a request. Every law asks key by key whether it meets, so each
--- goes down the list; the first key that meets is the first of those that meet.
+-- The keys of a list that meet a request. Each law goes down the list and asks whether each key
+-- meets. The first key that meets is the first of those that meet.
 use Prim.Native.Nat.{ℕ, _≤_}
 use native.Mathlib.Omega.{arith}
 use mathlib.Core.Bool.{Bool, true, false, true≢false}
@@ -23,7 +23,7 @@ pub filter-out : (p : List ℕ → Bool) (k : List ℕ) (l : List (List ℕ)) �
 unfolding filter
 filter-out p k l e = rw e
 
--- what holds of a list's filtering whether its first key meets or not
+-- what holds in both cases, whether a key meets or not
 pub by-test {ℓ} : (X : Type ℓ) (p : List ℕ → Bool) (k : List ℕ) → (p k ≡ true → X)
     → (p k ≡ false → X) → X
 by-test X p k met unmet = go (p k) refl
@@ -40,7 +40,7 @@ filter-append p (k ∷ l) m =
     let on = filter-append p l m in
     by-test _ p k (λ e. rw (e, on)) (λ e. rw (e, on))
 
--- keys that begin with one letter, where the request leaves it to what follows
+-- keys that begin with one letter, if the request depends only on what follows it
 pub filter-map : (p r : List ℕ → Bool) (x : ℕ) (l : List (List ℕ))
     → ((k : List ℕ) → p (x ∷ k) ≡ r k)
     → filter p (map (x ∷_) l) ≡ map (x ∷_) (filter r l)
@@ -117,7 +117,7 @@ filter-length p (k ∷ l) =
     let on = filter-length p l in
     by-test _ p k (λ e. rw e (omega arith)) (λ e. rw e (omega arith))
 
--- a key that is found stands in the list, and meets
+-- a key that is found is in the list, and meets
 pub first-listed : (p : List ℕ → Bool) (l : List (List ℕ)) {k : List ℕ} → firstMeeting p l ≡ some k
     → List·Memᴰ k l × (p k ≡ true)
 unfolding firstMeeting

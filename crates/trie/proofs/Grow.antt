@@ -1,4 +1,4 @@
--- New nodes. A link that stops a walk is on no walk that is complete, so those stay; and a node
+-- New nodes. A link that stops a walk is on no complete walk, so complete walks stay. A node
 -- with no link and no data answers 0, as the empty link did, so no answer changes. A path is one
 -- such node after another.
 use Prim.Native.Nat.{ℕ, suc, _+_, _≤_, _<_}
@@ -21,7 +21,7 @@ use Rattle.trie.proofs.Walk.{Walk, end, stop, on, walk, descended, wher
 use Rattle.trie.proofs.Walk.{stopped-within}
 use Rattle.trie.proofs.Walk.{descend-nil, descend-empty, descend-on, descend-append}
 
--- is link i of node p link x of node q?
+-- whether link i of node p is link x of node q
 link : (p i q x : ℕ) → Dec ((p ≡ q) × (i ≡ x))
 link p i q x = Dec·and (ℕ-discrete p q) (ℕ-discrete i x)
 
@@ -51,7 +51,7 @@ grown t q x c p i = go (link p i q x)
     go (yes s) = rw (s .0, s .1, grow-child t q x c) (new refl refl)
     go (no h) = rw (grow-child-other t q x c p i h) old
 
--- what linking a node asks: the link is empty, and the node is a new one
+-- what linking a node requires: the link is empty, and the node is new
 pub record Fresh (t : Table) (q x c : ℕ) : Type 0 where
   pub empty : t .child q x ≡ 0
   pub no-root : c ≢ 0
@@ -89,7 +89,7 @@ pub grow-descend : (t : Table) (q x c a : ℕ) (k : List ℕ) {r : ℕ} → t .c
     → descend (grow t q x c) a k ≡ complete r
 grow-descend t q x c a k e f = descended (complete-stays q x c e (walk t a k f))
 
--- the letter of the new link leads on to the new node
+-- the letter of the new link leads to the new node
 pub grow-descend-new : (t : Table) (q x c a : ℕ) (k : List ℕ) → t .child q x ≡ 0 → c ≢ 0
     → descend t a k ≡ complete q
     → descend (grow t q x c) a (k ++ (x ∷ [])) ≡ complete c
@@ -99,7 +99,7 @@ grow-descend-new t q x c a k e h f =
     ∙ descend-on s q x [] (rw (grow-child t q x c) h)
     ∙ rw (grow-child t q x c) (descend-nil s c)
 
--- under a node with no link and no data no key answers
+-- below a node with no link and no data every key answers 0
 blank : (t : Table) (c : ℕ) → ((i : ℕ) → t .child c i ≡ 0) → t .value c ≡ 0 → (k : List ℕ)
     → valueAt t (descend t c k) ≡ 0
 unfolding valueAt
@@ -113,7 +113,7 @@ blank-new {t} q x c f k =
     blank (grow t q x c) c (λ i. grow-child-other t q x c c i (λ s. f .apart (sym (s .0)))
     ∙ f .no-links i) (f .no-data) k
 
--- what a walk answers stays: where it stopped it may now end at the new node, or stop there
+-- a walk's answer stays: a walk that stopped at this link now ends at the new node, or stops there
 answer-stays : {t : Table} (q x c : ℕ) {a : ℕ} {k : List ℕ} {d : Descent} → Fresh t q x c
     → Walk t a k d
     → valueAt (grow t q x c) (descend (grow t q x c) a k) ≡ valueAt t d
@@ -171,15 +171,14 @@ grow-linked {t} {g} {n} q x l h b e =
     once′ {p} {i} old (new e f) s u = absurd (omega (arith, l .within p i))
     once′ {p} {i} {r} {j} old old s u = l .once p i r j s u
 
--- What a new path stands on: the empty link that the path begins with, and the letters of the
--- table.
+-- what a new path requires: an empty link to begin with, and letters of the table
 pub record Room (t : Table) (g n q x : ℕ) (xs : List ℕ) : Type 0 where
   pub linked : Linked t g n
   pub node : q ≤ g
   pub empty : t .child q x ≡ 0
   pub letters : LettersBelow n (x ∷ xs)
 
--- where a key's walk stopped there is room for its other letters
+-- where a key's walk stopped, there is room for the letters that are left
 pub room : {t : Table} {g n : ℕ} (k : List ℕ) {q x : ℕ} {xs : List ℕ} → Linked t g n
     → LettersBelow n k → descend t 0 k ≡ stopped q x xs
     → Room t g n q x xs
@@ -200,7 +199,7 @@ room-linked : {t : Table} {g n q x : ℕ} {xs : List ℕ} → Room t g n q x xs
     → Linked (grow t q x (suc g)) (suc g) n
 room-linked {q = q} {x = x} r = grow-linked q x (r .linked) (r .node) (r .letters .0) (r .empty)
 
--- one node on, there is room for the rest
+-- after one node, there is room for the rest
 pub room-next : {t : Table} {g n q x y : ℕ} {ys : List ℕ} → Room t g n q x (y ∷ ys)
     → Room (grow t q x (suc g)) (suc g) n (suc g) y ys
 room-next {t} {g} {n} {q} {x} {y} r =
@@ -227,7 +226,7 @@ growPath-linked {t} {g} {n} {q} {x} (y ∷ ys) r =
     let e : g + suc (suc (length ys)) ≡ suc g + suc (length ys) = omega arith in
     rw e (growPath-linked ys (room-next r))
 
--- the key's walk: what led to the empty link leads on to the last new node
+-- the key's walk goes on from the empty link to the last new node
 pub growPath-descend : {t : Table} {g n q x : ℕ} (xs : List ℕ) (p : List ℕ) → Room t g n q x xs
     → descend t 0 p ≡ complete q
     → descend (growPath t q x xs (suc g)) 0 (p ++ (x ∷ xs)) ≡ complete (g + suc (length xs))
@@ -241,7 +240,7 @@ growPath-descend {t} {g} {n} {q} {x} (y ∷ ys) p r e =
     (growPath-descend ys (p ++ (x ∷ [])) (room-next r)
     (grow-descend-new t q x (suc g) 0 p (r .empty) (omega arith) e))
 
--- No data changes, and of the links of older nodes only the empty one, which receives the first
+-- No data changes. Of the links of older nodes only the empty one changes: it receives the first
 -- new node.
 pub growPath-value : (t : Table) (q x : ℕ) (xs : List ℕ) (c p : ℕ) → growPath t q x xs c .value p
     ≡ t .value p

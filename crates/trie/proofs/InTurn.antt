@@ -1,6 +1,6 @@
--- Asking for the key after a key, then for the key after that one, lists what comes after the
--- first key, each key once and in order. In a list in order the keys after the first one that
--- meets are the rest of those that met, so each question shortens what is left.
+-- Asking for the key after a key, then for the key after that one, and so on, gives the keys
+-- after the first one, each once and in order. If m is the first key that meets, the keys after
+-- m are the others that meet. So each question leaves one key fewer.
 use Prim.Native.Nat.{ℕ, zero, suc, _≤_}
 use native.Mathlib.Omega.{arith}
 use mathlib.Core.Bool.{true, false}
@@ -15,7 +15,7 @@ use Rattle.trie.proofs.Before.{before-irrefl, before-trans, before-asym
 use Rattle.trie.proofs.Filter.{by-test, filter-in, filter-out, filter-every, filter-holds}
 use Rattle.trie.proofs.Filter.{filter-length, first-filter}
 
--- the keys after the first one that comes after k
+-- if m is the first key after k, the keys after m are the others after k
 pub filter-next : (keys : List (List ℕ)) (k : List ℕ) {m : List ℕ} {ms : List (List ℕ)}
     → Ascending keys
     → filter (meets true k) keys ≡ m ∷ ms
@@ -49,7 +49,7 @@ abbrev after : List (List ℕ) → List ℕ → Option (List ℕ)
 after keys k = firstMeeting (meets true k) keys
 
 module _ (keys : List (List ℕ)) (up : Ascending keys) where
-  -- one question and the answers that follow it
+  -- one question, and the answers that follow it
   ask : (times : ℕ) (k : List ℕ) (l : List (List ℕ)) → filter (meets true k) keys ≡ l
       → ((m : List ℕ) → length (filter (meets true m) keys) ≤ times
       → inTurn (after keys) times m ≡ filter (meets true m) keys)
@@ -80,7 +80,7 @@ unfolding withKey
 with-same none f g h = refl
 with-same (some m) f g h = h m refl
 
--- two that answer alike on every key that one of them leads to
+-- two ways that answer alike for every key that one of them leads to
 pub same-turns : (next other : List ℕ → Option (List ℕ)) (On : List ℕ → Type 0)
     → ((k : List ℕ) → On k → next k ≡ other k)
     → ((k m : List ℕ) → other k ≡ some m → On m)

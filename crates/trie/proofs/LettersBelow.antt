@@ -1,5 +1,5 @@
--- Keys whose letters are all below n. The type computes letter by letter, so each law goes down
--- the key.
+-- Keys whose letters are all below n. The type computes letter by letter, so each law is by
+-- induction on the key.
 use Prim.Native.Nat.{ℕ, zero, suc, _≤_, _<_}
 use mathlib.Core.List.{List, [], _∷_, _++_}
 use native.Mathlib.Omega.{arith}

@@ -1,6 +1,6 @@
--- What stands in a listing, and in which order. A node's own key is before all that extend it, the
--- keys under a node stand by rising letter, and both hold at every node on the way down. Lists in
--- order that hold the same keys are then one list.
+-- Which keys are in a listing, and in which order. A node's own key comes before all keys that
+-- extend it, the keys under a node go letter by letter, and both hold at every node on the way
+-- down. Lists in order that hold the same keys are then equal.
 use Prim.Native.Nat.{ℕ, zero, suc, pred, _+_, _<_, _≤_}
 use native.Mathlib.Omega.{arith}
 use native.Mathlib.Decide.{ℕ-discrete}
@@ -22,9 +22,9 @@ use Rattle.trie.proofs.Walk.{descend-nil, descend-on}
 use Rattle.trie.proofs.Before.{before-cons, before-lower, before-extension, before-apart}
 use Rattle.trie.proofs.Before.{before-asym}
 
--- Which keys are listed.
+-- ---- which keys are listed
 
--- a key that is listed by its first letter x, with what follows it
+-- a key of these begins with one of the letters, x, and `keys x` has what follows
 pub byLetter-cases : {k : List ℕ} (keys : ℕ → List (List ℕ)) (i m : ℕ)
     → List·Memᴰ k (byLetter keys i m)
     → (x : ℕ) × (r : List ℕ) × (k ≡ x ∷ r) × (i ≤ x) × (x < i + m) × List·Memᴰ r (keys x)
@@ -53,8 +53,8 @@ byLetter-holds keys i (suc m) x {r} low high h =
         (subst (λ (j : ℕ). List·Memᴰ (x ∷ r) (map (j ∷_) (keys j))) (sym e) (Memᴰ·map (x ∷_) h))
     go (no other) on = Memᴰ·append-right (map (i ∷_) (keys i)) (on (omega arith))
 
--- what a key needs to be listed at a node: its length is allowed, and its walk from there ends at
--- data
+-- what a key needs to be listed at a node: its length is within the limits, and its walk from
+-- there ends at a node whose data is not 0
 abbrev pub Found : Table → ℕ → ℕ → ℕ → List ℕ → Type 0
 Found t short left q k = (short ≤ length k) × (length k ≤ left) × (valueAt t (descend t q k) ≢ 0)
 
@@ -90,7 +90,7 @@ module _ (t : Table) (n : ℕ) where
   abbrev pub under : ℕ → ℕ → ℕ → ℕ → List (List ℕ)
   under short left q i = follow (t .child q i) [] (λ c. keysUnder t n (pred short) left c)
 
-  -- a key's first letter met the link c, and r follows
+  -- a key of letter x and then r, where c is the link of x
   link-holds : (short left q x : ℕ) (r : List ℕ) (c : ℕ)
       → (n ≤ x → c ≡ 0)
       → ((p : ℕ) → Found t short left p r → List·Memᴰ r (keysUnder t n short left p))
@@ -122,7 +122,7 @@ module _ (t : Table) (n : ℕ) where
       Memᴰ·append-right (ownKey t short q)
       (byLetter-holds _ 0 n x (omega arith) (omega (arith, f .0)) (f .1))
 
-  -- what a key is that is listed at node q
+  -- what is known of a key that is listed at node q
   pub record Noted (short left q : ℕ) (k : List ℕ) : Type 0 where
     pub node : ℕ
     pub reaches : descend t q k ≡ complete node
@@ -147,7 +147,7 @@ module _ (t : Table) (n : ℕ) where
         letters = tt;
       })
 
-  -- a letter in front of a key that is listed behind its link
+  -- a letter before a key that is listed at the node of its link
   pub link-listed : {r : List ℕ} (short left q x : ℕ) → x < n → 0 < left → t .child q x ≢ 0
       → Noted (pred short) (pred left) (t .child q x) r
       → Noted short left q (x ∷ r)
@@ -191,7 +191,7 @@ unfolding answer
 listing-holds {t} {n = n} f least most k =
     (keysUnder-found t n least most 0 k, keysUnder-holds t n (f .no-letter) least most 0 k)
 
--- In which order they are listed.
+-- ---- in which order they are listed
 
 append-ascending : (l m : List (List ℕ)) → Ascending l → Ascending m
     → ((j k : List ℕ) → List·Memᴰ j l → List·Memᴰ k m → before j k ≡ true)
@@ -256,7 +256,7 @@ keysUnder-ascending t n short (suc left) q =
     let (x, s, f, above, below, hs) = byLetter-cases (under t n short left q) 0 n b in
     ap₂ before e f ∙ before-extension [] x s)
 
--- Lists in order.
+-- ---- lists in order
 
 -- such a list holds each key once
 pub held-once : (l m : List (List ℕ)) (k : List ℕ) → Ascending (l ++ k ∷ m)
@@ -277,7 +277,7 @@ tail-keys x y l m e h to k a =
     (λ b. b)
     (List·Memᴰ·cases-cons (to k (List·Memᴰ·tail a)))
 
--- and is known by its keys
+-- and is determined by its keys
 pub same-keys : (l m : List (List ℕ)) → Ascending l → Ascending m
     → ((k : List ℕ) → List·Memᴰ k l → List·Memᴰ k m)
     → ((k : List ℕ) → List·Memᴰ k m → List·Memᴰ k l)
@@ -296,9 +296,9 @@ same-keys (x ∷ l) (y ∷ m) hl hm to from =
     heads (inr a) (inl e) = sym e
     heads (inr a) (inr b) = absurd (true≢false (sym (hm .0 x a) ∙ before-asym x y (hl .0 y b)))
 
--- The first key that meets a request.
+-- ---- the first key that meets a request
 
--- there is none exactly where no key passes
+-- there is none exactly if no key passes
 pub first-none : (p : List ℕ → Bool) (l : List (List ℕ))
     → (firstMeeting p l ≡ none) ↔ ((k : List ℕ) → List·Memᴰ k l → p k ≡ false)
 unfolding firstMeeting
@@ -317,7 +317,7 @@ first-none p (k ∷ l) = go (p k) refl (first-none p l)
       λ h. rw e (on .1 (λ m a. h m (List·Memᴰ·tail a))),
     )
 
--- k is listed and passes, and every other such key comes after it
+-- k is in the list and passes, and every other key that passes comes after it
 pub record First (p : List ℕ → Bool) (l : List (List ℕ)) (k : List ℕ) : Type 0 where
   pub listed : List·Memᴰ k l
   pub passes : p k ≡ true

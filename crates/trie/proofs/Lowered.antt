@@ -1,5 +1,5 @@
--- Two tables that agree on the nodes up to g, where no link of the one leads above g: a walk from
--- one of these nodes stays among them, so it goes alike in both.
+-- Two tables that agree on the nodes up to g, where no link of the first leads above g. A walk
+-- from one of these nodes stays among them, so it is the same in both tables.
 use Prim.Native.Nat.{ℕ, _≤_}
 use mathlib.Core.Path.{_≡_, refl, sym, _∙_}
 use mathlib.Core.Bool.{Bool, false}
@@ -36,7 +36,7 @@ module _ {s t : Table} {g : ℕ} (same : Agree s t g) (within : Within s g) wher
   unfolding answer
   answer-alike k = walk-alike 0 k (omega arith)
 
-  -- a path without a bad link has none in the other table, where what is bad there is bad here
+  -- a path without a bad link in s has none in t, if every link that is bad for t is bad for s
   pub fault-alike : (bad worse : ℕ → ℕ → Bool) → ((q c : ℕ) → bad q c ≡ false → worse q c ≡ false)
       → (q : ℕ) (k : List ℕ) → q ≤ g → fault bad s q k ≡ none → fault worse t q k ≡ none
   fault-alike bad worse milder q [] b e = fault-nil worse t q

@@ -1,6 +1,5 @@
--- The lowest number that passes a test, told by what passes and what does not. Each law goes up
--- from the first of the numbers: that one passes and is the lowest, or it does not and the rest is
--- searched.
+-- The lowest number that passes a test, by which numbers pass and which do not. Each law goes up
+-- from the first number: if it passes, it is the lowest; otherwise the rest is searched.
 use Prim.Native.Nat.{ℕ, zero, suc, _+_, _≤_, _<_}
 use mathlib.Core.Path.{_≡_, refl, _∙_}
 use mathlib.Core.Bool.{Bool, true, false}
@@ -21,7 +20,7 @@ module _ (p : ℕ → Bool) where
   unfolding lowest
   lowest-on a k e = rw e
 
-  -- the search goes up
+  -- the lowest is not below the first
   pub lowest-least : (a k : ℕ) → a ≤ lowest p a k
   unfolding lowest
   lowest-least a zero = omega arith
@@ -39,7 +38,7 @@ module _ (p : ℕ → Bool) where
       lowest-on a k (none a (omega arith) (omega arith)) ∙ lowest-none (suc a) k
       (λ y l h. none y (omega arith) (omega arith)) ∙ e
 
-  -- one that passes, where none before it does
+  -- a number that passes is the lowest if none before it passes
   pub lowest-at : (a k y : ℕ) → a ≤ y → y < a + k → p y ≡ true
       → ((z : ℕ) → a ≤ z → z < y → p z ≡ false) → lowest p a k ≡ y
   lowest-at a zero y low high e none = absurd (omega arith)
@@ -51,7 +50,7 @@ module _ (p : ℕ → Bool) where
       go (yes s) on = lowest-here a k (rw s e) ∙ s
       go (no d) on = lowest-on a k (none a (omega arith) (omega arith)) ∙ on (omega arith)
 
-  -- what was not found does not pass
+  -- if the search finds none, none passes
   pub none-lowest : (a k : ℕ) → a + k ≤ lowest p a k → NonePasses a k
   none-lowest a zero h y low high = absurd (omega arith)
   none-lowest a (suc k) h y low high = go (p a) refl (λ e. none-lowest (suc a) k e y)

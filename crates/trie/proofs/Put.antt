@@ -1,5 +1,5 @@
--- A value put as a node's data. No link changes, so every walk stays; and one key at most ends at
--- that node, so one answer at most changes.
+-- A value put as a node's data. No link changes, so every walk stays. At most one key ends at
+-- that node, so at most one answer changes.
 use Prim.Native.Nat.{ℕ, _≤_}
 use mathlib.Core.List.{List}
 use mathlib.Core.Path.{_≡_, refl, sym, _∙_}

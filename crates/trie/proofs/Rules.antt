@@ -1,5 +1,5 @@
--- A store keeps 01's rules on links. A new node's address is greater than all before it, so links
--- go on rising, of which no other law on storing speaks; the rest are `Linked`.
+-- A store keeps 01's rules on links. A new node's address is greater than all older ones, so
+-- `Rising` holds again; it is the one rule that `Linked` leaves out.
 use Prim.Native.Nat.{ℕ, suc, _+_, _<_}
 use mathlib.Core.List.{List, [], _∷_}
 use mathlib.Core.Logic.{_≢_}

@@ -1,6 +1,6 @@
 -- A store. It puts a value at the key's own node, changes nothing, or links a new path and puts
--- the value at its end; so what it does to answers, to the rules on links and to single links and
--- data is what these steps do.
+-- the value at its end. So the laws on answers, on the rules on links and on single links and
+-- data follow from those on these steps.
 use Prim.Native.Nat.{ℕ, zero, suc, _+_, _≤_}
 use mathlib.Core.List.{List}
 use mathlib.Core.Path.{_≡_, refl, _∙_}
@@ -17,13 +17,13 @@ use Rattle.trie.proofs.Put.{put-answer, put-answer-other, put-value-oth
 use Rattle.trie.proofs.Grow.{room, growPath-answer, growPath-linked, growPath-descend}
 use Rattle.trie.proofs.Grow.{growPath-value, growPath-child-other}
 
--- a complete path misses no node, whatever the value
+-- with no node missing none is added, whatever the value
 pub none-added : (v : ℕ) → added 0 v ≡ 0
 unfolding added
 none-added zero = refl
 none-added (suc v) = refl
 
--- The three stores of a value v at a key k, the table that each makes, and its greatest address.
+-- the three cases of a store of v for key k: the table that each makes, and its greatest address
 pub data Store (t : Table) (g : ℕ) (k : List ℕ) : ℕ → Table → ℕ → Type 0 where
   over : {q v : ℕ} → descend t 0 k ≡ complete q → Store t g k v (put t q v) g
   unchanged : {q x : ℕ} {xs : List ℕ} → descend t 0 k ≡ stopped q x xs → Store t g k 0 t g
@@ -44,7 +44,7 @@ store t g k v = go (descend t 0 k) v refl
     go (stopped q x xs) (suc v) e = longer e
 
 module _ {t : Table} {g n : ℕ} (l : Linked t g n) (k : List ℕ) (letters : LettersBelow n k) where
-  -- with its new path the key walks to the path's last node
+  -- with its new path, the key's walk ends at the path's last node
   reaches : {q x : ℕ} {xs : List ℕ} → descend t 0 k ≡ stopped q x xs
       → descend (growPath t q x xs (suc g)) 0 k ≡ complete (g + suc (length xs))
   reaches {q} {x} {xs} e =
@@ -80,12 +80,12 @@ module _ {t : Table} {g n : ℕ} (l : Linked t g n) (k : List ℕ) (letters : Le
   pub stored-answer-other : (v : ℕ) (m : List ℕ) → m ≢ k → answer (stored t g k v) m ≡ answer t m
   stored-answer-other v m h = answers-other m h (store t g k v)
 
-  -- the rules on links hold again
+  -- the rules on links hold again, `Rising` apart
   pub stored-linked : (v : ℕ) → Linked (stored t g k v) (g + added (missing (descend t 0 k)) v) n
   stored-linked v = links (store t g k v)
 
--- Of the links of the nodes there were, only the one that stopped the walk changes; of their data,
--- only that of the key's own node.
+-- Of the links of older nodes, only the one that stopped the walk changes. Of their data, only
+-- that of the key's own node changes.
 child-stays : {t s : Table} {g g′ v : ℕ} {k : List ℕ} (p i : ℕ) → p ≤ g
     → ((xs : List ℕ) → descend t 0 k ≢ stopped p i xs)
     → Store t g k v s g′ → s .child p i ≡ t .child p i

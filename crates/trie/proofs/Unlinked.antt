@@ -1,5 +1,5 @@
--- A table before its last link was written: it has every link but that one. So the rules that hold
--- with the link hold without it, but for the address that the link holds, which stands in no link.
+-- A table before a last link is written (`grow`). It has every other link, so the rules that
+-- hold with this link hold without it, except that the link's address stands in no link.
 use Prim.Native.Nat.{ℕ, _≤_}
 use mathlib.Core.Path.{_≡_, sym, _∙_}
 use mathlib.Core.Logic.{_≢_}
@@ -11,7 +11,7 @@ use Rattle.trie.specs.Storing.{grow}
 use Rattle.trie.proofs.Grow.{Grown, new, old, grown, grow-child, grow-child-full}
 
 module _ (t : Table) (q x c : ℕ) (empty : t .child q x ≡ 0) where
-  -- a link that is not empty is there with the last one too
+  -- a link that is not empty is the same once the last one is written
   there : (p i : ℕ) → t .child p i ≢ 0 → grow t q x c .child p i ≡ t .child p i
   there p i h = grow-child-full t q x c p i empty h
 
@@ -29,7 +29,7 @@ module _ (t : Table) (q x c : ℕ) (empty : t .child q x ≡ 0) where
   unlinked-once once p i r j h e =
       once p i r j (rw (there p i h) h) (there p i h ∙ e ∙ sym (there r j (rw (← e) h)))
 
-  -- every other address stands in the link that it stood in
+  -- every other address stands in a link
   pub unlinked-names : {g : ℕ} → Named (grow t q x c) g → (y : ℕ) → 1 ≤ y → y ≤ g → y ≢ c
       → (p : ℕ) × (i : ℕ) × (t .child p i ≡ y)
   unlinked-names named y low high other =
@@ -39,7 +39,7 @@ module _ (t : Table) (q x c : ℕ) (empty : t .child q x ≡ 0) where
       go (new _ _) e = absurd (other (sym e))
       go old e = e
 
-  -- and that of the last link in none
+  -- the address of the last link stands in none
   pub unlinked-none : c ≢ 0 → Once (grow t q x c) → (p i : ℕ) → t .child p i ≢ c
   unlinked-none h once p i e =
       let full : t .child p i ≢ 0 = rw e h in

@@ -1,6 +1,6 @@
--- Walks through a table. A walk is a list of links that are not empty, so it is known link by link
--- (`Walk`), and what ends at a node came through that node's one link: two keys that end at one
--- node are equal, link by link from the last.
+-- Walks through a table. A walk follows links that are not empty, so it is known link by link
+-- (`Walk`). A walk that ends at a node came through the only link to that node. So two keys that
+-- end at one node are equal (`one-key`), link by link from the last.
 use Prim.Native.Nat.{ℕ, zero, suc, _≤_, _<_}
 use mathlib.Core.List.{List, [], _∷_, _++_, reverse, reverse-cons, reverse-reverse}
 use mathlib.Core.Path.{_≡_, refl, sym, _∙_, ap, ap₂, subst}
@@ -11,7 +11,7 @@ use Rattle.trie.specs.Table.{Table, Descent, complete, stopped, follow, 
 use Rattle.trie.specs.Table.{answer, LettersBelow}
 use Rattle.trie.specs.Rules.{Framed, Within, Once}
 
--- an empty link gives what it gives where it is empty
+-- `follow` for an empty link, and for any other
 pub follow-empty {ℓ} : {X : Type ℓ} (c : ℕ) (empty : X) (on : ℕ → X) → c ≡ 0 → follow c empty on
     ≡ empty
 unfolding follow
@@ -49,7 +49,7 @@ descended {t} (end {q}) = descend-nil t q
 descended {t} (stop {q} {x} {xs} e) = descend-empty t q x xs e
 descended {t} (on {q} {x} {xs} h w) = descend-on t q x xs h ∙ descended w
 
--- one link and the walk behind it, where the link's address is c
+-- one link, and the walk from its node on
 next : (t : Table) (q x : ℕ) (xs : List ℕ) → ((c : ℕ) → Walk t c xs (descend t c xs))
     → Walk t q (x ∷ xs) (descend t q (x ∷ xs))
 next t q x xs rest = go (ℕ-discrete (t .child q x) 0)
@@ -65,7 +65,7 @@ descent t q (x ∷ xs) = next t q x xs (λ c. descent t c xs)
 pub walk : (t : Table) (q : ℕ) (k : List ℕ) {d : Descent} → descend t q k ≡ d → Walk t q k d
 walk t q k e = subst (λ (d : Descent). Walk t q k d) e (descent t q k)
 
--- a walk goes on from where it is complete
+-- a complete walk can go on from its last node
 append : {t : Table} {a q : ℕ} {k m : List ℕ} {d : Descent} → Walk t a k (complete q)
     → Walk t q m d → Walk t a (k ++ m) d
 append end w = w
@@ -75,7 +75,7 @@ pub descend-append : (t : Table) (a : ℕ) (k m : List ℕ) {q : ℕ} → descen
     → descend t a (k ++ m) ≡ descend t q m
 descend-append t a k m {q} e = descended (append (walk t a k e) (descent t q m))
 
--- a key whose walk is complete answers its node's data, any other 0
+-- a key whose walk is complete answers its node's data, any other key 0
 pub answer-complete : (t : Table) (k : List ℕ) {q : ℕ} → descend t 0 k ≡ complete q
     → answer t k ≡ t .value q
 unfolding answer valueAt
@@ -92,7 +92,7 @@ last : {t : Table} {a q : ℕ} (k : List ℕ) (x : ℕ) → Walk t a (k ++ (x �
 last {a = a} [] x (on h end) = (a, end, refl, h)
 last (y ∷ k) x (on h w) = let (p, v, e, f) = last k x w in (p, on h v, e, f)
 
--- a complete walk from the root, read from its last letter
+-- two complete walks from the root to one node, with their keys read from the last letter
 unique : {t : Table} {q : ℕ} (k m : List ℕ) → Once t → Walk t 0 (reverse k) (complete q)
     → Walk t 0 (reverse m) (complete q) → k ≡ m
 unique [] [] once v w = refl
@@ -104,7 +104,7 @@ unique {t} (x ∷ k) (y ∷ m) once v w =
     let both : (p ≡ p′) × (x ≡ y) = once p x p′ y (rw e h) (e ∙ sym e′) in
     ap₂ _∷_ (both .1) (unique k m once v′ (rw (both .0) w′))
 
--- two keys that walk to one node are equal
+-- two keys whose walks end at one node are equal
 pub one-key : (t : Table) (k m : List ℕ) {q : ℕ} → Once t → descend t 0 k ≡ complete q
     → descend t 0 m ≡ complete q → k ≡ m
 one-key t k m {q} once e f = sym (reverse-reverse k) ∙ ap reverse same ∙ reverse-reverse m
@@ -114,7 +114,7 @@ one-key t k m {q} once e f = sym (reverse-reverse k) ∙ ap reverse same ∙ rev
         unique {t = t} {q = q} (reverse k) (reverse m) once (rw reverse-reverse (walk t 0 k e))
         (rw reverse-reverse (walk t 0 m f))
 
--- where a walk is
+-- a complete walk from a node up to g ends at a node up to g
 inside : {t : Table} {a q : ℕ} {k : List ℕ} (g : ℕ) → Within t g → a ≤ g → Walk t a k (complete q)
     → q ≤ g
 inside g within h end = h
@@ -151,7 +151,7 @@ pub stopped-within : (t : Table) (g : ℕ) (k : List ℕ) {q x : ℕ} {xs : List
 stopped-within t g k within e =
     let s = where-stopped t 0 k e in complete-within t g (s .path) within (s .reaches)
 
--- a complete walk meets no letter outside the table
+-- a complete walk has no letter outside the table
 short : {t : Table} {g n a q : ℕ} {k : List ℕ} → Framed t g n → Walk t a k (complete q)
     → LettersBelow n k
 short framed end = tt

@@ -1,23 +1,24 @@
--- A trie as a table of nodes, and the walk through it (01, "Walking, storing, listing"). No bytes:
--- `node` turns an image into a table. A node is its address, the root is 0, and link 0 is empty.
+-- A trie as a table of nodes, and the walk through it (01, "Walking, storing, listing"). A table
+-- has no bytes; the crate `node` makes a table of an image. A node is known by its address, the
+-- root is 0, and link 0 is empty.
 use Prim.Native.Nat.{ℕ, zero, suc, _<_}
 use mathlib.Core.Bool.{Bool, cond}
 use mathlib.Core.Option.{Option, none, some}
 use mathlib.Core.List.{List, [], _∷_}
 use lib.ListN.{length}
 
--- the link of a node for each letter number, and the data of a node
+-- a node's link for each letter number, and a node's data
 pub record Table : Type 0 where
   pub child : ℕ → ℕ → ℕ
   pub value : ℕ → ℕ
 
--- what an empty link gives, or what any other link's address gives
+-- `empty` for an empty link; for any other link, what `on` gives for its address
 unfoldable pub follow {ℓ} : {X : Type ℓ} → ℕ → X → (ℕ → X) → X
 follow zero empty on = empty
 follow (suc c) empty on = on (suc c)
 
--- How a key's walk ends: at the key's own node, or at an empty link. There it names the node that
--- holds the empty link, the letter that met it and the letters after that one.
+-- How a key's walk ends: at the key's own node, or at an empty link. `stopped` has the node that
+-- holds the empty link, the letter of this link and the letters after it.
 pub data Descent : Type 0 where
   complete : ℕ → Descent
   stopped : ℕ → ℕ → List ℕ → Descent
@@ -49,9 +50,9 @@ unfoldable pub missing : Descent → ℕ
 missing (complete q) = 0
 missing (stopped q x xs) = suc (length xs)
 
--- "the first refusal met on the way down is the answer, and its place is the node that holds that
--- link": the node of the first link on the key's path that is bad, where there is one. An empty
--- link ends the path.
+-- "the first refusal met on the way down is the answer, and its place is the node that holds
+-- that link": the node that holds the first bad link on the key's path, if there is one. An
+-- empty link ends the path.
 unfoldable pub fault : (ℕ → ℕ → Bool) → Table → ℕ → List ℕ → Option ℕ
 unfolding follow
 fault bad t q [] = none

@@ -1,1 +1,1 @@
-// Tables of nodes and their laws: definitions and proofs alone, no code.
+// Tables of nodes and their laws. This crate has definitions and proofs, and no code.
