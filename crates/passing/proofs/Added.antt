@@ -1,5 +1,6 @@
--- The new nodes of a store lie on the key's path. A new path links each node to the next by the
--- key's letters, so the key passes all of them; and what led to the empty link still leads there.
+-- The new nodes of a store are on the key's path. A new path links each node to the next by the
+-- key's letters, so the key passes all of them. The letters before the empty link still lead to
+-- its node.
 use Prim.Native.Nat.{ℕ, suc, _+_, _≤_, _<_}
 use native.Mathlib.Decide.{ℕ-discrete}
 use native.Mathlib.Omega.{arith}
@@ -17,14 +18,14 @@ use Rattle.trie.proofs.Storing.{Store, over, unchanged, longer, store}
 use Rattle.passing.specs.Passing.{passes}
 use Rattle.passing.proofs.Passing.{passes-here, passes-link, passes-prefix, prefix-passes}
 
--- a value put changes no walk
+-- putting a value changes no walk
 put-passes : (t : Table) (p v q r : ℕ) (k : List ℕ) → passes (put t p v) q r k ≡ passes t q r k
 unfolding passes put
 put-passes t p v q r [] = refl
 put-passes t p v q r (x ∷ k) =
     λ i. eqb r q || follow (t .child r x) false (λ c. put-passes t p v q c k i)
 
--- what is passed from a node on is passed by whoever comes to that node
+-- a key that comes to a node passes what is passed from there on
 passes-from : (t : Table) (q p : ℕ) {r : ℕ} (k m : List ℕ) → descend t p k ≡ complete r
     → passes t q r m ≡ true
     → passes t q p (k ++ m) ≡ true
@@ -35,7 +36,7 @@ passes-from t q p {r} k m e f =
     ap (passes t q p) whole ∙ prefix-passes t q p (k ++ s .path) (s .rest)
     (descend-append t p k (s .path) e ∙ s .reaches)
 
--- one letter on, to a link's node that is not beyond the one sought
+-- one letter on, by a link to a node that is not above the one sought
 passes-step : (t : Table) (q p x c : ℕ) (xs : List ℕ) → t .child p x ≡ c → p < c → c ≤ q
     → passes t q p (x ∷ xs) ≡ passes t q c xs
 passes-step t q p x c xs e h low =

@@ -1,6 +1,6 @@
--- Which keys pass a node. A key passes a node if a part at its front walks there, so what is known
--- of walks is known of passing: a node has one key, and below its own links no key comes to it
--- again.
+-- Which keys pass a node. A key passes a node if its first letters walk there, so the laws
+-- follow from those on walks: a node has one key, and from the links of a node no key comes to
+-- that node again.
 use Prim.Native.Nat.{ℕ, _<_, _≤_}
 use native.Mathlib.Omega.{arith}
 use native.Mathlib.Decide.{ℕ-discrete}
@@ -23,7 +23,7 @@ module _ (t : Table) (q : ℕ) where
   passes-here [] = eq-eqb q q refl
   passes-here (x ∷ k) = rw (eq-eqb q q refl)
 
-  -- at any other node it takes a letter
+  -- if it begins at another node, it needs a letter
   pub passes-nil : (p : ℕ) → p ≢ q → passes t q p [] ≡ false
   unfolding passes
   passes-nil p other = ne-eqb p q other
@@ -79,7 +79,7 @@ module _ (t : Table) (q : ℕ) where
       go (no other) (no full) below =
           through p x k full (below (t .child p x) (sym (passes-link p x k other full) ∙ e))
 
-  -- and the other way
+  -- the converse
   along : {p : ℕ} {m : List ℕ} → Walk t p m (complete q) → (r : List ℕ) → passes t q p (m ++ r)
       ≡ true
   along end r = passes-here r
@@ -94,19 +94,19 @@ module _ (t : Table) (q : ℕ) where
       ≡ true
   prefix-passes p m r e = along (walk t p m e) r
 
--- where a test holds only for what cannot be
+-- a test is false if it cannot be true
 pub refuted : (b : Bool) → ¬ (b ≡ true) → b ≡ false
 refuted true h = absurd (h refl)
 refuted false h = refl
 
--- a node that a key reaches, and the nodes of its links
+-- the node of a link is reached by one letter more
 pub child-reached : (t : Table) (k : List ℕ) (x : ℕ) {p : ℕ} → descend t 0 k ≡ complete p
     → t .child p x ≢ 0
     → descend t 0 (k ++ (x ∷ [])) ≡ complete (t .child p x)
 child-reached t k x {p} e full =
     descend-append t 0 k (x ∷ []) e ∙ descend-on t p x [] full ∙ descend-nil t (t .child p x)
 
--- a key that passes a node goes on from that node's own key
+-- a key that passes a node extends that node's own key
 pub passes-extends : (t : Table) (k : List ℕ) {p : ℕ} → Once t → descend t 0 k ≡ complete p
     → (j : List ℕ) → passes t p 0 j ≡ true → (r : List ℕ) × (j ≡ k ++ r)
 passes-extends t k {p} once e j f =
@@ -126,7 +126,7 @@ never-again t k x {p} once e full j = refuted _ (λ f. apart (passes-prefix t p 
         descend-append t 0 k (x ∷ m) e ∙ descend-on t p x m full ∙ s .reaches in
         omega (arith, ap length (one-key t k (k ++ (x ∷ m)) once e again), length-append k (x ∷ m))
 
--- nor to one outside the table
+-- no key comes to a node outside the table
 pub passes-within : (t : Table) (g q p : ℕ) (k : List ℕ) → Within t g → p ≤ g → g < q
     → passes t q p k ≡ false
 passes-within t g q p [] within low high = passes-nil t q p (λ e. omega arith)

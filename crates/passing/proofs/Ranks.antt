@@ -1,6 +1,6 @@
--- Positions in a list of keys. In a list in order the keys before one that is held are those that
--- stand before it, so its rank is its position; and of keys that begin with one letter all come
--- before a key with a later letter, none before one with an earlier.
+-- Positions among keys. If the keys are in order, those that come before a key are those before
+-- it in the list, so its rank is its position. Keys that begin with one letter all come before a
+-- key with a later first letter, and none comes before a key with an earlier one.
 use Prim.Native.Nat.{ℕ, zero, suc, _+_, _-_, _≤_, _<_}
 use native.Mathlib.Omega.{arith}
 use mathlib.Core.Bool.{true, false}
@@ -19,7 +19,7 @@ use Rattle.trie.proofs.Filter.{filter-in, filter-out, filter-append, filter-map
 use Rattle.trie.proofs.Filter.{filter-every, filter-length, filter-all, first-filter}
 use Rattle.passing.specs.Passing.{keyAt, rankIn}
 
--- The key at a position.
+-- ---- the key at a position
 
 pub at-left : (xs ys : List (List ℕ)) (i : ℕ) → i < length xs → keyAt (xs ++ ys) i ≡ keyAt xs i
 unfolding keyAt
@@ -69,7 +69,7 @@ at-below [] i {k} e = absurd (Option·some-ne-none k (sym e))
 at-below (m ∷ keys) zero e = omega arith
 at-below (m ∷ keys) (suc i) e = let h = at-below keys i e in omega arith
 
--- How many keys of a list come before a key.
+-- ---- how many keys come before a key
 
 pub rank-few : (keys : List (List ℕ)) (k : List ℕ) → rankIn keys k ≤ length keys
 unfolding rankIn
@@ -82,7 +82,7 @@ rank-append xs ys k =
     ap length (filter-append (λ m. before m k) xs ys) ∙ length-append (filter (λ m. before m k) xs)
     (filter (λ m. before m k) ys)
 
--- where none does, where all do
+-- if none does, and if all do
 rank-none : (keys : List (List ℕ)) (k : List ℕ)
     → ((m : List ℕ) → List·Memᴰ m keys → before m k ≡ false) → rankIn keys k ≡ 0
 unfolding rankIn
@@ -93,7 +93,7 @@ rank-every : (keys : List (List ℕ)) (k : List ℕ)
 unfolding rankIn
 rank-every keys k h = ap length (filter-every (λ m. before m k) keys h)
 
--- no key comes before the empty one
+-- no key comes before the empty key
 pub rank-nil : (keys : List (List ℕ)) → rankIn keys [] ≡ 0
 unfolding before
 rank-nil keys = rank-none keys [] (λ m a. first m)
@@ -102,7 +102,7 @@ rank-nil keys = rank-none keys [] (λ m a. first m)
     first [] = refl
     first (x ∷ m) = refl
 
--- keys that begin with a lower letter, the same, a higher one
+-- keys that begin with a lower letter, with the same letter, and with a higher one
 pub rank-lower : (i x : ℕ) (keys : List (List ℕ)) (k : List ℕ) → i < x
     → rankIn (map (i ∷_) keys) (x ∷ k) ≡ length keys
 rank-lower i x keys k h =
@@ -127,7 +127,7 @@ rank-higher i x keys k h =
     ap (λ (j : List ℕ). before j (x ∷ k)) (sym e) ∙ before-asym (x ∷ k) (i ∷ r)
     (before-lower x i k r h))
 
--- a node's own key comes before all that extend it
+-- a node's own key comes before all keys that extend it
 pub rank-own : (t : Table) (short q x : ℕ) (k : List ℕ) → rankIn (ownKey t short q) (x ∷ k)
     ≡ length (ownKey t short q)
 unfolding before
@@ -135,9 +135,9 @@ rank-own t short q x k =
     rank-every (ownKey t short q) (x ∷ k)
     (λ m a. ap (λ (j : List ℕ). before j (x ∷ k)) (own-cases t short q a .0))
 
--- Rank and position are one.
+-- ---- rank and position are the same
 
--- at the first key, and behind it
+-- at the first key, and after it
 rank-here : (m : List ℕ) (keys : List (List ℕ)) → Ascending (m ∷ keys) → rankIn (m ∷ keys) m ≡ 0
 rank-here m keys up =
     rank-none (m ∷ keys) m (λ j a.
@@ -177,7 +177,7 @@ pub rank-below : (keys : List (List ℕ)) (k : List ℕ) → Ascending keys → 
     → rankIn keys k < length keys
 rank-below keys k up a = at-below keys (rankIn keys k) (rank-at keys k up a)
 
--- Positions as steps of next key.
+-- ---- positions as steps of next key
 
 first-at : (keys : List (List ℕ)) → firstOf keys ≡ keyAt keys 0
 unfolding firstOf keyAt
@@ -187,7 +187,7 @@ first-at (k ∷ keys) = refl
 pub at-first : (keys : List (List ℕ)) → firstMeeting (meets false []) keys ≡ keyAt keys 0
 at-first keys = first-filter (meets false []) keys ∙ ap firstOf (filter-all keys) ∙ first-at keys
 
--- what comes after the key at a position, sifted
+-- the first of the keys after the key at a position
 after-at : (keys : List (List ℕ)) (i : ℕ) {k : List ℕ} → Ascending keys → keyAt keys i ≡ some k
     → firstOf (filter (meets true k) keys) ≡ keyAt keys (suc i)
 unfolding keyAt meets

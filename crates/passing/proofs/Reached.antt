@@ -1,6 +1,6 @@
--- The count of a node that a key reaches. The keys that pass it are that key followed by each key
--- at or under the node: both lists stand in order and hold the same keys. So a node outside the
--- table, or deeper than a key may be, counts none.
+-- The count of a node that a key reaches. The keys that pass it are that key followed by each
+-- key at or under the node: both lists are in order and hold the same keys. A node outside the
+-- table, or deeper than a key may be, has the count 0.
 use Prim.Native.Nat.{ℕ, zero, suc, _+_, _-_, _<_, _≤_}
 use native.Mathlib.Omega.{arith}
 use mathlib.Core.Bool.{true}
@@ -17,7 +17,7 @@ use Rattle.trie.proofs.Listing.{under-listed, keysUnder-holds, keysUnder-ascend
 use Rattle.passing.specs.Passing.{passes, countAt, oneForEach}
 use Rattle.passing.proofs.Passing.{prefix-passes, passes-extends, passes-within, refuted}
 
--- one path in front of keys leaves their order
+-- a path put before keys leaves their order
 before-path : (k a b : List ℕ) → before (k ++ a) (k ++ b) ≡ before a b
 before-path [] a b = refl
 before-path (x ∷ k) a b = before-cons x (k ++ a) (k ++ b) ∙ before-path k a b
@@ -31,11 +31,11 @@ path-ascending k (a ∷ l) up = (
 )
 
 module _ {t : Table} {g n : ℕ} (linked : Linked t g n) (least most : ℕ) where
-  -- what is listed at the node p of key k, written from there on
+  -- the keys that are listed at the node p of key k, written from there on
   abbrev rests : List ℕ → ℕ → List (List ℕ)
   rests k p = keysUnder t n (least - length k) (most - length k) p
 
-  -- a key that goes on from the node's key does so by one that is listed there
+  -- if a key extends the node's own key, the rest of it is listed there
   onward : (k : List ℕ) {p : ℕ} → descend t 0 k ≡ complete p → (r : List ℕ)
       → List·Memᴰ (k ++ r) (listing t n least most)
       → List·Memᴰ r (rests k p)
@@ -58,7 +58,7 @@ module _ {t : Table} {g n : ℕ} (linked : Linked t g n) (least most : ℕ) wher
         λ z. f .full (sym (ap (valueAt t) ends) ∙ z),
       )
 
-  -- and the other way
+  -- the converse
   behind : (k : List ℕ) {p : ℕ} → descend t 0 k ≡ complete p → length k ≤ most → (r : List ℕ)
       → List·Memᴰ r (rests k p)
       → List·Memᴰ (k ++ r) (listing t n least most)
@@ -81,7 +81,7 @@ module _ {t : Table} {g n : ℕ} (linked : Linked t g n) (least most : ℕ) wher
         λ z. f .full (sym (ap (valueAt t) ends) ∙ z),
       )
 
-  -- the keys that pass a node: its own key, followed by what stands at or under it
+  -- the keys that pass a node: its own key, followed by each key at or under it
   pub passing-keys : (k : List ℕ) {p : ℕ} → descend t 0 k ≡ complete p → length k ≤ most
       → filter (passes t p 0) (listing t n least most) ≡ map (k ++_)
       (keysUnder t n (least - length k) (most - length k) p)

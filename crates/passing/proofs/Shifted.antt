@@ -1,6 +1,6 @@
--- What a store does to the counts. A link that is not empty stays, so a key that is stored passes
--- the nodes that it passed; then the keys that pass a node are the same before and after, but for
--- the key stored, which is among them where it is stored and passes.
+-- What a store does to the counts. A link that is not empty stays, so a stored key passes the
+-- same nodes as before. So the keys that pass a node are the same before and after, except for
+-- the key that the store is for: it is among them if it is stored and passes the node.
 use Prim.Native.Nat.{ℕ, zero, suc, _+_, _≤_}
 use native.Mathlib.Decide.{decLe}
 use native.Mathlib.Omega.{arith}
@@ -21,15 +21,15 @@ use Rattle.trie.proofs.Count.{Alike, one-more, same-but, listed-others, stored-
 use Rattle.trie.proofs.Storing.{stored-child, stored-answer}
 use Rattle.passing.specs.Passing.{passes, countAt, one}
 
--- Walks that stay.
+-- ---- walks that stay
 
--- a walk passes its first node, or passes on
+-- a walk passes its first node, or a later one
 passes-on : (t : Table) (q p x : ℕ) (xs : List ℕ) → t .child p x ≢ 0 → passes t q p (x ∷ xs)
     ≡ eqb p q || passes t q (t .child p x) xs
 unfolding passes
 passes-on t q p x xs h = ap (eqb p q ||_) (follow-on (t .child p x) false (λ c. passes t q c xs) h)
 
--- where every link of t that is not empty stands in s, a complete walk passes the same nodes
+-- if s has every link of t that is not empty, a complete walk passes the same nodes in both
 walk-passes : (t s : Table) (q : ℕ) {p r : ℕ} {j : List ℕ}
     → ((p i : ℕ) → t .child p i ≢ 0 → s .child p i ≡ t .child p i)
     → Walk t p j (complete r) → passes s q p j ≡ passes t q p j
@@ -50,14 +50,14 @@ link-stays {t} {g} f k v p i full =
     inside (yes h) = h
     inside (no h) = absurd (full (f .no-node p i (omega arith)))
 
--- a key with a complete walk passes the nodes that it passed
+-- a key with a complete walk passes the same nodes as before
 pub complete-passes : {t : Table} {g n : ℕ} → Framed t g n → (k : List ℕ) (v q : ℕ) (j : List ℕ)
     {r : ℕ} → descend t 0 j ≡ complete r
     → passes (stored t g k v) q 0 j ≡ passes t q 0 j
 complete-passes {t} {g} f k v q j e =
     walk-passes t (stored t g k v) q (link-stays f k v) (walk t 0 j e)
 
--- and so does one that is stored
+-- so does a stored key
 pub stored-passes : {t : Table} {g n : ℕ} → Framed t g n → (k : List ℕ) (v q : ℕ) (j : List ℕ)
     → answer t j ≢ 0
     → passes (stored t g k v) q 0 j ≡ passes t q 0 j
@@ -67,10 +67,10 @@ stored-passes {t} {g} f k v q j full = go (descend t 0 j) refl
     go (complete r) e = complete-passes f k v q j e
     go (stopped p x xs) e = absurd (full (answer-stopped t j e))
 
--- Counts.
+-- ---- counts
 
--- lists in order that differ in k at most: it stands in l where x is not 0, in m where y is not 0,
--- and in neither unless b is true
+-- Lists in order that differ at most in k. It is in l if x is not 0 and b is true, and in m if y
+-- is not 0 and b is true.
 counted : (l m : List (List ℕ)) (k : List ℕ) (b : Bool) (x y : ℕ) → Ascending l → Ascending m
     → (List·Memᴰ k l ↔ ((x ≢ 0) × (b ≡ true)))
     → (List·Memᴰ k m ↔ ((y ≢ 0) × (b ≡ true)))
@@ -98,8 +98,8 @@ counted l m k true (suc x) (suc y) hl hm in-l in-m others =
     (λ a. in-m .1 (omega arith, refl), λ a. in-l .1 (omega arith, refl)) in
     ap (λ (l : List (List ℕ)). length l + 1) (sym (same-but l m k hl hm own others))
 
--- two tables that answer alike for every key but k, and a test for each; the tests are the same on
--- what the first table stores
+-- two tables that answer alike for every key but k, and a test for each; for the keys that are
+-- present in the first table the tests agree
 shift : {t s : Table} {g h n least most : ℕ} {k : List ℕ} → Alike t s g h n least most k
     → (p r : List ℕ → Bool)
     → ((j : List ℕ) → answer t j ≢ 0 → r j ≡ p j)
@@ -133,7 +133,7 @@ shift {t} {s} {n = n} {least} {most} {k} a p r same =
     full : (j : List ℕ) → List·Memᴰ j (listing t n least most) → answer t j ≢ 0
     full j c = listing-holds (a .from) least most j .0 c .2
 
-    -- in the first listing too the second test decides
+    -- in the first listing too, the second test decides
     passed : (j : List ℕ) → List·Memᴰ j (filter p (listing t n least most))
         ↔ (List·Memᴰ j (listing t n least most) × (r j ≡ true))
     passed j = (
@@ -143,7 +143,8 @@ shift {t} {s} {n = n} {least} {most} {k} a p r same =
           (f .0, sym (same j (full j (f .0))) ∙ f .1),
     )
 
--- the count at a node is greater or less by the key stored, where that passes the node
+-- the count of a node that the key passes goes down by one if the key was stored, and up by one
+-- if it is stored now
 pub stored-counts : {t : Table} {g n : ℕ} → Linked t g n → (k : List ℕ) → LettersBelow n k
     → (v least most : ℕ) → least ≤ length k → length k ≤ most → (q : ℕ)
     → countAt (stored t g k v) n least most q + cond (passes (stored t g k v) q 0 k)
@@ -155,7 +156,7 @@ stored-counts {t} {g} l k letters v least most low high q =
     rw (stored-answer l k letters v) at
     (shift a (passes t q 0) (passes (stored t g k v) q 0) (stored-passes (l .framed) k v q))
 
--- off the key's path counts stay
+-- off the key's path the counts stay
 pub stored-counts-off : {t : Table} {g n : ℕ} → Linked t g n → (k : List ℕ) → LettersBelow n k
     → (v least most : ℕ) → least ≤ length k → length k ≤ most → (q : ℕ)
     → passes (stored t g k v) q 0 k ≡ false

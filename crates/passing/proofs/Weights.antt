@@ -1,6 +1,6 @@
--- What the nodes at or under a node add to a count, letter by letter as `Beyond` takes the keys.
--- The sums are the counts: a key passes the node that it is counted at, or it passes that node
--- below one link; and below its own links no key comes to a node again.
+-- What the nodes at or under a node add to a count, letter by letter as in trie's `Beyond`. The
+-- sums are the counts: a key passes the node that is counted at once or by one link, and from
+-- the links of a node no key comes to that node again.
 use Prim.Native.Nat.{ℕ, zero, suc, pred, _+_, _-_, _<_, _≤_}
 use native.Mathlib.Omega.{arith}
 use native.Mathlib.Decide.{ℕ-discrete}
@@ -33,7 +33,7 @@ cond-same : (b : Bool) → _≡_ {A = ℕ} (cond b 0 0) 0
 cond-same true = refl
 cond-same false = refl
 
--- where no key comes by any letter, nothing is added
+-- if there is no key with any of the letters, nothing is added
 sum-none : (keys : ℕ → List (List ℕ)) (f : ℕ → ℕ) → ((i : ℕ) → keys i ≡ [] → f i ≡ 0)
     → (x m : ℕ) → byLetter keys x m ≡ [] → sumFrom f x m ≡ 0
 unfolding sumFrom byLetter
@@ -51,7 +51,7 @@ sum-none keys f h x (suc m) e =
     omega (arith, h x (no-length (keys x) (omega arith)), rest)
 
 module _ (t : Table) (n : ℕ) where
-  -- what is added by the link of letter i at node p
+  -- what the link of letter i at node p adds
   abbrev adds : ℕ → ℕ → ℕ → ℕ → ℕ → ℕ
   adds short left q p i = follow (t .child p i) 0 (λ c. weightAt t n (pred short) left q c)
 
@@ -62,13 +62,13 @@ module _ (t : Table) (n : ℕ) where
   weight-split short zero q p = omega arith
   weight-split short (suc left) q p = rw (sub-zero n)
 
-  -- past the last letter
+  -- nothing after the last letter
   pub weight-none : (short left q p x : ℕ) → n ≤ x → weightFrom t n short left q p x ≡ 0
   unfolding weightFrom sumFrom
   weight-none short zero q p x h = refl
   weight-none short (suc left) q p x h = let e : n - x ≡ 0 = omega arith in rw e
 
-  -- where no letter is allowed
+  -- nothing if no letter is allowed
   pub weight-shallow : (short q p x : ℕ) → weightFrom t n short 0 q p x ≡ 0
   unfolding weightFrom
   weight-shallow short q p x = refl
@@ -92,7 +92,7 @@ module _ (t : Table) (n : ℕ) where
             (λ c. weightAt t n (pred short) left q c) e,
       )
 
-  -- any other adds what its node adds
+  -- any other link adds what its node adds
   pub weight-link : (short left q p x : ℕ) → x < n → 0 < left → t .child p x ≢ 0
       → weightFrom t n short left q p x
       ≡ weightAt t n (pred short) (pred left) q (t .child p x) + weightFrom t n short left q p
@@ -106,7 +106,7 @@ module _ (t : Table) (n : ℕ) where
             (λ c. weightAt t n (pred short) left q c) full,
       )
 
-  -- a link that no key comes by adds nothing
+  -- a link without keys adds nothing
   link-blank : (short left q c : ℕ)
       → ((p : ℕ) → keysUnder t n short left p ≡ [] → weightAt t n short left q p ≡ 0)
       → follow c [] (λ p. keysUnder t n short left p) ≡ []
@@ -115,7 +115,7 @@ module _ (t : Table) (n : ℕ) where
   link-blank short left q zero on e = refl
   link-blank short left q (suc c) on e = on (suc c) e
 
-  -- where nothing lies below a node, no node there adds anything
+  -- if there is no key below a node, no node there adds anything
   below-blank : (short left q p : ℕ)
       → ((c : ℕ) → keysUnder t n (pred short) (pred left) c ≡ [] → weightAt t n (pred short)
       (pred left) q c ≡ 0)
@@ -184,12 +184,12 @@ sum-filter test keys f h x (suc m) =
     )
 
 module _ (t : Table) (n : ℕ) (once : Once t) (q : ℕ) where
-  -- what is to be shown of node p
+  -- what is to be shown for node p
   abbrev Weighed : ℕ → ℕ → ℕ → Type 0
   Weighed short left p =
       weightAt t n short left q p ≡ length (filter (passes t q p) (keysUnder t n short left p))
 
-  -- one link, where a test asks of the keys by its letter what its node asks of what follows
+  -- one link, if a test for the keys with its letter is the test of its node for what follows
   link-weighed : (test : List ℕ → Bool) (short left i c : ℕ)
       → (c ≢ 0 → Weighed short left c)
       → (c ≢ 0 → (k : List ℕ) → test (i ∷ k) ≡ passes t q c k)

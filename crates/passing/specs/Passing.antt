@@ -1,6 +1,6 @@
--- 02, Ask 7: "a lent list of counts, one for each node: how many stored keys lie at or under it",
--- and "the key at position i", on tables. A key lies at or under a node if its walk from the root
--- passes that node.
+-- 02, Ask 7, on tables: "a lent list of counts, one for each node: how many stored keys lie at
+-- or under it", and "the key at position i". A key lies at or under a node if its walk from the
+-- root passes that node.
 use Prim.Native.Nat.{ℕ, zero, suc}
 use mathlib.Core.Bool.{Bool, false, _||_}
 use mathlib.Core.Option.{Option, none, some}
@@ -10,15 +10,14 @@ use lib.ListN.{length}
 use Rattle.trie.specs.Table.{Table, follow}
 use Rattle.trie.specs.Keys.{listing, before, filter}
 
--- does the walk of a key from node p pass node q? It passes the nodes at its beginning and at its
--- end too.
+-- whether the walk of a key from node p passes node q; it also passes its first and its last node
 unfoldable pub passes : Table → ℕ → ℕ → List ℕ → Bool
 unfolding follow
 passes t q p [] = eqb p q
 passes t q p (x ∷ xs) = eqb p q || follow (t .child p x) false (λ c. passes t q c xs)
 
--- "how many stored keys lie at or under it", for keys of least to most letters in a table with n
--- letters
+-- "how many stored keys lie at or under it", for keys of `least` to `most` letters in a table
+-- with n letters
 unfoldable pub countAt : Table → ℕ → ℕ → ℕ → ℕ → ℕ
 unfolding filter passes
 countAt t n least most q = length (filter (passes t q 0) (listing t n least most))
@@ -28,7 +27,7 @@ unfoldable pub oneForEach : (ℕ → ℕ) → ℕ → ℕ → List ℕ
 oneForEach f a zero = []
 oneForEach f a (suc k) = f a ∷ oneForEach f (suc a) k
 
--- "the key at position i" of the listing, where there is one; positions count from 0
+-- "the key at position i" of the listing, if there is one; positions count from 0
 unfoldable pub keyAt : List (List ℕ) → ℕ → Option (List ℕ)
 keyAt [] i = none
 keyAt (k ∷ keys) zero = some k
@@ -39,7 +38,7 @@ unfoldable pub rankIn : List (List ℕ) → List ℕ → ℕ
 unfolding filter before
 rankIn keys k = length (filter (λ m. before m k) keys)
 
--- one key, where the data is not 0
+-- one key if the data is not 0, otherwise none
 unfoldable pub one : ℕ → ℕ
 one zero = 0
 one (suc v) = 1

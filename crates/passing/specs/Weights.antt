@@ -1,6 +1,7 @@
--- The counts as a walk through the tree adds them up: each node met adds the keys at or under it
--- to its own count. What is still to come below a node from a letter on is stated by itself, as
--- `Beyond.keysFrom` states the keys. (That the sums are the counts is a law: `weight-count`.)
+-- The counts of 02's Ask 7 ("how many stored keys lie at or under it"), as a walk through the
+-- tree adds them up: each node that it meets adds the number of keys at or under it to its own
+-- count. The law `weight-count` says that the sums are the counts. `weightFrom` is to the sums
+-- what `keysFrom` is to the keys.
 use Prim.Native.Nat.{ℕ, zero, suc, pred, _+_, _-_}
 use mathlib.Core.Bool.{cond}
 use lib.Dec.{eqb}
@@ -13,7 +14,8 @@ unfoldable pub sumFrom : (ℕ → ℕ) → ℕ → ℕ → ℕ
 sumFrom f x zero = 0
 sumFrom f x (suc m) = f x + sumFrom f (suc x) m
 
--- What the nodes at or under p add to the count of node q; `short` and `left` as in keysUnder.
+-- what the nodes at or under p add to the count of node q; `short` and `left` are as in
+-- `keysUnder`
 unfoldable pub weightAt : Table → ℕ → ℕ → ℕ → ℕ → ℕ → ℕ
 unfolding keysUnder follow sumFrom
 weightAt t n short zero q p = cond (eqb p q) (length (keysUnder t n short 0 p)) 0
@@ -21,7 +23,7 @@ weightAt t n short (suc left) q p =
     cond (eqb p q) (length (keysUnder t n short (suc left) p)) 0
     + sumFrom (λ i. follow (t .child p i) 0 (λ c. weightAt t n (pred short) left q c)) 0 n
 
--- what the nodes under p add whose letter there is x or a later one
+-- what the nodes under p add whose letter there is x or later
 unfoldable pub weightFrom : Table → ℕ → ℕ → ℕ → ℕ → ℕ → ℕ → ℕ
 unfolding weightAt follow sumFrom
 weightFrom t n short zero q p x = 0

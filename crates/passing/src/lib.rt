@@ -1,1 +1,2 @@
-// Which keys pass a node, and their laws: definitions and proofs alone, no code.
+// Which keys pass a node, counts, positions, and their laws on tables. This crate has
+// definitions and proofs, and no code.
