@@ -1,6 +1,5 @@
--- The seven fields among an image's bytes. They are what the first 28 bytes are (`head-same`), so
--- a write elsewhere leaves them; and the bytes of a number, read back, are the number, where it
--- fits the field.
+-- The seven fields among an image's bytes. They depend only on the first 28 bytes (`head-same`),
+-- so a write elsewhere leaves them. A number that fits its field is read as it was written.
 use mathlib.Core.Path.{_≡_, refl, sym, ap, _∙_}
 use mathlib.Core.Logic.{inl, inr}
 use Prim.Native.Nat.{ℕ, _+_, _^_, _≤_, _<_}
@@ -36,7 +35,7 @@ pub record Fit (h : Head) : Type 0 where
 pub fit-bounds : {h : Head} → Bounds h → h .g < 2 ^ 32 → Fit h
 fit-bounds b g = omega arith
 
--- ---- a head is what the first 28 bytes are
+-- ---- the head depends only on the first 28 bytes
 
 pub head-same : (l m : List ℕ) → ((k : ℕ) → k < fieldsLen → getD l k 0 ≡ getD m k 0)
     → headOf l ≡ headOf m
@@ -81,7 +80,7 @@ head-written l h b e =
     (headBytes h) 0 k 0 (omega arith) (omega arith))
     ∙ head-read h b
 
--- a list laid at the front that begins with a head
+-- a list that begins with a head, written at the front
 pub head-begun : (l : List ℕ) (h : Head) (rest : List ℕ) → Fit h → fieldsLen ≤ length l
     → headOf (sets l 0 (headBytes h ++ rest)) ≡ h
 head-begun l h rest b e =
@@ -101,7 +100,7 @@ pub total-outside : (l : List ℕ) (g p : ℕ) → totalAt + totalLen ≤ p → 
 total-outside l g p b =
     getD-outside l (digits totalLen g) totalAt p 0 (inr (omega (arith, length-digits totalLen g)))
 
--- the head has that G, and its other fields
+-- the head has that G, and its other fields are as before
 pub head-total : (l : List ℕ) (g : ℕ) → totalAt + totalLen ≤ length l → g < 2 ^ 32
     → headOf (putTotal l g)
     ≡ record {
@@ -123,13 +122,13 @@ head-total l g e b =
     (kept 4 (omega arith)) (kept 8 (omega arith)) (kept 12 (omega arith))
     (kept 16 (omega arith)) (kept 20 (omega arith)) (kept 24 (omega arith))
 
--- the old G, set again, leaves the image as it was
+-- setting the old G again gives back the old image
 pub total-back : (l : List ℕ) (g : ℕ) → Bytes l → totalAt + totalLen ≤ length l
     → putTotal (putTotal l g) (headOf l .g) ≡ l
 unfolding headOf
 total-back l g p e = written-back l totalAt totalLen g p e
 
--- how the fields are written: one after the other
+-- the fields, written one after the other, are the bytes of the head
 pub head-writes : (l : List ℕ) (h : Head) {s t u v w x y : List ℕ}
     → s ≡ putField l 0 4 (h .g) → t ≡ putField s 4 4 (h .n) → u ≡ putField t 8 4 (h .a)
     → v ≡ putField u 12 4 (h .d)

@@ -1,5 +1,5 @@
--- What is permitted in a head, as a record of named bounds and back. The test is a chain of tests
--- within limits, and a chain is true exactly where each of its links is.
+-- What is permitted in a head, as a record of named bounds. The test is a chain of tests within
+-- limits, and a chain is true exactly if each of its parts is true.
 use mathlib.Core.Path.{_≡_}
 use mathlib.Core.Bool.{true}
 use Prim.Native.Nat.{_^_, _≤_}
@@ -45,6 +45,6 @@ bounds h e =
       max-most = between-true (h .max) 0 mostLetters (t5 .1) .1;
     }
 
--- addresses of A bytes are 32 bits wide
+-- addresses of A bytes fit 32 bits
 pub addresses-fit : {h : Head} → Bounds h → 256 ^ h .a ≤ 2 ^ 32
 addresses-fit b = pow-le-pow-right (omega arith) (b .a-most)

@@ -1,6 +1,6 @@
--- Where nodes begin and how much is used. A node begins W bytes after the one before it, so that
--- all follows from the laws of a product; in a permitted head W is at most 1028, and no address
--- takes a place past 43 bits.
+-- Where nodes begin, and how many bytes are used. Each node begins W bytes after the one before
+-- it, so all follows from the laws of products. In a permitted head W is at most 1028, so for an
+-- address up to 2^32 a node's place is below 2^43.
 use mathlib.Core.Path.{_≡_, refl}
 use Prim.Native.Nat.{ℕ, _+_, _*_, _^_, _≤_, _<_}
 use native.Mathlib.Nat.{add-mul, suc-mul, one-le-mul, mul-le-mul, mul-le-mul-right}
@@ -10,7 +10,7 @@ use Rattle.head.specs.Fields.{mostLinks, mostLinkBytes, mostDataBytes, f
 use Rattle.head.specs.Fields.{nodePlace, usedLen}
 use Rattle.head.proofs.Permitted.{Bounds}
 
--- a row of w ends before a later one begins
+-- the end of a row of w, if a later row follows
 pub row : {p q : ℕ} (w : ℕ) → p < q → p * w + w ≤ q * w
 row {p} w h = rw (← suc-mul p w) (mul-le-mul-right w h)
 
@@ -50,13 +50,13 @@ pub place-most : {h : Head} (q : ℕ) → Bounds h → q ≤ 2 ^ 32 → nodePlac
 unfolding nodePlace
 place-most q b l = omega (arith, mul-le-mul l (width-most b), b .f-most)
 
--- ---- what is used
+-- ---- the used length
 
 pub used : (h : Head) → usedLen h ≡ fieldsLen + h .f + (h .g + 1) * nodeWidth h
 unfolding usedLen
 used h = refl
 
--- nodes up to G end within what is used
+-- the nodes up to G end within the used length
 pub used-le : (h : Head) (q : ℕ) → q ≤ h .g + 1 → nodePlace h q ≤ usedLen h
 unfolding usedLen
 used-le h q b = place-le h q (h .g + 1) b

@@ -1,6 +1,6 @@
--- 01, "The image": the head is seven 32-bit fields, in the order G, N, A, D, F, min, max, then F
--- bytes of alphabet; the table of what is permitted; the node width W, where a node begins, and
--- the used length U.
+-- 01, "The image": "The head is seven 32-bit fields, in this order, then F bytes": G, N, A, D,
+-- F, min and max, then the alphabet. Here are their limits, the column "Permitted" of 01's
+-- table, the node width W, where a node begins, and the used length U.
 use Prim.Native.Nat.{ℕ, _+_, _*_}
 use mathlib.Core.Bool.{Bool, _&&_}
 use mathlib.Core.List.{List, _++_}
@@ -8,31 +8,35 @@ use Rattle.field.specs.Field.{fieldAt, digits, putField}
 use Rattle.field.specs.Range.{between}
 use Rattle.head.specs.declared.Head.{Head}
 
--- "The head's own ceilings are named once, as constants of the head."
+-- "The head's own ceilings are named once, as constants of the head": the greatest N
 abbrev pub mostLinks : ℕ
 mostLinks = 256
 
+-- the greatest A
 abbrev pub mostLinkBytes : ℕ
 mostLinkBytes = 4
 
+-- the greatest D
 abbrev pub mostDataBytes : ℕ
 mostDataBytes = 4
 
+-- the greatest F
 abbrev pub mostAlphabet : ℕ
 mostAlphabet = 1024
 
+-- the greatest max
 abbrev pub mostLetters : ℕ
 mostLetters = 64
 
--- what follows from them: the most nodes on a key's path, the root among them; the most writes of
--- a store, a new node for each letter, G and a link; and the numbers in the list of so many
--- writes, two for each
+-- the most nodes on a key's path: the root and a node for each letter
 abbrev pub mostPath : ℕ
 mostPath = mostLetters + 1
 
+-- the most writes of a store: a new node for each letter, G and a link
 abbrev pub mostWrites : ℕ
 mostWrites = mostLetters + 2
 
+-- the numbers in a list of the most writes: two for each write
 abbrev pub mostNoted : ℕ
 mostNoted = 2 * mostWrites
 
@@ -40,20 +44,23 @@ mostNoted = 2 * mostWrites
 abbrev pub fieldsLen : ℕ
 fieldsLen = 28
 
--- where G stands among them, and how many bytes it takes
+-- the first byte of G
 abbrev pub totalAt : ℕ
 totalAt = 0
 
+-- the bytes of G
 abbrev pub totalLen : ℕ
 totalLen = 4
 
--- how short and how long an image may be
+-- the limits of 1, "image shorter than 28 or longer than 16,777,216 bytes": the shortest image
 abbrev pub shortestImage : ℕ
 shortestImage = fieldsLen
 
+-- and the longest
 abbrev pub longestImage : ℕ
 longestImage = 16777216
 
+-- the head at the front of an image
 unfoldable pub headOf : List ℕ → Head
 unfolding fieldAt
 headOf l =
@@ -67,7 +74,7 @@ headOf l =
       max = fieldAt l 24 4;
     }
 
--- the seven fields as they stand in an image
+-- the seven fields as bytes
 unfoldable pub headBytes : Head → List ℕ
 unfolding digits
 headBytes h =

@@ -1,6 +1,6 @@
 // The head of an image: its seven fields read and written, what is permitted in them, and the
-// lengths that follow from them. U is a 64-bit number: (G+1)*W is below 2^43, and a great G must
-// not wrap into range.
+// lengths that follow from them. Places and U are 64-bit numbers: (G+1)*W may need 43 bits, and
+// in 32 bits a great G would wrap into range.
 ghost use mathlib.Core.Path.{_≡_};
 ghost use mathlib.Core.Bool.{true};
 ghost use Prim.Native.Nat.{_+_, _≤_, _^_};
@@ -12,17 +12,25 @@ ghost use Rattle.head.specs.Fields.{shortestImage, longestImage, fieldsL
 ghost use Rattle.head.specs.Fields.{totalLen, headOf, headBytes, putTotal, permitted};
 ghost use Rattle.head.specs.Fields.{nodeWidth, nodePlace, usedLen};
 
+// The seven fields of 01's table, in the order in which they are in the image.
 pub struct Head {
+    // The greatest node address.
     pub g: u32,
+    // The links in a node.
     pub n: u32,
+    // The bytes in a link.
     pub a: u32,
+    // The bytes of data.
     pub d: u32,
+    // The bytes of the alphabet.
     pub f: u32,
+    // The letters in the shortest key.
     pub min: u32,
+    // The letters in the longest key.
     pub max: u32,
 }
 
-// Is an image of so many bytes neither too short nor too long?
+// Whether an image may have this length. If not, the refusal is 1.
 pub fn length_allowed(len: usize) -> bool
     ensures { λ r. ⌜ r ≡ between len shortestImage longestImage ⌝ }
 {
@@ -30,40 +38,46 @@ pub fn length_allowed(len: usize) -> bool
 }
 
 impl Head {
-    // The greatest number of links in a node, of bytes in a link, of bytes of data, of bytes of
-    // alphabet and of letters in a key.
+    // The greatest N: links in a node.
     pub const N_MOST: u32 = 256;
 
+    // The greatest A: bytes in a link.
     pub const A_MOST: u32 = 4;
 
+    // The greatest D: bytes of data.
     pub const D_MOST: u32 = 4;
 
+    // The greatest F: bytes of alphabet.
     pub const F_MOST: u32 = 1024;
 
+    // The greatest max: letters in a key.
     pub const MAX_MOST: u32 = 64;
 
-    // What follows from them: the greatest number of nodes on a key's path, of writes of a store,
-    // and of numbers in the list of these.
+    // The most nodes on a key's path: the root and a node for each letter.
     pub const PATH_MOST: u32 = Head::MAX_MOST + 1;
 
+    // The most writes of a store: a new node for each letter, G and the old link.
     pub const WRITES_MOST: u32 = Head::MAX_MOST + 2;
 
+    // The numbers in a list of the most writes: two for each write.
     pub const NOTED_MOST: u32 = 2 * Head::WRITES_MOST;
 
-    // The bytes of the seven fields, behind which the alphabet begins.
+    // The bytes of the seven fields. The alphabet begins after them.
     pub const FIELDS_LEN: usize = 28;
 
-    // Where G stands among them, and how many bytes it takes.
+    // The first byte of G.
     pub const TOTAL_AT: u32 = 0;
 
+    // The bytes of G.
     pub const TOTAL_LEN: u32 = 4;
 
-    // How short and how long an image may be.
+    // The bytes of the shortest image.
     pub const IMAGE_LEAST: usize = Head::FIELDS_LEN;
 
+    // The bytes of the longest image.
     pub const IMAGE_MOST: usize = 16777216;
 
-    // The seven fields at the front of an image.
+    // Reads the seven fields at the front of an image.
     pub fn read(image: &[u8]) -> Head
         requires { ⌜ fieldsLen ≤ length (now image) ⌝ }
         ensures { λ r. ⌜ r ≡ headOf (now (image .entry)) ⌝ }
@@ -79,7 +93,7 @@ impl Head {
         }
     }
 
-    // Puts the seven fields at the front of an image.
+    // Writes the seven fields at the front of an image.
     pub fn write(self, image: &mut [u8])
         requires { ⌜ fieldsLen ≤ length (now image) ⌝ }
         ensures { λ _. ⌜ now (image .exit) ≡ sets (now (image .entry)) 0 (headBytes self) ⌝ }
@@ -93,7 +107,7 @@ impl Head {
         field::write(image, 24, 4, self.max as u64);
     }
 
-    // G alone.
+    // Reads G alone.
     pub fn total(image: &[u8]) -> u32
         requires { ⌜ totalAt + totalLen ≤ length (now image) ⌝ }
         ensures { λ r. ⌜ r ≡ headOf (now (image .entry)) .g ⌝ }
@@ -101,7 +115,7 @@ impl Head {
         field::read4(image, Head::TOTAL_AT as usize)
     }
 
-    // Sets G.
+    // Writes G alone.
     pub fn set_total(image: &mut [u8], g: u32)
         requires { ⌜ totalAt + totalLen ≤ length (now image) ⌝ }
         ensures { λ _. ⌜ now (image .exit) ≡ putTotal (now (image .entry)) g ⌝ }
@@ -114,7 +128,7 @@ impl Head {
         );
     }
 
-    // Is every field as 01's table permits?
+    // Whether every field is as 01's table permits. If not, the refusal is 2.
     pub fn permitted(self) -> bool
         ensures { λ r. ⌜ r ≡ permitted self ⌝ }
     {
@@ -137,7 +151,7 @@ impl Head {
         (self.n as u64) * (self.a as u64) + (self.d as u64)
     }
 
-    // Where node q begins; q may be G+1, which is one above any address.
+    // The byte at which node q begins. q may be G+1, which is one above every address.
     pub fn node_place(self, q: u64) -> u64
         requires { ⌜ permitted self ≡ true ⌝ ∗ ⌜ q ≤ 2 ^ 32 ⌝ }
         ensures { λ r. ⌜ r ≡ nodePlace self q ⌝ }
@@ -145,7 +159,7 @@ impl Head {
         (Head::FIELDS_LEN as u64) + (self.f as u64) + q * self.node_width()
     }
 
-    // U, the bytes that the head, the alphabet and the nodes 0 to G take.
+    // U, the used length: the bytes of the head, the alphabet and the nodes 0 to G.
     pub fn used(self) -> u64
         requires { ⌜ permitted self ≡ true ⌝ }
         ensures { λ r. ⌜ r ≡ usedLen self ⌝ }
@@ -153,7 +167,7 @@ impl Head {
         self.node_place((self.g as u64) + 1)
     }
 
-    // Does an image of so many bytes hold what is used?
+    // Whether U is at most the length of the image. If not, the refusal is 4.
     pub fn fits(self, len: usize) -> bool
         requires { ⌜ permitted self ≡ true ⌝ }
         ensures { λ r. ⌜ r ≡ leb (usedLen self) len ⌝ }

@@ -1,5 +1,4 @@
--- `head::Head::fits` meets its contract: what it compares is U.
--- Assumes nothing.
+-- `head::Head::fits` meets its contract: it compares U with the length. Assumes nothing.
 use mathlib.Core.Path.{ap}
 use Prim.Native.Nat.{ℕ}
 use lib.Dec.{leb}

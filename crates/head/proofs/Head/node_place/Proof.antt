@@ -1,5 +1,5 @@
--- `head::Head::node_place` meets its contract. The place of no address up to 2^32 takes more than
--- 43 bits, so nothing wraps. Assumes nothing.
+-- `head::Head::node_place` meets its contract. For an address up to 2^32 the place is below
+-- 2^43, so nothing wraps. Assumes nothing.
 use native.Mathlib.Omega.{arith}
 use mathlib.Core.Path.{ap}
 use Prim.Native.Nat.{ℕ, _+_, _*_, _^_, _<_}

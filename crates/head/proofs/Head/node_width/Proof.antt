@@ -1,5 +1,5 @@
 -- `head::Head::node_width` meets its contract. In a permitted head N*A + D is at most 1028, so
--- neither product nor sum wraps. Assumes nothing.
+-- neither the product nor the sum wraps. Assumes nothing.
 use native.Mathlib.Omega.{arith}
 use mathlib.Core.Path.{refl}
 use Rattle.head.specs.Fields.{nodeWidth}

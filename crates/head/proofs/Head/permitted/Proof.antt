@@ -1,5 +1,5 @@
--- `head::Head::permitted` meets its contract. The code tests what the definition tests, in its
--- order, but for the least values of F, min and max, which are 0. Assumes nothing.
+-- `head::Head::permitted` meets its contract. The code makes the tests of the definition in their
+-- order, without those against the least values of F, min and max, which are 0. Assumes nothing.
 use mathlib.Core.Bool.{and-assoc}
 use lib.Dec.{leb·zero}
 use Rattle.head.specs.Fields.{permitted}

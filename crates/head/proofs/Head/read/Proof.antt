@@ -1,5 +1,5 @@
--- `head::Head::read` meets its contract: each field is the number that `field::read4` read at its
--- place. Assumes nothing.
+-- `head::Head::read` meets its contract: each field is the number that `field::read4` reads at
+-- its place. Assumes nothing.
 use Rattle.head.specs.Fields.{headOf}
 use Rattle.head.proofs.Fields.{head-eq}
 use borrow.Author.Needs.{needs}

@@ -1,5 +1,4 @@
--- `head::Head::total` meets its contract: G is the number at its place.
--- Assumes nothing.
+-- `head::Head::total` meets its contract: it reads the number at the place of G. Assumes nothing.
 use borrow.Author.Needs.{needs}
 use Rattle.head.specs.Fields.{headOf}
 use Rattle.head.proofs.Head.total.Statement.{statement}

@@ -1,5 +1,5 @@
--- `head::Head::used` meets its contract: U is where node G+1 would begin, and G+1 is at most 2^32.
--- Assumes nothing.
+-- `head::Head::used` meets its contract: U is where node G+1 would begin, and G+1 is at most
+-- 2^32. Assumes nothing.
 use Rattle.head.specs.Fields.{usedLen}
 use borrow.Author.Needs.{needs}
 use Rattle.head.proofs.Head.used.Statement.{statement}

@@ -1,5 +1,5 @@
--- `head::Head::write` meets its contract: seven fields written one after the other are the bytes
--- of the head, and no write changes the length. Assumes nothing.
+-- `head::Head::write` meets its contract: the seven fields, written one after the other, are the
+-- bytes of the head, and no write changes the length. Assumes nothing.
 use native.Mathlib.Omega.{arith}
 use Rattle.head.proofs.Fields.{head-writes}
 use borrow.Author.Needs.{needs}
