@@ -1,6 +1,6 @@
--- What the loops keep. Searching, no code passed is the one looked for. Judging, the codes so far
--- are the text's characters so far, all different, and none is above `top`: so a code above `top`
--- is new, and any other is new exactly if it is not among them.
+-- What the loops keep. In a search, none of the codes passed is the one sought, or `hit` is true.
+-- In the pass that judges, the codes so far are the characters so far, all different, and none is
+-- above `top`. So a code above `top` is new, and any other is new exactly if it is not among them.
 use mathlib.Core.Path.{_≡_, refl, sym, ap, _∙_, subst}
 use mathlib.Core.Logic.{_≢_}
 use mathlib.Core.Bool.{Bool, true, false, _||_, and-true, and-false, true≢false}
@@ -25,7 +25,7 @@ use Rattle.alphabet.proofs.Alphabets.{letter-most, letter-below, letter
 
 -- ---- searching
 
--- `hit` tells whether the code is among the first i of n
+-- `hit` is true exactly if the code is among the first i of n
 pub record Searching (codes : List ℕ) (n code : ℕ) (hit : Bool) (i : ℕ) : Type 0 where
   pub within : i ≤ n
   pub told : hit ≡ among code (take i codes)
@@ -54,7 +54,7 @@ module _ {codes : List ℕ} {n code : ℕ} {hit : Bool} {i : ℕ} (p : Searching
   searching-all h =
       let e : i ≡ n = omega arith in p .told ∙ ap (λ (k : ℕ). among code (take k codes)) e
 
--- the same search, where it stops at the code
+-- a search that stops at the code
 module _ {codes : List ℕ} {n code i : ℕ} (p : Searching codes n code false i)
     (room : n ≤ length codes) where
   pub searching-on : i < n → (getD codes i 0 ≡ code → ⊥) → Searching codes n code false (i + 1)
@@ -91,7 +91,7 @@ neither : (a b : Bool) → (a || b) ≡ false → (a ≡ false) × (b ≡ false)
 neither true b e = absurd (true≢false e)
 neither false b e = (refl, e)
 
--- four codes at once, none of which is the one looked for
+-- four codes at once, none of which is the one sought
 pub searching-four : {codes : List ℕ} {n code i : ℕ} → Searching codes n code false i
     → n ≤ length codes → i + 4 ≤ n
     → (((eqb (getD codes i 0) code || eqb (getD codes (i + 1) 0) code)
@@ -127,7 +127,7 @@ unfolding isAlphabet
 not-new n cs e none = refl
 not-new n cs e (some ds) = rw (repeated-append cs ds e) (and-false (eqb (length (cs ++ ds)) n))
 
--- what is judged so far: `count` codes, the bytes before place at
+-- what is judged so far: `count` codes, which are the characters of the bytes before `at`
 pub record Judging (n : ℕ) (bytes codes : List ℕ) (count top at : ℕ) : Type 0 where
   pub room : n ≤ length codes
   pub counted : count ≤ n
@@ -151,7 +151,7 @@ module _ {n : ℕ} {bytes codes : List ℕ} {count top at : ℕ} (p : Judging n 
     long : length (take count codes) ≡ count
     long = length-take-le count codes (omega (arith, p .room, p .counted))
 
-    -- one more character, that is new
+    -- one more character, which is new
     pub judging-more : {len code higher : ℕ} → count < n → len ≡ charLen bytes at → len ≢ 0
         → code ≡ charAt bytes at → among code (take count codes) ≡ false → top ≤ higher
         → code ≤ higher
@@ -173,7 +173,7 @@ module _ {n : ℕ} {bytes codes : List ℕ} {count top at : ℕ} (p : Judging n 
           );
         }
 
-    -- what is no alphabet is not called good
+    -- the answer is false if the bytes are no alphabet
     refused : goodAlphabet n bytes ≡ false → Judged n bytes false codes
     refused h =
         record { good = sym h; codes = λ q. absurd (let z : _≡_ {A = ℕ} 0 1 = cc in omega arith) }
@@ -182,7 +182,7 @@ module _ {n : ℕ} {bytes codes : List ℕ} {count top at : ℕ} (p : Judging n 
     unfolding goodAlphabet
     judging-ill h e = refused (rw (passed-ill (p .passed) h e))
 
-    -- the text begins with the characters so far and the one at the place, whatever follows
+    -- the bytes begin with the characters so far and the one at `at`, whatever follows
     begins : charLen bytes at ≢ 0
         → ((rest : Option (List ℕ))
         → isAlphabet n (prepend (take count codes ++ (charAt bytes at ∷ [])) rest) ≡ false)

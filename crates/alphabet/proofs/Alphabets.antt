@@ -1,6 +1,5 @@
--- The characters of an alphabet, and the letter number of each. The number is the place where the
--- character first stands: below the length exactly if it stands there at all, and then what stands
--- at that place is the character.
+-- The characters of an alphabet, and the letter number of each. The number is the first position
+-- of the character. It is below the alphabet's length exactly if the character is in the alphabet.
 use mathlib.Core.Path.{_≡_, refl, sym, _∙_}
 use mathlib.Core.Bool.{Bool, true, false, not, _&&_, _||_, and-false, or-assoc, or-false}
 use Prim.Native.Nat.{ℕ, suc, _+_, _≤_}
@@ -34,7 +33,7 @@ pub among-snoc : (c : ℕ) (cs : List ℕ) (d : ℕ) → among c (cs ++ (d ∷ [
 unfolding among
 among-snoc c cs d = among-append c cs (d ∷ []) ∙ rw (or-false (eqb c d))
 
--- one of the new ones twice, or an old one again, or two old ones the same
+-- the same tests, grouped by the first character x and by the last character c
 regroup : (a e x m : Bool) → (not (a || e) && (x && not m)) ≡ ((not a && x) && not (e || m))
 regroup true e x m = refl
 regroup false true true m = refl
@@ -85,7 +84,7 @@ pub letter-here : (c : ℕ) (cs : List ℕ) → letterOf (c ∷ cs) c ≡ 0
 unfolding letterOf
 letter-here c cs = rw (eq-eqb c c refl)
 
--- what does not stand in front stands as far behind
+-- if a character is not among the first ones, its number counts on after them
 pub letter-after : (cs ds : List ℕ) (c : ℕ) → among c cs ≡ false → letterOf (cs ++ ds) c
     ≡ length cs + letterOf ds c
 unfolding letterOf among
@@ -111,7 +110,7 @@ pub good-length : (n : ℕ) (bytes : List ℕ) → goodAlphabet n bytes ≡ true
 unfolding goodAlphabet letters
 good-length n bytes e = good-in n (chars bytes) e
 
--- no bytes have no letters
+-- an alphabet of no bytes has no letters
 pub no-letters : (bytes : List ℕ) → length bytes ≡ 0 → letters bytes ≡ []
 unfolding letters orEmpty chars charsFrom
 no-letters [] e = refl

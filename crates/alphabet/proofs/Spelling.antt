@@ -1,5 +1,5 @@
--- The key that a text names, letter by letter. A character outside the alphabet, or a place where
--- none stands, leaves the text without a key, whatever follows.
+-- The key that a text names, letter by letter. If a character is outside the alphabet or not
+-- well-formed, the text names no key, whatever follows.
 use mathlib.Core.Path.{_≡_, refl, ap, _∙_}
 use mathlib.Core.Logic.{_≢_}
 use mathlib.Core.Bool.{Bool, true, false, cond}
@@ -18,12 +18,12 @@ use Rattle.alphabet.specs.Letters.{keyOfText}
 
 -- ---- the letters of characters
 
--- a letter number behind the others, unless it stands outside the alphabet's n letters
+-- a letter number after the others, `none` if it is not one of the alphabet's n letters
 abbrev pub thenLetter : ℕ → Option (List ℕ) → ℕ → Option (List ℕ)
 thenLetter n none x = none
 thenLetter n (some xs) x = cond (ltb x n) (some (xs ++ (x ∷ []))) none
 
--- in front and behind, in either order
+-- one letter put before and one after, in either order
 swap : (n y : ℕ) (o : Option (List ℕ)) (x : ℕ) → withLetter n y (thenLetter n o x) ≡ thenLetter n
     (withLetter n y o) x
 unfolding withLetter
@@ -76,7 +76,7 @@ unfolding keyOfChars
 key-outside alphabet cs none e = refl
 key-outside alphabet cs (some ds) e = letters-outside alphabet cs ds e
 
--- ---- a loop over a text: xs are the letters of the characters before place at
+-- ---- a loop over a text: xs are the letters of the characters before `at`
 
 pub record Spelling (alphabet text xs : List ℕ) (at : ℕ) : Type 0 where
   pub characters : List ℕ
@@ -87,7 +87,7 @@ pub spelling-none : (alphabet text : List ℕ) → Spelling alphabet text [] 0
 unfolding lettersOfChars
 spelling-none alphabet text = record { characters = []; passed = passed-none text; spelled = refl }
 
--- one more character, well-formed, in the alphabet or not
+-- one more well-formed character, in the alphabet or not
 after : {alphabet text xs : List ℕ} {at : ℕ} (p : Spelling alphabet text xs at) → charLen text at
     ≢ 0
     → (Passed text (p .characters ++ (charAt text at ∷ [])) (at + charLen text at))

@@ -1,6 +1,6 @@
 -- Row 3 of 01's table, "not N different well-formed characters", as one pass over the alphabet
--- judges it: what it tells is whether the bytes are an alphabet, and the first codes are then its
--- letters.
+-- answers it. The answer is true exactly if the bytes are an alphabet, and the first n codes are
+-- then its letters.
 use Prim.Native.Nat.{ℕ}
 use mathlib.Core.Path.{_≡_}
 use mathlib.Core.Bool.{Bool, true}

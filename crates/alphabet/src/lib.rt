@@ -1,6 +1,6 @@
-// An alphabet: N different characters, judged and decoded in one pass, and the letter number of a
-// character. A pass over characters that ascend is linear: one above all before it is new, and
-// only another is searched for.
+// An alphabet: N different characters, judged and decoded in one pass, and the letter number of
+// a character. If the characters ascend, the pass takes linear time: a character above all
+// before it is new, and only another one is searched for.
 ghost use mathlib.Core.Path.{_≡_};
 ghost use mathlib.Core.Bool.{false};
 ghost use Prim.Native.Nat.{_≤_};
@@ -10,9 +10,9 @@ ghost use Rattle.alphabet.specs.Letters.{among, letterOf};
 ghost use Rattle.alphabet.specs.Judged.{Judged};
 use head::Head;
 
-// Are these bytes exactly n well-formed characters, all different? Then the first n of the lent
-// codes are the characters in order; what the codes hold otherwise is left open. As a slice the
-// array tells its length.
+// Whether these bytes are exactly n well-formed characters, all different. If they are, the
+// first n codes are the characters in order; otherwise the contract does not say what the codes
+// hold. The loop uses the array as a slice, since the proof then knows its length.
 pub fn judge(bytes: &[u8], n: usize, codes: &mut [u32; Head::N_MOST as usize]) -> bool
     requires { ⌜ n ≤ mostLinks ⌝ }
     ensures { λ r. ⌜ Judged n (now (bytes .entry)) r (now (codes .exit)) ⌝ }
@@ -44,8 +44,8 @@ pub fn judge(bytes: &[u8], n: usize, codes: &mut [u32; Head::N_MOST as usize]) -
     count == n
 }
 
-// Is the code among the first `count`? The loop has no early exit, so that it runs over several
-// codes at once.
+// Whether the code is among the first `count` codes. The loop has no early exit, so that the
+// compiler can compare several codes at once.
 fn is_among(codes: &[u32], count: usize, code: u32) -> bool
     requires { ⌜ count ≤ length (now codes) ⌝ }
     ensures { λ r. ⌜ r ≡ among code (take count (now (codes .entry))) ⌝ }
@@ -59,7 +59,7 @@ fn is_among(codes: &[u32], count: usize, code: u32) -> bool
     hit
 }
 
-// The letter number of a character among the first n codes, n where it is not there.
+// The letter number of a character among the first n codes, n if it is not among them.
 pub fn letter(codes: &[u32], n: usize, code: u32) -> usize
     requires { ⌜ n ≤ length (now codes) ⌝ }
     ensures { λ r. ⌜ r ≡ letterOf (take n (now (codes .entry))) code ⌝ }
@@ -74,8 +74,8 @@ pub fn letter(codes: &[u32], n: usize, code: u32) -> usize
     n
 }
 
-// A place among the first n codes before which the code does not stand. Four codes are compared at
-// once.
+// A place up to n such that the code is not among the codes before it. It compares four codes in
+// each turn.
 fn near(codes: &[u32], n: usize, code: u32) -> usize
     requires { ⌜ n ≤ length (now codes) ⌝ }
     ensures { λ r. ⌜ (r ≤ n) × (among code (take r (now (codes .entry))) ≡ false) ⌝ }

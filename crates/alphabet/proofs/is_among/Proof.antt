@@ -1,5 +1,5 @@
--- `alphabet::is_among` meets its contract. The answer so far is that of the codes passed. The
--- measure is the codes that are left. Assumes nothing.
+-- `alphabet::is_among` meets its contract. The answer so far is that for the codes passed. The
+-- measure is how many codes are left. Assumes nothing.
 use Prim.Native.Nat.{_-_}
 use native.Mathlib.Omega.{arith}
 use Rattle.alphabet.proofs.AlphabetLoops.{Searching, searching-none, searching-more}

@@ -1,6 +1,6 @@
--- `alphabet::judge` meets its contract. Each way out has its law: no character there, one too
--- many, one again, and the end, where the count alone decides. The measure is the bytes that are
--- left. Assumes nothing.
+-- `alphabet::judge` meets its contract. There is a law for each return: no character there, one
+-- too many, one that was there before, and the end, where only the count decides. The measure is
+-- how many bytes are left. Assumes nothing.
 use mathlib.Core.Logic.{_≢_, ⊎-elim}
 use Rattle.utf8.specs.Table37.{charLen}
 use Rattle.utf8.proofs.Characters.{character}
@@ -31,7 +31,7 @@ returns : tie.Need-returns Inv-loop μ-loop
 returns c = judging-ill (c .before .before .before .loop .inv) (omega arith)
     (sym (c .before .char-len .ensures) ∙ c .if1 .taken)
 
--- past the first test a character stands there
+-- after the first test there is a character
 stands : (c : tie.Else1 Inv-loop μ-loop)
     → charLen (c .before .before .before .before .before .before .args .bytes .now)
     (c .before .before .before .loop .at) ≢ 0
@@ -75,7 +75,7 @@ add-at c = omega (arith, whole (c .before .before .before))
 loop-less : tie.Need-loop-less Inv-loop μ-loop
 loop-less c = omega (arith, whole (c .before .before .before))
 
--- where the two ways meet the code is new, and none is above `top`
+-- where the two branches meet, the code is new, and no code is above `top`
 new : (c : tie.Joined3 Inv-loop μ-loop)
     → (among (c .before .char-at .result)
     (take (c .before .before .before .before .before .before .loop .count)

@@ -1,6 +1,6 @@
--- `alphabet::letter` meets its contract. No code passed is the one looked for, so where it is met
--- it stands first, and where it is not the number is the length. The measure is the codes that are
--- left. Assumes nothing.
+-- `alphabet::letter` meets its contract. None of the codes passed is the one sought. So if it is
+-- met, this is its first position; if it is not, the number is n. The measure is how many codes
+-- are left. Assumes nothing.
 use mathlib.Core.Path.{sym}
 use Prim.Native.Nat.{_-_}
 use native.Mathlib.Omega.{arith}

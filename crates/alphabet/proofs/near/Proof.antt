@@ -1,5 +1,5 @@
--- `alphabet::near` meets its contract: no code passed is the one looked for. The measure is the
--- codes that are left. Assumes nothing.
+-- `alphabet::near` meets its contract: none of the codes passed is the one sought. The measure
+-- is how many codes are left. Assumes nothing.
 use mathlib.Core.Path.{sym}
 use Prim.Native.Nat.{_-_}
 use native.Mathlib.Omega.{arith}
