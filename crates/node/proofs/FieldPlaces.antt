@@ -1,6 +1,6 @@
--- Where links and data stand. A link takes A bytes and the N links of a node stand before its
--- data, so each stands inside its node; nodes do not overlap, and no more do the fields of one
--- node.
+-- Where links and data are. A link has A bytes and the N links of a node come before its data,
+-- so each of these fields is inside its node. Nodes do not overlap, and neither do the fields of
+-- one node.
 use mathlib.Core.Path.{_≡_}
 use mathlib.Core.Logic.{_⊎_, inl, inr, _≢_}
 use Prim.Native.Nat.{ℕ, _+_, _*_, _≤_, _<_}
@@ -26,7 +26,7 @@ pub link-row : (h : Head) (q : ℕ) {i j : ℕ} → i < j → linkPlace h q i + 
 unfolding linkPlace
 link-row h q b = omega (arith, row (h .a) b)
 
--- and the last before the data, which stands where one more link would
+-- the last link ends before the data, which begins where one more link would
 pub link-to : (h : Head) (q : ℕ) {i : ℕ} → i < h .n → linkPlace h q i + h .a ≤ dataPlace h q
 unfolding linkPlace dataPlace
 link-to h q b = link-row h q b
@@ -39,7 +39,7 @@ pub data-to : (h : Head) (q : ℕ) → dataPlace h q + h .d ≡ nodePlace h (q +
 unfolding dataPlace
 data-to h q = omega (arith, place-add h q 1)
 
--- the field of w bytes at a place lies inside node q
+-- the field of w bytes at `at` is inside node q
 pub record Inside (h : Head) (q at w : ℕ) : Type 0 where
   pub from : nodePlace h q ≤ at
   pub to : at + w ≤ nodePlace h (q + 1)
@@ -50,25 +50,25 @@ link-inside h q {i} b = omega (arith, link-from h q i, link-to h q b, data-to h 
 pub data-inside : (h : Head) (q : ℕ) → Inside h q (dataPlace h q) (h .d)
 data-inside h q = omega (arith, data-from h q, data-to h q)
 
--- and so between the alphabet and the end of what is used
+-- and so between the alphabet and the end of the used length
 pub inside-least : {h : Head} {q at w : ℕ} → Inside h q at w → fieldsLen + h .f ≤ at
 inside-least {h} {q} s = omega (arith, place-least h q)
 
 pub inside-used : {h : Head} {q at w : ℕ} → Inside h q at w → q ≤ h .g → at + w ≤ usedLen h
 inside-used {h} {q} s b = omega (arith, used-le h (q + 1) (omega arith))
 
--- and so inside an image that was opened
+-- and so inside an image that is open
 pub inside-room : {h : Head} {q at w : ℕ} {l : List ℕ} → Inside h q at w → Open h l → q ≤ h .g
     → at + w ≤ length l
 inside-room s o b = omega (arith, inside-used s b)
 
--- what the links of a node take at most
+-- the most bytes that i links of a node take
 pub links-most : {h : Head} {i : ℕ} → Bounds h → i ≤ h .n → i * h .a ≤ mostLinks * mostLinkBytes
 links-most b l = let m = b .n-most in omega (arith, mul-le-mul (le-trans l m) (b .a-most))
 
 -- ---- no two overlap
 
--- two fields, of w bytes and of u, have no byte in common
+-- two fields, of w and of u bytes, have no byte in common
 abbrev pub Apart : ℕ → ℕ → ℕ → ℕ → Type 0
 Apart at w bt u = (bt + u ≤ at) ⊎ (at + w ≤ bt)
 

@@ -1,5 +1,5 @@
--- The bytes that a store leaves. A write changes the bytes it is laid over and no other; those of
--- a new node are the node's own, since a node is laid as zeros with one number among them.
+-- The bytes that a store leaves as they were. A write changes its own bytes and no other. The
+-- bytes of a new node are inside the node: it is cleared, and one number is written into it.
 use mathlib.Core.Path.{_≡_, refl, sym, ap, _∙_}
 use mathlib.Core.Logic.{_⊎_, inl, inr}
 use Prim.Native.Nat.{ℕ, zero, suc, _+_, _*_, _≤_, _<_}
@@ -29,13 +29,12 @@ use Rattle.node.proofs.Heads.{withTotal, used-more}
 use Rattle.node.proofs.Nodes.{path-node, last-node}
 use Rattle.node.proofs.StoreOnTable.{carried-append}
 
--- where a key's walk can end: at a node there is, and what is left of the key are letters there
--- are
+-- where a key's walk can end: at one of the nodes, and the letters left are below N
 abbrev pub EndsIn : Head → Descent → Type 0
 EndsIn h (complete q) = q ≤ h .g
 EndsIn h (stopped q x xs) = (q ≤ h .g) × LettersBelow (h .n) (x ∷ xs)
 
--- ---- a byte that a write misses
+-- ---- a byte outside a write
 
 beside : (l vs : List ℕ) (at p n : ℕ) → length vs ≡ n → ¬ InBytes at n p → getD (sets l at vs) p 0
     ≡ getD l p 0
@@ -47,7 +46,7 @@ beside l vs at p n e miss = getD-outside l vs at p 0 (go (decLt p at) (decLt p (
     go (no b) (no c) = inr (omega arith)
 
 module _ (h : Head) (p : ℕ) where
-  -- a number written inside a node of zeros
+  -- a number written inside a cleared node
   beside-node : (l : List ℕ) (q at w v : ℕ) → nodePlace h q ≤ at → at + w ≤ nodePlace h (q + 1)
       → ¬ InBytes (nodePlace h q) (nodeWidth h) p
       → getD (putField (cleared l (nodePlace h q) (nodeWidth h)) at w v) p 0 ≡ getD l p 0
@@ -99,8 +98,7 @@ frame h l (stopped q x xs) (suc v) p s miss =
     ∙ beside-nodes h p l (suc (h .g)) xs (suc v) (s .1 .1)
     (rw (← add-one (h .g)) (λ b. miss (new-nodes b)))
 
--- the bytes between G and the nodes are none of those touched: the other fields of the head, and
--- the alphabet
+-- no byte between G and the nodes is touched: the other fields of the head, and the alphabet
 pub none-before : {h : Head} {d : Descent} {v p : ℕ} → totalAt + totalLen ≤ p → p < fieldsLen
     + h .f → ¬ Touched h d v p
 none-before {h} low high (data-of-key {q} b) = omega (arith, inside-least (data-inside h q))
@@ -108,7 +106,7 @@ none-before {h} low high (node-total b) = omega arith
 none-before {h} low high (one-link {q} {x} b) = omega (arith, link-from h q x, place-least h q)
 none-before {h} low high (new-nodes b) = omega (arith, used-le h 0 (omega arith), place-least h 0)
 
--- nor are those from the new used length on
+-- nor is a byte from the new used length on
 none-after : {h : Head} {d : Descent} {v p : ℕ} → EndsIn h d
     → usedLen (withTotal h (h .g + added (missing d) v)) ≤ p → ¬ Touched h d v p
 unfolding added missing
@@ -120,7 +118,7 @@ none-after {h} s high (one-link {q} {x} {xs} b) =
     omega (arith, used-more h (suc (length xs)), inside-used (link-inside h q (s .1 .0)) (s .0))
 none-after {h} s high (new-nodes {xs = xs} b) = omega (arith, used-more h (suc (length xs)))
 
--- "bytes from U on are spare": they are as they were
+-- "bytes from U on are spare": they stay as they were
 pub spare : (h : Head) (l : List ℕ) (d : Descent) (v p : ℕ) → EndsIn h d
     → usedLen (withTotal h (h .g + added (missing d) v)) ≤ p
     → getD (carriedOut l (storeWrites h d v)) p 0 ≡ getD l p 0

@@ -1,5 +1,5 @@
--- The tables that two heads see in one image. A table depends on the head's G, N, A, D and F;
--- where G is greater it has more nodes, and the nodes there were are the same.
+-- The tables that two heads give for one image. A table depends only on the head's G, N, A, D
+-- and F. If G is greater there are more nodes, and the old nodes stay the same.
 use mathlib.Core.Path.{_≡_, ap, _∙_}
 use Prim.Native.Nat.{ℕ, suc, _+_, _*_, _≤_}
 use native.Mathlib.Numerals.{add-one}

@@ -1,6 +1,6 @@
--- Whole nodes. A node whose bytes are all 0 has no link and no data, so a table with one such node
--- more is the same table. The bytes of a new node are zeros with one number among them: they are
--- laid as well by clearing the node and writing the number.
+-- Whole nodes. A node whose bytes are all 0 has no link and no data, so one more such node
+-- leaves the table the same. The bytes of a new node are zeros with one number among them, so
+-- clearing the node and writing the number gives the same bytes.
 use mathlib.Core.Path.{_≡_, sym, ap, _∙_, subst}
 use mathlib.Core.Logic.{inl}
 use Prim.Native.Nat.{ℕ, suc, _+_, _-_, _*_, _≤_, _<_}
@@ -28,7 +28,7 @@ use Rattle.node.proofs.Heads.{withTotal, child-kept, value-kept}
 abbrev pub Blank : Head → List ℕ → ℕ → Type 0
 Blank h l q = Zeros l (nodePlace h q) (nodePlace h q + nodeWidth h)
 
--- links of zeros are empty
+-- links whose bytes are 0 are empty
 pub blank-links : (h : Head) (l : List ℕ) (q : ℕ) → Zeros l (nodePlace h q) (dataPlace h q)
     → (i : ℕ) → tableOf h l .child q i ≡ 0
 blank-links h l q z i = go (decLe q (h .g)) (decLt i (h .n))
@@ -65,7 +65,7 @@ blank-cleared h l q r k low high =
     (omega arith)
     ∙ getD-replicate (nodeWidth h) (k - nodePlace h q) 0 0 (omega arith))
 
--- one node more, all of it 0
+-- one more node, whose bytes are all 0
 pub table-blank : (h : Head) (l : List ℕ) (g : ℕ) → Blank h l (suc g)
     → tableOf (withTotal h (suc g)) l ≡ tableOf (withTotal h g) l
 unfolding nodeWidth nodePlace
@@ -99,7 +99,7 @@ table-blank h l g z =
 
 -- ---- the bytes of a new node
 
--- a part laid over the part that was laid there
+-- a list written in three parts, whose second part is then replaced
 sets-among : (l a b c d : List ℕ) (at : ℕ) → length b ≡ length d → sets l at (a ++ (d ++ c))
     ≡ sets (sets l at (a ++ (b ++ c))) (at + length a) d
 sets-among l a b c d at e =
@@ -167,7 +167,7 @@ pub length-last : (h : Head) (v : ℕ) → length (lastNode h v) ≡ nodeWidth h
 unfolding lastNode nodeWidth
 length-last h v = simp (length-append, length-replicate, length-digits)
 
--- a new node for each letter, and one more; further writes follow them
+-- a new node for each letter and one more, then further writes
 pub nodes-count : (h : Head) (q : ℕ) (ys : List ℕ) (v : ℕ) (ws : List Write)
     → length (newNodes h q ys v ++ ws) ≡ suc (length ys) + length ws
 unfolding newNodes

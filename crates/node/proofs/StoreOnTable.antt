@@ -1,6 +1,6 @@
--- A store's writes on the table. A new node is one more node of zeros with a link or the data
--- written into it, so the new nodes are a path that hangs on nothing yet; the last write links it,
--- and is on the table as if it had come first.
+-- A store's writes on the table. A new node is one more node of zeros, with a link or the data
+-- written into it. So the new nodes are a path to which no link leads yet. The last write links
+-- it; for the table, this write could also come first.
 use mathlib.Core.Path.{_≡_, refl, sym, ap, _∙_}
 use mathlib.Core.Logic.{inr, _≢_}
 use mathlib.Core.Bool.{Bool, true, false, _&&_, cond}
@@ -85,9 +85,9 @@ module _ (h : Head) (l : List ℕ) (g : ℕ) (room : nodePlace h (suc (suc g)) �
       cleared-room (suc g) v (omega arith) f
       ∙ ap (λ (t : Table). put t (suc g) v) table-cleared
 
--- ---- all of them
+-- ---- all new nodes
 
--- a path below a node that is there, its nodes by rising address
+-- a path below a node of the table, its nodes by rising address
 growFrom : Table → ℕ → List ℕ → Table
 growFrom t c [] = t
 growFrom t c (y ∷ ys) = growFrom (grow t c y (suc c)) (suc c) ys
@@ -98,7 +98,7 @@ unfolding growPath growFrom
 grow-from t q x c [] = refl
 grow-from t q x c (y ∷ ys) = grow-from (grow t q x c) c y (suc c) ys
 
--- links of two nodes, in either order
+-- links in two nodes, written in either order
 grow-swap : (t : Table) (q x c p y d : ℕ) → q ≢ p → grow (grow t p y d) q x c
     ≡ grow (grow t q x c) p y d
 unfolding grow
@@ -148,7 +148,7 @@ new-nodes h v f l g (y ∷ ys) s a r =
 
 -- ---- the store
 
--- what a store that builds nodes asks
+-- what a store that builds nodes requires
 pub record Storable (h : Head) (l : List ℕ) (q x : ℕ) (xs : List ℕ) (v : ℕ) : Type 0 where
   pub node : q ≤ h .g
   pub letters : LettersBelow (h .n) (x ∷ xs)
@@ -190,7 +190,7 @@ store-new h l q x xs v s =
     long : length (putTotal n m) ≡ length l
     long = length-total n m ∙ length-carried l (newNodes h (suc g) xs (suc v))
 
--- a complete path: the data alone
+-- a complete path: only the data changes
 pub store-over : (h : Head) (l : List ℕ) (q v : ℕ) → usedLen h ≤ length l → q ≤ h .g
     → v < 256 ^ h .d
     → tableOf h (carriedOut l (storeWrites h (complete q) v)) ≡ storedBy (complete q) (tableOf h l)
@@ -198,7 +198,7 @@ pub store-over : (h : Head) (l : List ℕ) (q v : ℕ) → usedLen h ≤ length 
 unfolding storeWrites storedBy carriedOut dataWrite
 store-over h l q v r b f = table-data h l r q v b f
 
--- the head is written by one of the writes alone, and only its G
+-- only one of the writes changes the head, and only its G
 pub new-head : (h : Head) (l : List ℕ) (q : ℕ) (ys : List ℕ) (v : ℕ)
     → headOf (carriedOut l (newNodes h q ys v)) ≡ headOf l
 unfolding carriedOut newNodes

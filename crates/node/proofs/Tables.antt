@@ -1,5 +1,5 @@
--- The table that an image is. Inside the nodes 0 to G and the letters below N an entry is the
--- number in its field; outside them it is 0. So tables are equal where those fields are.
+-- An image as a table. For the nodes 0 to G and the letters below N an entry is the number in
+-- its field; every other entry is 0. So tables are equal if these fields are.
 use mathlib.Core.Path.{_≡_, refl}
 use mathlib.Core.Bool.{Bool, true, false, _&&_, cond, and-false}
 use Prim.Native.Nat.{ℕ, _+_, _≤_, _<_}
@@ -69,7 +69,7 @@ module _ (h : Head) (l : List ℕ) where
   unfolding tableOf
   value-same m q e = where-true (leb q (h .g)) (λ t. e (leb-true q (h .g) t))
 
-  -- a list whose fields are the same in every node up to G is the same table
+  -- images with the same fields in every node up to G give the same table
   pub table-same : (m : List ℕ)
       → ((q at w : ℕ) → q ≤ h .g → Inside h q at w → fieldAt l at w ≡ fieldAt m at w) → tableOf h l
       ≡ tableOf h m
@@ -78,7 +78,7 @@ module _ (h : Head) (l : List ℕ) where
       (λ q i. child-same m q i (λ b c. e q (linkPlace h q i) (h .a) b (link-inside h q c)))
       (λ q. value-same m q (λ b. e q (dataPlace h q) (h .d) b (data-inside h q)))
 
-  -- so is one whose bytes are the same from the first node on, as far as is used
+  -- and so do images with the same bytes from the first node up to the used length
   pub table-bytes : (m : List ℕ)
       → ((p : ℕ) → fieldsLen + h .f ≤ p → p < usedLen h → getD l p 0 ≡ getD m p 0) → tableOf h l
       ≡ tableOf h m

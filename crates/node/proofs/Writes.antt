@@ -1,5 +1,5 @@
--- What a write does to the table. One that misses the nodes changes nothing; that of a link or of
--- data changes its own entry, since no other field has a byte in common with it.
+-- What a write does to the table. A write outside the nodes changes nothing. A write of a link
+-- or of data changes its own entry only, since no other field has a byte in common with it.
 use mathlib.Core.Path.{_≡_, sym, _∙_}
 use mathlib.Core.Logic.{_⊎_, inl, inr, ⊎-elim, Dec·and}
 use Prim.Native.Nat.{ℕ, _+_, _^_, _≤_, _<_}
@@ -22,7 +22,7 @@ use Rattle.node.proofs.FieldPlaces.{Apart, links-apart, link-data-apart
 use Rattle.node.proofs.Tables.{table-eq, child-in, value-in, child-same, value-same}
 use Rattle.node.proofs.Tables.{table-same}
 
--- a write into the head or the alphabet, or after what is used
+-- a write into the head or the alphabet, or after the used length
 pub table-outside : (h : Head) (l vs : List ℕ) (at : ℕ) → (at + length vs ≤ fieldsLen + h .f)
     ⊎ (usedLen h ≤ at) → tableOf h (sets l at vs) ≡ tableOf h l
 table-outside h l vs at e =
@@ -31,12 +31,12 @@ table-outside h l vs at e =
     (⊎-elim (λ x. inr (omega (arith, inside-least s)))
     (λ x. inl (omega (arith, inside-used s b))) e))
 
--- so that of G: a table is seen by a head that is given
+-- the write of G too, since the table is that of a given head
 pub table-total : (h : Head) (l : List ℕ) (g : ℕ) → tableOf h (putTotal l g) ≡ tableOf h l
 table-total h l g =
     table-outside h l (digits totalLen g) totalAt (inl (omega (arith, length-digits totalLen g)))
 
--- a number written leaves a field that is apart
+-- writing a number leaves a field that is apart
 kept : (l : List ℕ) (at w v bt u : ℕ) → Apart at w bt u → fieldAt (putField l at w v) bt u
     ≡ fieldAt l bt u
 kept l at w v bt u a = field-outside l (digits w v) at bt u (rw (length-digits w v) a)

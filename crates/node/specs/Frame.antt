@@ -1,7 +1,7 @@
--- 01, "Walking, storing, listing": "Store, path complete: only the D data bytes change. Path
--- incomplete and value 0: nothing changes [..] Path incomplete otherwise: the empty link that
--- stopped the walk receives G+1; nodes G+1 to G+k are written [..] G becomes G+k. No other byte
--- changes."
+-- The bytes that a store may change. 01, "Walking, storing, listing": "Store, path complete:
+-- only the D data bytes change. Path incomplete and value 0: nothing changes [..] Path
+-- incomplete otherwise: the empty link that stopped the walk receives G+1; nodes G+1 to G+k are
+-- written [..] G becomes G+k. No other byte changes."
 use Prim.Native.Nat.{ℕ, suc, _+_, _*_, _≤_, _<_}
 use mathlib.Core.List.{List}
 use lib.ListN.{length}

@@ -1,6 +1,7 @@
-// A node of an image: its links and its data, read and written where they stand. This is the one
-// place that turns bytes into the table of nodes; every floor above speaks of the table. A caller
-// has opened the image (`Open`) and stays inside G and N.
+// A node of an image: its links and its data, read and written. Only this crate turns bytes into
+// the table of nodes; the crates above speak of the table. The caller shows that the image is
+// open (`Open`) and that node and letter are within G and N. `write_path` and `write_last` write
+// a new node, which need only be inside the image.
 ghost use mathlib.Core.Path.{_≡_};
 ghost use Prim.Native.Nat.{ℕ, _+_, _≤_, _<_, _^_};
 ghost use mathlib.Core.Bool.{true};
@@ -13,7 +14,7 @@ ghost use Rattle.node.specs.Image.{Open, Masks, linkPlace, dataPlace, ta
 ghost use Rattle.node.specs.Writes.{carriedOut, pathWrite, lastWrite, linkWrite, dataWrite};
 use head::Head;
 
-// The mask of a link's bytes. A reader of many links makes it once and hands it to `link`.
+// The mask of a link's bytes. A caller who reads many links makes it once and passes it to `link`.
 pub fn mask(h: Head) -> u32
     requires { ⌜ permitted h ≡ true ⌝ }
     ensures { λ r. ⌜ Masks h r ⌝ }
@@ -21,7 +22,7 @@ pub fn mask(h: Head) -> u32
     ones(h.a)
 }
 
-// The greatest value that D bytes hold.
+// The greatest value that D bytes hold. It is also the mask of the data's bytes.
 pub fn greatest(h: Head) -> u32
     requires { ⌜ permitted h ≡ true ⌝ }
     ensures { λ r. ⌜ r + 1 ≡ 256 ^ h .d ⌝ }
@@ -29,7 +30,7 @@ pub fn greatest(h: Head) -> u32
     ones(h.d)
 }
 
-// The link for letter i of node q.
+// Reads the link for letter i of node q.
 pub fn link(image: &[u8], h: Head, mask: u32, q: u32, i: u32) -> u32
     requires { ⌜ Open h (now image) ⌝ ∗ ⌜ Masks h mask ⌝ ∗ ⌜ q ≤ h .g ⌝ ∗ ⌜ i < h .n ⌝ }
     ensures { λ r. ⌜ r ≡ tableOf h (now (image .entry)) .child q i ⌝ }
@@ -37,8 +38,8 @@ pub fn link(image: &[u8], h: Head, mask: u32, q: u32, i: u32) -> u32
     field::load_masked(image, link_place(h, q, i) + (h.a as usize), mask)
 }
 
-// Has node q no links but empty ones? Links that take less than eight bytes are answered false: a
-// caller then reads them.
+// True only if all links of node q are empty. It answers false if they take fewer than eight
+// bytes, and the caller then reads them.
 pub fn childless(image: &[u8], h: Head, q: u32) -> bool
     requires { ⌜ Open h (now image) ⌝ ∗ ⌜ q ≤ h .g ⌝ }
     ensures { λ r. ⌜ (r ≡ true → (i : ℕ) → tableOf h (now (image .entry)) .child q i ≡ 0) ⌝ }
@@ -46,7 +47,7 @@ pub fn childless(image: &[u8], h: Head, q: u32) -> bool
     field::blank(image, h.node_place(q as u64) as usize, data_place(h, q))
 }
 
-// The data of node q.
+// Reads the data of node q.
 pub fn data(image: &[u8], h: Head, q: u32) -> u64
     requires { ⌜ Open h (now image) ⌝ ∗ ⌜ q ≤ h .g ⌝ }
     ensures { λ r. ⌜ r ≡ tableOf h (now (image .entry)) .value q ⌝ }
@@ -54,8 +55,8 @@ pub fn data(image: &[u8], h: Head, q: u32) -> u64
     data_by(image, h, greatest(h), q) as u64
 }
 
-// The data of node q, by the mask of its bytes, which is the greatest value that they hold. A
-// reader of many nodes makes it once.
+// Reads the data of node q by the mask of its bytes, `greatest`. A caller who reads many nodes
+// makes the mask once.
 pub fn data_by(image: &[u8], h: Head, mask: u32, q: u32) -> u32
     requires { ⌜ Open h (now image) ⌝ ∗ ⌜ mask + 1 ≡ 256 ^ h .d ⌝ ∗ ⌜ q ≤ h .g ⌝ }
     ensures { λ r. ⌜ r ≡ tableOf h (now (image .entry)) .value q ⌝ }
@@ -63,7 +64,7 @@ pub fn data_by(image: &[u8], h: Head, mask: u32, q: u32) -> u32
     field::load_masked(image, data_place(h, q) + (h.d as usize), mask)
 }
 
-// Writes the link for letter i of node q: on the table, node c is linked there.
+// Writes the link for letter i of node q. In the table, node c is then linked there.
 pub fn set_link(image: &mut [u8], h: Head, q: u32, i: u32, c: u32)
     requires { ⌜ Open h (now image) ⌝ ∗ ⌜ q ≤ h .g ⌝ ∗ ⌜ i < h .n ⌝ ∗ ⌜ c < 256 ^ h .a ⌝ }
     ensures { λ _. ⌜ now (image .exit) ≡ carriedOut (now (image .entry))
@@ -74,7 +75,7 @@ pub fn set_link(image: &mut [u8], h: Head, q: u32, i: u32, c: u32)
     field::write(image, link_place(h, q, i), h.a as usize, c as u64);
 }
 
-// Writes the data of node q: on the table, the value is put there.
+// Writes the data of node q. In the table, the value is then the node's data.
 pub fn set_data(image: &mut [u8], h: Head, q: u32, v: u64)
     requires { ⌜ Open h (now image) ⌝ ∗ ⌜ q ≤ h .g ⌝ ∗ ⌜ v < 256 ^ h .d ⌝ }
     ensures { λ _. ⌜ now (image .exit) ≡ carriedOut (now (image .entry)) (dataWrite h q v ∷ []) ⌝ }
@@ -83,7 +84,7 @@ pub fn set_data(image: &mut [u8], h: Head, q: u32, v: u64)
     field::write(image, data_place(h, q), h.d as usize, v);
 }
 
-// Writes the whole of node q, a new one: the link for letter i is c, all else is zero.
+// Writes the whole of a new node q: the link for letter i is c, all else is zero.
 pub fn write_path(image: &mut [u8], h: Head, q: u32, i: u32, c: u32)
     requires { ⌜ permitted h ≡ true ⌝ ∗ ⌜ nodePlace h (q + 1) ≤ length (now image) ⌝
         ∗ ⌜ i < h .n ⌝ }
@@ -94,7 +95,7 @@ pub fn write_path(image: &mut [u8], h: Head, q: u32, i: u32, c: u32)
     field::write(image, link_place(h, q, i), h.a as usize, c as u64);
 }
 
-// Writes the whole of node q, a new one: the data is v, all else is zero.
+// Writes the whole of a new node q: the data is v, all else is zero.
 pub fn write_last(image: &mut [u8], h: Head, q: u32, v: u64)
     requires { ⌜ permitted h ≡ true ⌝ ∗ ⌜ nodePlace h (q + 1) ≤ length (now image) ⌝ }
     ensures { λ _. ⌜ now (image .exit) ≡ carriedOut (now (image .entry)) (lastWrite h q v ∷ []) ⌝ }
@@ -103,7 +104,7 @@ pub fn write_last(image: &mut [u8], h: Head, q: u32, v: u64)
     field::write(image, data_place(h, q), h.d as usize, v);
 }
 
-// Where the link for letter i of node q stands.
+// The first byte of the link for letter i of node q.
 pub fn link_place(h: Head, q: u32, i: u32) -> usize
     requires { ⌜ permitted h ≡ true ⌝ ∗ ⌜ i < h .n ⌝ }
     ensures { λ r. ⌜ r ≡ linkPlace h q i ⌝ }
@@ -111,7 +112,7 @@ pub fn link_place(h: Head, q: u32, i: u32) -> usize
     (h.node_place(q as u64) as usize) + (i as usize) * (h.a as usize)
 }
 
-// Where the data of node q stands.
+// The first byte of the data of node q.
 pub fn data_place(h: Head, q: u32) -> usize
     requires { ⌜ permitted h ≡ true ⌝ }
     ensures { λ r. ⌜ r ≡ dataPlace h q ⌝ }
@@ -119,7 +120,7 @@ pub fn data_place(h: Head, q: u32) -> usize
     (h.node_place(q as u64) as usize) + (h.n as usize) * (h.a as usize)
 }
 
-// Clears the whole of node q: spare bytes may hold anything.
+// Clears the whole of node q, since spare bytes may hold anything.
 fn wipe(image: &mut [u8], h: Head, q: u32)
     requires { ⌜ permitted h ≡ true ⌝ ∗ ⌜ nodePlace h (q + 1) ≤ length (now image) ⌝ }
     ensures { λ _. ⌜ now (image .exit) ≡ cleared (now (image .entry)) (nodePlace h q)
@@ -132,7 +133,7 @@ fn wipe(image: &mut [u8], h: Head, q: u32)
     );
 }
 
-// 1 to 4 bytes of ones.
+// The number with all bits of 1 to 4 bytes set.
 fn ones(w: u32) -> u32
     requires { ⌜ (1 ≤ w) × (w ≤ 4) ⌝ }
     ensures { λ r. ⌜ r + 1 ≡ 256 ^ w ⌝ }

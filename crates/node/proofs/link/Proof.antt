@@ -1,5 +1,5 @@
 -- `node::link` meets its contract: the number in the link's field is the table's entry. The head
--- stands before every link, so four bytes do before its end. Assumes nothing.
+-- comes before every link, so there are four bytes before the field's end. Assumes nothing.
 use mathlib.Core.Path.{_≡_, sym, ap, _∙_}
 use Prim.Native.Nat.{ℕ, _+_, _-_}
 use native.Mathlib.Omega.{arith}

@@ -1,5 +1,5 @@
--- `node::set_data` meets its contract: the bytes of the value are written where the data stands,
--- which on the table puts it there. Assumes nothing.
+-- `node::set_data` meets its contract: the value is written at the data's place, and in the
+-- table it is then the node's data. Assumes nothing.
 use native.Mathlib.Omega.{arith}
 use mathlib.Core.Path.{_≡_, ap, _∙_}
 use Prim.Native.Nat.{ℕ}

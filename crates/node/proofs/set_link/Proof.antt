@@ -1,5 +1,5 @@
--- `node::set_link` meets its contract: the link's bytes are written where the link stands, which
--- on the table links the node there. Assumes nothing.
+-- `node::set_link` meets its contract: the address is written at the link's place, and in the
+-- table the node is then linked there. Assumes nothing.
 use native.Mathlib.Omega.{arith}
 use mathlib.Core.Path.{_≡_, ap, _∙_}
 use Prim.Native.Nat.{ℕ}

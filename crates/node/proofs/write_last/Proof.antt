@@ -1,5 +1,5 @@
--- `node::write_last` meets its contract: a cleared node with the data written into it is the whole
--- node of that data. Assumes nothing.
+-- `node::write_last` meets its contract: a cleared node with the data written into it has the
+-- bytes of a whole node with that data. Assumes nothing.
 use native.Mathlib.Omega.{arith}
 use mathlib.Core.Path.{sym, _∙_}
 use Rattle.node.specs.Writes.{carriedOut}

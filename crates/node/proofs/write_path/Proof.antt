@@ -1,5 +1,5 @@
--- `node::write_path` meets its contract: a cleared node with one link written into it is the whole
--- node of that link. Assumes nothing.
+-- `node::write_path` meets its contract: a cleared node with one link written into it has the
+-- bytes of a whole node with that link. Assumes nothing.
 use native.Mathlib.Omega.{arith}
 use mathlib.Core.Path.{sym, _∙_}
 use Rattle.node.specs.Writes.{carriedOut}
