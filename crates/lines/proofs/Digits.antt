@@ -1,6 +1,6 @@
--- The text of a number in decimal: one digit below ten, else the text of its tenth and the last
--- digit. What stands before a number's first digit is never written, so steps that are left over
--- change nothing (`step-left`).
+-- The text of a number in decimal: one digit if it is below ten, otherwise the text of its tenth
+-- and the last digit. A leading zero is never written, so steps that are left over change
+-- nothing (`step-left`).
 use mathlib.Core.Path.{_≡_, refl, sym, ap, _∙_}
 use Prim.Native.Nat.{ℕ, zero, suc, _+_, _/_, _%_, _^_, _≤_, _<_}
 use native.Mathlib.Nat.{zero-add, suc-add, pow-suc, pow-le-pow-right, mod-eq-of-lt, lt-of-lt-of-le}
@@ -12,11 +12,11 @@ use borrow.Author.Tests.{lt-ltb, le-ltb}
 use lib.ListN.{length, length-append}
 use Rattle.lines.specs.Lines.{decimalBy, decimal}
 
--- the same last digit behind the same text
+-- the same last digit after the same text
 with-last : {d e : List ℕ} (v : ℕ) → d ≡ e → d ++ ((48 + v % 10) ∷ []) ≡ e ++ ((48 + v % 10) ∷ [])
 with-last v p = ap (λ (d : List ℕ). d ++ ((48 + v % 10) ∷ [])) p
 
--- ---- by its steps
+-- ---- step by step
 
 by-one : (n v : ℕ) → v < 10 → decimalBy n v ≡ (48 + v) ∷ []
 unfolding decimalBy
@@ -46,7 +46,7 @@ steps-left (suc k) n v h =
     (step-left (k + n) v (lt-of-lt-of-le h (pow-le-pow-right (omega arith) (omega arith)))
     ∙ steps-left k n v h)
 
--- ---- as it is written
+-- ---- the whole number
 
 pub decimal-one : (v : ℕ) → v < 10 → decimal v ≡ (48 + v) ∷ []
 unfolding decimal
@@ -130,7 +130,7 @@ figures-by (suc n) v h = go (decLt v 10) (figures-by n (v / 10) (tenth n v h))
     go (yes s) e = figures-one (suc n) v s
     go (no b) e = figures-more n v (omega arith) e
 
--- in as many digits as it has, it is whole
+-- in as many digits as it has, the number is whole
 pub figures-all : (v : ℕ) → v < 10 ^ 20 → figures (length (decimal v)) v ≡ decimal v
 unfolding decimal
 figures-all v h = figures-by 19 v h

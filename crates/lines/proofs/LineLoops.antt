@@ -1,6 +1,6 @@
--- What the loops keep. Counting, the digits counted and those of what is left are those of the
--- number. Filling from the last digit, what is left is still to be laid in the width that is left
--- (`sets-last`). Spelling, the letters so far are laid, and a turn joins one more.
+-- What the loops keep. In `places`, the digits counted and those of what is left are those of
+-- the number. In `number`, what is left is still to be written, in the width that is left
+-- (`sets-last`). In `letters`, the letters so far are written, and each turn joins one more.
 use mathlib.Core.Path.{_≡_, refl, sym, ap, _∙_}
 use Prim.Native.Nat.{ℕ, zero, suc, _+_, _-_, _*_, _/_, _%_, _^_, _≤_, _<_}
 use native.Mathlib.Nat.{not-suc-le-zero}
@@ -17,7 +17,7 @@ use Rattle.lines.proofs.Digits.{figures, length-figures, figures-all}
 use Rattle.lines.proofs.TextsAt.{laid-long, laid-as, laid-one, laid-join, sets-last}
 use Rattle.lines.proofs.LineTexts.{dotted-more, dotted-long, key-parts}
 
--- `places`: x is left of v, and n is one more than the digits passed
+-- `places`: x is left of v, and n is one more than the digits counted
 pub record Counting (v x n : ℕ) : Type 0 where
   pub below : x ≤ v
   pub counted : n + length (decimal x) ≡ length (decimal v) + 1
@@ -39,8 +39,8 @@ counting-room {v} p = omega (arith, p .counted, decimal-long v)
 pub counting-all : {v x n : ℕ} → Counting v x n → x < 10 → n ≡ length (decimal v)
 counting-all {v} {x} p h = omega (arith, p .counted, ap length (decimal-one x h))
 
--- `number`: what is left of the number is x, and of the width i: laying it into s is laying v into
--- l
+-- `number`: x is what is left of the number and i what is left of the width; writing x into s
+-- gives what writing v into l gives
 pub record Filling (l : List ℕ) (at v : ℕ) (s : List ℕ) (x i : ℕ) : Type 0 where
   pub within : i ≤ length (decimal v)
   pub long : length s ≡ length l
@@ -80,7 +80,7 @@ unfolding figures
 filling-all {i = zero} p h = p .left
 filling-all {i = suc i} p h = absurd (not-suc-le-zero h)
 
--- `letters`: of the first i letters of the path, those behind the first are laid from `start` on
+-- `letters`: the letters 1 to i - 1 of the path are written from `start` on, each after a dot
 pub record Spelling (l : List ℕ) (start : ℕ) (path : List ℕ) (len : ℕ) (s : List ℕ)
     (end i : ℕ) : Type 0 where
   pub some : 0 < i
@@ -130,7 +130,7 @@ module _ {l′ : List ℕ} {at : ℕ} {l : List ℕ} {start : ℕ} {path : List 
     {end i : ℕ}
     (first : TextAt l′ at (decimal (getD path 0 0)) start l)
     (p : Spelling l start path len s end i) where
-  -- a dot and a letter more have room
+  -- there is room for a dot and one more letter
   pub spelling-room : Bytes path → i < len → at + (len * 4 + 1) ≤ length l′ → end + 4 ≤ length s
   spelling-room b h f =
       omega (

@@ -1,6 +1,6 @@
--- The texts of keys and lines. A key one letter longer has a dot and that letter more; a letter
--- takes three digits and a dot at most, a number twenty digits: so each line fits the room that
--- its function asks for.
+-- The texts of keys and lines. A key with one more letter has one more dot and that letter. A
+-- letter takes at most three digits and a dot, a number at most twenty digits. So each line fits
+-- the room that its function requires.
 use mathlib.Core.Path.{_≡_, refl, sym, ap, _∙_}
 use Prim.Native.Nat.{ℕ, suc, _+_, _*_, _≤_, _<_}
 use native.Mathlib.Nat.{not-suc-le-zero}
@@ -13,7 +13,7 @@ use Rattle.lines.specs.Lines.{decimal, dotted, keyText, entryLine, entri
 use Rattle.lines.specs.Lines.{entryRoom, entriesRoom, refusedRoom, TextAt}
 use Rattle.lines.proofs.Digits.{decimal-long, letter-long}
 
--- ---- a key is its first letter and the dotted others; one letter more is a dot and that letter
+-- ---- a key is its first letter and the others, each after a dot
 
 pub dotted-more : (k : List ℕ) (x : ℕ) → dotted (k ++ (x ∷ [])) ≡ dotted k ++ (46 ∷ decimal x)
 unfolding dotted

@@ -1,5 +1,5 @@
--- A text laid at a place. A byte that is set is a text of one byte, and a text laid where another
--- ends makes one text of the two (`sets-append`): so the lines are laid piece by piece.
+-- A text written from a place on. A byte that is set is a text of one byte. A text written where
+-- another ends makes one text of the two (`sets-append`). So the lines are written piece by piece.
 use mathlib.Core.Path.{_≡_, refl, sym, ap, ap₂, _∙_, subst}
 use mathlib.Core.Logic.{inr}
 use Prim.Native.Nat.{ℕ, _+_}
@@ -14,7 +14,7 @@ pub laid-long : {out : List ℕ} {at : ℕ} {text : List ℕ} {end : ℕ} {out�
     → TextAt out at text end out′ → length out′ ≡ length out
 laid-long {out} {at} {text} p = ap length (p .bytes) ∙ length-sets out at text
 
--- the same text said in another way
+-- an equal text
 pub laid-as : {out : List ℕ} {at : ℕ} {text text′ : List ℕ} {end : ℕ} {out′ : List ℕ}
     → text ≡ text′
     → TextAt out at text end out′

@@ -1,20 +1,21 @@
-// Document 01's lines, laid into lent bytes at a place: each function writes its text there and
-// answers where it ends. A caller has room.
+// The lines of 01's listing program, written into lent bytes. Each function writes its text from
+// `at` on and answers where it ends. The caller shows that there is room.
 ghost use mathlib.Core.Path.{_≡_};
 ghost use Prim.Native.Nat.{_+_, _*_, _≤_};
 ghost use lib.ListN.{length, take};
 ghost use Rattle.lines.specs.Lines.{TextAt, decimal, entriesLine, entryLine, refusedLine};
 ghost use Rattle.lines.specs.Lines.{keyText, entryRoom, entriesRoom, refusedRoom};
 
-// The room for "refused N at P".
+// The room for the line of a refusal.
 pub const REFUSED_ROOM: usize = 64;
 
-// The room for a stored key of so many letters and its value: for each letter, and for all else.
+// The room for each letter of a stored key: three digits and a dot.
 pub const LETTER_ROOM: usize = 4;
 
+// The room for the rest of its line: the value, a blank and the line's end.
 pub const VALUE_ROOM: usize = 32;
 
-// "entries N"
+// Writes the line `entries N`: the number of stored keys.
 pub fn entries(out: &mut [u8], at: usize, n: u32) -> usize
     requires { ⌜ at + entriesRoom ≤ length (now out) ⌝ }
     ensures { λ r. ⌜ TextAt (now (out .entry)) at (entriesLine n) r (now (out .exit)) ⌝ }
@@ -24,7 +25,7 @@ pub fn entries(out: &mut [u8], at: usize, n: u32) -> usize
     word(out, end, b"\n")
 }
 
-// "refused N at P"
+// Writes the line `refused N at P`: a refusal's number and place.
 pub fn refused(out: &mut [u8], at: usize, n: u32, place: u32) -> usize
     requires { ⌜ at + refusedRoom ≤ length (now out) ⌝ }
     ensures { λ r. ⌜ TextAt (now (out .entry)) at (refusedLine n place) r (now (out .exit)) ⌝ }
@@ -36,7 +37,7 @@ pub fn refused(out: &mut [u8], at: usize, n: u32, place: u32) -> usize
     word(out, end, b"\n")
 }
 
-// A stored key, the first `len` letters of the path, and its value.
+// Writes the line of a stored key, the first `len` letters of the path, and its value.
 pub fn entry(out: &mut [u8], at: usize, path: &[u8], len: usize, value: u64) -> usize
     requires { ⌜ len ≤ length (now path) ⌝ }
     requires { ⌜ at + entryRoom len ≤ length (now out) ⌝ }
@@ -51,7 +52,7 @@ pub fn entry(out: &mut [u8], at: usize, path: &[u8], len: usize, value: u64) -> 
     end + 1
 }
 
-// Letter numbers joined by dots; the empty key is a dash.
+// Writes letter numbers joined by dots; the empty key is a dash.
 fn letters(out: &mut [u8], at: usize, path: &[u8], len: usize) -> usize
     requires { ⌜ len ≤ length (now path) ⌝ }
     requires { ⌜ at + (len * 4 + 1) ≤ length (now out) ⌝ }
@@ -72,8 +73,8 @@ fn letters(out: &mut [u8], at: usize, path: &[u8], len: usize) -> usize
     end
 }
 
-// A letter number in decimal. It has three digits at most, and most lines are letters, so no loop
-// is spent on it.
+// Writes a letter number in decimal. It has at most three digits, and most of the output is
+// letters, so there is no loop.
 fn letter(out: &mut [u8], at: usize, x: u8) -> usize
     requires { ⌜ at + 3 ≤ length (now out) ⌝ }
     ensures { λ r. ⌜ TextAt (now (out .entry)) at (decimal x) r (now (out .exit)) ⌝ }
@@ -93,7 +94,7 @@ fn letter(out: &mut [u8], at: usize, x: u8) -> usize
     at + 3
 }
 
-// A number in decimal, written from its last digit on.
+// Writes a number in decimal, from its last digit on.
 fn number(out: &mut [u8], at: usize, v: u64) -> usize
     requires { ⌜ at + 20 ≤ length (now out) ⌝ }
     ensures { λ r. ⌜ TextAt (now (out .entry)) at (decimal v) r (now (out .exit)) ⌝ }
@@ -122,7 +123,7 @@ fn places(v: u64) -> usize
     n
 }
 
-// Text as it stands.
+// Writes a text as it is.
 fn word(out: &mut [u8], at: usize, text: &[u8]) -> usize
     requires { ⌜ at + length (now text) ≤ length (now out) ⌝ }
     ensures { λ r. ⌜ TextAt (now (out .entry)) at (now (text .entry)) r (now (out .exit)) ⌝ }

@@ -1,5 +1,5 @@
--- `lines::entries` meets its contract: its three pieces, laid one behind another, are the line.
--- Assumes nothing.
+-- `lines::entries` meets its contract: its three pieces, written one after another, are the
+-- line. Assumes nothing.
 use native.Mathlib.Omega.{arith}
 use Rattle.lines.specs.Lines.{entriesLine}
 use Rattle.lines.proofs.TextsAt.{laid-join}

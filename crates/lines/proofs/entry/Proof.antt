@@ -1,5 +1,5 @@
--- `lines::entry` meets its contract: the key, a blank, the value and the line's end, laid one
--- behind another, are the line. Assumes nothing.
+-- `lines::entry` meets its contract: the key, a blank, the value and the line's end, written one
+-- after another, are the line. Assumes nothing.
 use mathlib.Core.Path.{_≡_, refl, _∙_}
 use Prim.Native.Nat.{_+_, _≤_}
 use native.Mathlib.Omega.{arith}

@@ -1,5 +1,5 @@
--- `lines::letter` meets its contract. Its ways out are a letter of one, two and three digits, and
--- each stores just these. Assumes nothing.
+-- `lines::letter` meets its contract. It returns for a letter of one, two and three digits, and
+-- each time it has stored these digits. Assumes nothing.
 use mathlib.Core.Path.{refl, sym}
 use native.Mathlib.Omega.{arith}
 use lib.ListN.{length-set}

@@ -1,5 +1,6 @@
--- `lines::letters` meets its contract. Behind the first letter a turn lays a dot and the next one;
--- each letter has four bytes of room. The measure is how many letters are left. Assumes nothing.
+-- `lines::letters` meets its contract. After the first letter each turn writes a dot and the
+-- next letter, for which there are four bytes of room. The measure is how many letters are left.
+-- Assumes nothing.
 use mathlib.Core.Path.{refl, _∙_}
 use Prim.Native.Nat.{_+_, _-_, _≤_}
 use native.Mathlib.Omega.{arith}

@@ -1,5 +1,6 @@
--- `lines::number` meets its contract. A turn stores the last digit of the number and goes on with
--- the rest in a width one digit shorter. The measure is the width that is left. Assumes nothing.
+-- `lines::number` meets its contract. A turn stores the last digit of the number and goes on
+-- with the rest of it, in a width that is one digit shorter. The measure is the width that is
+-- left. Assumes nothing.
 use borrow.Author.Needs.{needs}
 use native.Mathlib.Omega.{arith}
 use Rattle.lines.proofs.Digits.{decimal-long}

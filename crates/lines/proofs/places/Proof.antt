@@ -1,5 +1,5 @@
 -- `lines::places` meets its contract. A turn counts a digit and goes on with a tenth of the
--- number. The measure is what is left of it. Assumes nothing.
+-- number. The measure is what is left of the number. Assumes nothing.
 use native.Mathlib.Omega.{arith}
 use Rattle.lines.proofs.LineLoops.{Counting, counting-none, counting-more, counting-room}
 use Rattle.lines.proofs.LineLoops.{counting-all}

@@ -1,4 +1,4 @@
--- `lines::refused` meets its contract: its five pieces, laid one behind another, are the line.
+-- `lines::refused` meets its contract: its five pieces, written one after another, are the line.
 -- Assumes nothing.
 use native.Mathlib.Omega.{arith}
 use Rattle.lines.specs.Lines.{refusedLine}
