@@ -1,6 +1,6 @@
-// The listing program: reads an image of at most 65,536 bytes from standard input and writes its
-// stored keys in order, a line for each, or the one line of a refusal. It checks the image once
-// and then walks through it; lines are written many at a time.
+// 01's listing program: reads an image of at most 65,536 bytes from standard input and writes
+// its stored keys in order, a line for each, or the one line of a refusal. It checks the image
+// once and then walks through it, and it writes many lines at a time.
 ghost use mathlib.Core.Path.{_≡_};
 ghost use Prim.Native.Nat.{_+_, _≤_};
 ghost use lib.ListN.{length};
@@ -13,15 +13,16 @@ use libc::STDOUT_FILENO;
 use paper::Verdict;
 use traversal::Search;
 
-// The longest image that is read, and the lines that are written at a time.
+// The longest image that is read.
 const IMAGE: usize = 65536;
 
+// The bytes that are written at a time, at most.
 const OUT: usize = 65536;
 
-// Where the last of them begins at the latest, so that the longest line fits behind it.
+// The last place in these bytes where the longest line fits.
 const LAST: usize = OUT - (Head::MAX_MOST as usize) * lines::LETTER_ROOM - lines::VALUE_ROOM;
 
-// One byte more is asked for than an image may have, to see whether there is one.
+// Reads one byte more than an image may have, to see whether the input is longer.
 fn main() {
     let mut space = [0u8; IMAGE + 1];
     let len = io::read_full(STDIN_FILENO, &mut space);
@@ -40,15 +41,15 @@ fn main() {
     }
 }
 
-// The one line of a refusal.
+// Writes the one line of a refusal.
 fn refuse(number: u32, place: u32) {
     let mut out = [0u8; lines::REFUSED_ROOM];
     let end = lines::refused(&mut out, 0, number, place);
     io::write_all(STDOUT_FILENO, &out[..end]);
 }
 
-// How many keys are stored, then each of them: the root's own, where it is one, and those that
-// follow.
+// Writes the number of stored keys, then a line for each: first the root's own key, if it is
+// stored.
 fn list(image: &[u8], h: Head)
     requires { ⌜ Accepted (now image) ⌝ }
     requires { ⌜ h ≡ headOf (now image) ⌝ }
@@ -74,7 +75,7 @@ fn list(image: &[u8], h: Head)
     io::write_all(STDOUT_FILENO, &out[..end]);
 }
 
-// The line of the root's own key, where there is one.
+// Writes the line of the root's own key, if it is stored. Answers where the line ends.
 fn root_line(out: &mut [u8], at: usize, value: u64) -> usize
     requires { ⌜ at + entryRoom 0 ≤ length (now out) ⌝ }
     ensures { λ r. ⌜ r ≤ at + entryRoom 0 ⌝ }
@@ -85,8 +86,8 @@ fn root_line(out: &mut [u8], at: usize, value: u64) -> usize
     lines::entry(out, at, b"", 0, value)
 }
 
-// Where the next line goes: behind the last one or, if it might not fit there, at the front, when
-// the lines so far have been written.
+// Where the next line begins: after the last one or, if the longest line does not fit there, at
+// the front, once the lines so far are written.
 fn room(out: &[u8], end: usize) -> usize
     requires { ⌜ end ≤ length (now out) ⌝ }
     ensures { λ r. ⌜ r + entryRoom mostLetters ≤ 65536 ⌝ }

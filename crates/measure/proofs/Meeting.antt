@@ -1,5 +1,5 @@
--- The keys of a walk, counted: each key that is met is one fewer to come, since the keys after the
--- first one after a key are the rest of those after that key.
+-- The keys of a walk, counted. If m is the first key after k, the keys after m are the others
+-- after k. So each key that is met leaves one fewer to come.
 use Prim.Native.Nat.{ℕ, suc, _+_, _<_, _^_}
 use native.Mathlib.Omega.{arith}
 use mathlib.Core.Bool.{true}
@@ -59,7 +59,7 @@ module _ (h : Head) (l : List ℕ) where
           ap (λ (xs : List (List ℕ)). suc (length xs)) (sym rest)
           ∙ ap (λ (x : List ℕ). suc (toCome x)) (Option·some-injective j k g)
 
--- So many keys were met, the last of them on the path.
+-- `count` keys were met; the last of them is the first n letters of the path
 pub record Meeting (h : Head) (l path nodes : List ℕ) (n count : ℕ) : Type 0 where
   pub walking : Walking h l path nodes n
   pub all : count + toCome h l (take n path) ≡ toCome h l []

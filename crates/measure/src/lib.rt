@@ -1,5 +1,5 @@
-// An entry point for bench/: what the walk of a listing takes, without its lines, on an image of
-// any length. It answers how many keys the walk met.
+// An entry point for bench/: the walk of a listing without its lines, on an image of any length.
+// It answers how many keys the walk met.
 ghost use mathlib.Core.Path.{_≡_};
 ghost use Rattle.head.specs.Fields.{headOf};
 ghost use Rattle.paper.specs.Accepted.{Accepted};
@@ -9,9 +9,9 @@ use head::Head;
 use paper::Verdict;
 use traversal::Search;
 
-// A check, then the walk of a listing, without its lines: how many stored keys it meets besides
-// the root's, 0 for an image that is refused. The working numbers are left as by every call that
-// checks.
+// Checks the image, then walks as a listing does, without its lines. Answers how many stored
+// keys the walk meets after the empty key, 0 for an image that is refused. The working numbers
+// are left as every call that checks leaves them.
 #[no_mangle]
 pub extern "C" fn measure_walk(image: &[u8], work: &mut [u32]) -> u64
     ensures { λ r. ⌜ r ≡ checkedKeysMet (now (image .entry)) (now (work .entry)) ⌝ }
@@ -26,7 +26,8 @@ pub extern "C" fn measure_walk(image: &[u8], work: &mut [u32]) -> u64
     }
 }
 
-// From the root on, each key leaves the path from which the next one is sought.
+// Counts the keys of the walk. Each key that is met leaves its path, and the search for the next
+// key starts from there.
 fn count_met(image: &[u8], h: Head) -> u64
     requires { ⌜ Accepted (now image) ⌝ }
     requires { ⌜ h ≡ headOf (now image) ⌝ }

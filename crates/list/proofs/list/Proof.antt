@@ -1,6 +1,6 @@
--- `list::list` meets its contract. Each key that is found leaves its path, from which the next one
--- is sought; a line begins where the longest fits behind it. The measure is how many keys are
--- left. Assumes nothing.
+-- `list::list` meets its contract. Each key that is found leaves its path, and the search for
+-- the next key starts from there. A line begins where the longest line fits. The measure is how
+-- many keys are left. Assumes nothing.
 use mathlib.Core.Path.{_≡_, sym}
 use Prim.Native.Nat.{_≤_}
 use native.Mathlib.Omega.{arith}

@@ -1,5 +1,5 @@
--- `list::main` meets its contract: an image that the check has passed is accepted, and its head is
--- the one that was read. Assumes nothing.
+-- `list::main` meets its contract: an image that passes the check is accepted, and its head is
+-- the one that the check read. Assumes nothing.
 use borrow.Author.Needs.{needs}
 use Rattle.audit.proofs.Verdicts.{checked-accepted, checked-head}
 use Rattle.list.proofs.main.Statement.{statement}

@@ -1,4 +1,5 @@
--- `list::room` meets its contract. What is written ends inside the buffer. Assumes nothing.
+-- `list::room` meets its contract: the lines that it writes end inside the buffer, and up to
+-- LAST the longest line fits. Assumes nothing.
 use mathlib.Core.Path.{sym}
 use borrow.Author.Needs.{needs}
 use lib.Seq.{length-take-le}

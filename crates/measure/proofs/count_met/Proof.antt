@@ -1,5 +1,5 @@
--- `measure::count_met` meets its contract: each key that is met is one fewer to come, which is the
--- measure too. Assumes nothing.
+-- `measure::count_met` meets its contract: each key that is met leaves one fewer to come, and
+-- this is also the measure. Assumes nothing.
 use native.Mathlib.Omega.{arith}
 use borrow.Author.Needs.{needs}
 use lib.ListN.{take}

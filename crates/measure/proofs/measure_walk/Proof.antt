@@ -1,6 +1,6 @@
--- `measure::measure_walk` meets its contract: an image that the check has passed is accepted, and
--- its head is the one that was read; the walk answers for it, and 0 for an image that was refused.
--- Assumes nothing.
+-- `measure::measure_walk` meets its contract. An image that passes the check is accepted, and
+-- its head is the one that the check read; then the walk answers. For an image that is refused
+-- the answer is 0. Assumes nothing.
 use borrow.Author.Needs.{needs}
 use Rattle.audit.proofs.Verdicts.{checked-accepted, checked-head}
 use Rattle.measure.proofs.Meeting.{walk-refused, walk-passed}
