@@ -1,50 +1,59 @@
 // A line that is read byte by byte: a `Line` is what has been read so far, and `step` takes the
-// next byte. How a line is written stands in main.rt.
+// next byte. main.rt says how a line is written.
 
-// A line: its form, its numbers and its bytes, and where the reading is.
+// A line: its form, its numbers and its bytes, and the state of the reading.
 pub struct Line {
-    // The call, then an `n` for each number and a `b` for bytes; blanks behind them.
+    // The call, then an `n` for each number and a `b` for bytes, filled up with blanks.
     pub form: [u8; 24],
-    // The numbers, in their order.
+    // The numbers, in order.
     pub a: u32,
     pub b: u32,
     pub c: u32,
     pub d: u32,
     pub e: u32,
-    // The bytes, and how many they are.
+    // The bytes.
     pub bytes: [u8; Line::BYTES],
+    // How many bytes there are.
     pub len: usize,
-    // What is being read, how far the form has come, how many numbers there were, and the digits
-    // so far.
+    // What is being read: one of the constants below.
     mode: u8,
+    // How many bytes of the form are read.
     end: usize,
+    // How many numbers are read.
     count: u8,
+    // The digits of a number or a byte that are read so far.
     value: u64,
 }
 
-// What is being read: the call, blanks, a number, bytes, a byte's second digit, a text, how often
-// a byte stands; or nothing, since the line is no case.
+// The call.
 const WORD: u8 = 0;
 
+// Blanks.
 const GAP: u8 = 1;
 
+// A number.
 const NUMBER: u8 = 2;
 
+// Bytes.
 const BYTES: u8 = 3;
 
+// The second digit of a byte.
 const HALF: u8 = 4;
 
+// A text in quotation marks.
 const QUOTED: u8 = 5;
 
+// How often a byte is there.
 const TIMES: u8 = 6;
 
+// Nothing: the line is not a case.
 const WRONG: u8 = 7;
 
 impl Line {
     // The most bytes that a line gives.
     pub const BYTES: usize = 2048;
 
-    // Reads a line. One that is no case has a form that is none.
+    // Reads a line. If it is not a case, it has a form that no call has.
     pub fn of(text: &[u8]) -> Line {
         let mut l = Line {
             form: [32; 24],
@@ -72,7 +81,7 @@ impl Line {
         l
     }
 
-    // The next byte; behind the last one, a blank.
+    // Takes the next byte; after the last one, a blank.
     fn step(self, b: u8) -> Line {
         let mode = self.mode;
         match mode {
@@ -111,7 +120,7 @@ impl Line {
         self
     }
 
-    // A byte more of the form.
+    // One more byte of the form.
     fn formed(mut self, b: u8, mode: u8) -> Line {
         let end = self.end;
         if end < 24 {
@@ -122,7 +131,7 @@ impl Line {
         self.at(WRONG, 0)
     }
 
-    // A digit of a number, or the blank behind it.
+    // A digit of a number, or the blank after it.
     fn number(self, b: u8) -> Line {
         let value = self.value;
         if 4294967295 < value {
@@ -138,7 +147,7 @@ impl Line {
         self.kept(value as u32).formed(b'n', GAP)
     }
 
-    // The next number; a sixth has no form.
+    // The next number. No form has a sixth.
     fn kept(mut self, n: u32) -> Line {
         let count = self.count;
         match count {
@@ -154,7 +163,7 @@ impl Line {
         self
     }
 
-    // A digit of the next byte, or what may stand between two.
+    // A digit of the next byte, or what may be between two bytes.
     fn bytes(self, b: u8) -> Line {
         match b {
             32 => self.at(GAP, 0),
@@ -185,7 +194,7 @@ impl Line {
         self.byte(value as u8 * 16 + d, BYTES)
     }
 
-    // A byte more.
+    // One more byte.
     fn byte(mut self, b: u8, mode: u8) -> Line {
         let len = self.len;
         if len < Self::BYTES {
@@ -196,7 +205,7 @@ impl Line {
         self.at(WRONG, 0)
     }
 
-    // A digit of how often a byte stands, or what is behind it.
+    // A digit of how often a byte is there, or what follows it.
     fn times(self, b: u8) -> Line {
         let d = digit(b);
         let value = self.value;
@@ -213,7 +222,7 @@ impl Line {
         line.bytes(b)
     }
 
-    // The last byte once more, until it stands so often.
+    // Repeats the last byte, so that it is there `value` times.
     fn repeated(self, value: u64) -> Line {
         let len = self.len;
         if value == 0 {
@@ -236,7 +245,7 @@ impl Line {
     }
 }
 
-// The value of a hexadecimal digit, else 16.
+// The value of a hexadecimal digit, otherwise 16.
 fn digit(b: u8) -> u8 {
     match b {
         48..=57 => b - 48,

@@ -1,30 +1,40 @@
-// The cases of the public calls, read from standard input, a line for each call. What is written
-// of each: the name of the case, the answer's number and place, its length and value or its change
-// where the call has them, and every lent buffer afterwards. What must be written stands in
-// `stdout`. Document 01's cases stand in `stdin`, and those of a cut between two writes.
+// Runs cases of the public calls: 01's cases, and those of a cut between two writes (02, Ask 1).
+// `stdin` has the cases, a line for each call, and `stdout` what must be written. For each call
+// this is the name of the case, the answer's number and place, its length and value or its
+// change if the call has them, and every buffer that the call may change.
 //
 // A line has the call, its numbers, its bytes, a bar and the name of the case, with a blank
 // between each two:
 //
 //     store 6 9 x0100 | store letters, P2 BA = 9
 //
-// image BYTES these bytes are the image, and all of it is lent put AT BYTES these bytes stand at a
-// place of the image lend N so many bytes of the image are lent from here on make N A D MIN MAX
-// BYTES in the lent bytes, with this alphabet look_up LETTERS look_up_text TEXT check WORK with so
-// many working numbers count WORK mend WORK next_key WORK ROOM LETTERS next_key_after the same: at
-// or after the key, after it; a buffer of so many letters store WORK VALUE LETTERS store_text WORK
-// VALUE TEXT store_writes WORK VALUE LETTERS store_text_writes WORK VALUE TEXT
+//     image BYTES                       these bytes are the image, and all of it is lent
+//     put AT BYTES                      these bytes are written into the image
+//     lend N                            from here on, N bytes of the image are lent
+//     make N A D MIN MAX BYTES          in the lent bytes, with this alphabet
+//     look_up LETTERS
+//     look_up_text TEXT
+//     check WORK                        with WORK working numbers, as in all calls below
+//     count WORK
+//     mend WORK
+//     next_key WORK ROOM LETTERS        at or after the key, with a key buffer of ROOM letters
+//     next_key_after WORK ROOM LETTERS  after the key
+//     store WORK VALUE LETTERS
+//     store_text WORK VALUE TEXT
+//     store_writes WORK VALUE LETTERS
+//     store_text_writes WORK VALUE TEXT
 //
-// Numbers are decimal. Bytes, letters and text are written alike: x and two hexadecimal digits a
-// byte, or a text in quotes, or both in turn; `.` may stand between two bytes, and `*N` behind one
-// says that it stands N times. So x00*65 is a key of 65 letters, "A"*64"D" a text, and x or "" is
-// nothing. The image is kept from line to line, as the calls leave it. Before each call working
-// numbers and lists of writes hold 7, key buffers AA. A line with nothing before its bar is a
-// remark. Any other line is reported, as in `line 17: not a case`, and the next one is run.
+// Numbers are decimal. Bytes, letters and text are written alike: x and two hexadecimal digits
+// for each byte, or a text in quotation marks, or both in turn. There may be a `.` between two
+// bytes, and `*N` after a byte repeats it so that it is there N times. So `x00*65` is a key of
+// 65 letters, `"A"*64"D"` a text, and `x` or `""` nothing. The image is kept from line to line,
+// as the calls leave it. Before each call the working numbers and the list of writes hold 7, and
+// the key buffer AA. A line with nothing before its bar is a remark. Any other line is reported,
+// as in `line 17: not a case`, and the next one is run.
 //
-// For a new call: a row at the end of FORMS, one more in CALLS, and an arm with its number in
-// `run`, if it is lent no working numbers, else in `work`, or in `change`, if it changes the
-// image. No proof changes.
+// For a new call, add a row at the end of FORMS, one to CALLS, and an arm with its number: in
+// `run` if the call is lent no working numbers, in `change` if it changes the image, otherwise
+// in `work`. No proof changes.
 mod line;
 
 ghost use Prim.Native.Nat.{_≤_};
@@ -68,8 +78,7 @@ const FORMS: [[u8; 24]; CALLS] = [
     *b"mend n                  ",
 ];
 
-// What is written besides names and numbers, each up to its full stop. The names below are its
-// rows.
+// What is written besides names and numbers, each up to its full stop.
 const WORDS: [[u8; 16]; ROWS] = [
     *b" .              ",
     *b" at .           ",
@@ -91,6 +100,7 @@ const WORDS: [[u8; 16]; ROWS] = [
     *b"lines too many\n.",
 ];
 
+// The rows of WORDS.
 const BLANK: usize = 0;
 
 const AT: usize = 1;
@@ -129,21 +139,23 @@ const TOO_MANY: usize = 17;
 
 const ROWS: usize = 18;
 
-// The longest text that is read, the longest image, and the most working numbers and letters of a
-// buffer that are lent.
+// The longest text that is read.
 const TEXT_MOST: usize = 262144;
 
+// The longest image.
 const IMAGE_MOST: usize = 1024;
 
+// The most working numbers, and the most letters of a key buffer, that are lent.
 const LENT_MOST: usize = 300;
 
-// An image that is longer is shown by its G and the number of bytes that a call changed; of more
-// working numbers, those behind are shown.
+// The longest image that is shown whole after a store or a mending; of a longer one, G and the
+// number of changed bytes are shown.
 const SHOWN_BYTES: usize = 64;
 
+// If more working numbers than this are lent, only those after them are shown.
 const SHOWN_NUMBERS: usize = 252;
 
-// More bytes than can be lent: the answer for a line that is no case.
+// More bytes than can be lent: the answer for a line that is not a case.
 const NONE: usize = 4294967295;
 
 fn main() {
@@ -156,7 +168,7 @@ fn main() {
     }
 }
 
-// Runs line after line.
+// Runs one line after the other.
 fn cases(text: &[u8], image: &mut [u8]) {
     let mut lent: usize = 0;
     let mut at: usize = 0;
@@ -175,7 +187,7 @@ fn cases(text: &[u8], image: &mut [u8]) {
     }
 }
 
-// The first place from `from` on where the byte stands, else the length.
+// The first place of the byte from `from` on, the length if it is not there.
 fn find(text: &[u8], from: usize, byte: u8) -> usize
     requires { ⌜ from ≤ length (now text) ⌝ }
     ensures { λ r. ⌜ (from ≤ r) × (r ≤ length (now (text .entry))) ⌝ }
@@ -190,7 +202,7 @@ fn find(text: &[u8], from: usize, byte: u8) -> usize
     i
 }
 
-// Runs a line. The answer is how many bytes of the image are lent from then on.
+// Runs a line. Answers how many bytes of the image are lent from then on.
 fn case(text: &[u8], image: &mut [u8], lent: usize) -> usize
     requires { ⌜ lent ≤ length (now image) ⌝ }
 {
@@ -209,7 +221,7 @@ fn case(text: &[u8], image: &mut [u8], lent: usize) -> usize
     lent
 }
 
-// The number of a line's form, else that of the forms.
+// The number of a line's form, CALLS if it has none of them.
 fn which(line: Line) -> usize {
     let form = line.form;
     let all = FORMS;
@@ -244,7 +256,7 @@ fn edit(call: usize, line: Line, image: &mut [u8], lent: usize) -> usize {
     }
 }
 
-// The bytes laid into the image at a place. So many are lent from then on.
+// Writes the bytes into the image. Answers how many bytes are lent from then on.
 fn put(line: Line, image: &mut [u8], at: usize, lend: usize) -> usize {
     let bytes = line.bytes;
     let given = first(&bytes, line.len);
@@ -259,7 +271,7 @@ fn put(line: Line, image: &mut [u8], at: usize, lend: usize) -> usize {
     lend
 }
 
-// So many of the bytes.
+// The first `len` bytes.
 fn first(bytes: &[u8; Line::BYTES], len: usize) -> &[u8] {
     let all: &[u8] = bytes;
     if len <= all.len() {
@@ -268,7 +280,7 @@ fn first(bytes: &[u8; Line::BYTES], len: usize) -> &[u8] {
     all
 }
 
-// Is this a call, and is there room for the sizes that its numbers give?
+// Whether this is a call, and there is room for the sizes that its numbers give.
 fn fits(call: usize, line: Line) -> bool {
     let first = line.a as usize <= LENT_MOST;
     match call {
@@ -278,7 +290,7 @@ fn fits(call: usize, line: Line) -> bool {
     }
 }
 
-// What stands after the bar and a blank.
+// Writes what is after the bar and a blank.
 fn name(text: &[u8], bar: usize) {
     let len = text.len();
     if bar < len {
@@ -290,7 +302,7 @@ fn name(text: &[u8], bar: usize) {
     }
 }
 
-// Runs a call on the lent part of the image and writes what it answers and leaves.
+// Runs a call on the lent part of the image, and writes what it answers and leaves.
 fn run(call: usize, line: Line, image: &mut [u8]) {
     let bytes = line.bytes;
     let given = first(&bytes, line.len);
@@ -307,7 +319,7 @@ fn make(line: Line, alphabet: &[u8], image: &mut [u8]) {
     bytes(image, image.len());
 }
 
-// The other calls are lent working numbers, so many as the first number says.
+// The other calls are lent working numbers, as many as the first number says.
 fn lend(call: usize, line: Line, given: &[u8], image: &mut [u8]) {
     let mut space = [7u32; LENT_MOST];
     let size = least(line.a);
@@ -329,7 +341,7 @@ fn work(call: usize, second: u32, given: &[u8], image: &mut [u8], numbers: &mut 
     }
 }
 
-// A size that `fits`, as its bound is needed where it is lent.
+// A size that `fits` has tested. The slice that is lent needs its bound.
 fn least(n: u32) -> usize
     ensures { λ r. ⌜ r ≤ 300 ⌝ }
 {
@@ -346,7 +358,7 @@ fn next_key(after: bool, second: u32, key: &[u8], image: &[u8], numbers: &mut [u
     bytes(buffer, LENT_MOST);
 }
 
-// The calls that change an image.
+// Runs a call that changes the image.
 fn store(call: usize, value: u32, key: &[u8], image: &mut [u8], numbers: &mut [u32]) {
     let mut before = [0u8; IMAGE_MOST];
     changes(&mut before, image);
@@ -418,7 +430,7 @@ fn stored(answer: Stored) {
     }
 }
 
-// The numbers of the list that were written, and two more.
+// Writes the numbers of the list that the call wrote, and two more.
 fn listed(answer: Noted, list: &[u32; Head::NOTED_MOST as usize]) {
     match answer {
         Noted::Change { change, writes } => {
@@ -437,21 +449,21 @@ fn refused(why: Refusal) {
     said(why.number(), why.place());
 }
 
-// The number of an answer and its place.
+// Writes the number of an answer and its place.
 fn said(number: u32, place: u32) {
     fact(BLANK, number as u64);
     fact(AT, place as u64);
     say(COLON);
 }
 
-// An answer that is done: its length, where the call has one, and its value.
+// Writes an answer that is done: its length, if the call has one, and its value.
 fn done(length: u32, value: u64) {
     said(0, 0);
     fact(LENGTH, length as u64);
     fact(VALUE, value);
 }
 
-// The image or, of one that is too long for a line, G and how many bytes changed.
+// Writes the image or, if it is too long for a line, G and how many bytes changed.
 fn left(changed: u64, image: &[u8]) {
     if image.len() <= SHOWN_BYTES {
         say(IMAGE);
@@ -463,7 +475,7 @@ fn left(changed: u64, image: &[u8]) {
     }
 }
 
-// Words and the numbers of a list, up to a place.
+// Writes words and the numbers of a list, up to a place.
 fn decimals(words: usize, list: &[u32], to: usize) {
     say(words);
     let mut i: usize = 0;
@@ -479,7 +491,7 @@ fn decimals(words: usize, list: &[u32], to: usize) {
     }
 }
 
-// The bytes in hexadecimal, four by four, up to a place.
+// Writes the bytes in hexadecimal, four by four, up to a place.
 fn bytes(image: &[u8], to: usize) {
     let mut i: usize = 0;
     while i < image.len() {
@@ -494,7 +506,7 @@ fn bytes(image: &[u8], to: usize) {
     }
 }
 
-// How many bytes differ from those before, which are then the same.
+// How many bytes of the image differ from `before`, which then becomes a copy of it.
 fn changes(before: &mut [u8], image: &[u8]) -> u64 {
     let mut n: u64 = 0;
     let mut i: usize = 0;
@@ -511,7 +523,7 @@ fn changes(before: &mut [u8], image: &[u8]) -> u64 {
     n
 }
 
-// Words and a number.
+// Writes words and a number.
 fn fact(words: usize, n: u64) {
     say(words);
     io::print_decimal(STDOUT_FILENO, n);

@@ -1,4 +1,4 @@
--- `cases::bytes` meets its contract, which asks only that it is safe and ends: the place stays
+-- `cases::bytes` meets its contract, which says only that it is safe and ends: the place stays
 -- within the bytes. Assumes nothing.
 use Prim.Native.Nat.{_-_, _≤_}
 use lib.ListN.{length}

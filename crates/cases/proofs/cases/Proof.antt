@@ -1,5 +1,6 @@
--- `cases::cases` meets its contract, which asks only that it is safe and ends: what is lent stays
--- within the image, and the number of a line within the place. Assumes nothing.
+-- `cases::cases` meets its contract, which says only that it is safe and ends: the lent bytes
+-- stay within the image, and the number of the line is at most one more than the place. Assumes
+-- nothing.
 use mathlib.Core.Path.{_≡_}
 use Prim.Native.Nat.{_+_, _-_, _≤_}
 use mathlib.Core.Logic.{⊎-elim}

@@ -1,6 +1,6 @@
--- `cases::changes` meets its contract, which asks only that it is safe and ends: the place stays
--- within the image, the number within the place, and the length of what is lent is kept. Assumes
--- nothing.
+-- `cases::changes` meets its contract, which says only that it is safe and ends: the place stays
+-- within the image, the number is at most the place, and the length of the lent bytes stays.
+-- Assumes nothing.
 use mathlib.Core.Path.{_≡_}
 use Prim.Native.Nat.{_-_, _≤_}
 use lib.ListN.{length}

@@ -1,5 +1,5 @@
--- `cases::decimals` meets its contract, which asks only that it is safe and ends: the place stays
--- within the list. Assumes nothing.
+-- `cases::decimals` meets its contract, which says only that it is safe and ends: the loop goes
+-- through the list once. Assumes nothing.
 use Prim.Native.Nat.{_-_, _≤_}
 use lib.ListN.{length}
 use native.Mathlib.Omega.{arith}

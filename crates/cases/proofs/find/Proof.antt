@@ -1,5 +1,5 @@
--- `cases::find` meets its contract: the place begins where it is told to and stays within the
--- text. Assumes nothing.
+-- `cases::find` meets its contract: the place begins at `from` and stays within the text.
+-- Assumes nothing.
 use Prim.Native.Nat.{_-_, _≤_}
 use lib.ListN.{length}
 use borrow.Author.Needs.{needs}

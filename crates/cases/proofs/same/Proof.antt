@@ -1,4 +1,4 @@
--- `cases::same` meets its contract, which asks only that it is safe and ends: the place stays
+-- `cases::same` meets its contract, which says only that it is safe and ends: the place stays
 -- within the forms. Assumes nothing.
 use Prim.Native.Nat.{_-_, _≤_}
 use borrow.Author.Needs.{needs}

@@ -1,5 +1,5 @@
--- `cases::which` meets its contract, which asks only that it is safe and ends: the place stays
--- within the table. Assumes nothing.
+-- `cases::which` meets its contract, which says only that it is safe and ends: the loop goes
+-- through the table once. Assumes nothing.
 use Prim.Native.Nat.{_-_, _≤_}
 use borrow.Author.Needs.{needs}
 use Rattle.cases.proofs.which.Statement.{statement}

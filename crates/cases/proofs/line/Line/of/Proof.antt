@@ -1,5 +1,5 @@
--- `cases::line::Line::of` meets its contract, which asks only that it is safe and ends: the place
--- stays within the text. Assumes nothing.
+-- `cases::line::Line::of` meets its contract, which says only that it is safe and ends: the
+-- place stays within the text. Assumes nothing.
 use Prim.Native.Nat.{_-_, _≤_}
 use lib.ListN.{length}
 use borrow.Author.Needs.{needs}

@@ -1,5 +1,5 @@
--- `cases::line::Line::repeated` meets its contract, which asks only that it is safe and ends: how
--- often is left falls. Assumes nothing.
+-- `cases::line::Line::repeated` meets its contract, which says only that it is safe and ends:
+-- what is left of the count goes down. Assumes nothing.
 use Prim.Native.Nat.{_≤_}
 use borrow.Author.Needs.{needs}
 use Rattle.cases.proofs.line.Line.repeated.Statement.{statement}
