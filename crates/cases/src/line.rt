@@ -25,28 +25,28 @@ pub struct Line {
     value: u64,
 }
 
-// The call.
+// The call is being read.
 const WORD: u8 = 0;
 
-// Blanks.
+// Blanks are being read.
 const GAP: u8 = 1;
 
-// A number.
+// A number is being read.
 const NUMBER: u8 = 2;
 
-// Bytes.
+// Bytes are being read.
 const BYTES: u8 = 3;
 
-// The second digit of a byte.
+// The second digit of a byte is being read.
 const HALF: u8 = 4;
 
-// A text in quotation marks.
+// A text in quotation marks is being read.
 const QUOTED: u8 = 5;
 
-// How often a byte is there.
+// The number after a `*` is being read.
 const TIMES: u8 = 6;
 
-// Nothing: the line is not a case.
+// Nothing more is read, since the line is not a case.
 const WRONG: u8 = 7;
 
 impl Line {

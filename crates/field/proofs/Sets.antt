@@ -1,6 +1,6 @@
 -- A list written into another from a place on, `sets l at vs`: a number written, a range cleared
 -- and bytes copied are all of this form. It is a run of single stores, each at its own place, so
--- each law goes by induction on the run. `length-sets` of `lib.Seq` says that the length stays.
+-- most laws go by induction on the run. `length-sets` of `lib.Seq` says that the length stays.
 use mathlib.Core.Path.{_≡_, refl, sym, ap, _∙_}
 use mathlib.Core.Logic.{_⊎_, inl, inr, ⊎-elim}
 use Prim.Native.Nat.{ℕ, zero, suc, _+_, _≤_, _<_}

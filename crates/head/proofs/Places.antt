@@ -10,7 +10,7 @@ use Rattle.head.specs.Fields.{mostLinks, mostLinkBytes, mostDataBytes, f
 use Rattle.head.specs.Fields.{nodePlace, usedLen}
 use Rattle.head.proofs.Permitted.{Bounds}
 
--- the end of a row of w, if a later row follows
+-- a piece of w bytes ends before a later one begins
 pub row : {p q : ℕ} (w : ℕ) → p < q → p * w + w ≤ q * w
 row {p} w h = rw (← suc-mul p w) (mul-le-mul-right w h)
 

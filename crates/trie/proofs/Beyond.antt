@@ -1,6 +1,6 @@
 -- What of a listing is still to come, letter by letter and node by node. What comes after a path
--- is exactly what meets a request for its key: at each node of the path the keys with a lower
--- letter come before that key, and those with a higher letter after it.
+-- is exactly what comes after its key: at each node of the path the keys with a lower letter come
+-- before that key, and those with a higher letter after it.
 use Prim.Native.Nat.{ℕ, zero, suc, pred, _+_, _-_, _<_, _≤_}
 use native.Mathlib.Omega.{arith}
 use native.Mathlib.Decide.{ℕ-discrete}

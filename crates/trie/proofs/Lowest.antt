@@ -1,5 +1,5 @@
--- The lowest number that passes a test, by which numbers pass and which do not. Each law goes up
--- from the first number: if it passes, it is the lowest; otherwise the rest is searched.
+-- The lowest number that passes a test, determined by which numbers pass. Each law goes up from
+-- the first number: if it passes, it is the lowest; otherwise the rest is searched.
 use Prim.Native.Nat.{ℕ, zero, suc, _+_, _≤_, _<_}
 use mathlib.Core.Path.{_≡_, refl, _∙_}
 use mathlib.Core.Bool.{Bool, true, false}

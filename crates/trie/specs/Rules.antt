@@ -37,8 +37,9 @@ pub record LinkRules (t : Table) (g : ℕ) : Type 0 where
   pub once : Once t
 
 -- What the laws on a store's answers and links require of a table, and what a store keeps. It
--- leaves out `Rising`: of the public laws on tables, only `proofs/Rules.antt: stored-rules` and
--- `proofs/Unlinked.antt: unlinked-rising` use that rule, each to show it for another table.
+-- leaves out `Rising`. Of the public laws of trie and passing only two use that rule, each to
+-- show it for another table: `trie/proofs/Rules.antt: stored-rules` and
+-- `trie/proofs/Unlinked.antt: unlinked-rising`.
 pub record Linked (t : Table) (g n : ℕ) : Type 0 where
   pub framed : Framed t g n
   pub within : Within t g
