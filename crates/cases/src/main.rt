@@ -371,19 +371,19 @@ fn change(call: usize, value: u32, key: &[u8], image: &mut [u8], numbers: &mut [
     match call {
         11 => stored(stores::store(image, numbers, key, value)),
         12 => stored(stores::store_text(image, numbers, key, value)),
-        13 | 14 => listing(call, value, key, image, numbers),
+        13 | 14 => store_with_writes(call, value, key, image, numbers),
         _ => plain(images::mend(image, numbers)),
     }
 }
 
-fn listing(call: usize, value: u32, key: &[u8], image: &mut [u8], numbers: &mut [u32]) {
+fn store_with_writes(call: usize, value: u32, key: &[u8], image: &mut [u8], numbers: &mut [u32]) {
     let mut list = [7u32; Head::NOTED_MOST as usize];
     if call == 13 {
         let answer = stores::store_writes(image, numbers, key, value, &mut list);
-        listed(answer, &list);
+        noted(answer, &list);
     } else {
         let answer = stores::store_text_writes(image, numbers, key, value, &mut list);
-        listed(answer, &list);
+        noted(answer, &list);
     }
 }
 
@@ -431,7 +431,7 @@ fn stored(answer: Stored) {
 }
 
 // Writes the numbers of the list that the call wrote, and two more.
-fn listed(answer: Noted, list: &[u32; Head::NOTED_MOST as usize]) {
+fn noted(answer: Noted, list: &[u32; Head::NOTED_MOST as usize]) {
     match answer {
         Noted::Change { change, writes } => {
             stored(Stored::Change(change));

@@ -16,6 +16,9 @@ use traversal::Search;
 // The longest image that is read.
 const IMAGE: usize = 65536;
 
+// The working numbers, which the check needs one of for each node.
+const WORK: usize = 16384;
+
 // The bytes that are written at a time, at most.
 const OUT: usize = 65536;
 
@@ -31,7 +34,7 @@ fn main() {
         return;
     }
     let image = &space[..len];
-    let mut work = [0u32; 16384];
+    let mut work = [0u32; WORK];
     let mut codes = [0u32; Head::N_MOST as usize];
     let checked = audit::check(image, &mut work, &mut codes);
     let verdict = checked.verdict;
@@ -54,7 +57,7 @@ fn list(image: &[u8], h: Head)
     requires { ⌜ Accepted (now image) ⌝ }
     requires { ⌜ h ≡ headOf (now image) ⌝ }
 {
-    let mut out = [0u8; 65536];
+    let mut out = [0u8; OUT];
     let mut path = [0u8; Head::MAX_MOST as usize];
     let mut nodes = [0u32; Head::PATH_MOST as usize];
     let mut left = counting::count(image, h);

@@ -123,7 +123,7 @@ module _ (t : Table) (n : ℕ) where
       (byLetter-holds _ 0 n x (omega arith) (omega (arith, f .0)) (f .1))
 
   -- what is known of a key that is listed at node q
-  pub record Noted (short left q : ℕ) (k : List ℕ) : Type 0 where
+  pub record Listed (short left q : ℕ) (k : List ℕ) : Type 0 where
     pub node : ℕ
     pub reaches : descend t q k ≡ complete node
     pub full : t .value node ≢ 0
@@ -132,11 +132,11 @@ module _ (t : Table) (n : ℕ) where
     pub letters : LettersBelow n k
 
   own-listed : {k : List ℕ} (short left q : ℕ) → List·Memᴰ k (ownKey t short q)
-      → Noted short left q k
+      → Listed short left q k
   own-listed short left q a =
       let (e, low, full) = own-cases t short q a in
       subst
-      (Noted short left q)
+      (Listed short left q)
       (sym e)
       (record {
         node = q;
@@ -149,8 +149,8 @@ module _ (t : Table) (n : ℕ) where
 
   -- a letter before a key that is listed at the node of its link
   pub link-listed : {r : List ℕ} (short left q x : ℕ) → x < n → 0 < left → t .child q x ≢ 0
-      → Noted (pred short) (pred left) (t .child q x) r
-      → Noted short left q (x ∷ r)
+      → Listed (pred short) (pred left) (t .child q x) r
+      → Listed short left q (x ∷ r)
   link-listed {r} short left q x low room linked f =
       record {
         node = f .node;
@@ -162,7 +162,7 @@ module _ (t : Table) (n : ℕ) where
       }
 
   pub under-listed : (short left q : ℕ) (k : List ℕ) → List·Memᴰ k (keysUnder t n short left q)
-      → Noted short left q k
+      → Listed short left q k
   unfolding keysUnder
   under-listed short zero q k h = own-listed short 0 q h
   under-listed short (suc left) q k h =
@@ -171,9 +171,9 @@ module _ (t : Table) (n : ℕ) where
       (λ below.
       let (x, r, e, low, high, hr) = byLetter-cases (under short left q) 0 n below in
       let (linked, a) = follow-cases (t .child q x) _ hr in
-      let f : Noted (pred short) left (t .child q x) r =
+      let f : Listed (pred short) left (t .child q x) r =
       under-listed (pred short) left (t .child q x) r a in
-      subst (Noted short (suc left) q) (sym e)
+      subst (Listed short (suc left) q) (sym e)
       (link-listed short (suc left) q x (omega arith) (omega arith) linked f))
       (List·Memᴰ·append-cases (ownKey t short q) h)
 
