@@ -1,6 +1,6 @@
--- The count of a node's keys from letter to letter: what was counted and what is still to come
--- make up the whole. A link adds the child's own key, one or none, and what is counted below the
--- child.
+-- The number of a node's keys, letter by letter: the keys counted so far and the keys still to
+-- come make up the whole. A link that is not empty adds the child's own key, if there is one,
+-- and the keys below the child.
 use Prim.Native.Nat.{ℕ, _+_, _-_, _<_, _≤_}
 use native.Mathlib.Nat.{sub-zero}
 use native.Mathlib.Numerals.{add-one}
@@ -16,14 +16,15 @@ use Rattle.depths.specs.Depths.{ownValue, KeysBelow}
 use Rattle.depths.proofs.Links.{own-empty, own-full, from, from-link}
 
 module _ (h : Head) (t : Table) where
-  -- how many keys are still to come from letter i on, and how many are a node's own
+  -- how many keys below node q are still to come, from letter i on
   abbrev pub left : ℕ → ℕ → ℕ → ℕ
   left q depth i = length (from h t q depth i)
 
+  -- how many keys are the node's own: one or none
   abbrev pub owned : ℕ → ℕ → ℕ
   owned q depth = length (ownKey t (h .min - depth) q)
 
-  -- told by the value that was read
+  -- by the value that was read
   pub owned-none : (q depth : ℕ) {v : ℕ} → v ≡ ownValue h t q depth → v ≡ 0 → owned q depth ≡ 0
   owned-none q depth e empty = ap length (own-empty h t q depth (sym e ∙ empty))
 
@@ -34,7 +35,7 @@ module _ (h : Head) (t : Table) where
   listed = rw (sub-zero (h .min), sub-zero (h .max))
       (ap length (under-split t (h .n) (h .min) (h .max) 0) ∙ simp length-append)
 
-  -- there is nothing below a node without keys below it, and past the last letter
+  -- no key is left below a node without keys below it, nor past the last letter
   pub left-no-keys : (q depth i : ℕ) {r : Bool} → KeysBelow h t q depth r → r ≡ true
       → left q depth i ≡ 0
   left-no-keys q depth i b e = ap length (b .nothing e i)
@@ -42,8 +43,8 @@ module _ (h : Head) (t : Table) where
   pub left-none : (q depth i : ℕ) → h .n ≤ i → left q depth i ≡ 0
   left-none q depth i b = ap length (from-none t (h .n) (h .min - depth) (h .max - depth) q i b)
 
-  -- a letter more: nothing by an empty link, by any other the child's own key and those below the
-  -- child
+  -- one letter on: an empty link adds no key; any other link adds the child's own key and the
+  -- keys below the child
   pub left-empty : (q depth i : ℕ) {c : ℕ} → i < h .n → c ≡ t .child q i → c ≡ 0 → left q depth i
       ≡ left q depth (i + 1)
   left-empty q depth i b e empty =

@@ -1,4 +1,4 @@
-// The number of stored keys of an image that has been checked.
+// The number of stored keys of an image that the check has accepted.
 ghost use mathlib.Core.Path.{_≡_};
 ghost use Prim.Native.Nat.{_+_, _-_, _^_, _≤_, _<_};
 ghost use lib.ListN.{length};
@@ -9,7 +9,7 @@ ghost use Rattle.node.specs.Image.{Open, tableOf};
 ghost use Rattle.depths.specs.Depths.{ReadMasks};
 use head::Head;
 
-// The number of stored keys.
+// The number of stored keys. In an accepted image it is below 2^32, as the contract requires.
 pub fn count(image: &[u8], h: Head) -> u32
     requires { ⌜ Open h (now image) ⌝ ∗ ⌜ Within (tableOf h (now image)) (h .g) ⌝ }
     requires { ⌜ length (listing (tableOf h (now image)) (h .n) (h .min) (h .max)) < 2 ^ 32 ⌝ }
@@ -28,8 +28,8 @@ pub fn count(image: &[u8], h: Head) -> u32
     counted(image, h, node::mask(h), data_mask, 0, 0, own)
 }
 
-// The stored keys below a node at a depth, its own left out, counted onto those counted before. It
-// calls itself on each child; the depth left to max falls.
+// Adds the number of stored keys below a node at a depth to `before`. The node's own key is not
+// counted here. The function calls itself on the children; the depth left to max falls.
 fn counted(
     image: &[u8],
     h: Head,

@@ -1,6 +1,6 @@
--- One link of a node at a depth: the keys that come by it are the child's own and those below the
--- child, each behind the link's letter. A search and the count both go from letter to letter by
--- this, and both ask for a node's own key by `own_value`.
+-- One link of a node at a depth. The keys through this link are the child's own key and the keys
+-- below the child, each with the link's letter before it. The searches and the counts go from
+-- letter to letter by this law, and read a node's own key by `ownValue`.
 use Prim.Native.Nat.{ℕ, suc, pred, _-_, _<_, _≤_}
 use native.Mathlib.Omega.{arith}
 use native.Mathlib.Decide.{decLt}
@@ -35,7 +35,7 @@ module _ (h : Head) (t : Table) where
       go (yes b) = own-short t (h .min - depth) q (omega arith)
       go (no b) = own-none t (h .min - depth) q (sym (own-data q depth (omega arith)) ∙ e)
 
-  -- what is not 0 is the data of a node deep enough
+  -- if the value is not 0, the depth is min or more
   pub own-long : (q depth : ℕ) → ownValue h t q depth ≢ 0 → h .min ≤ depth
   own-long q depth full = go (decLt depth (h .min))
     where
@@ -48,13 +48,13 @@ module _ (h : Head) (t : Table) where
       let long = own-long q depth full in
       own-there t (h .min - depth) q (omega arith) (λ e. full (own-data q depth long ∙ e))
 
-  -- ---- the keys by a letter
+  -- ---- the keys from a letter on
 
-  -- the keys below node q at a depth from letter i on
+  -- the keys below node q at a depth, from letter i on
   abbrev pub from : ℕ → ℕ → ℕ → List (List ℕ)
   from q depth i = keysFrom t (h .n) (h .min - depth) (h .max - depth) q i
 
-  -- there are none where no letter may follow, nor where all links are empty
+  -- there are none if no letter may follow, nor if all links are empty
   pub keys-below-full : (q depth : ℕ) → h .max ≤ depth → KeysBelow h t q depth true
   keys-below-full q depth b =
       let e : h .max - depth ≡ 0 = omega arith in

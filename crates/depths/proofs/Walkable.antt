@@ -1,5 +1,5 @@
--- What an accepted image gives a program that walks through it, for the crates above: the image is
--- open, its links are inside, its keys are few.
+-- What a walk needs of an image: it is open, no link is above G, and the number of its stored
+-- keys fits 32 bits. An accepted image has all of this.
 use mathlib.Core.Path.{_≡_, sym, subst}
 use Prim.Native.Nat.{ℕ, _≤_, _<_, _^_}
 use native.Mathlib.Omega.{arith}
@@ -16,7 +16,7 @@ use Rattle.paper.specs.Accepted.{Accepted}
 use Rattle.paper.proofs.CheckCall.{accepted-open, accepted-linked}
 use Rattle.paper.proofs.NextKeyCall.{counted-fits}
 
--- what an image that was accepted gives a walk
+-- what a walk needs of an image with head h
 pub record Walkable (h : Head) (l : List ℕ) : Type 0 where
   pub opened : Open h l
   pub within : Within (tableOf h l) (h .g)

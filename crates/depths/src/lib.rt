@@ -1,13 +1,14 @@
-// What stands at a node at a depth: the data of the key that ends there, and whether a longer key
-// can lie below it. The search for the next key and the count both ask this of every node that
-// they meet.
+// A node at a depth: the data of the key that ends there, and whether longer keys can lie below
+// it. The depth of a node is the length of the key that leads to it. The searches and the counts
+// of the crates above ask this of every node that they meet.
 ghost use mathlib.Core.Path.{_≡_};
 ghost use Prim.Native.Nat.{_+_, _^_, _≤_};
 ghost use Rattle.node.specs.Image.{Open, tableOf};
 ghost use Rattle.depths.specs.Depths.{ownValue, KeysBelow};
 use head::Head;
 
-// The data of a node at a depth, 0 where keys of that length are too short to be stored.
+// The data of a node at a depth; 0 if the depth is below min, since such a key is too short to
+// be stored.
 pub fn own_value(image: &[u8], h: Head, node: u32, depth: usize) -> u64
     requires { ⌜ Open h (now image) ⌝ ∗ ⌜ node ≤ h .g ⌝ }
     ensures { λ r. ⌜ r ≡ ownValue h (tableOf h (now (image .entry))) node depth ⌝ }
@@ -15,7 +16,7 @@ pub fn own_value(image: &[u8], h: Head, node: u32, depth: usize) -> u64
     own_value_by(image, h, node::greatest(h), node, depth) as u64
 }
 
-// The same, by the mask of the data's bytes: a walk that meets many nodes makes it once.
+// The same, with the mask of the data's bytes. A walk that meets many nodes makes the mask once.
 pub fn own_value_by(image: &[u8], h: Head, mask: u32, node: u32, depth: usize) -> u32
     requires { ⌜ Open h (now image) ⌝ ∗ ⌜ mask + 1 ≡ 256 ^ h .d ⌝ ∗ ⌜ node ≤ h .g ⌝ }
     ensures { λ r. ⌜ r ≡ ownValue h (tableOf h (now (image .entry))) node depth ⌝ }
@@ -26,9 +27,9 @@ pub fn own_value_by(image: &[u8], h: Head, mask: u32, node: u32, depth: usize) -
     node::data_by(image, h, mask, node)
 }
 
-// Whether no key lies below a node at a depth: no letter may follow, or all its links are empty.
-// Asked of each child before a search goes there, it spares a call where a key ends, as most do at
-// a node without links.
+// Answers true only if no stored key lies below a node at a depth: no letter may follow, or all
+// its links are empty. Most keys end at a node without links. A search that asks this of each
+// child first makes no call for such a node.
 pub fn no_keys_below(image: &[u8], h: Head, node: u32, depth: usize) -> bool
     requires { ⌜ Open h (now image) ⌝ ∗ ⌜ node ≤ h .g ⌝ }
     ensures { λ r. ⌜ KeysBelow h (tableOf h (now (image .entry))) node depth r ⌝ }

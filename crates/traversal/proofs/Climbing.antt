@@ -1,6 +1,6 @@
--- The climb along a path, and what of the listing a request leaves. The keys still to come are
--- those below the path's end, then those still to come from the node before it: where there are
--- none below, the climb goes on from there.
+-- The climb along a path. The keys still to come are those below the path's end, then those
+-- still to come from the node before it. If there are none below, the climb goes on from that
+-- node.
 use Prim.Native.Nat.{ℕ, zero, suc, _+_, _-_, _<_, _≤_}
 use native.Mathlib.Numerals.{add-one}
 use native.Mathlib.Nat.{sub-zero}
@@ -25,14 +25,14 @@ use Rattle.traversal.proofs.Paths.{along-kept, along-less, along-last}
 use Rattle.traversal.proofs.Searching.{first-none, was-missing, was-found, told-same}
 use Rattle.traversal.proofs.Searching.{ahead-no-keys}
 
--- ---- keys with letters in front
+-- ---- keys with letters before them
 
 none-in-front : (k : List ℕ) (ms : List (List ℕ)) → firstOf (map (k ++_) ms) ≡ none → ms ≡ []
 unfolding firstOf
 none-in-front k [] e = refl
 none-in-front k (m ∷ ms) e = absurd (Option·some-ne-none (k ++ m) e)
 
--- the first of them
+-- the first of them is j
 record Leads (k : List ℕ) (ms : List (List ℕ)) (j : List ℕ) : Type 0 where
   pub head : List ℕ
   pub rest : List (List ℕ)
@@ -62,7 +62,7 @@ module _ (h : Head) (l path nodes : List ℕ) where
       {ms = s .rest} (along .ends depth (omega arith)) (rw size (s .all))
       ∙ ap some (s .whole)
 
-  -- at the root there is no node before
+  -- the root has no node before it
   coming-none : (q x : ℕ) → q ≡ 0 → firstOf (ahead h l path 0 q x) ≡ none
       → firstOf (coming h l path 0 x) ≡ none
   unfolding ahead coming
@@ -85,7 +85,7 @@ module _ (h : Head) (l path nodes : List ℕ) where
       (along .ends depth (omega arith))
       (along-last h l along room) (rw size s)
 
--- nothing but the letters up to the depth counts
+-- only the letters up to the depth count
 coming-front : (h : Head) (l path path₁ : List ℕ) (depth x : ℕ) → take depth path
     ≡ take depth path₁ → coming h l path depth x ≡ coming h l path₁ depth x
 unfolding coming
@@ -94,7 +94,7 @@ coming-front h l path path₁ depth x e =
 
 -- ---- from node to node up the path
 
--- The first key to come from where the climb began is the first to come from here.
+-- The first key still to come is the same from here as from where the climb began.
 pub record Climbing (h : Head) (l path₀ nodes₀ : List ℕ) (end first : ℕ) (path nodes : List ℕ)
     (depth x : ℕ) : Type 0 where
   pub deep : depth ≤ h .max
@@ -103,10 +103,10 @@ pub record Climbing (h : Head) (l path₀ nodes₀ : List ℕ) (end first : ℕ)
   pub letters : length path ≡ length path₀
   pub ends : length nodes ≡ length nodes₀
   pub same : firstOf (coming h l path₀ end first) ≡ firstOf (coming h l path depth x)
-  -- behind a letter that was taken
+  -- a letter may follow where one was taken
   pub deeper : 0 < x → depth < h .max
 
--- Nothing lies below the path's end, and the path up to there is what it was.
+-- No key lies below the path's end, and the path up to there is kept.
 pub record Nothing (h : Head) (l path nodes : List ℕ) (depth x : ℕ) (path₁ nodes₁ : List ℕ)
     : Type 0 where
   pub missing : firstOf (ahead h l path depth (getD nodes depth 0) x) ≡ none
@@ -115,8 +115,7 @@ pub record Nothing (h : Head) (l path nodes : List ℕ) (depth x : ℕ) (path₁
   pub ends : length nodes₁ ≡ length nodes
 
 module _ {h : Head} {l path nodes : List ℕ} {depth x : ℕ} {path₂ nodes₂ : List ℕ} where
-  -- a search that found nothing tells so, and one that is spared because no key lies below the
-  -- node
+  -- the search found nothing, or none was made because no key lies below the node
   pub nothing-missing : {r : Search} {path₁ nodes₁ : List ℕ}
       → SearchTells h l (firstOf (ahead h l path depth (getD nodes depth 0) x)) r path₁ nodes₁
       → r ≡ Search.Missing
@@ -171,7 +170,7 @@ module _ {h : Head} {l path₀ nodes₀ : List ℕ} {end first : ℕ} {path node
       told-same h l (c .same ∙ coming-found h l path nodes x
       (omega (arith, c .room .letters, c .deep)) (c .along) e ∙ sym e) told
 
-  -- there is none below the root
+  -- no key lies below the root: there is none
   pub climbing-end : Nothing h l path nodes depth x path₁ nodes₁ → depth ≡ 0
       → firstOf (coming h l path₀ end first) ≡ none
   climbing-end nothing z =
@@ -181,7 +180,7 @@ module _ {h : Head} {l path₀ nodes₀ : List ℕ} {end first : ℕ} {path node
       c .same ∙ rw z (coming-none h l path nodes (getD nodes 0 0) x (rw z at root)
       (rw z at none-here))
 
--- there is none below, and the node before is next
+-- no key lies below: the climb goes on at the node before
 pub climbing-up : {h : Head} {l path₀ nodes₀ : List ℕ} {end first : ℕ} {path nodes : List ℕ}
     (depth : ℕ) {x : ℕ}
     → {path₁ nodes₁ : List ℕ} → Climbing h l path₀ nodes₀ end first path nodes depth x

@@ -1,5 +1,5 @@
--- A key followed letter by letter: the path so far is the key's beginning, and at the letter where
--- it ends the key ends or the link is empty.
+-- A key followed letter by letter. The path so far is the beginning of the key. Where the path
+-- ends, the key ends or the next link is empty.
 use Prim.Native.Nat.{ℕ, _+_, _<_, _≤_}
 use native.Mathlib.Numerals.{add-one}
 use native.Mathlib.Omega.{arith}
@@ -15,6 +15,7 @@ use Rattle.node.specs.Image.{tableOf}
 use Rattle.traversal.specs.Search.{PathRoom, Along, Followed}
 use Rattle.traversal.proofs.Paths.{room-kept, along-none, along-more}
 
+-- `depth` letters were followed, to node q
 pub record Following (h : Head) (l k path₀ nodes₀ path nodes : List ℕ) (q depth : ℕ) : Type 0 where
   pub room : PathRoom h path nodes
   pub short : depth ≤ length k
@@ -24,7 +25,7 @@ pub record Following (h : Head) (l k path₀ nodes₀ path nodes : List ℕ) (q 
   pub letters : length path ≡ length path₀
   pub ends : length nodes ≡ length nodes₀
 
--- at the root, once it is noted as the first node
+-- at the root, once it is written as the first node
 pub following-start : (h : Head) (l k path nodes : List ℕ) → PathRoom h path nodes
     → Following h l k path (set nodes 0 0) path (set nodes 0 0) 0 0
 following-start h l k path nodes room =
@@ -50,7 +51,7 @@ module _ {h : Head} {l k path₀ nodes₀ path nodes : List ℕ} {q depth : ℕ}
     stops = λ low. absurd (omega arith);
   }
 
-  -- x is the letter at hand, and c its link
+  -- x is the next letter, and c its link
   module _ {x c : ℕ} (letter : getD k depth 0 ≡ x) (link : c ≡ tableOf h l .child q x) where
     met : c ≡ tableOf h l .child (getD nodes depth 0) x
     met = rw (← f .node) link

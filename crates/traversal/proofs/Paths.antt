@@ -1,5 +1,5 @@
--- A path and its nodes, letter by letter. Nothing but the first letters and nodes counts, so what
--- is written behind them changes nothing (`PathKept`), and a letter more is one link more.
+-- A path and its nodes, letter by letter. Only the first letters and nodes count. So what is
+-- written after them changes nothing (`PathKept`), and one letter more is one link more.
 use Prim.Native.Nat.{ℕ, suc, _+_, _<_, _≤_}
 use native.Mathlib.Decide.{ℕ-discrete, decLe}
 use native.Mathlib.Numerals.{add-one}
@@ -26,7 +26,7 @@ letters-more : (n : ℕ) (k : List ℕ) (x : ℕ) → LettersBelow n k → x < n
 letters-more n [] x l b = (b, tt)
 letters-more n (y ∷ k) x l b = (l .0, letters-more n k x (l .1) b)
 
--- lists that begin alike begin alike for fewer elements
+-- lists with the same first n elements have the same first m
 fewer : (m n : ℕ) (k l : List ℕ) → m ≤ n → take n k ≡ take n l → take m k ≡ take m l
 fewer m n k l b e = sym (take-take m n k b) ∙ ap (take m) e ∙ take-take m n l b
 
@@ -44,7 +44,7 @@ room-kept r e f = record { letters = rw e (r .letters); ends = rw f (r .ends) }
 pub kept-all : (depth : ℕ) (path nodes : List ℕ) → PathKept depth path nodes path nodes
 kept-all depth path nodes = record { letters = refl; ends = refl }
 
--- a letter more, and its node
+-- one letter and its node are written at the end
 pub kept-set : {depth : ℕ} {path₀ nodes₀ path nodes : List ℕ} (x c : ℕ)
     → PathKept depth path₀ nodes₀ path nodes
     → PathKept depth path₀ nodes₀ (set path depth x) (set nodes (depth + 1) c)
@@ -54,7 +54,7 @@ kept-set {depth} {path = path} {nodes} x c k =
       ends = take-set-le (suc depth) nodes (depth + 1) c (omega arith) ∙ k .ends;
     }
 
--- and what a search behind that letter keeps
+-- and a search after that letter keeps the path
 pub kept-below : {depth : ℕ} {path₀ nodes₀ path nodes path₁ nodes₁ : List ℕ}
     → PathKept depth path₀ nodes₀ path nodes
     → PathKept (depth + 1) path nodes path₁ nodes₁

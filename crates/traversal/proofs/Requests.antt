@@ -1,6 +1,6 @@
--- What a request leaves of the listing. A key that was followed ends at the path's end or goes on
--- at an empty link there: what meets it is what is still to come from there, and the node's own
--- key where "at or after" is asked.
+-- Which keys of the listing meet a request. The key given is followed to its end or to an empty
+-- link. The keys that meet the request are those still to come from there. If the key ends there
+-- and "at or after" is asked, its own key is one of them.
 use Prim.Native.Nat.{ℕ, suc, _+_, _<_, _≤_}
 use native.Mathlib.Numerals.{add-one}
 use native.Mathlib.Omega.{arith}
@@ -34,7 +34,7 @@ module _ (h : Head) (l path nodes : List ℕ) {depth : ℕ} (deep : depth ≤ h 
       meets-after-path (tableOf h l) (h .n) (h .min) (h .max) 0 (take depth path)
       (along .ends depth (omega arith)) (along .letters) (omega (arith, size))
 
-  -- v is the data of the node there, as that of a key
+  -- v is the value of the key that ends there
   module _ {v : ℕ} (value : v ≡ ownValue h (tableOf h l) (getD nodes depth 0) depth) where
     at-none : v ≡ 0 → nextStored h l false (take depth path) ≡ firstOf (coming h l path depth 0)
     unfolding coming
@@ -55,10 +55,10 @@ module _ (h : Head) (l path nodes : List ℕ) {depth : ℕ} (deep : depth ≤ h 
         (omega (arith, size)) (λ z. some-value
         (own-data h (tableOf h l) (getD nodes depth 0) depth long ∙ z)))
 
--- where a key was followed to
+-- key k was followed to this depth
 module _ {h : Head} {l k path nodes : List ℕ} {depth : ℕ} (f : Followed h l k path nodes depth)
     (room : PathRoom h path nodes) (deep : length k ≤ h .max) where
-  -- the key goes on at an empty link
+  -- the next letter of the key meets an empty link
   pub stopped-key : (after : Bool) → LettersBelow (h .n) k → depth < length k
       → nextStored h l after k ≡ firstOf (coming h l path depth (getD k depth 0 + 1))
   unfolding coming
@@ -79,7 +79,7 @@ module _ {h : Head} {l k path nodes : List ℕ} {depth : ℕ} (f : Followed h l 
       reaches =
           ap (descend (tableOf h l) 0) (sym (f .letters)) ∙ f .along .ends depth (omega arith)
 
-  -- it ends with the path
+  -- the key ends with the path
   module _ (whole : length k ≤ depth) where
     same : take depth path ≡ k
     same = f .letters ∙ take-all depth k whole

@@ -1,6 +1,6 @@
--- The search below a node, letter by letter, and the climb along a path. What is still to be
--- searched begins with the keys below the node at hand: where there is one it is the key sought,
--- and where there is none they drop out of what is left.
+-- The search below a node, letter by letter. What is still to be searched begins with the keys
+-- through the link at hand. If there is one, the first of them is the key sought; if there is
+-- none, the search goes on with the next letter.
 use Prim.Native.Nat.{ℕ, suc, _+_, _-_, _<_, _≤_}
 use native.Mathlib.Numerals.{add-one}
 use native.Mathlib.Omega.{arith}
@@ -41,7 +41,7 @@ pub first-none : (a : List (List ℕ)) → a ≡ [] → firstOf a ≡ none
 unfolding firstOf
 first-none a e = ap firstOf e
 
--- ---- what is told
+-- ---- what an answer means
 
 -- what an answer says of the key that was sought
 pub was-missing : (h : Head) (l : List ℕ) {s : Option (List ℕ)} {r : Search} {path nodes : List ℕ}
@@ -77,7 +77,7 @@ module _ (h : Head) (l : List ℕ) where
   told-none e =
       record { answers = rw e; reached = λ k f. absurd (Option·some-ne-none k (sym f ∙ e)) }
 
-  -- the key whose letters are the path's first, where its node has data and it is long enough
+  -- the key of the path's first letters is found, if its node has data and it is long enough
   pub told-here : {s : Option (List ℕ)} {path nodes : List ℕ} {depth v : ℕ} → depth ≤ h .max
       → PathRoom h path nodes → Along h l depth path nodes
       → v ≡ ownValue h (tableOf h l) (getD nodes depth 0) depth → v ≢ 0
@@ -142,7 +142,7 @@ module _ (h : Head) (l : List ℕ) where
       (from-empty (tableOf h l) (h .n) (h .min - depth) (h .max - depth) q i b
       (sym e ∙ empty)))
 
-  -- by a link: the child's own key, where it has one
+  -- through a link: first the child's own key, if there is one
   ahead-own : (path : List ℕ) (depth q i : ℕ) {c v : ℕ} → depth < h .max → i < h .n
       → c ≡ tableOf h l .child q i → c ≢ 0
       → v ≡ ownValue h (tableOf h l) c (depth + 1) → v ≢ 0
@@ -154,7 +154,7 @@ module _ (h : Head) (l : List ℕ) where
         own-full h (tableOf h l) c (suc depth) (λ z. some-value (own ∙ (rw (add-one depth) z))),
       )
 
-  -- and else the keys below the child, before those by later letters
+  -- otherwise the keys below the child, before the keys of later letters
   ahead-link : (path path′ : List ℕ) (depth q i : ℕ) {c v : ℕ} → depth < h .max → i < h .n
       → c ≡ tableOf h l .child q i → c ≢ 0
       → v ≡ ownValue h (tableOf h l) c (depth + 1) → v ≡ 0
@@ -186,8 +186,8 @@ module _ (h : Head) (l : List ℕ) where
 
 -- ---- from letter to letter
 
--- Below node q at a depth, the letters from `first` on are passed up to i: what is sought is what
--- comes first of the rest. The path is still that of q.
+-- Below node q at a depth, the letters from `first` to i - 1 are done: the key sought is the
+-- first key from letter i on. The path is still that of q.
 pub record Passing (h : Head) (l path₀ nodes₀ : List ℕ) (depth q first : ℕ) (path nodes : List ℕ)
     (i : ℕ) : Type 0 where
   pub deep : depth < h .max
@@ -199,7 +199,7 @@ pub record Passing (h : Head) (l path₀ nodes₀ : List ℕ) (depth q first : �
   pub ends : length nodes ≡ length nodes₀
   pub passed : firstOf (ahead h l path₀ depth q first) ≡ firstOf (ahead h l path depth q i)
 
--- letter i is linked to node c
+-- the link for letter i leads to node c
 pub record Onto (h : Head) (l path₀ nodes₀ : List ℕ) (depth q first : ℕ) (path nodes : List ℕ)
     (i c : ℕ) : Type 0 where
   pub passing : Passing h l path₀ nodes₀ depth q first path nodes i
@@ -248,7 +248,7 @@ module _ {h : Head} {l path₀ nodes₀ : List ℕ} {depth q first : ℕ} {path 
   longer = rw (add-one depth)
       (take-suc-set path depth i (omega (arith, o .passing .room .letters, o .passing .deep)))
 
-  -- the path and its nodes, a letter further
+  -- the path and its nodes, one letter further
   pub onto-room : PathRoom h (set path depth i) (set nodes (depth + 1) c)
   onto-room =
       room-kept (o .passing .room) (length-set path depth i) (length-set nodes (depth + 1) c)
@@ -267,7 +267,7 @@ module _ {h : Head} {l path₀ nodes₀ : List ℕ} {depth q first : ℕ} {path 
   pub onto-kept : PathKept depth path₀ nodes₀ (set path depth i) (set nodes (depth + 1) c)
   onto-kept = kept-set i c (o .passing .kept)
 
-  -- the child's own key is the one sought, where it has one
+  -- if the child has a key of its own, it is the key sought
   pub onto-own : {v : ℕ} → v ≡ ownValue h (tableOf h l) c (depth + 1) → v ≢ 0
       → SearchTells h l (firstOf (ahead h l path₀ depth q first)) (Search.Found (depth + 1) v)
       (set path depth i) (set nodes (depth + 1) c)
@@ -283,7 +283,7 @@ module _ {h : Head} {l path₀ nodes₀ : List ℕ} {depth q first : ℕ} {path 
     link-split = ahead-link h l path (set path depth i) depth q i (o .passing .deep) (o .low)
         (o .link) (o .full) e empty longer
 
-    -- else the first below the child, where there is one
+    -- otherwise it is the first key below the child, if there is one
     pub onto-found : {r : Search} {path₁ nodes₁ : List ℕ} {n w : ℕ}
         → SearchTells h l (firstOf (ahead h l (set path depth i) (depth + 1) c 0)) r path₁ nodes₁
         → r ≡ Search.Found n w
@@ -292,7 +292,7 @@ module _ {h : Head} {l path₀ nodes₀ : List ℕ} {depth q first : ℕ} {path 
         let (k, g, _) = was-found h l told f in
         told-same h l (o .passing .passed ∙ ap firstOf link-split ∙ first-front _ _ g ∙ sym g) told
 
-    -- and else the letter is passed
+    -- otherwise the search goes on with the next letter
     onto-none : {path₁ nodes₁ : List ℕ} → firstOf (ahead h l (set path depth i) (depth + 1) c 0)
         ≡ none
         → PathKept (depth + 1) (set path depth i) (set nodes (depth + 1) c) path₁ nodes₁

@@ -1,5 +1,5 @@
--- A walk from key to key through an accepted image, for the crates above: a key that was found has
--- left its path, from which the next search starts.
+-- A walk from key to key through an accepted image, for the crates above. A search that found a
+-- key leaves the key's path, and the next search starts from it.
 use mathlib.Core.Path.{_≡_}
 use Prim.Native.Nat.{ℕ, _≤_}
 use native.Mathlib.Omega.{arith}
@@ -15,7 +15,7 @@ use Rattle.traversal.specs.declared.Search.{Search}
 use Rattle.traversal.specs.Search.{PathRoom, Along, SearchTells}
 use Rattle.traversal.proofs.Searching.{was-found}
 
--- a key that was found is on the path, with its length
+-- the path is that of a key of n letters, which was found
 pub record Met (h : Head) (l path nodes : List ℕ) (n : ℕ) : Type 0 where
   pub deep : n ≤ h .max
   pub along : Along h l n path nodes
@@ -28,8 +28,8 @@ met {h} {l} told e =
     let reached = told .reached k is in
     record { deep = rw same (reached .short); along = rw same (reached .along) }
 
--- what a walk keeps from key to key: letters and nodes enough for every key, and the last key on
--- the path
+-- what a walk keeps from key to key: room for the letters and nodes of every key, and the path
+-- of the last key
 pub record Walking (h : Head) (l path nodes : List ℕ) (n : ℕ) : Type 0 where
   pub letters : length path ≡ mostLetters
   pub ends : length nodes ≡ mostPath
@@ -39,7 +39,7 @@ module _ {h : Head} {l path nodes : List ℕ} (w : Walkable h l) where
   pub has-room : length path ≡ mostLetters → length nodes ≡ mostPath → PathRoom h path nodes
   has-room p n = record { letters = omega (arith, short w); ends = omega (arith, short w) }
 
-  -- what the search for the key after the last one asks for
+  -- what the search for the key after the last one requires
   pub walks-on : {n : ℕ} → Walking h l path nodes n
       → Open h l × (Within (tableOf h l) (h .g)
       × ((n ≤ h .max) × (PathRoom h path nodes × Along h l n path nodes)))

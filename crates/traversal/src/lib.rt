@@ -1,7 +1,7 @@
-// The stored keys of an image in order: the first at or after a key, and the one after that. A
-// caller has checked the image once; from then on every function here walks without a second
-// check. The search remembers the path of the key that it found, letters and nodes, so that the
-// key after it is found from there and a whole listing is one walk through the image.
+// The stored keys of an image in order: the first key at or after a key, and the key after the
+// one found. The caller has checked the image once; no function here checks it again. A search
+// leaves the path of the key that it found, letters and nodes. The next search starts from it,
+// so that a whole listing is one walk through the image.
 ghost use mathlib.Core.Path.{_≡_};
 ghost use mathlib.Core.Bool.{true};
 ghost use mathlib.Core.List.{List};
@@ -17,14 +17,16 @@ ghost use Rattle.traversal.specs.Search.{nextStored, SearchTells};
 use head::Head;
 use key::Key;
 
-// A search found a key of so many letters, which stand at the front of the path, or there is none.
+// The answer of a search.
 pub enum Search {
+    // A key of `length` letters, which are the front of the path, and its value.
     Found { length: usize, value: u64 },
+    // There is no such key.
     Missing,
 }
 
-// The first stored key at or after the key in hand, or after it. Its letters are at the front of
-// the path then, and the nodes are those on its way from the root on.
+// The first stored key at or after the key in hand or, if `after` is true, after it. Its letters
+// are then the front of `path`, and `nodes` has the nodes on its path from the root on.
 pub fn next(
     image: &[u8],
     h: Head,
@@ -67,7 +69,7 @@ pub fn next(
 }
 
 // The first stored key after the one whose letters are the first `len` of the path, with its
-// nodes. Over a whole listing each link is looked at once.
+// nodes. Over a whole listing no link is followed twice.
 pub fn onward(image: &[u8], h: Head, len: usize, path: &mut [u8], nodes: &mut [u32]) -> Search
     requires { ⌜ Open h (now image) ⌝ ∗ ⌜ Within (tableOf h (now image)) (h .g) ⌝ }
     requires { ⌜ len ≤ h .max ⌝ ∗ ⌜ PathRoom h (now path) (now nodes) ⌝
@@ -80,8 +82,8 @@ pub fn onward(image: &[u8], h: Head, len: usize, path: &mut [u8], nodes: &mut [u
     climb(image, h, node::mask(h), len, 0, path, nodes)
 }
 
-// The root's own value, where the empty key is stored, else 0: the front of a listing. `onward`
-// goes on from there with no letters.
+// Begins a listing: answers the value of the empty key, 0 if it is not stored. From there
+// `onward` with the length 0 goes on.
 pub fn start(image: &[u8], h: Head, nodes: &mut [u32]) -> u64
     requires { ⌜ Open h (now image) ⌝ ∗ ⌜ 0 < length (now nodes) ⌝ }
     ensures { λ r. ⌜ r ≡ ownValue h (tableOf h (now (image .entry))) 0 0 ⌝ }
@@ -92,7 +94,8 @@ pub fn start(image: &[u8], h: Head, nodes: &mut [u32]) -> u64
     depths::own_value(image, h, 0, 0)
 }
 
-// Follows a key as far as its links go, and answers how far that is.
+// Follows a key from the root until it ends or a link is empty, and answers how many letters it
+// followed.
 fn along(image: &[u8], h: Head, mask: u32, key: Key, path: &mut [u8], nodes: &mut [u32]) -> usize
     requires { ⌜ Open h (now image) ⌝ ∗ ⌜ Within (tableOf h (now image)) (h .g) ⌝
         ∗ ⌜ Masks h mask ⌝ }
@@ -119,9 +122,9 @@ fn along(image: &[u8], h: Head, mask: u32, key: Key, path: &mut [u8], nodes: &mu
     depth
 }
 
-// The first stored key below the path's end from a letter on or, where there is none, behind the
-// letter taken at each node on the way up. Only a node from whose first letter on is sought can be
-// fruitless: by every other a key led on.
+// The first stored key below the path's end from a letter on. If there is none, the search goes
+// on from node to node up the path, each time after the letter that was taken there. These nodes
+// have a link, so `no_keys_below` is asked only where a search begins with the first letter.
 fn climb(
     image: &[u8],
     h: Head,
@@ -162,8 +165,8 @@ fn climb(
     }
 }
 
-// The first stored key below a node at a depth whose next letter is `from` or a later one. It
-// calls itself on each child; the depth left to max falls.
+// The first stored key below a node at a depth whose next letter is `from` or a later one. The
+// function calls itself on the children; the depth left to max falls.
 fn below(
     image: &[u8],
     h: Head,

@@ -1,5 +1,5 @@
--- The proof of the cycle of calls {counted}: what was counted and what is still to come make up
--- the whole, letter by letter, and the depth left to max falls at each call of itself. Assumes
+-- The proof of the cycle of calls {counted}. Letter by letter, the keys counted and the keys
+-- still to come make up the whole. At each call of itself the depth left to max falls. Assumes
 -- nothing.
 use Prim.Native.Nat.{ℕ, _+_, _-_, _<_, _≤_}
 use mathlib.Core.Logic.{⊎-elim}
@@ -37,7 +37,7 @@ Inv-loop image h mask ones node depth before sum₀ i₀ i-end sum i =
 abbrev μ-loop : lts.MeasureT-loop
 μ-loop image h mask ones node depth before sum₀ i₀ i-end sum i = h .n - i
 
--- what the callees ask and ensure
+-- what the called functions require and ensure
 abbrev claims : ℕ → lts.Claims
 claims t = (
   link-reads.Asked,
@@ -73,7 +73,7 @@ loop-again t c =
           (loop .loop .i) (found .before .loop-test .taken) (found .link .ensures) (c .if1 .taken),
     )
 
--- past an empty link: the child's keys come next
+-- if the link is not empty, the child's keys come next
 by-link : (t : ℕ) (c : lts.Else1 (claims t) (at t) counted.Post Inv-loop μ-loop)
     → (let found = c .before in
     let loop = found .before .before in
@@ -92,7 +92,7 @@ by-link t c =
     (start .pre .1 .1 .1 .1 .1 .0) (found .before .loop-test .taken)
     (found .link .ensures) (c .if1 .left)
 
--- the child stands in the table
+-- the child's address is at most G
 inside : (t : ℕ) (c : lts.After-link (claims t) (at t) counted.Post Inv-loop μ-loop)
     → c .link .result ≤ c .before .before .before .before .args .h .g
 inside t c =
@@ -170,7 +170,7 @@ add-i-2 t c = omega arith
 loop-less-2 : (t : ℕ) → lts.Need-loop-less-2 (claims t) (at t) counted.Post Inv-loop μ-loop
 loop-less-2 t c = omega arith
 
--- nothing lies below the child
+-- no key lies below the child
 loop-again-2 : (t : ℕ) → lts.Need-loop-again-2 (claims t) (at t) counted.Post Inv-loop μ-loop
 loop-again-2 t c =
     let joined = c .before .before in

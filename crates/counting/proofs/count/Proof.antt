@@ -1,5 +1,5 @@
--- `counting::count` meets its contract: a listing is the root's own key and those below the root.
--- Assumes nothing.
+-- `counting::count` meets its contract: the listing is the root's own key, if there is one, and
+-- the keys below the root. Assumes nothing.
 use mathlib.Core.Path.{_≡_}
 use mathlib.Core.Logic.{⊎-elim}
 use native.Mathlib.Omega.{arith}

@@ -1,5 +1,5 @@
--- `depths::no_keys_below` meets its contract: nothing lies below a node where no letter may
--- follow, nor where all links are empty. Assumes nothing.
+-- `depths::no_keys_below` meets its contract: no key lies below a node if no letter may follow,
+-- nor if all its links are empty. Assumes nothing.
 use borrow.Author.Needs.{needs}
 use Rattle.node.specs.Image.{tableOf}
 use Rattle.depths.proofs.Links.{keys-below-full, keys-below-asked}

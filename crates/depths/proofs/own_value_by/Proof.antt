@@ -1,5 +1,5 @@
--- `depths::own_value_by` meets its contract: below min no key ends, from there on a node's data is
--- its own. Assumes nothing.
+-- `depths::own_value_by` meets its contract: no stored key ends at a depth below min; at any
+-- other depth the value is the node's data. Assumes nothing.
 use mathlib.Core.Path.{sym, _∙_}
 use borrow.Author.Needs.{needs}
 use Rattle.node.specs.Image.{tableOf}

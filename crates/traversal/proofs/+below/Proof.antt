@@ -1,5 +1,5 @@
--- The proof of the cycle of calls {below}: from letter to letter what is sought is what comes
--- first of the rest, and the depth left to max falls at each call of itself. Assumes nothing.
+-- The proof of the cycle of calls {below}. From letter to letter the key sought is the first of
+-- the keys that are left. At each call of itself the depth left to max falls. Assumes nothing.
 use Prim.Native.Nat.{ℕ, _-_, _<_, _≤_}
 use mathlib.Core.Path.{_∙_}
 use native.Mathlib.Omega.{arith}
@@ -38,7 +38,7 @@ Inv-loop image h mask node depth from path₀ nodes₀ i₀ i-end path nodes i =
 abbrev μ-loop : lts.MeasureT-loop
 μ-loop image h mask node depth from path₀ nodes₀ i₀ i-end path nodes i = h .n - i
 
--- what the callees ask and ensure
+-- what the called functions require and ensure
 abbrev claims : ℕ → lts.Claims
 claims t = (
   link-reads.Asked,
@@ -51,7 +51,7 @@ claims t = (
   below.Post,
 )
 
--- the node stands in the table
+-- the node's address is at most G
 inside : (t : ℕ) (c : lts.Start (claims t) (at t) below.Post Inv-loop μ-loop) → c .args .node
     ≤ c .args .h .g
 inside t c = let p = c .pre .1 in
@@ -82,7 +82,7 @@ loop-again t c =
     passing-empty (found .before .before .loop .inv) (found .before .loop-test .taken)
     (found .link .ensures) (c .if1 .taken)
 
--- past an empty link
+-- the link is not empty
 onto : (t : ℕ) (c : lts.Else1 (claims t) (at t) below.Post Inv-loop μ-loop)
     → (let found = c .before in
     let loop = found .before .before in
@@ -98,7 +98,7 @@ onto t c =
       full = c .if1 .left;
     }
 
--- the child stands in the table
+-- the child's address is at most G
 child-inside : (t : ℕ) (c : lts.After-link (claims t) (at t) below.Post Inv-loop μ-loop)
     → c .link .result ≤ c .before .before .before .before .before .before .args .h .g
 child-inside t c =
@@ -192,7 +192,7 @@ add-i-2 t c = omega arith
 loop-less-2 : (t : ℕ) → lts.Need-loop-less-2 (claims t) (at t) below.Post Inv-loop μ-loop
 loop-less-2 t c = omega arith
 
--- nothing lies below the child
+-- no key lies below the child
 loop-again-2 : (t : ℕ) → lts.Need-loop-again-2 (claims t) (at t) below.Post Inv-loop μ-loop
 loop-again-2 t c =
     let none = c .before .before in

@@ -1,5 +1,5 @@
--- `traversal::along` meets its contract: letter by letter the path is the key's beginning, down to
--- its end or to an empty link. Assumes nothing.
+-- `traversal::along` meets its contract: letter by letter the path is the beginning of the key,
+-- down to the key's end or to an empty link. Assumes nothing.
 use Prim.Native.Nat.{_-_}
 use mathlib.Core.Path.{_≡_, _∙_}
 use native.Mathlib.Omega.{arith}
@@ -27,11 +27,11 @@ abbrev μ-loop : tie.MeasureT-loop
 whole : (c : tie.Start Inv-loop μ-loop) → length (c .args .key .letters) ≡ mostLetters
 whole c = search needs
 
--- so many of them are the key's
+-- the number of the key's letters
 count : (c : tie.Start Inv-loop μ-loop) → length (lettersOf (c .args .key)) ≡ c .args .key .len
 count c = letters-count (c .args .key) (whole c) (c .pre .1 .1 .1 .0 .short)
 
--- the letter at hand
+-- the next letter
 letter : (c : tie.In-loop Inv-loop μ-loop)
     → (let a = c .before .before .before .before .before .before .args in
     getD (lettersOf (a .key)) (c .before .loop .depth) 0 ≡ getD (a .key .letters)

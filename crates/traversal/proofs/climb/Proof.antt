@@ -1,7 +1,7 @@
--- `traversal::climb` meets its contract: from node to node up the path the first key still to come
--- stays the same, until it is found below a node or the root is done. Below the path's own node
--- nothing is sought where no key lies below it; at those before it a letter was taken. Assumes
--- nothing.
+-- `traversal::climb` meets its contract: from node to node up the path the first key still to
+-- come stays the same, until it is found below a node or the root is done. A search that begins
+-- with the first letter is made only if keys may lie below the node; one that begins with a
+-- later letter is made below max. Assumes nothing.
 use Prim.Native.Nat.{_-_, _<_}
 use mathlib.Core.Bool.{true≢false}
 use mathlib.Core.Logic.{⊎-elim}
@@ -60,7 +60,7 @@ slice-read-below : tie.Need-slice-read-below Inv-loop μ-loop
 slice-read-below c =
     let at = c .before .before .before .loop .inv in omega (arith, at .deep, at .room .ends)
 
--- a letter may follow where keys may lie below the node
+-- a search is made only at a depth below max
 deep : (c : tie.Then2 Inv-loop μ-loop)
     → (let loop = c .before .before in
     loop .loop .depth < loop .before .before .before .before .args .h .max)
@@ -101,7 +101,7 @@ returns c =
 enum-told-2 : tie.Need-enum-told-2 Inv-loop μ-loop
 enum-told-2 c = search needs
 
--- nothing was found, or nothing sought
+-- no key was found, or no search was made
 nothing : (c : tie.Joined2 Inv-loop μ-loop)
     → (let loop = c .before .before in
     let a = loop .before .before .before .before .args in

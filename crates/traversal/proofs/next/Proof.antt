@@ -1,6 +1,6 @@
--- `traversal::next` meets its contract: where the key goes on at an empty link, or ends at a node
--- whose own key is not the answer, the first key that meets it is the first still to come from
--- there. Assumes nothing.
+-- `traversal::next` meets its contract: if the key meets an empty link, or ends at a node whose
+-- own key is not the answer, the first key that meets the request is the first one still to come
+-- from there. Assumes nothing.
 use Prim.Native.Nat.{ℕ, _+_, _<_, _≤_}
 use mathlib.Core.Bool.{Bool}
 use mathlib.Core.Logic.{⊎-elim}
@@ -26,11 +26,11 @@ use Rattle.traversal.proofs.next.Tie as tie
 whole : (c : tie.Start) → length (c .args .key .letters) ≡ mostLetters
 whole c = search needs
 
--- so many of them are the key's
+-- the number of the key's letters
 count : (c : tie.Start) → length (lettersOf (c .args .key)) ≡ c .args .key .len
 count c = letters-count (c .args .key) (whole c) (c .pre .1 .1 .0 .short)
 
--- the room is still there, and the path reaches no deeper than max
+-- the lists are still long enough, and the path is no deeper than max
 room : (c : tie.After-along)
     → PathRoom (c .before .before .before .before .before .before .before .args .h)
     (c .along .last .1 .1 .1 .1 .0) (c .along .last .1 .1 .1 .1 .1 .0)
@@ -43,7 +43,7 @@ deep c =
     let start = c .before .before .before .before .before .before .before in
     omega (arith, count start, c .along .ensures .short, start .pre .1 .1 .1 .0)
 
--- the letter at an empty link
+-- the letter that meets an empty link
 letter : (c : tie.After-letters)
     → (let a =
     c .before .before .before .before .before .before .before .before .before .before .before

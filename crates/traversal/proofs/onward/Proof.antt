@@ -1,5 +1,5 @@
--- `traversal::onward` meets its contract: what meets "after" the path's key is what is still to
--- come from the path's end. Assumes nothing.
+-- `traversal::onward` meets its contract: the keys after the path's key are those still to come
+-- from the path's end. Assumes nothing.
 use native.Mathlib.Omega.{arith}
 use borrow.Author.Needs.{needs}
 use Rattle.traversal.proofs.Paths.{room-kept}

@@ -1,5 +1,5 @@
--- `traversal::start` meets its contract: no letters lead to the root, which is laid at the front.
--- Assumes nothing.
+-- `traversal::start` meets its contract: a path of no letters leads to the root, which is
+-- written as the first node. Assumes nothing.
 use borrow.Author.Needs.{needs}
 use lib.ListN.{set}
 use lib.Seq.{getD-set-same}
