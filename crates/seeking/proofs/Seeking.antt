@@ -1,6 +1,6 @@
--- The outcome of next key, at each way out. Behind the check its order goes on with 9, 10, 14 and
--- 15. The search tells the first stored key that meets the request, whose letters are then at the
--- front of the path.
+-- The outcome of next key at each return of the code. After the check its order goes on with 9,
+-- 10, 14 and 15. The search answers the first stored key that meets the request. Its letters are
+-- then the front of the path.
 use Prim.Native.Nat.{ℕ, _+_, _≤_, _<_}
 use mathlib.Core.Path.{_≡_, refl, sym, _∙_, ap}
 use mathlib.Core.Bool.{Bool, true}
@@ -63,7 +63,7 @@ module _ (l work key : List ℕ) (after : Bool) (buffer : List ℕ) where
   unfolding foundOf refusalNumbers
   refuses why e = sym (asked ∙ heard-refused _ _ _ e)
 
-  -- behind the check, behind 9 and 10, and behind 14
+  -- after the check, after 9 and 10, and after 14
   module _ (checked : first (checkOrder l work) ≡ none) where
     unkeyed : {v : Verdict} {why : Refusal} → rowOf v ≡ first (nextRows (headOf l) key)
         → v ≡ Verdict.Refused why
@@ -106,12 +106,12 @@ module _ (l work key : List ℕ) (after : Bool) (buffer : List ℕ) where
           unfolding foundOf foundIn
           found count value laid = rw (count, value, laid) (sym done)
 
--- ---- what the search told
+-- ---- what the search answered
 
 module _ {h : Head} {l : List ℕ} {o : Option (List ℕ)} {r : Search} {path nodes : List ℕ}
     (t : SearchTells h l o r path nodes)
     {n x : ℕ} (f : r ≡ Search.Found n x) where
-  -- the key found, whose letters are the first n of the path
+  -- the key found: its letters are the first n of the path
   key-found : (k : List ℕ) × (o ≡ some k) × (n ≡ length k) × (x ≡ answer (tableOf h l) k)
       × (take n path ≡ k)
   unfolding searchOf
@@ -121,7 +121,7 @@ module _ {h : Head} {l : List ℕ} {o : Option (List ℕ)} {r : Search} {path no
       sym f ∙ t .answers ∙ ap (searchOf (tableOf h l)) is in
       (k, is, count, cc, ap (λ (m : ℕ). take m path) count ∙ t .reached k is .letters)
 
-  -- is no longer than max, and so stands in the path and has room in a buffer that 14 passed
+  -- it is no longer than max, so it is inside the path and fits a buffer that 14 has passed
   module _ (room : PathRoom h path nodes) where
     pub found-within : n ≤ length path
     found-within = omega (arith, met t f .deep, room .letters)
@@ -132,9 +132,9 @@ module _ {h : Head} {l : List ℕ} {o : Option (List ℕ)} {r : Search} {path no
     pub found-room : {most : ℕ} → h .max ≤ most → 0 + length (take n path) ≤ most
     found-room b = omega (arith, met t f .deep, found-front)
 
--- ---- behind the check, by a head that is the image's and a key in hand
+-- ---- after the check, with the image's head and a key in hand
 
--- what the search asks for and rests on, where 9 and 10 have passed the key
+-- what is known once 9 and 10 have passed
 pub record Behind (l : List ℕ) (h : Head) (key : List ℕ) (hand : Key) : Type 0 where
   pub same : h ≡ headOf l
   pub walk : Walkable h l

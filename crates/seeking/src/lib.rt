@@ -1,5 +1,5 @@
-// The part of next key behind the check, for an image that has been checked: 9, 10, 14, 15 and the
-// first stored key that meets the request.
+// Next key after the check, on an image that has been checked: 9, 10, 14, 15, and the first
+// stored key that meets the request.
 ghost use mathlib.Core.Path.{_≡_};
 ghost use Rattle.head.specs.Fields.{headOf};
 ghost use Rattle.paper.specs.Accepted.{Accepted};
@@ -11,8 +11,9 @@ use paper::Refusal;
 use paper::Verdict;
 use traversal::Search;
 
-// Refusals: 9 for a key longer than max, 10, 14, 15. The search writes to a path of its own, since
-// a buffer that is refused keeps what it held.
+// Finds the first stored key at or after the key given or, if `after` is true, after it, and
+// writes its letters to the front of the buffer. Refusals: 9 for a key longer than max, 10, 14,
+// 15. The search writes to a path of its own, since a refused call leaves the buffer as it was.
 pub fn seek(image: &[u8], h: Head, letters: &[u8], after: bool, buffer: &mut [u8]) -> Found
     requires { ⌜ Accepted (now image) ⌝ }
     requires { ⌜ h ≡ headOf (now image) ⌝ }

@@ -1,5 +1,5 @@
--- What 11, 12 and 13 say of a store behind 10, at each way out of judging them, and what is heard
--- and left where one of them is given or none is.
+-- 11, 12 and 13 of a store: the verdict at each return of the code that judges them, and the
+-- outcome if one of them is given or none is.
 use Prim.Native.Nat.{ℕ, zero, suc, _+_, _-_, _*_, _^_, _≤_, _<_}
 use mathlib.Core.Path.{_≡_, refl, sym, _∙_}
 use mathlib.Core.Logic.{_≢_}
@@ -55,12 +55,12 @@ change-over (suc u) (suc v) a b = refl
 
 -- ---- 11, 12 and 13
 
--- what 12 and 13 test where a node is new
+-- if there is a new node, 12 and 13 depend on their second test alone
 some-new : (k : ℕ) (b : Bool) → (ltb 0 (suc k) && b) ≡ b
 some-new k b = rw (lt-ltb 0 (suc k) (omega arith)) refl
 
 module _ (h : Head) (value len : ℕ) where
-  -- at each way out of judging
+  -- at each return of the code
   abbrev Judged : ℕ → Verdict → Type 0
   Judged new v = rowOf v ≡ first (addingRows h value new len)
 
@@ -114,7 +114,7 @@ module _ (h : Head) (value len : ℕ) where
         ∙ yes-row 13 0 _ (some-new k _ ∙ lt-ltb len (usedLen h + suc k * nodeWidth h)
         (rw (used-more h (suc k)) at b)))
 
-  -- what an order that passed tells
+  -- what is known once 11, 12 and 13 have passed
   pub record Passed (new : ℕ) : Type 0 where
     pub fits : value < 256 ^ h .d
     pub addresses : 0 < new → h .g + new < 256 ^ h .a
@@ -132,10 +132,10 @@ module _ (h : Head) (value len : ℕ) where
         room = none-13 h new len .0 (after13 .0);
       }
 
--- ---- what is heard and left
+-- ---- the outcome
 
 module _ (h : Head) (l : List ℕ) where
-  -- what is heard and left where the walk ended so
+  -- the outcome, given how the walk ended
   abbrev pub Leaves : Descent → ℕ → Stored → List ℕ → Type 0
   Leaves d value r l′ = outcome (storedOf r) (l′ ∷ []) ≡ storeAt h l d value
 
@@ -162,7 +162,7 @@ module _ (h : Head) (l : List ℕ) (q : ℕ) {left : List ℕ} (x : ℕ) (xs : L
     unfolding stoppedAt storeWrites carriedOut
     none-built value z = rw (z, e) refl
 
-    -- addresses and room for all that is missing
+    -- addresses and room for all missing nodes
     pub path-space : (value : ℕ) → value ≢ 0 → Unrefused h (length l) (stoppedAt q left) value
         → Space h l (h .g + length left)
     unfolding stoppedAt missing added

@@ -1,5 +1,5 @@
--- The writes of a new path, as they are done: what is still to be laid leaves what all of it would
--- have left.
+-- The writes of a new path, as the code does them. At each turn the writes that are left, done
+-- on the image so far, give the image that all writes together give.
 use Prim.Native.Nat.{ℕ, suc, _+_, _-_, _^_, _≤_, _<_}
 use mathlib.Core.Path.{_≡_, refl, sym, _∙_, ap}
 use mathlib.Core.List.{List, [], _∷_}
@@ -14,7 +14,7 @@ use Rattle.node.proofs.Heads.{withTotal}
 use Rattle.node.proofs.StoreOnTable.{length-carried, carried-append}
 use Rattle.storing.specs.StoreStage.{Space, Builds}
 
--- what 12 and 13 leave
+-- addresses and room, once 12 and 13 have passed
 pub space : {h : Head} {l : List ℕ} {total : ℕ} → total < 256 ^ h .a → usedLen (withTotal h total)
     ≤ length l → Space h l total
 unfolding usedLen nodePlace nodeWidth
@@ -22,7 +22,8 @@ space few room = record { addresses = few; room = room }
 
 -- ---- the new nodes
 
--- The nodes for the letters before this depth are laid, from image l₀ on.
+-- The nodes for the letters before this depth are written; before the first of them the image
+-- was l₀.
 pub record Laying (h : Head) (k : List ℕ) (from value : ℕ) (l₀ l : List ℕ) (depth node : ℕ)
     : Type 0 where
   pub deep : depth ≤ length k
@@ -46,7 +47,7 @@ module _ {h : Head} {k : List ℕ} {from value : ℕ} {l₀ : List ℕ} where
     pub laying-most : node ≤ h .g + suc (length k - from)
     laying-most = omega (arith, w .count)
 
-    -- there is room for the next
+    -- there is room for the next node
     pub laying-room : Space h l₀ (h .g + suc (length k - from)) → nodePlace h (node + 1) ≤ length l
     laying-room s =
         omega (
@@ -83,7 +84,7 @@ module _ {h : Head} {k : List ℕ} {from value : ℕ} {l₀ : List ℕ} where
           e ∙ ap (λ (ys : List ℕ). carriedOut l (newNodes h node ys value))
           (sym (ap (λ (m : ℕ). drop m k) d ∙ drop-length k)) ∙ w .rest
 
--- ---- and the two writes behind them
+-- ---- and the two writes after them
 
 pub built : (h : Head) (q x total value : ℕ) (ys l : List ℕ) {left l₁ l₂ l₃ : List ℕ}
     → left ≡ x ∷ ys

@@ -1,6 +1,6 @@
--- The outcome of the whole part that follows 10. The end of the key's walk tells what there is to
--- write; an accepted image has no bad link, so that this end is the key's descent, and the head in
--- hand is the image's own.
+-- The outcome of the whole part after 10. What is written depends on how the key's walk ended.
+-- An accepted image has no bad link, so this end is the key's descent. The head in hand is the
+-- image's own.
 use Prim.Native.Nat.{ℕ, zero, suc, _-_, _≤_, _<_}
 use mathlib.Core.Path.{_≡_, refl, sym, _∙_, ap}
 use mathlib.Core.Logic.{_≢_}
@@ -74,7 +74,7 @@ module _ (h : Head) (l k : List ℕ) (value : ℕ) {o : Walked} where
   unfolding endOf stoppedAt valueAt
   writes-path e x xs left w c = rw (e, left) (rw left at w, c)
 
--- what is allowed where the walk stopped
+-- what 11, 12 and 13 allow, if the walk stopped
 pub allowed-path : (h : Head) (len : ℕ) (k : List ℕ) (value : ℕ) {o : Walked} {p : Position}
     → o ≡ Walked.Stopped p
     → Unrefused h len (endOf k o) value

@@ -1,6 +1,6 @@
--- 01, "store: 1 to 8, 9, 10, 11, 12, 13": the part behind 10. Where an image has been checked and
--- a key has passed 9 and 10, what this part answers and leaves in the image is what the whole call
--- does, whatever working numbers were lent.
+-- 01, "store: 1 to 8, 9, 10, 11, 12, 13": the part after 10. If an image has been checked and a
+-- key has passed 9 and 10, this part answers and leaves in the image what the whole call does,
+-- whatever working numbers were lent.
 use Prim.Native.Nat.{ℕ, suc, _+_, _^_, _≤_, _<_}
 use mathlib.Core.Path.{_≡_}
 use mathlib.Core.Option.{none}
@@ -21,7 +21,7 @@ use Rattle.key.specs.declared.Key.{Key}
 use Rattle.walk.specs.declared.Position.{Position}
 use Rattle.walk.specs.declared.Walked.{Walked}
 
--- the outcome of 11, 12, 13 and of the writes, where the key's walk ended so
+-- the outcome of 11, 12, 13 and of the writes, given how the key's walk ended
 unfoldable pub storeAt : Head → List ℕ → Descent → ℕ → Outcome
 unfolding heard first addingRows added missing doneNumbers changeOf valueAt tableOf carriedOut
     storeWrites
@@ -30,45 +30,47 @@ storeAt h l d value =
     (outcome (doneNumbers 0 (changeOf (valueAt (tableOf h l) d) value) 0)
     (carriedOut l (storeWrites h d value) ∷ []))
 
--- the walk is the key's own
+-- the outcome for a key, by its descent from the root
 abbrev pub StoresIn : List ℕ → List ℕ → ℕ → Stored → List ℕ → Type 0
 StoresIn l key value r l′ =
     outcome (storedOf r) (l′ ∷ []) ≡ storeAt (headOf l) l (descend (tableIn l) 0 key) value
 
 -- ---- the parts of it
 
--- a walk that stopped: at a node that there is, before the key's end
+-- a walk that stopped: at a node of the image, before the end of the key
 pub record Stop (h : Head) (key : Key) (at : Position) : Type 0 where
   pub node : at .node ≤ h .g
   pub depth : at .depth < key .len
 
--- the end of a key's walk as its descent; a walk that stopped has a letter left
+-- a walk that stopped at node q with these letters left, as a descent; at least one letter is
+-- left
 unfoldable pub stoppedAt : ℕ → List ℕ → Descent
 stoppedAt q [] = complete q
 stoppedAt q (x ∷ xs) = stopped q x xs
 
+-- how a key's walk ended, as a descent; `Ends` excludes the bad link
 unfoldable pub endOf : List ℕ → Walked → Descent
 unfolding stoppedAt
 endOf k (Walked.Complete q) = complete q
 endOf k (Walked.Stopped p) = stoppedAt (p .node) (drop (p .depth) k)
 endOf k (Walked.Bad q) = complete q
 
--- how a walk may end: at a node that there is, with no bad link
+-- how a walk may end: at a node of the image, and never at a bad link
 abbrev pub Ends : Head → Key → Walked → Type 0
 Ends h key (Walked.Complete q) = q ≤ h .g
 Ends h key (Walked.Stopped p) = Stop h key p
 Ends h key (Walked.Bad q) = ⊥
 
--- none of 11, 12 and 13 is given, where the key's walk ended so in an image of a length
+-- none of 11, 12 and 13 is given in an image of this length, given how the key's walk ended
 abbrev pub Unrefused : Head → ℕ → Descent → ℕ → Type 0
 Unrefused h len d value = first (addingRows h value (added (missing d) value) len) ≡ none
 
--- addresses up to this one, and the bytes of their nodes
+-- all addresses up to `total` fit A bytes, and their nodes fit the image
 pub record Space (h : Head) (l : List ℕ) (total : ℕ) : Type 0 where
   pub addresses : total < 256 ^ h .a
   pub room : nodePlace h (total + 1) ≤ length l
 
--- the writes of a new path below node q, for these letters of the key
+-- the writes of a new path below node q, for the letters of the key that are left
 abbrev pub Builds : Head → List ℕ → ℕ → List ℕ → ℕ → ℕ → List ℕ → Type 0
 Builds h l q left total value l′ =
     (x : ℕ) (xs : List ℕ) → left ≡ x ∷ xs

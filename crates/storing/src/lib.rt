@@ -1,6 +1,6 @@
-// What a store judges once the key has passed 9 and 10, and what it writes, as two stages: 11, 12
-// and 13; then the new nodes by rising address, the node total and the link to the first of them,
-// or the data field alone. The image has been checked.
+// The part of a store after 10, on an image that has been checked, in two stages. First 11, 12
+// and 13 are judged. Then the store writes: the new nodes by rising address, G, and the link to
+// the first new node; or, if the path is complete, the data field alone.
 ghost use mathlib.Core.Path.{_≡_};
 ghost use Prim.Native.Nat.{suc, _+_, _-_, _≤_, _<_, _^_};
 ghost use mathlib.Core.Bool.{true};
@@ -26,8 +26,8 @@ use paper::Verdict;
 use walk::Position;
 use walk::Walked;
 
-// Stores a value under a key, 0 to delete it. Refusals: 11, 12, 13. An image that has been checked
-// has no bad link.
+// Stores a value under a key; 0 deletes the key. Refusals: 11, 12, 13. An accepted image has no
+// bad link, so the walk meets none.
 pub fn store(image: &mut [u8], h: Head, key: Key, value: u64) -> Stored
     requires { ⌜ Accepted (now image) ⌝ ∗ ⌜ h ≡ headOf (now image) ⌝ ∗ ⌜ Ready h key ⌝ }
     ensures { λ r. ⌜ StoresIn (now (image .entry)) (lettersOf key) value r (now (image .exit)) ⌝ }
@@ -36,7 +36,8 @@ pub fn store(image: &mut [u8], h: Head, key: Key, value: u64) -> Stored
     store_at(image, h, key, walked, value)
 }
 
-// 11, 12, 13 and the writes, given how the key's walk ended.
+// Judges 11, 12 and 13 and carries out the writes, given how the key's walk ended. Refusals: 11,
+// 12, 13.
 pub fn store_at(image: &mut [u8], h: Head, key: Key, walked: Walked, value: u64) -> Stored
     requires { ⌜ Open h (now image) ⌝ ∗ ⌜ Ready h key ⌝ ∗ ⌜ Ends h key walked ⌝ }
     ensures { λ r. ⌜ outcome (storedOf r) (now (image .exit) ∷ []) ≡ storeAt h (now (image .entry))
@@ -49,7 +50,8 @@ pub fn store_at(image: &mut [u8], h: Head, key: Key, walked: Walked, value: u64)
     }
 }
 
-// How many nodes a store adds: one for each letter left where the walk stopped, and none for 0.
+// The number of nodes that a store adds: one for each letter left where the walk stopped, none
+// for the value 0.
 pub fn new_count(h: Head, key: Key, walked: Walked, value: u64) -> usize
     requires { ⌜ Ready h key ⌝ ∗ ⌜ Ends h key walked ⌝ }
     ensures { λ r. ⌜ r ≡ added (missing (endOf (lettersOf key) walked)) value ⌝
@@ -65,8 +67,8 @@ pub fn new_count(h: Head, key: Key, walked: Walked, value: u64) -> usize
     }
 }
 
-// 11, 12, 13 of a store that adds so many nodes to an image of a length. 12 and 13 ask for the
-// addresses and the room of all of them, in 64 bits.
+// 11, 12, 13 of a store that adds `new` nodes to an image of `len` bytes. 12 and 13 judge all
+// the new nodes together, in 64 bits.
 pub fn judge(h: Head, len: usize, new: usize, value: u64) -> Verdict
     requires { ⌜ permitted h ≡ true ⌝ ∗ ⌜ new ≤ mostLetters ⌝ }
     ensures { λ r. ⌜ rowOf r ≡ first (addingRows h value new len) ⌝ }
@@ -96,8 +98,8 @@ pub fn judge(h: Head, len: usize, new: usize, value: u64) -> Verdict
     Verdict::Passed
 }
 
-// The writes of a store that 11, 12 and 13 have passed, given how the key's walk ended, and the
-// change in the number of stored keys.
+// Carries out the writes of a store that 11, 12 and 13 have passed, given how the key's walk
+// ended. Answers the change in the number of stored keys.
 pub fn write_at(image: &mut [u8], h: Head, key: Key, walked: Walked, value: u64) -> i32
     requires { ⌜ Open h (now image) ⌝ ∗ ⌜ Ready h key ⌝ ∗ ⌜ Ends h key walked ⌝
         ∗ ⌜ Unrefused h (length (now image)) (endOf (lettersOf key) walked) value ⌝ }
@@ -113,7 +115,7 @@ pub fn write_at(image: &mut [u8], h: Head, key: Key, walked: Walked, value: u64)
     }
 }
 
-// The path is complete: the data field of the key's own node, alone.
+// The path is complete: writes the data field of the key's own node, and nothing else.
 fn replace(image: &mut [u8], h: Head, node: u32, value: u64) -> i32
     requires { ⌜ Open h (now image) ⌝ ∗ ⌜ node ≤ h .g ⌝ ∗ ⌜ value < 256 ^ h .d ⌝ }
     ensures { λ _. ⌜ now (image .exit) ≡ carriedOut (now (image .entry))
@@ -125,7 +127,7 @@ fn replace(image: &mut [u8], h: Head, node: u32, value: u64) -> i32
     change(old, value)
 }
 
-// The change in the number of stored keys, where one key's data changes.
+// The change in the number of stored keys when one key's data changes.
 fn change(old: u64, new: u64) -> i32
     ensures { λ r. ⌜ r ≡ changeOf old new ⌝ }
 {
@@ -141,7 +143,7 @@ fn change(old: u64, new: u64) -> i32
     0
 }
 
-// The path stops: a node is missing for each letter left, and none is built for 0.
+// The path is incomplete: builds a node for each letter left, but none for the value 0.
 fn extend(image: &mut [u8], h: Head, key: Key, at: Position, value: u64) -> i32
     requires { ⌜ Open h (now image) ⌝ ∗ ⌜ Ready h key ⌝ ∗ ⌜ Stop h key at ⌝
         ∗ ⌜ Unrefused h (length (now image))
@@ -163,7 +165,7 @@ fn extend(image: &mut [u8], h: Head, key: Key, at: Position, value: u64) -> i32
     change(0, value)
 }
 
-// The writes of a new path, in their order: the new nodes, then the node total, then the link that
+// The writes of a new path, in the order of 02, Ask 1: the new nodes, then G, then the link that
 // the walk found empty.
 fn build(image: &mut [u8], h: Head, key: Key, at: Position, total: u32, value: u64)
     requires { ⌜ Open h (now image) ⌝ ∗ ⌜ Ready h key ⌝ ∗ ⌜ Stop h key at ⌝
@@ -178,8 +180,8 @@ fn build(image: &mut [u8], h: Head, key: Key, at: Position, total: u32, value: u
     node::set_link(image, h, at.node, letters[depth] as u32, h.g + 1);
 }
 
-// A new node for the stop, and one for each letter from a depth on, by rising address: each links
-// to the next, the last holds the value.
+// Writes the new nodes by rising address, from G+1 on: one for the letter that stopped the walk,
+// and one for each letter from `from` on. Each links to the next; the last holds the value.
 fn new_nodes(image: &mut [u8], h: Head, key: Key, from: usize, value: u64)
     requires { ⌜ permitted h ≡ true ⌝ ∗ ⌜ Ready h key ⌝ ∗ ⌜ from ≤ key .len ⌝
         ∗ ⌜ Space h (now image) (h .g + suc (key .len - from)) ⌝ }

@@ -1,5 +1,5 @@
--- `seeking::seek` meets its contract: 9 and 10 by the key in hand, 14 here, 15 or the key by the
--- search; the buffer is written only where a key was found. Assumes nothing.
+-- `seeking::seek` meets its contract: the key in hand gives 9 and 10, the function itself 14,
+-- and the search 15 or the key. The buffer is written only if a key was found. Assumes nothing.
 use mathlib.Core.Path.{refl}
 use native.Mathlib.Omega.{arith}
 use borrow.Author.Needs.{needs}
@@ -24,7 +24,7 @@ enum-known-judged c = search needs
 enum-told : tie.Need-enum-told
 enum-told c = search needs
 
--- where 9 and 10 have passed
+-- once 9 and 10 have passed
 known : (c : tie.After-enum-told)
     → let of = c .before .before .before in
     let args = of .before .before .before .before .args in

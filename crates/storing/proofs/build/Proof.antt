@@ -1,5 +1,5 @@
--- `storing::build` meets its contract: the new nodes are laid, then the node total and the link
--- are written, and none of this changes the image's length. Assumes nothing.
+-- `storing::build` meets its contract: the new nodes are written, then G and the link, and none
+-- of these writes changes the image's length. Assumes nothing.
 use Prim.Native.Nat.{suc, _+_, _-_, _<_}
 use mathlib.Core.Path.{_≡_, ap, _∙_}
 use mathlib.Core.List.{_∷_}

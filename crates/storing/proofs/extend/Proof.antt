@@ -1,5 +1,5 @@
--- `storing::extend` meets its contract: 12 and 13 have been asked for all that is missing, so the
--- path can be built. Assumes nothing.
+-- `storing::extend` meets its contract: 12 and 13 were judged for all missing nodes, so the path
+-- can be built. Assumes nothing.
 use Prim.Native.Nat.{suc, _+_, _-_}
 use mathlib.Core.Path.{_≡_, refl, sym, ap, _∙_}
 use mathlib.Core.List.{_∷_}
@@ -32,7 +32,7 @@ left : (c : tie.Start) →
 left c = letters-from (c .args .key) (whole c) (c .pre .1 .0 .short) (c .args .at .depth)
     (c .pre .1 .1 .0 .depth)
 
--- they are as many as the nodes that are missing
+-- as many nodes are missing as letters are left
 total : (c : tie.Start) →
     let a = c .args in a .h .g + (a .key .len - a .at .depth) ≡ a .h .g
     + length (drop (a .at .depth) (lettersOf (a .key)))
@@ -42,7 +42,7 @@ total c =
     ap (λ n. a .h .g + n) (sym (length-drop (a .at .depth) (lettersOf (a .key))
     ∙ ap (λ n. n - a .at .depth) count))
 
--- addresses and room for them
+-- addresses and room for these nodes
 room : (c : tie.Then1) →
     let a = c .before .before .args in
     Space (a .h) (a .image .now) (a .h .g + (a .key .len - a .at .depth))
@@ -50,7 +50,7 @@ room c =
     let start = c .before .before in
     rw (total start) (path-space _ _ _ _ _ (left start) _ (c .if1 .taken) (start .pre .1 .1 .1))
 
--- what the image holds then
+-- the image after the writes
 wrote : (c : tie.Joined1) →
     let a = c .before .before .args in
     c .if1 .image ≡ carriedOut (a .image .now)

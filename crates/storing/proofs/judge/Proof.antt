@@ -1,4 +1,4 @@
--- `storing::judge` meets its contract: 12 and 13 are asked of the greatest address that the new
+-- `storing::judge` meets its contract: 12 and 13 are judged by the greatest address that the new
 -- nodes would have. Assumes nothing.
 use Prim.Native.Nat.{_+_, _^_, _<_}
 use mathlib.Core.Path.{sym, _∙_}
@@ -11,11 +11,11 @@ use Rattle.storing.proofs.Adding.{judged-passed}
 use Rattle.storing.proofs.judge.Statement.{statement}
 use Rattle.storing.proofs.judge.Tie as tie
 
--- 11 is passed
+-- 11 has passed
 fits : (c : tie.Else1) → let a = c .before .before .args in a .value < 256 ^ a .h .d
 fits c = omega (arith, c .if1 .left, c .before .greatest .ensures)
 
--- 12 is passed
+-- 12 has passed
 few : (c : tie.Else3) → let a =
     c .before .before .before .before .before .before .args in a .h .g + a .new < 256 ^ a .h .a
 few c = omega (arith, c .if3 .left, c .before .mask .ensures)

@@ -1,5 +1,5 @@
--- `storing::new_count` meets its contract: a node is missing for each letter that the walk left.
--- Assumes nothing.
+-- `storing::new_count` meets its contract: one node is missing for each letter that is left
+-- where the walk stopped. Assumes nothing.
 use Prim.Native.Nat.{_-_}
 use mathlib.Core.Path.{_≡_, sym, _∙_, ap, subst}
 use native.Mathlib.Omega.{arith}

@@ -1,5 +1,5 @@
--- `storing::new_nodes` meets its contract: before each turn, what is still to be laid leaves what
--- all of it would have left. Assumes nothing.
+-- `storing::new_nodes` meets its contract: at each turn the writes that are left, done on the
+-- image so far, give the image that all writes together give. Assumes nothing.
 use Prim.Native.Nat.{suc, _+_, _-_, _<_}
 use mathlib.Core.Path.{_≡_}
 use mathlib.Core.List.{_∷_}
@@ -34,7 +34,7 @@ space : (c : tie.Start Inv-loop μ-loop) → Space (c .args .h) (c .args .image 
     (c .args .h .g + suc (length (lettersOf (c .args .key)) - c .args .from))
 space c = rw (count c) (c .pre .1 .1 .1)
 
--- the letters left before the key's end
+-- the letters that are left before the end of the key
 left : (c : tie.Then1 Inv-loop μ-loop) →
     let key = c .before .before .before .before .before .before .args .key in
     let depth = c .before .before .loop .depth in
@@ -76,7 +76,7 @@ array-read-write-path c =
     let start = c .before .before .before .before .before .before .before in
     omega (arith, c .before .if1 .taken, start .pre .1 .0 .short)
 
--- the next letter is one of the N
+-- the next letter is below N
 below : (c : tie.Then1 Inv-loop μ-loop) →
     let start = c .before .before .before .before .before .before in
     getD (start .args .key .letters) (c .before .before .loop .depth) 0 < start .args .h .n

@@ -1,5 +1,5 @@
--- `storing::store` meets its contract: what the walk tells is what there is to store by. Assumes
--- nothing.
+-- `storing::store` meets its contract: in an accepted image the walk ends as the key's descent
+-- does. Assumes nothing.
 use mathlib.Core.Path.{_≡_}
 use borrow.Author.Needs.{needs}
 use lib.ListN.{length}

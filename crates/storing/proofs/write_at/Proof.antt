@@ -1,5 +1,5 @@
--- `storing::write_at` meets its contract: the walk's end tells what there is to write. Assumes
--- nothing.
+-- `storing::write_at` meets its contract: what is written depends only on how the walk ended.
+-- Assumes nothing.
 use mathlib.Core.Path.{_≡_, _∙_, subst}
 use mir.Syntax.{w32}
 use mir.Facts.{toZ-ofZ}
