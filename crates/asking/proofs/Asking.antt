@@ -1,6 +1,6 @@
--- The key's part at each way out: a row in front of the key is heard, or the key is judged. It is
--- said once for whatever rows stand in front, 1 to 8 or those with 25; what the check tells is
--- such a front.
+-- The key's part at each return of the code: a row before the key is given, or the key is
+-- judged. The laws hold for any rows before the key: 1 to 8, or 1 to 8 and 25. The check
+-- promises what they need of the part before the key (`checked-front`).
 use Prim.Native.Nat.{ℕ}
 use mathlib.Core.Path.{_≡_, refl, sym, _∙_, ap}
 use mathlib.Core.Option.{Option, none}
@@ -29,7 +29,7 @@ use Rattle.audit.specs.Audit.{Checked}
 use Rattle.asking.specs.declared.Asked.{Asked}
 use Rattle.asking.specs.Asked.{AsksAfter, Fronted, Judgeable, AsksAfterFront}
 
--- a verdict that tells of no row
+-- a verdict that stands for no row
 row-passed : (v : Verdict) → rowOf v ≡ none → v ≡ Verdict.Passed
 unfolding rowOf
 row-passed Verdict.Passed e = refl
@@ -41,7 +41,7 @@ row-refused v e f = let z : _≡_ {A = ℕ} 0 1 = go in omega arith
     go : _≡_ {A = ℕ} 0 1
     go = let g = sym e ∙ row-passed v f in cc
 
--- what the check tells is what stands in front of a store
+-- what the check promises is what a part before the key promises
 pub checked-front : {l work : List ℕ} {r : Opened} {work′ codes : List ℕ}
     → Checked l work r work′ codes
     → Fronted (checkOrder l work) (workAfter l work) l r work′ codes
@@ -82,7 +82,7 @@ module _ {rows : List Row} {left l : List ℕ} {front : Opened} {work′ codes :
             };
       }
 
--- ---- the key's part at each way out, whatever stood in front
+-- ---- the key's part at each return of the code, after any rows
 
 module _ {front : Opened} where
   pub after-front-refused : {codes : List ℕ} {given : Given} {r : Asked} {why : Refusal}
@@ -117,7 +117,7 @@ module _ {front : Opened} where
         asks-judged o e (by-text (known-front o passed) (o .decoded passed .codes) text v made
         told)
 
--- what a store asks for
+-- what a store requires
 pub store-asks : {rows : List Row} {left l : List ℕ} {given : Given} {r : Asked} {work′ : List ℕ}
     → AsksAfter rows left l given r work′
     → r .verdict ≡ Verdict.Passed → Accepted l × ((r .head ≡ headOf l) × Ready (r .head) (r .key))

@@ -1,6 +1,6 @@
-// What stands in front of every store: 1 to 8, then 9 and 10 of the key given. The key's part
-// serves whatever stands in front of it, and needs a permitted head of a front that passed; with 1
-// to 8 in front nothing is required.
+// What every store judges before 11: 1 to 8, then 9 and 10 of the key given. `by_letters` and
+// `by_text` are the key's part alone. They go on from any part of an order before the key, and
+// require a permitted head if it has passed. `ask` and `ask_text` require nothing.
 ghost use mathlib.Core.Path.{_≡_};
 ghost use mathlib.Core.List.{List};
 ghost use Prim.Native.Nat.{ℕ};
@@ -12,14 +12,15 @@ use key::Typed;
 use opening::Opened;
 use paper::Verdict;
 
-// What was heard, and where nothing was, the head and the key in hand.
+// The outcome of a part of an order that ends with 9 and 10. If it has passed, the head is the
+// image's and the key is the one in hand.
 pub struct Asked {
     pub verdict: Verdict,
     pub head: Head,
     pub key: Key,
 }
 
-// 1 to 8, then 9 and 10 of a key given by its letters.
+// Judges 1 to 8, then 9 and 10 of a key given by its letters.
 pub fn ask(image: &[u8], work: &mut [u32], letters: &[u8]) -> Asked
     ensures { λ r. ⌜ Asks (now (image .entry)) (now (work .entry))
         (asLetters (now (letters .entry))) r (now (work .exit)) ⌝ }
@@ -29,7 +30,7 @@ pub fn ask(image: &[u8], work: &mut [u32], letters: &[u8]) -> Asked
     by_letters(front, letters)
 }
 
-// 1 to 8, then 10 and 9 of a key given by its text.
+// Judges 1 to 8, then 10 and 9 of a key given as text.
 pub fn ask_text(image: &[u8], work: &mut [u32], text: &[u8]) -> Asked
     ensures { λ r. ⌜ Asks (now (image .entry)) (now (work .entry)) (asText (now (text .entry))) r
         (now (work .exit)) ⌝ }
@@ -39,7 +40,8 @@ pub fn ask_text(image: &[u8], work: &mut [u32], text: &[u8]) -> Asked
     by_text(front, &codes, text)
 }
 
-// 9 and 10 of a key given by its letters, where nothing in front of it is heard.
+// Judges 9 and 10 of a key given by its letters, if the part of the order before the key has
+// passed. Otherwise the refusal of that part is the answer.
 pub fn by_letters(front: Opened, letters: &[u8]) -> Asked
     requires { ⌜ Judgeable front ⌝ }
     ensures { λ r. ⌜ ((codes : List ℕ) → AsksAfterFront front codes
@@ -60,8 +62,8 @@ pub fn by_letters(front: Opened, letters: &[u8]) -> Asked
     }
 }
 
-// 10 and 9 of a key given by its text, where nothing in front of it is heard. The letters of the
-// alphabet are the first codes, as many as the front counted.
+// Judges 10 and 9 of a key given as text, if the part of the order before the key has passed.
+// The letters of the alphabet are the first `front.count` codes.
 pub fn by_text(front: Opened, codes: &[u32; Head::N_MOST as usize], text: &[u8]) -> Asked
     requires { ⌜ Judgeable front ⌝ }
     ensures { λ r. ⌜ AsksAfterFront front (now (codes .entry)) (asText (now (text .entry))) r ⌝ }
@@ -82,7 +84,8 @@ pub fn by_text(front: Opened, codes: &[u32; Head::N_MOST as usize], text: &[u8])
     }
 }
 
-// What is heard in front of the key. No key is made then, and none is judged.
+// The refusal of the part before the key. No key is judged then, and the key answered is the
+// empty one.
 fn unjudged(heard: Verdict, head: Head) -> Asked
     ensures { λ r. ⌜ r .verdict ≡ heard ⌝ }
 {

@@ -1,5 +1,5 @@
--- What the comparing tells is what stands in front of the key; from there on `asking` serves.
--- Where all of it has passed, the counts are right and the key's length is allowed.
+-- The comparison of the counts is the part before the key, so the laws of `asking` apply. If all
+-- of it has passed, the counts are right and the key's length is allowed.
 use Prim.Native.Nat.{ℕ}
 use mathlib.Core.Path.{_≡_, refl, sym, _∙_}
 use mathlib.Core.Bool.{true}
@@ -60,7 +60,7 @@ module _ {l : List ℕ} (work counts : List ℕ) {given : Given} {r : Asked} {wo
   pub asked-right : RightCounts l counts
   asked-right = compared-right l work counts asked-compared
 
-  -- the key in hand has a length that is allowed
+  -- the length of the key in hand is allowed
   pub asked-length : between (length (lettersOf (r .key))) (r .head .min) (r .head .max) ≡ true
   asked-length =
       let b = a .allowed (told-passed refl e) in

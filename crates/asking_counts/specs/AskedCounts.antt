@@ -1,5 +1,5 @@
--- 02, Ask 7: "25 ... after all the check's answers and before 9 and 10". The part of an order that
--- ends with 9 and 10, where counts are compared.
+-- 02, Ask 7: "25 [..] after all the check's answers and before 9 and 10". The part of an order
+-- that ends with 9 and 10, in a call that compares counts.
 use Prim.Native.Nat.{ℕ}
 use mathlib.Core.List.{List}
 use Rattle.paper.specs.Given.{Given}

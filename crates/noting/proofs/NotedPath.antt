@@ -1,6 +1,6 @@
--- The writes of a store as they are listed. A new node's write is as long as a node and stands
--- where the one before ends, so that the list of a new path is told by how many nodes there are;
--- what is still to be listed leaves what all of it would have left.
+-- The writes of a store as they are noted. The write of a new node is as long as a node and
+-- begins where the one before it ends, so the entries of the new nodes follow from their number.
+-- At each turn the entries that are left give the list that all entries together give.
 use Prim.Native.Nat.{ℕ, zero, suc, _+_, _-_, _*_, _≤_, _<_}
 use mathlib.Core.Path.{_≡_, refl, sym, _∙_, ap}
 use mathlib.Core.Logic.{_≢_}
@@ -27,7 +27,7 @@ use Rattle.noting.specs.Noting.{Notes}
 
 -- ---- the writes of a new path
 
--- so many nodes of one width, the first at this place
+-- the entries of this many nodes of one width, the first at this place
 pub nodesAt : ℕ → ℕ → ℕ → List ℕ
 nodesAt place width zero = []
 nodesAt place width (suc k) = place ∷ width ∷ nodesAt (place + width) width k
@@ -43,8 +43,7 @@ module _ (h : Head) (v : ℕ) (ws : List Write) where
       ap (nodePlace h) (sym (add-one q)) ∙ omega (arith, place-add h q 1) in
       rw (length-path h y (suc q) (s .0), nodes-noted (suc q) ys (s .1), next)
 
--- by the letters left, which are as many as the nodes missing; behind the nodes stand the node
--- total and the link
+-- as many nodes are missing as letters are left; after the nodes come G and the link
 pub notes-path : (h : Head) (q x : ℕ) (xs list : List ℕ) {left list′ : List ℕ}
     {r nodes from width place : ℕ} → left ≡ x ∷ xs
     → LettersBelow (h .n) left → nodes ≡ length left → from ≡ usedLen h → width ≡ nodeWidth h
@@ -99,7 +98,7 @@ module _ (h : Head) (k list : List ℕ) {o : Walked} where
       rw e (record { count = refl; entries = rw (length-digits (h .d) value, ← p) w })
 
   module _ {p : Position} (e : o ≡ Walked.Stopped p) where
-    -- nothing for 0
+    -- nothing for the value 0
     pub notes-none : (value x : ℕ) (xs : List ℕ) → value ≡ 0 → drop (p .depth) k ≡ x ∷ xs
         → Notes h (endOf k o) value list 0 list
     unfolding endOf stoppedAt storeWrites noted
@@ -114,7 +113,7 @@ module _ (h : Head) (k list : List ℕ) {o : Walked} where
 
 -- ---- one after the other
 
--- The first i nodes are listed, from a list on.
+-- The first i nodes are noted; before the first of them the list was list₀.
 pub record Noting (nodes width from : ℕ) (list₀ list : List ℕ) (i place : ℕ) : Type 0 where
   pub few : i ≤ nodes
   pub here : place ≡ from + i * width
@@ -132,7 +131,7 @@ module _ {nodes width from : ℕ} {list₀ : List ℕ} where
       }
 
   module _ {list : List ℕ} {i place : ℕ} (w : Noting nodes width from list₀ list i place) where
-    -- the next ends where all of them end, or before
+    -- the next node ends where all of them end, or before
     pub noting-room : i < nodes → place + width ≤ from + nodes * width
     noting-room b = omega (arith, w .here, row width b)
 

@@ -1,6 +1,6 @@
--- The outcome of a listed store, given how the key's walk ended: the store's own outcome with the
--- list behind it. A store that was done had the room for its new nodes, so that every place that
--- is listed fits.
+-- The outcome of a store with writes, given how the key's walk ended: the outcome of the store,
+-- with the list after it. A store that is done has room for its new nodes, so every place that
+-- is noted fits 32 bits.
 use Prim.Native.Nat.{ℕ, zero, suc, _+_, _-_, _*_, _^_, _≤_, _<_}
 use mathlib.Core.Path.{_≡_, refl, ap}
 use mathlib.Core.Bool.{Bool, true, false, _&&_}
@@ -36,7 +36,7 @@ use Rattle.storing.proofs.Adding.{Leaves}
 use Rattle.storing.proofs.StoreStage.{in-hand, stores}
 use Rattle.noting.specs.Noting.{NotesIn, Notes}
 
--- ---- the list behind the store's outcome
+-- ---- the list after the store's outcome
 
 module _ (ws : List Write) (list : List ℕ) {o : Outcome} {l′ : List ℕ} where
   refused-notes : (why : Refusal) → outcome (storedOf (Stored.Refused why)) (l′ ∷ []) ≡ o
@@ -50,7 +50,7 @@ module _ (ws : List Write) (list : List ℕ) {o : Outcome} {l′ : List ℕ} whe
   unfolding withWrites storedOf notedOf doneNumbers
   done-notes c n w e = rw (← e, n, w)
 
--- 11, 12 and 13 are no answers with number 0
+-- an answer with number 0 is none of 11, 12 and 13
 none-given : (x y z : Bool) (kept : List (List ℕ)) (done : Outcome)
     → 0 ≡ heard (first (rowWhen 11 0 x ∷ rowWhen 12 0 y ∷ rowWhen 13 0 z ∷ [])) kept
     done .numbers .number → z ≡ false
@@ -60,7 +60,7 @@ none-given false true z kept done e = absurd (omega arith)
 none-given false false true kept done e = absurd (omega arith)
 none-given false false false kept done e = refl
 
--- a store that was done had the room for its new nodes
+-- a store that is done has room for its new nodes
 room : (h : Head) (l : List ℕ) (d : Descent) (value : ℕ) (c : ℤ) {l′ : List ℕ}
     → Leaves h l d value (Stored.Change c) l′
     → 0 < added (missing d) value → usedLen h + added (missing d) value * nodeWidth h ≤ length l
@@ -85,7 +85,7 @@ module _ {l : List ℕ} {h : Head} (a : Accepted l) (same : h ≡ headOf l) (k :
       (stores a same k walked value (Stored.Refused why) (rw f at e))
 
   module _ {c : ℤ} (f : s ≡ Stored.Change c) where
-    -- the new nodes lie in the image, which is not too long
+    -- the new nodes fit the image, which is no longer than the longest image
     pub notes-room : usedLen h + added (missing (endOf k o)) value * nodeWidth h ≤ longestImage
     notes-room = go (added (missing (endOf k o)) value) (room h l (endOf k o) value c (rw f at e))
       where

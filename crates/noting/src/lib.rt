@@ -1,6 +1,6 @@
-// A store whose writes are listed for the caller: a place and a length for each write, in the
-// order in which they are done. The list is told from how the key's walk ended; the store itself
-// is `storing`'s.
+// A store with writes, after 10. It stores as `storing` does and notes its writes in the lent
+// list: a place and a length for each write, in the order in which they are done. What is noted
+// depends on how the key's walk ended.
 ghost use mathlib.Core.Path.{_≡_};
 ghost use Prim.Native.Nat.{ℕ, suc, _+_, _-_, _*_, _≤_, _<_};
 ghost use mathlib.Core.Bool.{true};
@@ -22,7 +22,7 @@ use paper::Stored;
 use walk::Position;
 use walk::Walked;
 
-// Stores a value under a key, 0 to delete it, and lists what it wrote. Refusals: 11, 12, 13; they
+// Stores a value under a key, 0 to delete it, and notes its writes. Refusals: 11, 12, 13; they
 // leave the list as it was.
 pub fn store_noted(
     image: &mut [u8],
@@ -46,8 +46,8 @@ pub fn store_noted(
     }
 }
 
-// Lists what a store wrote, given how the key's walk ended, and tells how many writes it is. The
-// places fit, since the new nodes did.
+// Notes the writes of a store, given how the key's walk ended, and answers how many they are.
+// The places fit 32 bits, since the new nodes fit the longest image.
 fn note_all(
     writes: &mut [u32; Head::NOTED_MOST as usize],
     h: Head,
@@ -76,7 +76,7 @@ fn note_all(
     }
 }
 
-// A new path: the new nodes by rising address, the node total, the link.
+// Notes the writes of a new path: the new nodes by rising address, G, the link.
 fn note_path(writes: &mut [u32; Head::NOTED_MOST as usize], h: Head, key: Key, at: Position) -> u32
     requires { ⌜ permitted h ≡ true ⌝ ∗ ⌜ Ready h key ⌝ ∗ ⌜ Stop h key at ⌝
         ∗ ⌜ usedLen h + (key .len - at .depth) * nodeWidth h ≤ longestImage ⌝ }
@@ -100,7 +100,7 @@ fn note_path(writes: &mut [u32; Head::NOTED_MOST as usize], h: Head, key: Key, a
     (nodes + 2) as u32
 }
 
-// Write number i of a list.
+// Notes write i of the list.
 fn note(writes: &mut [u32; Head::NOTED_MOST as usize], i: usize, place: u32, len: u32)
     requires { ⌜ i < mostWrites ⌝ }
     ensures { λ _. ⌜ now (writes .exit) ≡ sets (now (writes .entry)) (2 * i) (place ∷ len ∷ []) ⌝ }

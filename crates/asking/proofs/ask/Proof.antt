@@ -1,4 +1,5 @@
--- `asking::ask` meets its contract: 1 to 8 by the audit, 9 and 10 behind it. Assumes nothing.
+-- `asking::ask` meets its contract: the check judges 1 to 8, then the key is judged by 9 and 10.
+-- Assumes nothing.
 use borrow.Author.Needs.{needs}
 use Rattle.asking.proofs.Asking.{checked-front, front-judgeable}
 use Rattle.asking.proofs.ask.Statement.{statement}

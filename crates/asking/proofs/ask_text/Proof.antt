@@ -1,4 +1,5 @@
--- `asking::ask_text` meets its contract: 1 to 8 by the audit, 10 and 9 behind it. Assumes nothing.
+-- `asking::ask_text` meets its contract: the check judges 1 to 8, then the text is judged by 10
+-- and 9. Assumes nothing.
 use borrow.Author.Needs.{needs}
 use Rattle.asking.proofs.Asking.{checked-front, front-judgeable}
 use Rattle.asking.proofs.ask_text.Statement.{statement}

@@ -1,5 +1,5 @@
--- `asking::by_letters` meets its contract: what the front refused is told, and behind a front that
--- passed the key in hand is judged. Assumes nothing.
+-- `asking::by_letters` meets its contract: a refusal before the key is the answer; if there is
+-- none, the key in hand is judged. Assumes nothing.
 use mathlib.Core.Path.{refl}
 use borrow.Author.Needs.{needs}
 use Rattle.paper.proofs.Hearing.{told-passed}

@@ -1,5 +1,5 @@
--- `asking::by_text` meets its contract: what the front refused is told, and behind a front that
--- passed what the text names is judged. Assumes nothing.
+-- `asking::by_text` meets its contract: a refusal before the key is the answer; if there is
+-- none, the key that the text names is judged. Assumes nothing.
 use mathlib.Core.Path.{refl}
 use borrow.Author.Needs.{needs}
 use Rattle.paper.proofs.Hearing.{told-passed}

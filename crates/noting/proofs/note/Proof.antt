@@ -1,4 +1,4 @@
--- `noting::note` meets its contract: two numbers are set, one behind the other. Assumes nothing.
+-- `noting::note` meets its contract: two numbers are set, one after the other. Assumes nothing.
 use Prim.Native.Nat.{_*_}
 use native.Mathlib.Numerals.{add-one}
 use borrow.Author.Needs.{needs}

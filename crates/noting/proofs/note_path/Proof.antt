@@ -1,5 +1,5 @@
--- `noting::note_path` meets its contract: before each turn, what is still to be listed leaves what
--- all of it would have left. Assumes nothing.
+-- `noting::note_path` meets its contract: at each turn the entries that are left give the list
+-- that all entries together give. Assumes nothing.
 use Prim.Native.Nat.{_+_, _-_, _*_, _≤_, _<_}
 use mathlib.Core.Path.{_≡_, refl}
 use native.Mathlib.Omega.{arith}
@@ -28,13 +28,13 @@ abbrev μ-loop : tie.MeasureT-loop
 whole : (c : tie.Start Inv-loop μ-loop) → length (c .args .key .letters) ≡ mostLetters
 whole c = search needs
 
--- the letter that stopped the walk is one of the N
+-- the letter that stopped the walk is below N
 below : (c : tie.Start Inv-loop μ-loop) → getD (c .args .key .letters) (c .args .at .depth) 0
     < c .args .h .n
 below c = letter-below (c .args .key) (whole c) (c .pre .1 .0 .short) _ _ (c .pre .1 .0 .letters)
     (c .pre .1 .1 .0 .depth)
 
--- where the last of the new nodes ends
+-- where the last new node ends
 room : (c : tie.After-used Inv-loop μ-loop) →
     let a = c .before .before .before .before .before .args in
     c .used .result + (a .key .len - a .at .depth) * c .before .before .node-width .result
@@ -42,7 +42,7 @@ room : (c : tie.After-used Inv-loop μ-loop) →
 room c = rw (c .used .ensures, c .before .before .node-width .ensures)
     (c .before .before .before .before .before .pre .1 .1 .1)
 
--- where the next ends
+-- where the next new node ends
 next : (c : tie.In-loop Inv-loop μ-loop) → c .before .loop .place
     + c .before .before .before .before .node-width .result ≤ longestImage
 next c = omega (

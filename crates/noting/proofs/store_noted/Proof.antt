@@ -1,5 +1,5 @@
--- `noting::store_noted` meets its contract: as `store`, and a store that was done had the room
--- that its list is told from. Assumes nothing.
+-- `noting::store_noted` meets its contract: the store is that of `storing`, and a store that is
+-- done has room for its new nodes, so the places of its writes fit. Assumes nothing.
 use mathlib.Core.Path.{_≡_}
 use mir.Syntax.{w32}
 use mir.Facts.{toZ-ofZ}
