@@ -1,7 +1,7 @@
--- What is heard at each way out of the comparing: what the check with a part of the working
--- numbers says or, where it passes, 25. The fresh counts stand at the front of the working
--- numbers, so that holding the two lists against each other is row 25, and clearing them leaves
--- what the check left.
+-- The outcome of the comparison at each return of the code: what the check answers, lent a part
+-- of the working numbers, or 25 if it has passed. The fresh counts are the front of the working
+-- numbers. So the comparison of the two lists gives row 25, and clearing the front leaves what
+-- the check left.
 use Prim.Native.Nat.{ℕ, _+_, _≤_, _<_, _^_}
 use native.Mathlib.Omega.{arith}
 use mathlib.Core.Path.{_≡_, refl, sym, _∙_, ap}
@@ -33,7 +33,7 @@ use Rattle.audit.proofs.Clearing.{cleared-rest, cleared-again}
 use Rattle.audit.proofs.LowestFound.{lowest-same}
 use Rattle.comparing.specs.Comparing.{CheckedBoth, Compared}
 
--- the counts worked out leave what stands past them
+-- working the counts out keeps what comes after them
 worked-drop : (l c : List ℕ) → headOf l .g + 1 ≤ length c → drop (headOf l .g + 1) (worked l c)
     ≡ drop (headOf l .g + 1) c
 unfolding worked
@@ -102,11 +102,11 @@ module _ (l work counts : List ℕ) {r : Opened} {work₁ codes : List ℕ}
           length-replicate {A = ℕ} (headOf l .g + 1) 0,
         )
 
-    -- what the check left begins with zeros, so that the counts can be added up there
+    -- what the check left begins with zeros, so the counts can be added up there
     pub zeros-work : work₁ ≡ replicate (headOf l .g + 1) 0 ++ drop (headOf l .g + 1) work₁
     zeros-work = cleared-again (headOf l .g + 1) work cleared
 
-    -- the fresh counts stand in front of the working numbers
+    -- the fresh counts are the front of the working numbers
     module _ {fresh : List ℕ} (weighed : fresh ≡ worked l work₁) where
       pub fresh-long : length fresh ≡ length work₁
       fresh-long = ap length weighed ∙ worked-length l work₁
@@ -115,7 +115,7 @@ module _ (l work counts : List ℕ) {r : Opened} {work₁ codes : List ℕ}
       fresh-count q b = ap (λ (w : List ℕ). getD w q 0) weighed
           ∙ worked-right l work₁ long-work .each q (omega arith)
 
-      -- what was found is row 25's place
+      -- the node found is the place of row 25
       pub lowest-25 : {differs : ℕ}
           → differs ≡ lowest (λ q. not (eqb (getD counts q 0) (getD fresh q 0))) 0
           (headOf l .g + 1)

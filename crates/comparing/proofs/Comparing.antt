@@ -1,4 +1,5 @@
--- Two lists held against each other, and the check lent a part of the working numbers.
+-- Two lists are compared number by number: as long as the answer is true, the numbers so far are
+-- the same. The check that is lent a part of the working numbers leaves the others as they were.
 use Prim.Native.Nat.{ℕ, _+_, _≤_, _<_, min}
 use native.Mathlib.Decide.{ℕ-discrete, decLe}
 use native.Mathlib.Omega.{arith}
@@ -19,7 +20,7 @@ use Rattle.opening.specs.declared.Opened.{Opened}
 use Rattle.audit.specs.Audit.{Checked}
 use Rattle.comparing.specs.Comparing.{CheckedBoth, Alike}
 
--- if the answer is yes, the first q numbers are the same
+-- if the answer is true, the first q numbers are the same
 pub record Same (fresh counts : List ℕ) (same : Bool) (q : ℕ) : Type 0 where
   pub told : same ≡ true → Alike fresh counts q
 
@@ -41,7 +42,7 @@ module _ {fresh counts : List ℕ} {same : Bool} {q : ℕ} (p : Same fresh count
       go e r b (yes here) = rw here (eqb-true _ _ (both same _ e .1))
       go e r b (no other) = p .told (both same _ e .0) r (omega arith)
 
-  -- a part more
+  -- one part more
   pub same-part : {part : Bool} {next : ℕ}
       → (part ≡ true → Alike fresh counts q → Alike fresh counts next)
       → Same fresh counts (same && part) next
@@ -61,7 +62,7 @@ alike-nowhere fresh counts nodes a =
 
 -- ---- the part lent
 
--- no more of a list than there is
+-- a part longer than the list is the list
 pub take-lesser : (lent : ℕ) (l : List ℕ) {most : ℕ} → most ≡ min lent (length l) → take most l
     ≡ take lent l
 take-lesser lent l {most} e = go (decLe (length l) lent)

@@ -1,6 +1,6 @@
 -- 02, Ask 7: "every other call that takes counts, a checking call too, first compares them with
--- fresh ones". What the check of an image with counts beside it tells, and how it leaves the
--- working numbers.
+-- fresh ones". What the check of an image with counts beside it answers, and what it leaves in
+-- the working numbers.
 use Prim.Native.Nat.{ℕ, _<_}
 use mathlib.Core.Path.{_≡_}
 use mathlib.Core.Option.{none}
@@ -18,7 +18,7 @@ use Rattle.position.specs.Calls.{workLeft}
 use Rattle.opening.specs.declared.Opened.{Opened}
 use Rattle.opening.specs.Opened.{Decoded}
 
--- 1 to 8, where only so many of the working numbers are lent
+-- 1 to 8, when no more than the first `lent` working numbers are lent to the check
 pub record CheckedBoth (l work : List ℕ) (lent : ℕ) (r : Opened) (work′ codes : List ℕ)
     : Type 0 where
   pub verdict : rowOf (r .verdict) ≡ first (checkOrder l (take lent work))

@@ -1,5 +1,5 @@
-// The check of an image with counts beside it: 1 to 8, with 5 for either list, and 25. Neither
-// function has a `requires`.
+// The check of an image with counts beside it: 1 to 8, with 5 for either list, and 25. The
+// public functions have no `requires`.
 ghost use mathlib.Core.Path.{_≡_};
 ghost use mathlib.Core.Bool.{true, not};
 ghost use Prim.Native.Nat.{_+_, _^_, _≤_, min};
@@ -14,8 +14,8 @@ use opening::Opened;
 use paper::Refusal;
 use paper::Verdict;
 
-// 1 to 8 of an image, where `lent` counts stand beside the working numbers: the check is lent no
-// more of these than there are counts.
+// Judges 1 to 8 of an image with `lent` counts beside it. The check is lent no more working
+// numbers than there are counts, so that 5 is given for either list.
 pub fn check_both(
     image: &[u8],
     work: &mut [u32],
@@ -35,7 +35,8 @@ fn lesser(a: usize, b: usize) -> usize
     if a < b { a } else { b }
 }
 
-// 1 to 8, then 25: the counts are held against fresh ones, worked out in the working numbers.
+// Judges 1 to 8, then 25. The fresh counts are worked out in the working numbers and compared
+// with the counts lent.
 pub fn compare(
     image: &[u8],
     work: &mut [u32],
@@ -64,7 +65,7 @@ pub fn compare(
     }
 }
 
-// 25, by the lowest node whose count differs.
+// 25, given the lowest node whose count differs, or `nodes` if none does.
 fn judge(differs: usize, nodes: usize) -> Verdict
     requires { ⌜ nodes ≤ 2 ^ 32 ⌝ }
     ensures { λ r. ⌜ rowOf r ≡ rowWhen 25 differs (ltb differs nodes) ⌝ }
@@ -75,8 +76,8 @@ fn judge(differs: usize, nodes: usize) -> Verdict
     Verdict::Passed
 }
 
-// The lowest of the first `nodes` nodes whose two numbers differ, `nodes` where none does. `alike`
-// has no early exit, so that it runs over several numbers at once.
+// The lowest of the first `nodes` nodes whose two numbers differ, `nodes` if none does. `alike`
+// comes first: it has no early exit, so that it runs over several numbers at once.
 fn first_different(fresh: &[u32], counts: &[u32], nodes: usize) -> usize
     requires { ⌜ nodes ≤ length (now fresh) ⌝ ∗ ⌜ nodes ≤ length (now counts) ⌝ }
     ensures { λ r. ⌜ r ≡ lowest
@@ -96,11 +97,11 @@ fn first_different(fresh: &[u32], counts: &[u32], nodes: usize) -> usize
     nodes
 }
 
-// How many numbers are held against each other at a time: a length that the compiler knows, so
-// that they are compared by straight code.
+// How many numbers are compared at a time. The compiler knows this length, so it compares them
+// by straight-line code.
 const PART: usize = 128;
 
-// Are the first `nodes` numbers of the two lists the same? "No" promises nothing.
+// Are the first `nodes` numbers of the two lists the same? The answer false promises nothing.
 fn alike(fresh: &[u32], counts: &[u32], nodes: usize) -> bool
     requires { ⌜ nodes ≤ length (now fresh) ⌝ ∗ ⌜ nodes ≤ length (now counts) ⌝ }
     ensures { λ r. ⌜ (r ≡ true → Alike (now (fresh .entry)) (now (counts .entry)) nodes) ⌝ }

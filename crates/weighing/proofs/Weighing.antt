@@ -1,6 +1,6 @@
--- The walk that weighs a node, from letter to letter: what has been added to each count and what
--- the later links add make up what all links add, and so for the sum of the node's keys. A sum
--- never outgrows what the walk adds in all, so every number fits 32 bits.
+-- The walk that adds the counts up, letter by letter. What has been added to each count and what
+-- the later links add make up what all links add. The same holds for the sum of the node's keys.
+-- No sum exceeds what the whole walk adds, so every number fits 32 bits.
 use Prim.Native.Nat.{ℕ, pred, _+_, _-_, _^_, _<_, _≤_}
 use native.Mathlib.Decide.{ℕ-discrete}
 use native.Mathlib.Numerals.{add-one}
@@ -25,7 +25,7 @@ use Rattle.passing.proofs.Weights.{weight-split, weight-none, weight-empty, wei
 use Rattle.passing.proofs.Weights.{weight-no-keys}
 use Rattle.weighing.specs.Weighing.{weight, SumsFit, Weighed}
 
--- ---- one number more in a list
+-- ---- one number of a list raised
 
 pub one-more : (list : List ℕ) (x v q : ℕ) → x < length list
     → getD (set list x (getD list x 0 + v)) q 0 ≡ getD list q 0 + cond (eqb x q) v 0
@@ -39,11 +39,11 @@ one-more list x v q room = go (ℕ-discrete x q)
         ∙ omega arith)
 
 module _ (h : Head) (l : List ℕ) where
-  -- the keys at or under a node at a depth, and what its links from a letter on add to the count
-  -- of node q
+  -- how many keys lie at or under node p at a depth
   abbrev pub under : ℕ → ℕ → ℕ
   under p depth = length (keysUnder (tableOf h l) (h .n) (h .min - depth) (h .max - depth) p)
 
+  -- what the links of node p from letter i on add to the count of node q
   abbrev pub later : ℕ → ℕ → ℕ → ℕ → ℕ
   later p depth q i = weightFrom (tableOf h l) (h .n) (h .min - depth) (h .max - depth) q p i
 
@@ -71,7 +71,7 @@ module _ (h : Head) (l : List ℕ) where
       (weight-link (tableOf h l) (h .n) (h .min - depth) (h .max - depth) q p i low (omega arith)
       (λ z. full (e ∙ z)))
 
-  -- a node that no key lies below adds its own key to its own count
+  -- a node with no key below it adds its own key to its own count
   weight-no-keys-own : (p depth q : ℕ) {r : Bool} → KeysBelow h (tableOf h l) p depth r → r ≡ true
       → weight h l p depth q ≡ cond (eqb p q) (owned h (tableOf h l) p depth) 0
   weight-no-keys-own p depth q b e =
@@ -82,7 +82,7 @@ module _ (h : Head) (l : List ℕ) where
       omega (arith, under-parts p depth, left-no-keys h t p depth 0 b e) in
       weight-parts p depth q ∙ rw (below, own) (omega arith)
 
-  -- so it is weighed
+  -- the list after the walk at such a node
   pub weighed-leaf : (p depth : ℕ) (list : List ℕ) {own : ℕ} {r : Bool}
       → own ≡ owned h (tableOf h l) p depth
       → KeysBelow h (tableOf h l) p depth r → r ≡ true → p < length list
@@ -96,8 +96,8 @@ module _ (h : Head) (l : List ℕ) where
 
 -- ---- the loop over a node's letters
 
--- before letter i the sum holds the node's own key and those by the letters below i, and each
--- count what the links of these letters add
+-- before letter i: the sum has the node's own key and the keys of the letters below i, and each
+-- count has what the links of these letters add
 pub record Weighing (h : Head) (l : List ℕ) (p depth : ℕ) (list list′ : List ℕ) (sum i : ℕ)
     : Type 0 where
   pub summed : sum + left h (tableOf h l) p depth i ≡ under h l p depth
@@ -125,7 +125,7 @@ module _ {h : Head} {l : List ℕ} {p depth : ℕ} {list list′ : List ℕ} {su
         added = λ q. omega (arith, w .added q, same q);
       }
 
-  -- past the last letter the sum is added to the node's own count
+  -- after the last letter the sum is added to the node's own count
   pub weighing-sum : h .n ≤ i → sum ≡ under h l p depth
   weighing-sum high = omega (arith, w .summed, left-none h (tableOf h l) p depth i high)
 
@@ -151,7 +151,7 @@ module _ {h : Head} {l : List ℕ} {p depth : ℕ} {list list′ : List ℕ} {su
             (omega (arith, weighing-added high q, weight-parts h l p depth q));
       }
 
-  -- the numbers fit
+  -- the numbers fit 32 bits
   fits-under : SumsFit h l p depth list → under h l p depth < 2 ^ 32
   fits-under fits = omega (arith, fits p, weight-own h l p depth)
 
@@ -182,7 +182,7 @@ module _ {h : Head} {l : List ℕ} {p depth : ℕ} {list list′ : List ℕ} {su
         under-parts h l c (depth + 1),
       )
 
-  -- where the child has been weighed into the list, and its keys stand in the sum
+  -- once the child's part is added to the list and its keys to the sum
   pub weighing-child : {list″ : List ℕ} {r : ℕ} → r ≡ under h l c (depth + 1)
       → Weighed h l c (depth + 1) list′ list″
       → Weighing h l p depth list list″ (sum + r) (i + 1)
@@ -199,7 +199,7 @@ module _ {h : Head} {l : List ℕ} {p depth : ℕ} {list list′ : List ℕ} {su
         );
       }
 
-  -- a child that no key lies below
+  -- a child with no key below it
   pub weighing-leaf : {one : ℕ} {r : Bool} → one ≡ owned h (tableOf h l) c (depth + 1)
       → KeysBelow h (tableOf h l) c (depth + 1) r → r ≡ true
       → Weighing h l p depth list (set list′ c (getD list′ c 0 + one)) (sum + one) (i + 1)
@@ -214,7 +214,7 @@ module _ {h : Head} {l : List ℕ} {p depth : ℕ} {list list′ : List ℕ} {su
       ))
       (weighed-leaf h l c (depth + 1) list′ e b z (o .room))
 
-  -- the numbers fit
+  -- the numbers fit 32 bits
   pub fits-child : SumsFit h l c (depth + 1) list′
   fits-child q =
       omega (

@@ -1,6 +1,6 @@
--- From a list that begins with G+1 zeros to the counts worked out: what the root weighs for a node
--- is that node's count, so the list after the walk holds the counts in front, and what it held
--- from G+1 on, where no node stands.
+-- From a list that begins with G+1 zeros to the counts worked out. What the walk from the root
+-- adds for a node is that node's count. So after the walk the list begins with the counts. From
+-- G+1 on it keeps what it held, since the image has no such node.
 use Prim.Native.Nat.{ℕ, _+_, _-_, _^_, _<_, _≤_}
 use native.Mathlib.Decide.{decLt}
 use native.Mathlib.Nat.{sub-zero, zero-add}
@@ -95,7 +95,7 @@ module _ {l : List ℕ} (a : Accepted l) where
     outside : (q : ℕ) → h .g < q → countIn l q ≡ 0
     outside q out = count-none q (omega (arith, out, ap (λ (k : Head). k .g) same))
 
-    -- what the walk adds fits
+    -- what the walk adds fits 32 bits
     pub fits-start : ((q : ℕ) → getD start q 0 < 2 ^ 32) → SumsFit h l 0 0 start
     fits-start known q = go (decLt (h .g) q)
       where
@@ -153,7 +153,7 @@ module _ {l : List ℕ} (a : Accepted l) where
               counts-at q (omega arith),
             )
 
-    -- where no key lies below the root, its own key alone is counted
+    -- if no key lies below the root, its own key alone is counted
     pub leaf-worked : {own : ℕ} {r : Bool} → h .g + 1 ≤ length list
         → own ≡ owned h (tableOf h l) 0 0
         → KeysBelow h (tableOf h l) 0 0 r → r ≡ true → set start 0 own ≡ worked l list
@@ -162,8 +162,8 @@ module _ {l : List ℕ} (a : Accepted l) where
         ap (set start 0) blank ∙ weighed-worked room
         (weighed-leaf h l 0 0 start e b z (omega (arith, start-length room)))
 
-  -- a list that was cleared in front has room as before, begins with zeros, and is worked out as
-  -- it was before
+  -- a list whose first G+1 numbers were cleared has the same length, begins with zeros, and gets
+  -- the same counts
   module _ {h : Head} (same : h ≡ headOf l) (list : List ℕ) {start : List ℕ}
       (clear : start ≡ replicate (h .g + 1) 0 ++ drop (h .g + 1) list)
       (room : h .g + 1 ≤ length list) where

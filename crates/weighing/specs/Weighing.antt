@@ -1,5 +1,5 @@
--- 02, Ask 7: "how many stored keys lie at or under it". What a walk below a node at a depth adds
--- to a list of counts.
+-- 02, Ask 7: "how many stored keys lie at or under it". What the walk at or under a node at a
+-- depth adds to a list of counts.
 use Prim.Native.Nat.{ℕ, _+_, _-_, _^_, _<_}
 use mathlib.Core.Path.{_≡_}
 use mathlib.Core.List.{List}
@@ -12,10 +12,11 @@ use Rattle.passing.specs.Weights.{weightAt}
 abbrev pub weight : Head → List ℕ → ℕ → ℕ → ℕ → ℕ
 weight h l p depth q = weightAt (tableOf h l) (h .n) (h .min - depth) (h .max - depth) q p
 
--- the sums fit a number of 32 bits
+-- every count fits 32 bits when the walk has been made
 abbrev pub SumsFit : Head → List ℕ → ℕ → ℕ → List ℕ → Type 0
 SumsFit h l p depth list = (q : ℕ) → getD list q 0 + weight h l p depth q < 2 ^ 32
 
+-- the list after the walk: each count is raised by what the walk adds to it
 pub record Weighed (h : Head) (l : List ℕ) (p depth : ℕ) (list list′ : List ℕ) : Type 0 where
   pub long : length list′ ≡ length list
   pub each : (q : ℕ) → getD list′ q 0 ≡ getD list q 0 + weight h l p depth q

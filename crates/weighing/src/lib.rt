@@ -1,6 +1,6 @@
-// The counts of an image that has been checked, worked out afresh: how many stored keys lie at or
-// under each node. One walk down to max; every node that it meets adds what lies at or under it to
-// its own count.
+// The counts of an image that has been checked, worked out afresh: how many stored keys lie at
+// or under each node. One walk goes down to max letters. At each node it adds the number of keys
+// at or under the node to the node's count.
 ghost use mathlib.Core.Path.{_≡_};
 ghost use Prim.Native.Nat.{ℕ, _+_, _-_, _^_, _≤_, _<_};
 ghost use mathlib.Core.List.{_++_};
@@ -15,7 +15,7 @@ ghost use Rattle.depths.specs.Depths.{ReadMasks};
 ghost use Rattle.weighing.specs.Weighing.{Weighed, SumsFit};
 use head::Head;
 
-// Writes the counts of the nodes 0 to G to the front of a list; the rest of it keeps what it held.
+// Writes the counts of the nodes 0 to G to the front of a list; the rest keeps what it held.
 pub fn weigh(image: &[u8], h: Head, list: &mut [u32])
     requires { ⌜ Accepted (now image) ⌝ ∗ ⌜ h ≡ headOf (now image) ⌝
         ∗ ⌜ h .g + 1 ≤ length (now list) ⌝ }
@@ -25,7 +25,7 @@ pub fn weigh(image: &[u8], h: Head, list: &mut [u32])
     add_up(image, h, list);
 }
 
-// The same, for a list whose first G+1 numbers are 0.
+// The same, for a list whose first G+1 numbers are 0 already.
 pub fn add_up(image: &[u8], h: Head, list: &mut [u32])
     requires { ⌜ Accepted (now image) ⌝ ∗ ⌜ h ≡ headOf (now image) ⌝
         ∗ ⌜ h .g + 1 ≤ length (now list) ⌝ }
@@ -45,9 +45,9 @@ pub fn add_up(image: &[u8], h: Head, list: &mut [u32])
     weighed(image, h, node::mask(h), data_mask, 0, 0, own, list);
 }
 
-// The stored keys at or under a node at a depth, of which `own` are its own; they are added to its
-// count, and so for every node under it. It calls itself on each child; the depth left to max
-// falls.
+// Adds the number of stored keys at or under a node at a depth to the node's count, does so for
+// every node under it, and answers the number. `own` of these keys are the node's own. The
+// function calls itself on the children; the depth left to max falls.
 fn weighed(
     image: &[u8],
     h: Head,

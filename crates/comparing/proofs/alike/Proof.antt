@@ -1,5 +1,6 @@
--- `comparing::alike` meets its contract: while the answer is yes, every number passed is the same
--- in both lists; a part more keeps that. The measure is how many are left. Assumes nothing.
+-- `comparing::alike` meets its contract: as long as the answer is true, every number compared is
+-- the same in both lists, and one part more keeps that. The measure is how many numbers are
+-- left. Assumes nothing.
 use Prim.Native.Nat.{_-_, _≤_}
 use native.Mathlib.Omega.{arith}
 use Rattle.comparing.proofs.Comparing.{Same, same-none, same-part, same-all}

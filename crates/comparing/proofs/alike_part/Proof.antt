@@ -1,6 +1,6 @@
--- `comparing::alike_part` meets its contract: while the answer is yes, and the numbers before the
--- part are the same in both lists, every number passed is the same too. The measure is how many
--- are left. Assumes nothing.
+-- `comparing::alike_part` meets its contract: as long as the answer is true, and the numbers
+-- before the part are the same in both lists, every number compared is the same too. The measure
+-- is how many numbers are left. Assumes nothing.
 use Prim.Native.Nat.{_+_, _-_}
 use native.Mathlib.Omega.{arith}
 use Rattle.comparing.specs.Comparing.{Alike}

@@ -1,4 +1,4 @@
--- `comparing::check_both` meets its contract: the check of the part lent. Assumes nothing.
+-- `comparing::check_both` meets its contract: it is the check of the part lent. Assumes nothing.
 use Prim.Native.Nat.{_-_, min}
 use mathlib.Core.Path.{_≡_}
 use lib.ListN.{length}

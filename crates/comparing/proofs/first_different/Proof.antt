@@ -1,5 +1,5 @@
--- `comparing::first_different` meets its contract: a search upwards from node 0, spared where the
--- lists are alike. The measure is how many nodes are left. Assumes nothing.
+-- `comparing::first_different` meets its contract: the search goes upwards from node 0, and is
+-- not made if the lists are alike. The measure is how many nodes are left. Assumes nothing.
 use Prim.Native.Nat.{_-_}
 use native.Mathlib.Omega.{arith}
 use mathlib.Core.Bool.{not}

@@ -1,4 +1,4 @@
--- `comparing::judge` meets its contract: 25 is given where the node found is one of the nodes.
+-- `comparing::judge` meets its contract: 25 is given if the number found is one of the nodes.
 -- Assumes nothing.
 use mathlib.Core.Path.{sym}
 use native.Mathlib.Omega.{arith}

@@ -1,5 +1,5 @@
--- The proof of the cycle of calls {weighed}: from letter to letter each count and the sum hold
--- what the links so far add, and the depth left to max falls at each call of itself. Assumes
+-- The proof of the cycle of calls {weighed}. From letter to letter each count and the sum have
+-- what the links so far add. At each call of itself the depth left to max falls. Assumes
 -- nothing.
 use Prim.Native.Nat.{ℕ, _+_, _-_, _^_, _<_, _≤_}
 use mathlib.Core.Logic.{⊎-elim}
@@ -41,7 +41,7 @@ Inv-loop image h mask ones node depth own list₀ sum₀ i₀ i-end list sum i =
 abbrev μ-loop : lts.MeasureT-loop
 μ-loop image h mask ones node depth own list₀ sum₀ i₀ i-end list sum i = h .n - i
 
--- what the callees ask and ensure
+-- what the called functions require and ensure
 abbrev claims : ℕ → lts.Claims
 claims t = (
   link-reads.Asked,
@@ -75,7 +75,7 @@ loop-again t c =
     weighing-empty (found .before .before .loop .inv) (found .before .loop-test .taken)
     (found .link .ensures) (c .if1 .taken)
 
--- the child stands in the table
+-- the child's address is at most G
 inside : (t : ℕ) (c : lts.After-link (claims t) (at t) weighed.Post Inv-loop μ-loop)
     → c .link .result ≤ c .before .before .before .before .before .args .h .g
 inside t c =
@@ -83,7 +83,7 @@ inside t c =
     let start = loop .before .before .before in
     omega (arith, c .link .ensures, start .pre .1 .1 .0 (start .args .node) (loop .loop .i))
 
--- past an empty link
+-- the link is not empty
 onto : (t : ℕ) (c : lts.Else1 (claims t) (at t) weighed.Post Inv-loop μ-loop)
     → (let found = c .before in
     let loop = found .before .before in
@@ -104,7 +104,7 @@ onto t c =
       room = omega (arith, inside t found, p .1 .1 .0, loop .loop .inv .long);
     }
 
--- one letter deeper is a depth still
+-- the child's depth fits 64 bits
 deeper : (t : ℕ) (c : lts.Start (claims t) (at t) weighed.Post Inv-loop μ-loop) → c .args .depth
     + 1 < 2 ^ 64
 deeper t c =
@@ -253,7 +253,7 @@ loop-again-3 t c =
 mul-list-3 : (t : ℕ) → lts.Need-mul-list-3 (claims t) (at t) weighed.Post Inv-loop μ-loop
 mul-list-3 t c = omega arith
 
--- the node has a count
+-- the list has a number for the node
 node-room : (t : ℕ) (c : lts.After-slice-known4 (claims t) (at t) weighed.Post Inv-loop μ-loop)
     → c .before .before .before .before .before .args .node
     < length (c .before .before .loop .list)

@@ -1,5 +1,5 @@
--- `weighing::add_up` meets its contract: what the root weighs is each node's count. Assumes
--- nothing.
+-- `weighing::add_up` meets its contract: what the walk from the root adds for a node is the
+-- node's count. Assumes nothing.
 use mathlib.Core.Path.{_≡_}
 use mathlib.Core.Logic.{⊎-elim}
 use native.Mathlib.Omega.{arith}

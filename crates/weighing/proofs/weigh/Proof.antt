@@ -1,5 +1,5 @@
--- `weighing::weigh` meets its contract: the list is cleared in front, and from there on the counts
--- are added up. Assumes nothing.
+-- `weighing::weigh` meets its contract: the first G+1 numbers are cleared, then the counts are
+-- added up. Assumes nothing.
 use mathlib.Core.Path.{_∙_}
 use borrow.Author.Needs.{needs}
 use Rattle.weighing.proofs.Working.{cleared-room, cleared-start, cleared-worked}
