@@ -1,6 +1,6 @@
--- The counts below a node that letters lead to: one letter more leads to a child, and the count of
--- a node that a key reaches is the number of the keys at or under it (`count-reached`). So right
--- counts are the children's.
+-- The counts below a node that a key reaches. One letter more reaches a child, and the count of
+-- a node that a key reaches is the number of keys at or under it (`count-reached`). So in a list
+-- of right counts each child has the number of its keys.
 use Prim.Native.Nat.{ℕ, suc, _+_, _-_, _^_, _≤_, _<_}
 use native.Mathlib.Omega.{arith}
 use mathlib.Core.List.{List, [], _∷_, _++_}
@@ -28,8 +28,7 @@ use Rattle.ranking.proofs.ByLetter.{by-child}
 abbrev pub held : Head → List ℕ → ℕ → ℕ → List (List ℕ)
 held h l p depth = keysUnder (tableOf h l) (h .n) (h .min - depth) (h .max - depth) p
 
--- what an accepted image with right counts gives a way through it, by a head in hand that is the
--- image's own
+-- what the way needs to know: an accepted image, right counts, and the image's own head in hand
 pub record Counted (h : Head) (l counts : List ℕ) : Type 0 where
   pub opened : Open h l
   pub linked : Linked (tableOf h l) (h .g) (h .n)

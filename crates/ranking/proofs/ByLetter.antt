@@ -1,6 +1,6 @@
--- The keys below a node by letter: those from a letter on are those by that letter, then those
--- from the next on. So a position lies by the letter behind which it no longer reaches, and before
--- a key stand all those by a lower letter.
+-- The keys below a node, letter by letter. The keys from a letter on are those of that letter,
+-- then those from the next letter on. So the key at a position has the first letter whose keys
+-- reach beyond the position, and all keys of lower letters come before a key.
 use Prim.Native.Nat.{ℕ, zero, suc, pred, _+_, _-_, _≤_, _<_}
 use native.Mathlib.Omega.{arith}
 use native.Mathlib.Decide.{ℕ-discrete}
@@ -24,11 +24,11 @@ use Rattle.ranking.specs.declared.Branch.{Branch}
 use Rattle.ranking.specs.Ranking.{underLetter, ChildCounts, underLower, Branches}
 
 module _ (h : Head) (l : List ℕ) (p depth : ℕ) where
-  -- the keys from letter i on, and those by letter i
+  -- the keys from letter i on
   abbrev pub onward : ℕ → List (List ℕ)
   onward i = from h (tableOf h l) p depth i
 
-  -- how many keys come by a letter
+  -- how many keys letter i has
   abbrev pub sizes : ℕ → ℕ
   sizes i = length (underLetter h l p depth i)
 
@@ -49,8 +49,8 @@ module _ (h : Head) (l : List ℕ) (p depth : ℕ) where
   pub past-letters : (i : ℕ) → h .n ≤ i → onward i ≡ []
   past-letters i b = from-none (tableOf h l) (h .n) (h .min - depth) (h .max - depth) p i b
 
-  -- A position below the node, where letter i is reached: from there on the same key lies at
-  -- `left`.
+  -- Letter i is reached: the key at a position below the node is at `left` among the keys from
+  -- letter i on.
   pub record Turning (position left i : ℕ) : Type 0 where
     pub inside : position < length (onward 0) → left < length (onward i)
     pub same : position < length (onward 0) → keyAt (onward 0) position ≡ keyAt (onward i) left
@@ -76,7 +76,7 @@ module _ (h : Head) (l : List ℕ) (p depth : ℕ) where
             (from-on (tableOf h l) (h .n) (h .min - depth) (h .max - suc depth) p i b refl full
             ∙ rw (s, by-child i full))
 
-    -- ---- the letter by which a position lies
+    -- ---- the letter of the key at a position
 
     pub turning-start : (position : ℕ) → Turning position position 0
     turning-start position = record { inside = λ b. b; same = λ b. refl }
@@ -86,7 +86,7 @@ module _ (h : Head) (l : List ℕ) (p depth : ℕ) where
     sized i under e = length-map (underLetter h l p depth i) (i ∷_) ∙ sym e
 
     module _ {position left i : ℕ} (t : Turning position left i) where
-      -- by an empty link there is nothing
+      -- an empty link has no keys
       pub turning-empty : {c : ℕ} → i < h .n → c ≡ tableOf h l .child p i → c ≡ 0
           → Turning position left (i + 1)
       turning-empty low e empty =
@@ -98,7 +98,7 @@ module _ (h : Head) (l : List ℕ) (p depth : ℕ) where
             same = λ b. t .same b ∙ ap (λ (keys : List (List ℕ)). keyAt keys left) over;
           }
 
-      -- the position lies behind all that come by this letter
+      -- the position is after all keys of this letter
       pub turning-past : (under : ℕ) → i < h .n → under ≡ length (underLetter h l p depth i)
           → under ≤ left
           → Turning position (left - under) (i + 1)
@@ -122,7 +122,7 @@ module _ (h : Head) (l : List ℕ) (p depth : ℕ) where
                 ∙ ap (λ (m : ℕ). keyAt (onward (i + 1)) (left - m)) so;
           }
 
-      -- it lies by this letter
+      -- the position is among the keys of this letter
       pub turning-here : (under : ℕ) {c : ℕ} → i < h .n
           → under ≡ length (underLetter h l p depth i) → left < under
           → c ≡ tableOf h l .child p i → c ≢ 0
@@ -141,13 +141,13 @@ module _ (h : Head) (l : List ℕ) (p depth : ℕ) where
                 ∙ at-map i (underLetter h l p depth i) left f;
           }
 
-      -- it lies by some letter, where it lies below the node at all
+      -- after the last letter no key is left
       pub turning-none : (r : Branch) → h .n ≤ i → Branches h l p depth position r
       turning-none r out b = absurd (omega (arith, t .inside b, ap length (past-letters i out)))
 
     -- ---- the keys before a key, by its first letter
 
-    -- from a later letter on there are none
+    -- no key from a later letter on comes before it
     rank-past : (x : ℕ) (k : List ℕ) (m i : ℕ) → i + m ≡ h .n → x < i → rankIn (onward i) (x ∷ k)
         ≡ 0
     rank-past x k zero i e b =
@@ -159,8 +159,8 @@ module _ (h : Head) (l : List ℕ) (p depth : ℕ) where
         ∙ ap₂ _+_ (rank-higher i x (underLetter h l p depth i) k b)
         (rank-past x k m (suc i) (omega arith) (omega arith))
 
-    -- from an earlier one on: all by the letters between, and those before the rest of the key by
-    -- its own letter
+    -- from an earlier letter on: all keys of the letters between, and the keys of its own letter
+    -- that come before the rest of the key
     rank-through : (x : ℕ) (k : List ℕ) → x < h .n → (d i : ℕ) → i + d ≡ x
         → rankIn (onward i) (x ∷ k) ≡ sumFrom sizes i d + rankIn (underLetter h l p depth x) k
     unfolding sumFrom
@@ -187,7 +187,7 @@ module _ (h : Head) (l : List ℕ) (p depth : ℕ) where
     unfolding underLower
     rank-letters x k low = rank-through x k low x 0 (omega arith)
 
-  -- ---- the keys by the lower letters, counted
+  -- ---- the number of keys of lower letters
 
   -- how many are still to come from letter i on, below letter x
   abbrev pub rest : ℕ → ℕ → ℕ

@@ -1,6 +1,7 @@
--- The way of a key by its letters: the keys passed by so far, and those before the rest of the key
--- under the node reached, are all that come before it. A letter more passes the node's own key and
--- all by a lower letter; at the key's end nothing comes before what is left of it.
+-- The way down to a key, letter by letter. The keys before it are the keys passed so far, and
+-- the keys under the node reached that come before the rest of the key. One letter more passes
+-- the node's own key and all keys of lower letters. At the end of the key the rest is empty, and
+-- no key comes before it.
 use Prim.Native.Nat.{ℕ, suc, _+_, _-_, _^_, _≤_, _<_}
 use native.Mathlib.Omega.{arith}
 use native.Mathlib.Numerals.{add-one}
@@ -77,7 +78,7 @@ module _ {h : Head} {l counts : List ℕ} (w : Counted h l counts) (k : List ℕ
     pub placing-within : node ≤ h .g
     placing-within = within w (take depth k) (s .reaches)
 
-    -- at the key's end
+    -- at the end of the key
     module _ (ended : length k ≤ depth) (long : h .min ≤ length k) {v : ℕ}
         (own : v ≡ ownValue h (tableOf h l) node depth) where
       answers : answer (tableOf h l) k ≡ v
@@ -97,7 +98,7 @@ module _ {h : Head} {l counts : List ℕ} (w : Counted h l counts) (k : List ℕ
           ap (rankIn (held h l node depth)) none-left ∙ rank-nil (held h l node depth) in
           there (λ z. full (sym answers ∙ z)) (omega (arith, s .same, none-before))
 
-    -- before it, where the letters left are x and xs
+    -- before the end, with the letters x and xs left
     module _ {x : ℕ} {xs : List ℕ} (next : drop depth k ≡ x ∷ xs) {c : ℕ}
         (link : c ≡ tableOf h l .child node x) where
       -- an empty link

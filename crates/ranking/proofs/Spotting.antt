@@ -1,6 +1,6 @@
--- The way to the key at a position: the letters taken lead to a node, and under it lies the rest
--- of the key, at the position that is left. A letter more, and the rest is the shorter; at the
--- node whose own key it is nothing is left.
+-- The way to the key at a position. The letters taken so far lead to a node, and the rest of the
+-- key is at the position left among the keys at or under it. One letter more makes the rest
+-- shorter. At the node whose own key it is, nothing is left.
 use Prim.Native.Nat.{ℕ, suc, _+_, _-_, _≤_, _<_}
 use native.Mathlib.Omega.{arith}
 use native.Mathlib.Decide.{decLt}
@@ -37,7 +37,7 @@ pub record Spotting (h : Head) (l : List ℕ) (position : ℕ) (path₀ path : L
       → keyAt (listing (tableOf h l) (h .n) (h .min) (h .max)) position
       ≡ some (take depth path ++ k)
 
--- behind a node's own key, which was at another position or is none
+-- after the node's own key, if it has one: the key is at `behind` among the keys below the node
 pub record Beneath (h : Head) (l : List ℕ) (node depth left behind : ℕ) : Type 0 where
   pub inside : behind < length (onward h l node depth 0)
   pub same : keyAt (held h l node depth) left ≡ keyAt (onward h l node depth 0) behind
@@ -70,7 +70,7 @@ module _ {h : Head} {l counts : List ℕ} (w : Counted h l counts) {position : �
     split = under-split (tableOf h l) (h .n) (h .min - depth) (h .max - depth) node
 
     module _ {v : ℕ} (own : v ≡ ownValue h (tableOf h l) node depth) where
-      -- the node's own key
+      -- the key is the node's own
       pub spotting-end : v ≢ 0 → left ≡ 0
           → Spotted l position (record { length = depth; value = v }) path
       unfolding keyAt
@@ -94,7 +94,7 @@ module _ {h : Head} {l counts : List ℕ} (w : Counted h l counts) {position : �
             letters = ap (λ (m : ℕ). take m path) so-many;
           }
 
-      -- behind it, and where there is none
+      -- the key is after the node's own key, or the node has none
       pub beneath-own : v ≢ 0 → left ≢ 0 → Beneath h l node depth left (left - 1)
       beneath-own full later =
           let there : ownValue h (tableOf h l) node depth ≢ 0 = λ z. full (own ∙ z) in
@@ -117,7 +117,7 @@ module _ {h : Head} {l counts : List ℕ} (w : Counted h l counts) {position : �
             same = ap (λ (keys : List (List ℕ)). keyAt keys left) all;
           }
 
-    -- such a key needs a letter more
+    -- a key below the node has one letter more
     module _ {behind : ℕ} (b : Beneath h l node depth left behind) where
       pub spotting-deep : depth < h .max
       spotting-deep = go (decLt depth (h .max))
@@ -136,7 +136,7 @@ module _ {h : Head} {l counts : List ℕ} (w : Counted h l counts) {position : �
       pub spotting-room : depth < length path
       spotting-room = omega (arith, spotting-deep, s .kept)
 
-      -- and lies under the child that was found for it
+      -- and is at or under the child that was found for it
       pub spotting-on : {r : Branch} → Branches h l node depth behind r
           → Spotting h l position path₀ (set path depth (r .letter)) (r .child) (depth + 1)
           (r .left)

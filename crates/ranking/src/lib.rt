@@ -1,6 +1,6 @@
 // The way through an image by its counts: the key at a position, and the position of a key. The
-// image has been checked and the counts have been compared. At each node the links are looked at
-// from the first letter on, and none is followed but the one that leads on.
+// image has been checked and the counts have been compared. At each node the links are read from
+// the first letter on, and only the link that leads on is followed.
 ghost use mathlib.Core.Path.{_≡_};
 ghost use mathlib.Core.Bool.{true};
 ghost use Prim.Native.Nat.{_+_, _≤_, _<_};
@@ -17,27 +17,31 @@ ghost use Rattle.ranking.specs.Ranking.{underLower, RankFits};
 use head::Head;
 use key::Key;
 
-// The stored key at a position: its letters are the first `length` of the path, and its value.
+// A stored key, found by its position: the number of its letters, which are the front of the
+// path, and its value.
 pub struct Spot {
     pub length: usize,
     pub value: u64,
 }
 
-// A key's position, or it is not stored.
+// The answer of `rank`.
 pub enum Ranked {
+    // The key's position.
     At(u32),
+    // The key is not stored.
     Missing,
 }
 
-// The child under which a position lies: its letter, its address, and the position among the keys
-// at or under it.
+// The child at or under which the key at a position is: its letter, its address, and the key's
+// position among the keys at or under it.
 pub struct Branch {
     pub letter: u8,
     pub child: u32,
     pub left: u32,
 }
 
-// The stored key at a position below the number of stored keys.
+// The stored key at a position, which is below the number of stored keys. Its letters are then
+// the front of the path.
 pub fn key_at(image: &[u8], h: Head, counts: &[u32], position: u32, path: &mut [u8]) -> Spot
     requires { ⌜ Accepted (now image) ⌝ ∗ ⌜ h ≡ headOf (now image) ⌝
         ∗ ⌜ RightCounts (now image) (now counts) ⌝ }
@@ -67,8 +71,8 @@ pub fn key_at(image: &[u8], h: Head, counts: &[u32], position: u32, path: &mut [
     }
 }
 
-// The child of a node at a depth under which the position lies among the keys below the node, its
-// own left out.
+// The child of a node at a depth at or under which the key at a position is. The position counts
+// the keys below the node, without the node's own key.
 fn branch_at(
     image: &[u8],
     h: Head,
@@ -105,9 +109,9 @@ fn branch_at(
     }
 }
 
-// The position of a key whose length is allowed: how many stored keys come before it. On the way
-// down each node's own key comes before, and so does every key at or under a child with a lower
-// letter.
+// The position of a key whose length is allowed: the number of stored keys before it. On the way
+// down the own key of each node above the key's node comes before it, and so does every key at
+// or under a child with a lower letter.
 pub fn rank(image: &[u8], h: Head, counts: &[u32], key: Key) -> Ranked
     requires { ⌜ Accepted (now image) ⌝ ∗ ⌜ h ≡ headOf (now image) ⌝
         ∗ ⌜ RightCounts (now image) (now counts) ⌝ }
@@ -139,8 +143,8 @@ pub fn rank(image: &[u8], h: Head, counts: &[u32], key: Key) -> Ranked
     Ranked::At(before)
 }
 
-// The keys at or under the children of a node at a depth whose letters are below one, added to
-// those passed before.
+// Adds to `before` the number of keys at or under the children of a node at a depth, for the
+// letters below `letter`.
 fn passed(
     image: &[u8],
     h: Head,

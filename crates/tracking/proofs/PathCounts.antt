@@ -1,6 +1,6 @@
--- The counts after a store. Where a node is on the key's path its count changes as the number of
--- stored keys does, elsewhere it stays; a new node counted none before. So the list with zeros for
--- the new nodes and the change along the path holds the counts worked out afresh.
+-- The counts after a store. The count of a node on the key's path changes as the number of
+-- stored keys does, and any other count stays. A new node had no keys before. So the old counts
+-- with zeros for the new nodes, changed along the path, are the counts worked out afresh.
 use Prim.Native.Nat.{ℕ, zero, suc, _+_, _^_, _≤_, _<_}
 use mathlib.Core.Path.{_≡_, refl, sym, _∙_, ap, ap₂}
 use mathlib.Core.Logic.{_≢_, _⊎_, inl, inr}
@@ -37,7 +37,7 @@ use Rattle.tracking.specs.Tracking.{Whole, gainOf, lossOf, CountsFit, Sh
 
 -- ---- the change
 
--- the data that there was, and what is added; the data that there is, and what is taken
+-- the key before the store and the gain make up the key after it and the loss
 one-change : (old v : ℕ) → one old + gainOf (changeOf old v) ≡ one v + lossOf (changeOf old v)
 unfolding one gainOf lossOf changeOf
 one-change zero zero = refl
@@ -101,7 +101,7 @@ some-fewer e z = let f : _≡_ {A = ℤ} (negsuc 0) (pos 0) = sym e ∙ z in let
 
 -- ---- the key's node
 
--- a key that answers has a node
+-- a key whose answer is not 0 has a node
 answering : (t : Table) (k : List ℕ) → answer t k ≢ 0 → Whole t k
 answering t k full = go (descend t 0 k) refl
   where
@@ -109,7 +109,7 @@ answering t k full = go (descend t 0 k) refl
     go (complete r) e = (r, e)
     go (stopped q x xs) e = absurd (full (answer-stopped t k e))
 
--- a store that changes the number of keys leaves the key its node, or gives it one
+-- after a store that changes the number of keys, the key has a node
 whole-after : {t s : Table} {g h v : ℕ} {k : List ℕ} → Store t g k v s h → answer s k ≡ v
     → changeOf (answer t k) v ≢ pos 0 → Whole s k
 unfolding changeOf
@@ -135,7 +135,7 @@ module _ {l k : List ℕ} {value : ℕ} (s : Granted l k value) where
       (whole-after (store (tableIn l) (headOf l .g) k value)
       (stored-answer (accepted-linked (s .accepted)) k (s .fit .below) value) c)
 
-  -- the table after it
+  -- the table after the store
   abbrev grown : Table
   grown = stored (tableIn l) (headOf l .g) k value
 
@@ -160,7 +160,7 @@ module _ {l k : List ℕ} {value : ℕ} (s : Granted l k value) where
       (b .0) (b .1) q
       ∙ ap (λ (b : Bool). countIn l q + cond b (one value) 0) (sym (on-after q))
 
-  -- as the change says
+  -- by the gain and the loss
   shifts : (q : ℕ) → countIn after q + cond (on q) (lossOf change) 0 ≡ countIn l q + cond (on q)
       (gainOf change) 0
   shifts q = go (on q) (moved q)
@@ -180,14 +180,14 @@ module _ {l k : List ℕ} {value : ℕ} (s : Granted l k value) where
         counted-fits a,
       )
 
-  -- G after it
+  -- G after the store
   abbrev last : ℕ
   last = headOf l .g + newOf (headOf l) l k value
 
   last-same : headOf after .g ≡ last
   last-same = ap (λ (h : Head). h .g) (stored-head s)
 
-  -- the key passes no node behind it
+  -- the key passes no node above it
   off : (q : ℕ) → last < q → on q ≡ false
   off q b =
       passes-within (tableIn after) (headOf after .g) q 0 k

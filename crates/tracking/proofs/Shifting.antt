@@ -1,6 +1,6 @@
--- Going down a key's path: what has been added to each count and what the nodes ahead are still to
--- receive make up what the whole path receives. A key never comes back to a node, so each is
--- counted once.
+-- The way down a key's path: what has been added to each count and what the nodes ahead still
+-- get make up what the whole path gets. A key never comes back to a node, so each count changes
+-- once.
 use Prim.Native.Nat.{ℕ, suc, _+_, _-_, _^_, _≤_, _<_}
 use mathlib.Core.Path.{_≡_, refl, sym, _∙_, ap, subst}
 use mathlib.Core.Logic.{_≢_}
@@ -45,7 +45,7 @@ cleared-on {from} {i} {list₀} {list} low room c =
 
 -- ---- the path
 
--- The nodes before p, to which the first letters lead, have received theirs.
+-- The first letters lead to node p, and the counts of the nodes before p have changed.
 pub record Going (t : Table) (k : List ℕ) (gain loss : ℕ) (list₀ list : List ℕ) (depth p : ℕ)
     : Type 0 where
   pub deep : depth ≤ length k
@@ -66,7 +66,7 @@ module _ {t : Table} {k : List ℕ} {gain loss : ℕ} {list₀ : List ℕ} where
     pub going-within : p ≤ g
     going-within = complete-within t g (take depth k) (rules .within) (w .came)
 
-    -- the key passes p, and p has what it had
+    -- the key passes p, and the count of p has not changed yet
     met : passes t p 0 k ≡ true
     met = subst (λ (j : List ℕ). passes t p 0 j ≡ true) (take-append-drop depth k)
         (prefix-passes t p 0 (take depth k) (drop depth k) (w .came))
@@ -80,7 +80,7 @@ module _ {t : Table} {k : List ℕ} {gain loss : ℕ} {list₀ : List ℕ} where
     pub going-under : loss ≤ getD list p 0 + gain
     going-under = omega (arith, same, room .under p met)
 
-    -- p receives its own; `b` tells whether the nodes behind it hold q
+    -- the count of p changes; `b` says whether q is among the nodes after p
     module _ (inside : p < length list) where
       received : (b : Bool) → b ≡ false
           → getD (set list p (getD list p 0 + gain - loss)) p 0 + cond (passes t p 0 k) loss 0

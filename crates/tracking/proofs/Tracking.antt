@@ -1,6 +1,6 @@
--- The outcome of a store with counts behind 10, at each way out: 11, 12 or 13, 5 again, or done.
--- The head in hand is the image's own and the walk's end is the key's descent; so the image left
--- is the image after a store, and the list left holds its counts.
+-- The outcome of a store with counts after 10, at each return of the code: 11, 12 or 13, 5
+-- again, or done. The head in hand is the image's own, and the walk ends as the key's descent
+-- does. So the image left is the image after a store, and the list left has its counts.
 use Prim.Native.Nat.{ℕ, _+_, _^_, _≤_, _<_}
 use mathlib.Core.Path.{_≡_, sym, _∙_, ap, ap₂, subst}
 use mathlib.Core.Logic.{_≢_}
@@ -48,8 +48,8 @@ use Rattle.tracking.specs.Tracking.{addingCountsRows, storeCounted, Stor
 use Rattle.tracking.specs.Tracking.{gainOf, lossOf, CountsFit, Shifted, Cleared}
 use Rattle.tracking.proofs.PathCounts.{whole, room, kept}
 
--- what a store has in hand once its key has been walked: the image's head, the key, and how many
--- nodes are new
+-- what is known after the walk along the key: the image's head, the key, and the number of new
+-- nodes
 pub record Hand (l : List ℕ) (h : Head) (key : Key) (o : Walked) (value new : ℕ) : Type 0 where
   pub accepted : Accepted l
   pub same : h ≡ headOf l
@@ -76,7 +76,7 @@ module _ {l : List ℕ} {h : Head} {key : Key} {o : Walked} {value new : ℕ}
   last-same : h .g + new ≡ headOf l .g + newOf (headOf l) l k value
   last-same = ap₂ (λ (h : Head) (n : ℕ). h .g + n) (x .same) new-same
 
-  -- what is left where it is done
+  -- the outcome if it is done
   abbrev leaves : List ℕ → Outcome
   leaves counts =
       outcome (doneNumbers 0 (changeOf (answer (tableIn l) k) value) 0)
@@ -116,7 +116,7 @@ module _ {l : List ℕ} {h : Head} {key : Key} {o : Walked} {value new : ℕ}
           room = p .room;
         }
 
-    -- what the writes ask
+    -- what the writes require
     pub allows : first (addingRows h value (added (missing (endOf k o)) value) (length l)) ≡ none
     allows = ap (λ (n : ℕ). first (addingRows h value n (length l))) (sym (x .count)) ∙ passes
 
@@ -149,7 +149,7 @@ module _ {l : List ℕ} {h : Head} {key : Key} {o : Walked} {value new : ℕ}
     head-same =
         ap₂ (λ (h : Head) (g : ℕ). withTotal h g) (x .same) last-same ∙ sym (stored-head granted)
 
-    -- all nodes lie inside the image
+    -- all nodes are inside the image, so their addresses fit 32 bits
     pub last-fits : h .g + new < 2 ^ 32
     last-fits =
         let b = accepted-again granted in
@@ -190,7 +190,7 @@ module _ {l : List ℕ} {h : Head} {key : Key} {o : Walked} {value new : ℕ}
             start
         cleared = rw (x .same, new-same) at clear
 
-        -- what carrying the change asks
+        -- what `carry` requires
         pub carries : let grown : Head = withTotal h (h .g + new) in
             Open grown image
             × Ready grown key

@@ -1,6 +1,6 @@
 -- 02, Ask 7: "A store changes counts only on the key's path and at the new nodes; the result
--- equals the counts worked out afresh." The part of a store with counts that follows 10: what it
--- answers and leaves in image and counts is what the whole call does.
+-- equals the counts worked out afresh." The part of a store with counts after 10: it answers and
+-- leaves in image and counts what the whole call does.
 use Prim.Native.Nat.{ℕ, zero, suc, _+_, _^_, _≤_, _<_}
 use mathlib.Core.Path.{_≡_}
 use mathlib.Core.Bool.{true, cond}
@@ -25,6 +25,7 @@ addingCountsRows l key value counts =
     addingRows (headOf l) value (newOf (headOf l) l key value) (length l)
     ++ (row5again (headOf l) (newOf (headOf l) l key value) (length counts) ∷ [])
 
+-- the outcome of this part
 unfoldable pub storeCounted : List ℕ → List ℕ → ℕ → List ℕ → Outcome
 unfolding heard first addingRows newOf row5again doneNumbers changeOf answer tableIn storedImage
     worked
@@ -33,6 +34,7 @@ storeCounted l key value counts =
     (outcome (doneNumbers 0 (changeOf (answer (tableIn l) key) value) 0)
     (storedImage l key value ∷ worked (storedImage l key value) counts ∷ []))
 
+-- what this part promises
 abbrev pub StoresCounted : List ℕ → List ℕ → ℕ → List ℕ → Stored → List ℕ → List ℕ → Type 0
 StoresCounted l key value counts r l′ counts′ =
     outcome (storedOf r) (l′ ∷ counts′ ∷ []) ≡ storeCounted l key value counts
@@ -43,32 +45,32 @@ StoresCounted l key value counts r l′ counts′ =
 abbrev pub Whole : Table → List ℕ → Type 0
 Whole t k = (r : ℕ) × (descend t 0 k ≡ complete r)
 
--- what the change in the number of stored keys adds to a count on the key's path, and takes from
--- it
+-- what the change in the number of stored keys adds to a count on the key's path
 unfoldable pub gainOf : ℤ → ℕ
 gainOf (pos zero) = 0
 gainOf (pos (suc zero)) = 1
 gainOf (pos (suc (suc n))) = 0
 gainOf (negsuc n) = 0
 
+-- and what it takes from it
 unfoldable pub lossOf : ℤ → ℕ
 lossOf (pos n) = 0
 lossOf (negsuc zero) = 1
 lossOf (negsuc (suc n)) = 0
 
--- the counts of the nodes that a key passes can be added to, and taken from
+-- the counts on a key's path stay within 32 bits when the gain is added and the loss is taken
 pub record CountsFit (t : Table) (k : List ℕ) (gain loss : ℕ) (list : List ℕ) : Type 0 where
   pub over : (q : ℕ) → passes t q 0 k ≡ true → getD list q 0 + gain < 2 ^ 32
   pub under : (q : ℕ) → passes t q 0 k ≡ true → loss ≤ getD list q 0 + gain
 
--- and they have been; the other numbers are what they were
+-- the list after that; the other numbers keep what they held
 pub record Shifted (t : Table) (k : List ℕ) (gain loss : ℕ) (list list′ : List ℕ) : Type 0 where
   pub long : length list′ ≡ length list
   pub each : (q : ℕ)
       → getD list′ q 0 + cond (passes t q 0 k) loss 0
       ≡ getD list q 0 + cond (passes t q 0 k) gain 0
 
--- the numbers from one place up to another are 0; the other numbers are what they were
+-- the numbers from `from` to `to` - 1 are 0; the other numbers keep what they held
 pub record Cleared (from to : ℕ) (list list′ : List ℕ) : Type 0 where
   pub long : length list′ ≡ length list
   pub within : (q : ℕ) → from ≤ q → q < to → getD list′ q 0 ≡ 0

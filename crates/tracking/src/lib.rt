@@ -1,6 +1,6 @@
-// A store with counts once the key has passed 9 and 10: 11, 12, 13, then 5 again where the list
-// has no number for a new node; then the writes, and the counts of the nodes on the key's path.
-// The image has been checked and the counts have been compared.
+// The part of a store with counts after 10: 11, 12, 13, then 5 again if the list has no number
+// for a new node; then the writes, and the counts of the nodes on the key's path. The image has
+// been checked and the counts have been compared.
 ghost use mathlib.Core.Path.{_≡_};
 ghost use mathlib.Core.Logic.{_≢_};
 ghost use mathlib.Core.Bool.{true};
@@ -22,8 +22,8 @@ use paper::Refusal;
 use paper::Stored;
 use paper::Verdict;
 
-// Stores a value under a key, 0 to delete it, and keeps the counts right. Refusals: 11, 12, 13, 5;
-// they leave image and counts as they were.
+// Stores a value under a key, 0 to delete it, and keeps the counts right. Refusals: 11, 12, 13,
+// 5 again; they leave image and counts as they were.
 pub fn store_counted(image: &mut [u8], h: Head, key: Key, value: u64, counts: &mut [u32]) -> Stored
     requires { ⌜ Accepted (now image) ⌝ ∗ ⌜ h ≡ headOf (now image) ⌝ ∗ ⌜ Ready h key ⌝ }
     requires { ⌜ between (length (lettersOf key)) (h .min) (h .max) ≡ true ⌝
@@ -59,8 +59,7 @@ pub fn store_counted(image: &mut [u8], h: Head, key: Key, value: u64, counts: &m
     }
 }
 
-// Sets the numbers from one place up to another to 0: the list held anything for nodes that were
-// not there.
+// Sets the numbers from `from` to `to` - 1 to 0: they belonged to no node and may hold anything.
 fn clear(counts: &mut [u32], from: usize, to: usize)
     requires { ⌜ from ≤ to ⌝ ∗ ⌜ to ≤ length (now counts) ⌝ }
     ensures { λ _. ⌜ Cleared from to (now (counts .entry)) (now (counts .exit)) ⌝ }
@@ -72,7 +71,7 @@ fn clear(counts: &mut [u32], from: usize, to: usize)
     }
 }
 
-// Carries the change in the number of stored keys to the counts of the nodes on the key's path.
+// Adds the change in the number of stored keys to the counts of the nodes on the key's path.
 fn carry(image: &[u8], h: Head, key: Key, change: i32, counts: &mut [u32])
     requires { ⌜ Open h (now image) ⌝ ∗ ⌜ Ready h key ⌝
         ∗ ⌜ LinkRules (tableOf h (now image)) (h .g) ⌝ ∗ ⌜ h .g < length (now counts) ⌝ }
@@ -92,8 +91,8 @@ fn carry(image: &[u8], h: Head, key: Key, change: i32, counts: &mut [u32])
     }
 }
 
-// Adds to the count of each node on the key's path, the root and the key's own node included, and
-// takes from it.
+// Adds `gain` to the count of each node on the key's path, from the root to the key's own node,
+// and takes `loss` from it.
 fn shift(image: &[u8], h: Head, key: Key, gain: u32, loss: u32, counts: &mut [u32])
     requires { ⌜ Open h (now image) ⌝ ∗ ⌜ Ready h key ⌝
         ∗ ⌜ LinkRules (tableOf h (now image)) (h .g) ⌝ ∗ ⌜ h .g < length (now counts) ⌝ }
@@ -115,7 +114,7 @@ fn shift(image: &[u8], h: Head, key: Key, gain: u32, loss: u32, counts: &mut [u3
     bump(counts, node, gain, loss);
 }
 
-// Adds to the count of one node, and takes from it.
+// Adds `gain` to the count of one node, and takes `loss` from it.
 fn bump(counts: &mut [u32], node: u32, gain: u32, loss: u32)
     requires { ⌜ node < length (now counts) ⌝ ∗ ⌜ getD (now counts) node 0 + gain < 2 ^ 32 ⌝
         ∗ ⌜ loss ≤ getD (now counts) node 0 + gain ⌝ }

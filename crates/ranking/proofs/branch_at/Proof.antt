@@ -1,6 +1,5 @@
 -- `ranking::branch_at` meets its contract: letter by letter the position falls by the keys that
--- come before, and it lies by the first letter whose keys it does not reach beyond. Assumes
--- nothing.
+-- come before, until it is below the number of keys of a letter. Assumes nothing.
 use Prim.Native.Nat.{_-_, _<_}
 use native.Mathlib.Omega.{arith}
 use mathlib.Core.Path.{_≡_}
@@ -39,7 +38,7 @@ loop-again c =
     turning-empty _ _ _ _ (start .pre .1 .1 .1 .0) (loop .loop .inv)
     (found .before .loop-test .taken) (found .link .ensures) (c .if1 .taken)
 
--- behind a link that is not empty: the child's count stands in the list
+-- the link is not empty: the list has the child's count
 counted : (c : tie.Else1 Inv-loop μ-loop)
     → (let found = c .before in
     let loop = found .before .before in

@@ -1,6 +1,6 @@
--- `ranking::key_at` meets its contract: letter by letter what is left of the position lies under
--- the node reached, down to the node whose own key it is. The depth left to max falls. Assumes
--- nothing.
+-- `ranking::key_at` meets its contract: letter by letter the key is at the position left among
+-- the keys at or under the node reached, down to the node whose own key it is. The depth left to
+-- max falls. Assumes nothing.
 use Prim.Native.Nat.{_-_}
 use mathlib.Core.Logic.{⊎-elim}
 use native.Mathlib.Omega.{arith}
@@ -20,12 +20,12 @@ Inv-loop image h counts position path₀ mask node₀ depth₀ left₀ path node
 abbrev μ-loop : tie.MeasureT-loop
 μ-loop image h counts position path₀ mask node₀ depth₀ left₀ path node depth left = h .max - depth
 
--- what the image and its counts give
+-- what is known of the image and its counts
 known : (c : tie.Start Inv-loop μ-loop) → Counted (c .args .h) (c .args .image .now)
     (c .args .counts .now)
 known c = counted (c .pre .0) (c .pre .1 .0) (c .pre .1 .1 .0)
 
--- behind the node's own key
+-- after the node's own key
 beneath : (c : tie.Joined1 Inv-loop μ-loop)
     → (let loop = c .before .before in
     let a = loop .before .before .before .before .before .args in

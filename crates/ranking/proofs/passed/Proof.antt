@@ -1,5 +1,5 @@
--- `ranking::passed` meets its contract: what was added and what is still to come below the letter
--- make up the whole. Assumes nothing.
+-- `ranking::passed` meets its contract: the keys added and the keys still to come below the
+-- letter make up the whole. Assumes nothing.
 use Prim.Native.Nat.{_+_, _-_, _<_}
 use mathlib.Core.Logic.{⊎-elim}
 use mathlib.Core.Path.{_≡_}
@@ -27,7 +27,7 @@ loop-holds c =
 link-requires : tie.Need-link-requires Inv-loop μ-loop
 link-requires c κs = search needs
 
--- behind a link that is not empty: the child's count stands in the list
+-- the link is not empty: the list has the child's count
 counted : (c : tie.Then1 Inv-loop μ-loop)
     → (let found = c .before in
     let loop = found .before .before in
@@ -44,7 +44,7 @@ counted c =
     (start .pre .1 .1 .1 .1 .1 .0)
     (found .link .ensures) (c .if1 .taken)
 
--- and is the next of those still to come
+-- and it is the next number to add
 next : (c : tie.Then1 Inv-loop μ-loop)
     → (let found = c .before in
     let loop = found .before .before in

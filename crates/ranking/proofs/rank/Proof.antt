@@ -1,5 +1,5 @@
--- `ranking::rank` meets its contract: letter by letter the keys passed by, and those before the
--- rest of the key under the node reached, are all that come before it. Assumes nothing.
+-- `ranking::rank` meets its contract: letter by letter the keys before it are the keys passed,
+-- and the keys under the node reached that come before the rest of the key. Assumes nothing.
 use Prim.Native.Nat.{suc, _+_, _-_, _≤_, _<_}
 use mathlib.Core.Logic.{⊎-elim}
 use mathlib.Core.List.{_∷_}
@@ -27,12 +27,12 @@ Inv-loop image h counts mask letters len node₀ depth₀ before₀ node depth b
 abbrev μ-loop : tie.MeasureT-loop
 μ-loop image h counts mask letters len node₀ depth₀ before₀ node depth before = len - depth
 
--- what the image and its counts give
+-- what is known of the image and its counts
 known : (c : tie.Start Inv-loop μ-loop) → Counted (c .args .h) (c .args .image .now)
     (c .args .counts .now)
 known c = counted (c .pre .0) (c .pre .1 .0) (c .pre .1 .1 .0)
 
--- the array's length, and how many letters of it are the key's
+-- the array's length, and the number of the key's letters
 whole : (c : tie.Start Inv-loop μ-loop) → length (c .args .key .letters) ≡ mostLetters
 whole c = search needs
 

@@ -1,5 +1,5 @@
--- `tracking::carry` meets its contract: one key more adds 1 along the path, one fewer takes 1, and
--- no change leaves the counts. Assumes nothing.
+-- `tracking::carry` meets its contract: one key more adds 1 along the path, one key less takes
+-- 1, and no change leaves the counts as they were. Assumes nothing.
 use mathlib.Core.Path.{_≡_, sym, _∙_, ap}
 use mir.Syntax.{w32}
 use mir.Val.{toZ, ofZ}

@@ -1,5 +1,5 @@
--- `tracking::shift` meets its contract: before each turn, the nodes that the key has passed have
--- received theirs. Assumes nothing.
+-- `tracking::shift` meets its contract: at each turn the counts of the nodes passed so far have
+-- changed. Assumes nothing.
 use Prim.Native.Nat.{_-_, _<_}
 use mathlib.Core.Path.{_≡_}
 use native.Mathlib.Omega.{arith}
@@ -29,7 +29,7 @@ whole c = search needs
 count : (c : tie.Start Inv-loop μ-loop) → length (lettersOf (c .args .key)) ≡ c .args .key .len
 count c = letters-count (c .args .key) (whole c) (c .pre .1 .0 .short)
 
--- the node at which the key stands
+-- the list has a number for the node
 inside : (c : tie.At-loop Inv-loop μ-loop) → c .loop .node < length (c .loop .counts)
 inside c =
     let p = c .before .before .before .before .before .pre in
@@ -51,7 +51,7 @@ array-read-link c =
     let start = c .before .before .before .before .before .before .before in
     omega (arith, c .if1 .taken, start .pre .1 .0 .short)
 
--- the next letter is one of the N
+-- the next letter is below N
 below : (c : tie.Then1 Inv-loop μ-loop) →
     let at = c .before .before in
     let start = at .before .before .before .before .before in

@@ -1,6 +1,6 @@
--- `tracking::store_counted` meets its contract: every refusal is judged before a byte is written,
--- and what is written along the key's path leaves the counts of the image after the store. Assumes
--- nothing.
+-- `tracking::store_counted` meets its contract: every refusal is judged before a byte is
+-- written. Then the counts changed along the key's path are those of the image after the store.
+-- Assumes nothing.
 use mathlib.Core.Path.{_≡_, _∙_}
 use mathlib.Core.Option.{none}
 use mir.Syntax.{w32}
@@ -31,7 +31,7 @@ ended c =
     let p = start .pre in
     ends (p .0) (p .1 .0) (start .args .key) (whole start) (p .1 .1 .0 .short) _ (c .walk .ensures)
 
--- what is in hand once the new nodes are counted
+-- what is known once the new nodes are counted
 hand : (c : tie.After-new-count) →
     let a = c .before .before .before .before .before .args in
     Hand (a .image .now) (a .h) (a .key) (c .before .walk .result) (a .value)
@@ -47,7 +47,7 @@ hand c =
       count = c .new-count .ensures .0;
     }
 
--- 11, 12 and 13 are passed
+-- 11, 12 and 13 have passed
 passed : (c : tie.After-enum-told) →
     let counted = c .before .before .before in
     let a = counted .before .before .before .before .before .args in
