@@ -1,5 +1,6 @@
--- The outcome of the calls that begin with the check, at each way out: the audit's verdict is what
--- is heard of 1 to 8, and an image that passed them is one to walk through.
+-- The outcome of the calls that begin with the check, at each return of the code. The audit's
+-- verdict is the first row of 1 to 8 that is given, and an image that has passed them can be
+-- walked through.
 use Prim.Native.Nat.{ℕ}
 use mathlib.Core.Path.{_≡_, sym, _∙_, ap}
 use mathlib.Core.Bool.{Bool}
@@ -60,7 +61,7 @@ module _ {l work : List ℕ} {r : Opened} {work′ codes : List ℕ} (o : Checke
           (rw (checked-head o e) at c)
           ∙ sym (heard-done _ _ _ (told-passed (o .verdict) e))
 
-    -- whatever is asked for, and whatever buffer was lent
+    -- for any request, and any buffer lent
     module _ (key : List ℕ) (after : Bool) (buffer : List ℕ) where
       pub nexts-refused : {why : Refusal} → r .verdict ≡ Verdict.Refused why
           → Nexts l work key after buffer (foundOf (Found.Refused why)) work′ buffer

@@ -1,7 +1,7 @@
-// The calls that begin with the check and only read: the check itself, the number of keys, the
-// next key. None has a `requires`: any bytes or key may be handed over. Each promises one line,
-// that the numbers of its answer and every lent buffer's last content are the outcome that
-// document 01 states (crate `paper`).
+// The calls that begin with the check and do not change the image: the check itself, the number
+// of keys, the next key. None has a `requires`: any bytes or key may be passed. The contract of
+// each is one line: the numbers of its answer and the last content of every lent buffer are the
+// outcome that document 01 states (crate `paper`).
 ghost use Rattle.paper.specs.Answers.{doneOf, countedOf, foundOf};
 ghost use Rattle.paper.specs.Promises.{Checks, CountsKeys, Nexts};
 use head::Head;
@@ -10,7 +10,7 @@ use paper::Done;
 use paper::Found;
 use paper::Verdict;
 
-// Checks an image over lent working numbers. Refusals: 1 to 8.
+// Checks an image with lent working numbers. Refusals: 1 to 8.
 pub fn check(image: &[u8], work: &mut [u32]) -> Done
     ensures { λ r. ⌜ Checks (now (image .entry)) (now (work .entry)) (doneOf r)
         (now (work .exit)) ⌝ }
@@ -24,7 +24,7 @@ pub fn check(image: &[u8], work: &mut [u32]) -> Done
     }
 }
 
-// The number of stored keys of an image. Refusals: 1 to 8.
+// The number of stored keys. Refusals: 1 to 8.
 pub fn count(image: &[u8], work: &mut [u32]) -> Counted
     ensures { λ r. ⌜ CountsKeys (now (image .entry)) (now (work .entry)) (countedOf r)
         (now (work .exit)) ⌝ }
@@ -38,9 +38,9 @@ pub fn count(image: &[u8], work: &mut [u32]) -> Counted
     }
 }
 
-// The first stored key at or after the key given or, with `after`, after it: its letters at the
-// front of the key buffer, its length and its value. Refusals: 1 to 8, 9 for a key longer than
-// max, 10, 14, 15.
+// The first stored key at or after the key given or, if `after` is true, after it: its letters
+// at the front of the key buffer, its length and its value. Refusals: 1 to 8, 9 for a key longer
+// than max, 10, 14, 15.
 pub fn next_key(
     image: &[u8],
     work: &mut [u32],

@@ -1,5 +1,6 @@
--- The outcome of working counts out and of checking them, at each way out: the verdict is what is
--- heard of the call's rows, and where nothing is heard the counts stand at the front of the list.
+-- The outcome of working the counts out and of checking them, at each return of the code. The
+-- verdict is the first row of the call's order that is given. If none is, the counts worked out
+-- are the front of the list.
 use Prim.Native.Nat.{ℕ, _+_, _≤_}
 use mathlib.Core.Path.{_≡_, refl, sym, _∙_, ap, ap₂}
 use mathlib.Core.List.{List, [], _∷_}
@@ -25,7 +26,8 @@ module _ (l work counts : List ℕ) {r : Opened} {work′ codes : List ℕ}
   unfolding countsOrder usable
   told = o .verdict
 
-  -- whatever the numbers of the answer and the list, the working numbers are left as 02 says
+  -- whatever the numbers of the answer and the list, the working numbers are left as 01 says,
+  -- with 5 for either list
   left : (n : Numbers) {list c : List ℕ} → list ≡ c → outcome n (work′ ∷ list ∷ [])
       ≡ outcome n (workLeft l work counts ∷ c ∷ [])
   unfolding workLeft usable
@@ -37,7 +39,7 @@ module _ (l work counts : List ℕ) {r : Opened} {work′ codes : List ℕ}
   counts-refused e = left _ refl ∙ sym (heard-refused _ _ _ (told-refused told e))
 
   module _ (e : r .verdict ≡ Verdict.Passed) where
-    -- what the weighing asks for
+    -- what `weigh` requires
     pub weigh-asks : Accepted l × ((r .head ≡ headOf l) × (r .head .g + 1 ≤ length counts))
     weigh-asks =
         let same = compared-head l work counts o e in

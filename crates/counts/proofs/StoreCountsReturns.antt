@@ -1,5 +1,5 @@
--- The outcome of a store with counts, at each way out: refused in front of 11, or what stands
--- behind 10. It is said once for a key given by letters or by text.
+-- The outcome of a store with counts at each return of the code: refused before 11, or the
+-- outcome of the part after 10. The laws serve a key given by letters and a key given as text.
 use Prim.Native.Nat.{ℕ}
 use mathlib.Core.Path.{_≡_, refl, sym, _∙_, ap}
 use mathlib.Core.Bool.{true}
@@ -48,7 +48,7 @@ unfolding heard
 more w none n l c l′ c′ e = between-them w e
 more w (some s) n l c l′ c′ e = between-them w e
 
--- ---- a store with counts, by what is heard of it in front of 11
+-- ---- a store with counts, by the outcome of the part before 11
 
 module _ (l work : List ℕ) (given : Given) (value : ℕ) (counts : List ℕ) where
   abbrev key : List ℕ
@@ -94,7 +94,7 @@ module _ (l work : List ℕ) (given : Given) (value : ℕ) (counts : List ℕ) w
       ∙ sym (asked ∙ ap (λ (row : Row). heard row (l ∷ left ∷ counts ∷ []) stored)
       (second-part front rest passed))
 
--- ---- the ways out
+-- ---- the returns
 
 module _ {l : List ℕ} (work counts : List ℕ) {given : Given} {r : Asked} {work′ : List ℕ}
     (a : AsksCounts l work counts given r work′) where
@@ -105,7 +105,7 @@ module _ {l : List ℕ} (work counts : List ℕ) {given : Given} {r : Asked} {wo
       rw (a .numbers) (sym (refuses l work given value counts why (told-refused (a .verdict) e)))
 
   module _ (e : r .verdict ≡ Verdict.Passed) where
-    -- what the part behind 10 asks for
+    -- what the part after 10 requires
     pub store-counted-asks : Accepted l
         × ((r .head ≡ headOf l)
         × (Ready (r .head) (r .key)

@@ -1,7 +1,7 @@
-// The calls that keep counts beside an image: working them out, the check with counts, and the
-// stores with counts. None has a `requires`: any bytes, counts, key, text or value may be handed
-// over. Each promises one line, that the numbers of its answer and every lent buffer's last
-// content are the outcome that document 02 states (crate `position`).
+// The calls that keep counts beside an image: working the counts out, the check with counts, and
+// the stores with counts. None has a `requires`: any bytes, counts, key, text or value may be
+// passed. The contract of each is one line: the numbers of its answer and the last content of
+// every lent buffer are the outcome that document 02, Ask 7, states (crate `position`).
 ghost use Rattle.paper.specs.Answers.{doneOf, storedOf};
 ghost use Rattle.paper.specs.Given.{asLetters, asText};
 ghost use Rattle.position.specs.Promises.{WorksOut, ChecksCounts, StoresCounts};
@@ -10,8 +10,8 @@ use paper::Done;
 use paper::Stored;
 use paper::Verdict;
 
-// Works the counts out afresh into the front of the list. Refusals: 1 to 8, where 5 is also for a
-// list of counts shorter than G+1.
+// Works the counts out afresh, at the front of the list. Refusals: 1 to 8, with 5 for either
+// list.
 pub fn counts(image: &[u8], work: &mut [u32], list: &mut [u32]) -> Done
     ensures { λ r. ⌜ WorksOut (now (image .entry)) (now (work .entry)) (now (list .entry))
         (doneOf r) (now (work .exit)) (now (list .exit)) ⌝ }
@@ -28,7 +28,7 @@ pub fn counts(image: &[u8], work: &mut [u32], list: &mut [u32]) -> Done
     }
 }
 
-// Checks an image and holds the counts against fresh ones. Refusals: 1 to 8, with 5 for either
+// Checks an image and compares its counts with fresh ones. Refusals: 1 to 8, with 5 for either
 // list, 25.
 pub fn check_counts(image: &[u8], work: &mut [u32], list: &[u32]) -> Done
     ensures { λ r. ⌜ ChecksCounts (now (image .entry)) (now (work .entry)) (now (list .entry))
@@ -43,9 +43,10 @@ pub fn check_counts(image: &[u8], work: &mut [u32], list: &[u32]) -> Done
     }
 }
 
-// Stores a value under a key given by its letters, 0 to delete it, and keeps the counts right; the
-// answer is the change in the number of stored keys. Refusals: 1 to 8, with 5 for either list, 25,
-// 9, 10, 11, 12, 13, then 5 where the list has no number for a new node.
+// A store with counts: stores a value under a key given by its letters, 0 to delete it, and
+// keeps the counts right. Answers the change in the number of stored keys. Refusals: 1 to 8,
+// with 5 for either list, 25, 9, 10, 11, 12, 13, then 5 again if the list has no number for a
+// new node.
 pub fn store_counts(
     image: &mut [u8],
     work: &mut [u32],
@@ -66,7 +67,8 @@ pub fn store_counts(
     }
 }
 
-// The same for a key given by its text; 10 stands before 9.
+// The same for a key given as text. Refusals: 1 to 8, with 5 for either list, 25, 10, 9, 11, 12,
+// 13, then 5 again.
 pub fn store_text_counts(
     image: &mut [u8],
     work: &mut [u32],

@@ -1,6 +1,6 @@
--- The outcome of key at position, at each way out. Every key passes the root, so the root's count
--- is the number of stored keys, and past it is past the end; the key that the way by counts tells
--- is laid into the buffer from a path of its own.
+-- The outcome of key at position at each return of the code. Every key passes the root, so the
+-- root's count is the number of stored keys, and a position that is not below it is past the
+-- end. The key that the way by counts finds is copied into the buffer from a path of its own.
 use Prim.Native.Nat.{ℕ, _+_, _^_, _≤_, _<_}
 use mathlib.Core.Path.{_≡_, refl, sym, _∙_, ap}
 use mathlib.Core.Option.{Option, none, some}
@@ -69,7 +69,7 @@ module _ (l work counts : List ℕ) (position : ℕ) (buffer : List ℕ) where
   unfolding foundOf refusalNumbers
   refuses why e = sym (asked ∙ heard-refused _ _ _ e)
 
-  -- behind 25, and behind 14
+  -- after 25, and after 14
   module _ (compared : first (checkCountsOrder l work counts) ≡ none) where
     left : first order ≡ first rest
     left = second-part (checkCountsOrder l work counts) _ compared
@@ -121,11 +121,11 @@ module _ {h : Head} {l counts : List ℕ} (w : Counted h l counts) where
   pub path-room : h .max ≤ mostLetters
   path-room = omega (arith, bounds h (w .opened .head-permitted))
 
--- ---- what the way by counts told
+-- ---- what the way by counts answered
 
 module _ {l : List ℕ} {position : ℕ} {s : Spot} {path : List ℕ} (t : Spotted l position s path)
   where
-    -- the key is no longer than max, and stands in the path
+    -- the key is no longer than max, so it is inside the path
     spotted-short : s .length ≤ headOf l .max
     spotted-short =
         let (_, high, _) =
@@ -142,7 +142,7 @@ module _ {l : List ℕ} {position : ℕ} {s : Spot} {path : List ℕ} (t : Spott
     pub spotted-front : s .length ≡ length (take (s .length) path)
     spotted-front = t .long ∙ ap length (sym front)
 
-    -- it has room in a buffer that 14 passed, and its length is a number of 32 bits
+    -- it fits a buffer that 14 has passed, and its length fits 32 bits
     module _ {h : Head} (same : h ≡ headOf l) where
       short-head : s .length ≤ h .max
       short-head = omega (arith, spotted-short, ap (λ (k : Head). k .max) same)
@@ -153,7 +153,7 @@ module _ {l : List ℕ} {position : ℕ} {s : Spot} {path : List ℕ} (t : Spott
       pub spotted-fits : {counts : List ℕ} → Counted h l counts → s .length < 2 ^ 32
       spotted-fits w = omega (arith, short-head, path-room w)
 
-    -- ---- the ways out behind 25
+    -- ---- the returns after 25
 
     pub spots-found : (buffer : List ℕ) {h : Head} {buffer′ : List ℕ} → h ≡ headOf l
         → h .max ≤ length buffer
@@ -175,11 +175,11 @@ module _ (l : List ℕ) (position : ℕ) (buffer : List ℕ) {h : Head} (same : 
       missing l work counts position buffer compared (rw same at room)
       (at-none (storedKeys l) position past)
 
--- ---- the ways out of the whole call
+-- ---- the returns of the whole call
 
 module _ {l work counts : List ℕ} {r : Opened} {work′ codes : List ℕ}
     (o : Compared l work counts r work′ codes) where
-  -- what is asked behind 25
+  -- what the part after 25 requires
   pub spot-asks : r .verdict ≡ Verdict.Passed
       → Accepted l × ((r .head ≡ headOf l) × RightCounts l counts)
   spot-asks e =

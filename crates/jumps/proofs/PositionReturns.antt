@@ -1,5 +1,6 @@
--- The outcome of a key's position, at each way out: refused in front of 15, not stored, or how
--- many stored keys come before it. It is said once for a key given by letters or by text.
+-- The outcome of a key's position at each return of the code: refused before 15, not stored, or
+-- the number of stored keys before the key. The laws serve a key given by letters and a key
+-- given as text.
 use Prim.Native.Nat.{ℕ}
 use mathlib.Core.Path.{_≡_, refl, sym, _∙_, ap}
 use mathlib.Core.Bool.{Bool, true, false, cond}
@@ -37,7 +38,7 @@ use Rattle.ranking.specs.declared.Ranked.{Ranked}
 use Rattle.ranking.specs.Ranking.{rankedOf}
 use Rattle.jumps.specs.Jumps.{ranksAs}
 
--- ---- what the way by counts told
+-- ---- what the way by counts answered
 
 module _ (l key : List ℕ) {r : Ranked} (told : r ≡ rankedOf l key) where
   abbrev at : ℕ
@@ -83,7 +84,7 @@ module _ (l work counts : List ℕ) (given : Given) where
   abbrev Leaves : Placed → Type 0
   Leaves p = GivesPosition l work counts given (placedOf p) (workLeft l work counts)
 
-  -- in front of 15, and then 15
+  -- before 15, and then 15
   joined : first order ≡ first ((checkCountsOrder l work counts ++ keyRows l given) ++ last)
   joined = ap first (sym (append-assoc (checkCountsOrder l work counts) (keyRows l given) last))
 
@@ -112,7 +113,7 @@ module _ (l work counts : List ℕ) (given : Given) where
             let stored : isNone (ifStored l key) ≡ false = rw e in
             sym (asked ∙ heard-done _ _ _ (left ∙ no-row 15 0 [] stored ∙ first-nil))
 
--- ---- the ways out
+-- ---- the returns
 
 module _ {l : List ℕ} (work counts : List ℕ) {given : Given} {r : Asked} {work′ : List ℕ}
     (a : AsksCounts l work counts given r work′) where
@@ -122,7 +123,7 @@ module _ {l : List ℕ} (work counts : List ℕ) {given : Given} {r : Asked} {wo
       rw (a .numbers) (refuses l work counts given why (told-refused (a .verdict) e))
 
   module _ (e : r .verdict ≡ Verdict.Passed) where
-    -- what is asked behind 10
+    -- what the part after 10 requires
     pub place-asks : Accepted l
         × ((r .head ≡ headOf l)
         × (RightCounts l counts ×

@@ -1,6 +1,6 @@
--- 02, Ask 7: what a jump tells once the counts have been compared. Where that part of the order
--- has passed, what is answered and left in the buffer is what the whole call does, whatever
--- working numbers were lent.
+-- 02, Ask 7: "From it answer the key at position i [..] and the position of a stored key." The
+-- last part of each jump, after 25 or after 10. It answers and leaves in the buffer what the
+-- whole call does, whatever working numbers were lent.
 use Prim.Native.Nat.{ℕ}
 use mathlib.Core.Path.{_≡_}
 use mathlib.Core.Bool.{cond}
@@ -19,12 +19,13 @@ use Rattle.position.specs.Orders.{checkCountsOrder}
 use Rattle.position.specs.Calls.{workLeft}
 use Rattle.position.specs.Promises.{GivesKey}
 
+-- the key at a position, once 1 to 8 and 25 have passed
 abbrev pub TellsKey : List ℕ → ℕ → List ℕ → Found → List ℕ → Type 0
 TellsKey l position buffer r buffer′ =
     (work counts : List ℕ) → first (checkCountsOrder l work counts) ≡ none
     → GivesKey l work counts position buffer (foundOf r) (workLeft l work counts) buffer′
 
--- a key's position, or 15 where it is not stored
+-- the position of a key, or 15 if it is not stored
 unfoldable pub ranksAs : List ℕ → List ℕ → Placed
 unfolding answer tableIn rankIn storedKeys
 ranksAs l key =

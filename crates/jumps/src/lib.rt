@@ -1,7 +1,7 @@
-// The calls that jump by position: the key at a position, and the position of a key. None has a
-// `requires`: any bytes, counts, position, key or text may be handed over. Each promises one line,
-// that the numbers of its answer and every lent buffer's last content are the outcome that
-// document 02 states (crate `position`).
+// The calls that jump by position: the key at a position, and the position of a key. No public
+// function has a `requires`: any bytes, counts, position, key or text may be passed. The
+// contract of each is one line: the numbers of its answer and the last content of every lent
+// buffer are the outcome that document 02, Ask 7, states (crate `position`).
 ghost use mathlib.Core.Path.{_≡_};
 ghost use mathlib.Core.Bool.{true};
 ghost use lib.ListN.{length};
@@ -58,7 +58,7 @@ pub fn position(image: &[u8], work: &mut [u32], counts: &[u32], letters: &[u8]) 
     }
 }
 
-// The same for a key given by its text; 10 stands before 9.
+// The same for a key given as text. Refusals: 1 to 8, with 5 for either list, 25, 10, 9, 15.
 pub fn position_text(image: &[u8], work: &mut [u32], counts: &[u32], text: &[u8]) -> Placed
     ensures { λ r. ⌜ GivesPosition (now (image .entry)) (now (work .entry)) (now (counts .entry))
         (asText (now (text .entry))) (placedOf r) (now (work .exit)) ⌝ }
@@ -72,8 +72,8 @@ pub fn position_text(image: &[u8], work: &mut [u32], counts: &[u32], text: &[u8]
     }
 }
 
-// The part of key at position after 25: 14, 15 and the key. The key is found on a path of its own,
-// since the rest of the buffer keeps what it held.
+// The part of `key_at` after 25: 14, 15 and the key. The key is found on a path of its own,
+// since `ranking::key_at` does not promise to keep what follows the key's letters.
 fn tell_key(image: &[u8], h: Head, counts: &[u32], position: u64, buffer: &mut [u8]) -> Found
     requires { ⌜ Accepted (now image) ⌝ ∗ ⌜ h ≡ headOf (now image) ⌝
         ∗ ⌜ RightCounts (now image) (now counts) ⌝ }
@@ -96,7 +96,7 @@ fn tell_key(image: &[u8], h: Head, counts: &[u32], position: u64, buffer: &mut [
     }
 }
 
-// The part of a key's position after 10: 15, or how many stored keys come before it.
+// The part of `position` after 10: 15, or the number of stored keys before the key.
 fn tell_position(image: &[u8], h: Head, counts: &[u32], key: Key) -> Placed
     requires { ⌜ Accepted (now image) ⌝ ∗ ⌜ h ≡ headOf (now image) ⌝
         ∗ ⌜ RightCounts (now image) (now counts) ⌝ }

@@ -1,5 +1,6 @@
--- The outcome of a lookup, at each way out: 1 to 4 refused, the key refused, or what is found on
--- its path. It is said once for a key given by letters or by text.
+-- The outcome of a lookup at each return of the code: one of 1 to 4 is given, the key is
+-- refused, or the walk along its path answers. The laws serve a key given by letters and a key
+-- given as text.
 use Prim.Native.Nat.{ℕ}
 use mathlib.Core.Path.{_≡_, refl, sym, _∙_, ap}
 use mathlib.Core.Option.{Option, none, some}
@@ -68,7 +69,7 @@ module _ (l : List ℕ) (given : Given) where
       unfolding lookedIn
       found e = ap (λ (x : Looked). outcome (lookedOf x) []) e ∙ by-fault _ refl
 
--- ---- the ways out
+-- ---- the returns
 
 pub looks-up-unopened : {l : List ℕ} {r : Opened} {codes : List ℕ} → Opens l r codes
     → (given : Given) {why : Refusal}

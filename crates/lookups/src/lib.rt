@@ -1,5 +1,5 @@
-// The look ups. Neither has a `requires`: any bytes, key or text may be handed over. Each promises
-// one line, that the numbers of its answer are the outcome that document 01 states (crate
+// The lookups. Neither has a `requires`: any bytes, key or text may be passed. The contract of
+// each is one line: the numbers of its answer are the outcome that document 01 states (crate
 // `paper`).
 ghost use Rattle.paper.specs.Answers.{lookedOf};
 ghost use Rattle.paper.specs.Given.{asLetters, asText};
@@ -10,8 +10,8 @@ use key::Typed;
 use paper::Looked;
 use paper::Verdict;
 
-// The value that is stored under a key given by its letters, 0 for none. It does not check the
-// image: 6 is a bad link on the key's own path. Refusals: 1 to 4, 9, 10, 6.
+// The value that is stored under a key given by its letters, 0 for absent. The image is not
+// checked: 6 is given only for a bad link on the key's own path. Refusals: 1 to 4, 9, 10, 6.
 pub fn look_up(image: &[u8], letters: &[u8]) -> Looked
     ensures { λ r. ⌜ LooksUp (now (image .entry)) (asLetters (now (letters .entry)))
         (lookedOf r) ⌝ }
@@ -33,7 +33,7 @@ pub fn look_up(image: &[u8], letters: &[u8]) -> Looked
     }
 }
 
-// The same for a key given by its text. Refusals: 1 to 4, 10, 9, 6.
+// The same for a key given as text. Refusals: 1 to 4, 10, 9, 6.
 pub fn look_up_text(image: &[u8], text: &[u8]) -> Looked
     ensures { λ r. ⌜ LooksUp (now (image .entry)) (asText (now (text .entry))) (lookedOf r) ⌝ }
 {

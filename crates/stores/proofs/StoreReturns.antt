@@ -1,5 +1,6 @@
--- The outcome of a store, at each way out: refused in front of 11, or what stands behind 10, with
--- its writes listed or not. It is said once for a key given by letters or by text.
+-- The outcome of a store at each return of the code: refused before 11, or the outcome of the
+-- part after 10, without or with its writes. The laws serve a key given by letters and a key
+-- given as text.
 use Prim.Native.Nat.{ℕ}
 use mathlib.Core.Path.{_≡_, refl, sym, _∙_, ap}
 use mathlib.Core.Bool.{Bool, true, false, cond}
@@ -42,7 +43,7 @@ unfolding heard
 more none n l l′ w = refl
 more (some s) n l l′ w = refl
 
--- the same where the writes are listed behind it
+-- the same with the list of writes after it
 more-noted : (ws : List Write) (list : List ℕ) (row : Row) (n : Numbers) (l x w : List ℕ)
     {m : Numbers} {l′ list′ : List ℕ}
     → outcome m (l′ ∷ list′ ∷ []) ≡ withWrites ws list (heard row (l ∷ []) (outcome n (x ∷ [])))
@@ -75,7 +76,7 @@ more-noted ws list row n l x w {m} {l′} {list′} e = by-row row e
         by-test (eqb (s .number) 0) (refusedNumbers s)
         (doneNumbers (length ws) (refusedNumbers s .change) 0) l (sets list 0 (noted ws)) f
 
--- ---- a store, by what is heard of it in front of 11
+-- ---- a store, by the outcome of the part before 11
 
 module _ (l work : List ℕ) (given : Given) (value : ℕ) where
   abbrev key : List ℕ
@@ -128,7 +129,7 @@ module _ (l work : List ℕ) (given : Given) (value : ℕ) where
         (storedImage l key value) (workAfter l work) e
         ∙ ap (withWrites (writesIn l key value) list) (sym left)
 
--- ---- the ways out
+-- ---- the returns
 
 module _ {l : List ℕ} (work : List ℕ) {given : Given} {r : Asked} {work′ : List ℕ}
     (a : Asks l work given r work′) (value : ℕ) where

@@ -1,6 +1,7 @@
-// The stores. None has a `requires`: any bytes, key, text or value may be handed over. Each
-// promises one line, that the numbers of its answer and every lent buffer's last content are the
-// outcome that document 01 states (crate `paper`).
+// The stores, without and with writes. None has a `requires`: any bytes, key, text or value may
+// be passed. The contract of each is one line: the numbers of its answer and the last content of
+// every lent buffer are the outcome that document 01 states or, for the stores with writes, 02,
+// Ask 1 (crate `paper`).
 ghost use Rattle.paper.specs.Answers.{storedOf, notedOf};
 ghost use Rattle.paper.specs.Given.{asLetters, asText};
 ghost use Rattle.paper.specs.Promises.{Stores, StoresWrites};
@@ -9,7 +10,7 @@ use paper::Noted;
 use paper::Stored;
 use paper::Verdict;
 
-// Stores a value under a key given by its letters, 0 to delete it; the answer is the change in the
+// Stores a value under a key given by its letters; 0 deletes the key. Answers the change in the
 // number of stored keys. Refusals: 1 to 8, 9, 10, 11, 12, 13.
 pub fn store(image: &mut [u8], work: &mut [u32], letters: &[u8], value: u32) -> Stored
     ensures { λ r. ⌜ Stores (now (image .entry)) (now (work .entry))
@@ -25,7 +26,7 @@ pub fn store(image: &mut [u8], work: &mut [u32], letters: &[u8], value: u32) -> 
     }
 }
 
-// The same for a key given by its text. Refusals: 1 to 8, 10, 9, 11, 12, 13.
+// The same for a key given as text. Refusals: 1 to 8, 10, 9, 11, 12, 13.
 pub fn store_text(image: &mut [u8], work: &mut [u32], text: &[u8], value: u32) -> Stored
     ensures { λ r. ⌜ Stores (now (image .entry)) (now (work .entry)) (asText (now (text .entry)))
         value (storedOf r) (now (image .exit)) (now (work .exit)) ⌝ }
@@ -39,8 +40,9 @@ pub fn store_text(image: &mut [u8], work: &mut [u32], text: &[u8], value: u32) -
     }
 }
 
-// As store, and besides lists what it wrote: a place and a length for each write in order. The
-// bytes of a write are those of the image after the call. Refusals: as store.
+// A store with writes: as `store`, and it notes a place and a length for each write, in order.
+// The bytes of a write are those of the image after the call. Refusals: 1 to 8, 9, 10, 11, 12,
+// 13.
 pub fn store_writes(
     image: &mut [u8],
     work: &mut [u32],
@@ -61,7 +63,7 @@ pub fn store_writes(
     }
 }
 
-// The same for a key given by its text. Refusals: as store_text.
+// The same for a key given as text. Refusals: 1 to 8, 10, 9, 11, 12, 13.
 pub fn store_text_writes(
     image: &mut [u8],
     work: &mut [u32],

@@ -1,5 +1,5 @@
--- `checks::count` meets its contract: 1 to 8 by the audit, and in an image that passed them as
--- many keys as there are nodes at most. Assumes nothing.
+-- `checks::count` meets its contract: the audit judges 1 to 8, and an image that has passed them
+-- has at most as many stored keys as nodes, so their number fits 32 bits. Assumes nothing.
 use borrow.Author.Needs.{needs}
 use Rattle.checks.proofs.CheckReturns.{checked-walkable, counts-refused, counts-done}
 use Rattle.checks.proofs.count.Statement.{statement}

@@ -1,5 +1,5 @@
--- `counts::check_counts` meets its contract: the comparing tells what is heard and how the working
--- numbers are left. Assumes nothing.
+-- `counts::check_counts` meets its contract: the comparison gives the first refusal that
+-- applies, and leaves the working numbers as the call must. Assumes nothing.
 use borrow.Author.Needs.{needs}
 use Rattle.counts.proofs.CountsReturns.{check-counts-refused, check-counts-done}
 use Rattle.counts.proofs.check_counts.Statement.{statement}

@@ -1,5 +1,5 @@
--- `counts::counts` meets its contract: 1 to 8 with 5 for either list by the check, and in an image
--- that passed them the counts by the weighing. Assumes nothing.
+-- `counts::counts` meets its contract: the check judges 1 to 8, with 5 for either list; if it
+-- has passed, `weighing` works the counts out. Assumes nothing.
 use borrow.Author.Needs.{needs}
 use Rattle.counts.proofs.CountsReturns.{counts-refused, weigh-asks, counts-done}
 use Rattle.counts.proofs.counts.Statement.{statement}

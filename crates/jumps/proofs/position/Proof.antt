@@ -1,5 +1,5 @@
--- `jumps::position` meets its contract: 1 to 8, 25, 9 and 10 by what stands in front of the key,
--- and 15 or the position by what stands behind them. Assumes nothing.
+-- `jumps::position` meets its contract: `asking_counts` judges 1 to 8, 25, 9 and 10, and
+-- `tell_position` gives 15 or the position. Assumes nothing.
 use borrow.Author.Needs.{needs}
 use Rattle.jumps.proofs.PositionReturns.{place-asks, gives-position-refused}
 use Rattle.jumps.proofs.PositionReturns.{gives-position-placed}

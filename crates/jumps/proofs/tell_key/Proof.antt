@@ -1,5 +1,5 @@
--- `jumps::tell_key` meets its contract: 14 here, 15 by the count of the root, the key by the way
--- through the image; the buffer is written only where there is a key. Assumes nothing.
+-- `jumps::tell_key` meets its contract: the function itself gives 14, the root's count 15, and
+-- the way by counts the key. The buffer is written only if there is a key. Assumes nothing.
 use native.Mathlib.Omega.{arith}
 use borrow.Author.Needs.{needs}
 use Rattle.ranking.proofs.Below.{Counted, counted}
@@ -9,7 +9,7 @@ use Rattle.jumps.proofs.KeyAtReturns.{spots-short, spots-past, spots-fo
 use Rattle.jumps.proofs.tell_key.Statement.{statement}
 use Rattle.jumps.proofs.tell_key.Tie as tie
 
--- what the image and its counts give
+-- what is known of the image and its counts
 known : (c : tie.After-struct-known)
     → (let a = c .before .before .before .before .args in
     Counted (a .h) (a .image .now) (a .counts .now))

@@ -1,5 +1,5 @@
--- `jumps::tell_position` meets its contract: the way by counts tells the position, or that the key
--- is not stored. Assumes nothing.
+-- `jumps::tell_position` meets its contract: the way by counts answers the position, or that the
+-- key is not stored. Assumes nothing.
 use borrow.Author.Needs.{needs}
 use Rattle.jumps.proofs.PositionReturns.{ranks-missing, ranks-at}
 use Rattle.jumps.proofs.tell_position.Statement.{statement}

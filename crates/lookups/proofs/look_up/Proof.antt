@@ -1,5 +1,5 @@
--- `lookups::look_up` meets its contract: 1 to 4 by the opening, 9 and 10 by the key in hand, 6 or
--- the value by the walk. Assumes nothing.
+-- `lookups::look_up` meets its contract: the opening gives 1 to 4, the key in hand 9 and 10, and
+-- the walk 6 or the value. Assumes nothing.
 use borrow.Author.Needs.{needs}
 use Rattle.key.proofs.Keyed.{by-letters}
 use Rattle.opening.proofs.Passed.{known-opened}

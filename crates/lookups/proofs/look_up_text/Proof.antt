@@ -1,5 +1,5 @@
--- `lookups::look_up_text` meets its contract: 1 to 4 by the opening, 10 and 9 by what the text
--- names, 6 or the value by the walk. Assumes nothing.
+-- `lookups::look_up_text` meets its contract: the opening gives 1 to 4, the key that the text
+-- names 10 and 9, and the walk 6 or the value. Assumes nothing.
 use mathlib.Core.Path.{refl}
 use borrow.Author.Needs.{needs}
 use Rattle.paper.proofs.Hearing.{told-passed}

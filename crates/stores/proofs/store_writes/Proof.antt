@@ -1,5 +1,5 @@
--- `stores::store_writes` meets its contract: 1 to 10 by what stands in front of every store, the
--- rest by what stands behind them. Assumes nothing.
+-- `stores::store_writes` meets its contract: `asking` judges 1 to 8, 9 and 10, and `noting` does
+-- the rest. Assumes nothing.
 use borrow.Author.Needs.{needs}
 use Rattle.asking.proofs.Asking.{store-asks}
 use Rattle.stores.proofs.StoreReturns.{stores-writes-refused, stores-writes-passed}
