@@ -1,6 +1,6 @@
--- The C face says what the calls say: an outcome is had by an answer's numbers, whatever holds
--- them. And the C answer is known from its numbers, so that the uniqueness of every call (crate
--- paper, Unique) is the C face's too.
+-- C is given what the calls answer: an outcome depends only on the numbers of an answer,
+-- whatever type holds them. The C answer can be recovered from its numbers, so the uniqueness of
+-- every call (`Unique` of `paper`) holds for C too.
 use Prim.Native.Nat.{ℕ}
 use mathlib.Core.Path.{_≡_, refl, _∙_, ap}
 use mathlib.Core.List.{List}

@@ -1,4 +1,5 @@
--- The numbers of the answer that C is given: its fields, as they are named.
+-- The numbers of the answer that C is given are its fields. So the contracts for C cite the same
+-- promises as the contracts of the calls.
 use Rattle.face.specs.declared.TrieffAnswer.{TrieffAnswer}
 use Rattle.paper.specs.Hearing.{Numbers}
 

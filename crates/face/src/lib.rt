@@ -1,5 +1,5 @@
-// The answer that C is given, and each call's answer in its numbers. The exported functions stand
-// in `trieff`.
+// The answer that C is given, and the answer of each call in its numbers. The exported functions
+// are in `trieff`.
 ghost use mathlib.Core.Path.{_≡_};
 ghost use Rattle.paper.specs.Answers.{refusalNumbers, doneOf, countedOf, placedOf, lookedOf};
 ghost use Rattle.paper.specs.Answers.{storedOf, notedOf, foundOf};
@@ -14,16 +14,23 @@ use paper::Placed;
 use paper::Refusal;
 use paper::Stored;
 
-// One answer for every call: the scope document's numbers. What a call does not speak of is 0.
+// The answer of every call, in the numbers of 01. A field that a call does not use is 0. In a
+// refusal all fields but number and place are 0.
 #[repr(C)]
 pub struct TrieffAnswer {
+    // 0 for done, else the number of the refusal.
     pub number: u32,
+    // The node or address that the refusal names, else 0.
     pub place: u32,
+    // The number of letters of the key found, or of the writes that a store noted.
     pub length: u32,
+    // The change in the number of stored keys by a store: -1, 0 or 1.
     pub change: i32,
+    // A value, the number of stored keys, or a key's position.
     pub value: u64,
 }
 
+// A refusal, with its number and its place.
 pub fn refused(why: Refusal) -> TrieffAnswer
     ensures { λ r. ⌜ numbersOf r ≡ refusalNumbers why ⌝ }
 {
@@ -36,6 +43,7 @@ pub fn refused(why: Refusal) -> TrieffAnswer
     }
 }
 
+// A call that is done, with these numbers.
 pub fn done_with(length: u32, change: i32, value: u64) -> TrieffAnswer
     ensures { λ r. ⌜ numbersOf r ≡ doneNumbers length change value ⌝ }
 {
@@ -48,6 +56,7 @@ pub fn done_with(length: u32, change: i32, value: u64) -> TrieffAnswer
     }
 }
 
+// The answer of make, check, mend, counts and check_counts.
 pub fn done(answer: Done) -> TrieffAnswer
     ensures { λ r. ⌜ numbersOf r ≡ doneOf answer ⌝ }
 {
@@ -57,6 +66,7 @@ pub fn done(answer: Done) -> TrieffAnswer
     }
 }
 
+// The answer of count: the number of stored keys is the value.
 pub fn counted(answer: Counted) -> TrieffAnswer
     ensures { λ r. ⌜ numbersOf r ≡ countedOf answer ⌝ }
 {
@@ -66,6 +76,7 @@ pub fn counted(answer: Counted) -> TrieffAnswer
     }
 }
 
+// The answer of position and position_text: the key's position is the value.
 pub fn placed(answer: Placed) -> TrieffAnswer
     ensures { λ r. ⌜ numbersOf r ≡ placedOf answer ⌝ }
 {
@@ -75,6 +86,7 @@ pub fn placed(answer: Placed) -> TrieffAnswer
     }
 }
 
+// The answer of look_up and look_up_text: the value, 0 for absent.
 pub fn looked(answer: Looked) -> TrieffAnswer
     ensures { λ r. ⌜ numbersOf r ≡ lookedOf answer ⌝ }
 {
@@ -84,6 +96,7 @@ pub fn looked(answer: Looked) -> TrieffAnswer
     }
 }
 
+// The answer of a store without writes, with or without counts: the change.
 pub fn stored(answer: Stored) -> TrieffAnswer
     ensures { λ r. ⌜ numbersOf r ≡ storedOf answer ⌝ }
 {
@@ -93,6 +106,7 @@ pub fn stored(answer: Stored) -> TrieffAnswer
     }
 }
 
+// The answer of a store with writes: the change, and the number of writes as the length.
 pub fn noted(answer: Noted) -> TrieffAnswer
     ensures { λ r. ⌜ numbersOf r ≡ notedOf answer ⌝ }
 {
@@ -102,6 +116,7 @@ pub fn noted(answer: Noted) -> TrieffAnswer
     }
 }
 
+// The answer of next_key and key_at: the length and the value of the key found.
 pub fn found(answer: Found) -> TrieffAnswer
     ensures { λ r. ⌜ numbersOf r ≡ foundOf answer ⌝ }
 {

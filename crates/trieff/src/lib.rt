@@ -1,6 +1,7 @@
-// The C face: what a bench links. Each function calls one public call of the library and lists the
-// numbers of its answer; its promise is that call's own. A slice comes as a pointer and a length.
-// include/trieff.h declares all of it for C.
+// What a bench links: the functions that the static library exports. Each calls one public call
+// of the library and gives its answer as a `TrieffAnswer`; its promise is that call's own. C
+// passes a slice as a pointer and a length, and the list of writes as a pointer alone.
+// include/trieff.h declares all of them for C.
 ghost use Rattle.paper.specs.Given.{asLetters, asText};
 ghost use Rattle.paper.specs.Promises.{Makes, Checks, CountsKeys, LooksUp, Stores, StoresWrites};
 ghost use Rattle.paper.specs.Promises.{Mends, Nexts};
@@ -10,6 +11,8 @@ ghost use Rattle.face.specs.Face.{numbersOf};
 use face::TrieffAnswer;
 use head::Head;
 
+// Makes a fresh image in the slice: head, alphabet and a zero root. Refusals: 1, 2, 3 for the
+// alphabet given, 4.
 #[no_mangle]
 pub extern "C" fn trieff_make(
     image: &mut [u8],
@@ -27,6 +30,7 @@ pub extern "C" fn trieff_make(
     face::done(answer)
 }
 
+// Checks an image: its head, its alphabet and every link. Refusals: 1 to 8.
 #[no_mangle]
 pub extern "C" fn trieff_check(image: &[u8], work: &mut [u32]) -> TrieffAnswer
     ensures { λ r. ⌜ Checks (now (image .entry)) (now (work .entry)) (numbersOf r)
@@ -36,6 +40,7 @@ pub extern "C" fn trieff_check(image: &[u8], work: &mut [u32]) -> TrieffAnswer
     face::done(answer)
 }
 
+// The number of stored keys, in `value`. Refusals: 1 to 8.
 #[no_mangle]
 pub extern "C" fn trieff_count(image: &[u8], work: &mut [u32]) -> TrieffAnswer
     ensures { λ r. ⌜ CountsKeys (now (image .entry)) (now (work .entry)) (numbersOf r)
@@ -45,6 +50,8 @@ pub extern "C" fn trieff_count(image: &[u8], work: &mut [u32]) -> TrieffAnswer
     face::counted(answer)
 }
 
+// The value under a key given by its letters, in `value`; 0 for absent. Refusals: 1 to 4, 9, 10,
+// 6 for a bad link on the key's path.
 #[no_mangle]
 pub extern "C" fn trieff_look_up(image: &[u8], letters: &[u8]) -> TrieffAnswer
     ensures { λ r. ⌜ LooksUp (now (image .entry)) (asLetters (now (letters .entry)))
@@ -54,6 +61,7 @@ pub extern "C" fn trieff_look_up(image: &[u8], letters: &[u8]) -> TrieffAnswer
     face::looked(answer)
 }
 
+// The same for a key given as text. Refusals: 1 to 4, 10, 9, 6.
 #[no_mangle]
 pub extern "C" fn trieff_look_up_text(image: &[u8], text: &[u8]) -> TrieffAnswer
     ensures { λ r. ⌜ LooksUp (now (image .entry)) (asText (now (text .entry))) (numbersOf r) ⌝ }
@@ -62,6 +70,8 @@ pub extern "C" fn trieff_look_up_text(image: &[u8], text: &[u8]) -> TrieffAnswer
     face::looked(answer)
 }
 
+// Stores a value under a key given by its letters; 0 deletes the key. `change` is the change in
+// the number of stored keys. Refusals: 1 to 8, 9, 10, 11, 12, 13.
 #[no_mangle]
 pub extern "C" fn trieff_store(
     image: &mut [u8],
@@ -77,6 +87,7 @@ pub extern "C" fn trieff_store(
     face::stored(answer)
 }
 
+// The same for a key given as text. Refusals: 1 to 8, 10, 9, 11, 12, 13.
 #[no_mangle]
 pub extern "C" fn trieff_store_text(
     image: &mut [u8],
@@ -91,6 +102,8 @@ pub extern "C" fn trieff_store_text(
     face::stored(answer)
 }
 
+// As `trieff_store`, and notes its writes in the lent list. `length` is the number of writes.
+// Refusals: 1 to 8, 9, 10, 11, 12, 13.
 #[no_mangle]
 pub extern "C" fn trieff_store_writes(
     image: &mut [u8],
@@ -107,6 +120,7 @@ pub extern "C" fn trieff_store_writes(
     face::noted(answer)
 }
 
+// The same for a key given as text. Refusals: 1 to 8, 10, 9, 11, 12, 13.
 #[no_mangle]
 pub extern "C" fn trieff_store_text_writes(
     image: &mut [u8],
@@ -123,6 +137,8 @@ pub extern "C" fn trieff_store_text_writes(
     face::noted(answer)
 }
 
+// Mends an image after a cut: if the check answers 8 at p, and the image with G set to p-1 is
+// accepted, G becomes p-1; otherwise nothing changes. Refusals: 1 to 8.
 #[no_mangle]
 pub extern "C" fn trieff_mend(image: &mut [u8], work: &mut [u32]) -> TrieffAnswer
     ensures { λ r. ⌜ Mends (now (image .entry)) (now (work .entry)) (numbersOf r)
@@ -132,6 +148,8 @@ pub extern "C" fn trieff_mend(image: &mut [u8], work: &mut [u32]) -> TrieffAnswe
     face::done(answer)
 }
 
+// The first stored key at or after the key given or, if `after` is true, after it, in the key
+// buffer, `length` and `value`. Refusals: 1 to 8, 9 for a key longer than max, 10, 14, 15.
 #[no_mangle]
 pub extern "C" fn trieff_next_key(
     image: &[u8],
@@ -147,6 +165,7 @@ pub extern "C" fn trieff_next_key(
     face::found(answer)
 }
 
+// Works the counts out afresh. Refusals: 1 to 8, with 5 for either list.
 #[no_mangle]
 pub extern "C" fn trieff_counts(image: &[u8], work: &mut [u32], list: &mut [u32]) -> TrieffAnswer
     ensures { λ r. ⌜ WorksOut (now (image .entry)) (now (work .entry)) (now (list .entry))
@@ -156,6 +175,8 @@ pub extern "C" fn trieff_counts(image: &[u8], work: &mut [u32], list: &mut [u32]
     face::done(answer)
 }
 
+// Checks an image and compares its counts with fresh ones. Refusals: 1 to 8, with 5 for either
+// list, 25.
 #[no_mangle]
 pub extern "C" fn trieff_check_counts(image: &[u8], work: &mut [u32], list: &[u32]) -> TrieffAnswer
     ensures { λ r. ⌜ ChecksCounts (now (image .entry)) (now (work .entry)) (now (list .entry))
@@ -165,6 +186,8 @@ pub extern "C" fn trieff_check_counts(image: &[u8], work: &mut [u32], list: &[u3
     face::done(answer)
 }
 
+// As `trieff_store`, and keeps the counts right. Refusals: 1 to 8, with 5 for either list, 25,
+// 9, 10, 11, 12, 13, then 5 again if the list has no number for a new node.
 #[no_mangle]
 pub extern "C" fn trieff_store_counts(
     image: &mut [u8],
@@ -181,6 +204,8 @@ pub extern "C" fn trieff_store_counts(
     face::stored(answer)
 }
 
+// The same for a key given as text. Refusals: 1 to 8, with 5 for either list, 25, 10, 9, 11, 12,
+// 13, then 5 again.
 #[no_mangle]
 pub extern "C" fn trieff_store_text_counts(
     image: &mut [u8],
@@ -197,6 +222,8 @@ pub extern "C" fn trieff_store_text_counts(
     face::stored(answer)
 }
 
+// The stored key at a position, from 0: its letters in the key buffer, its `length` and its
+// `value`. Refusals: 1 to 8, with 5 for either list, 25, 14, 15 for a position past the end.
 #[no_mangle]
 pub extern "C" fn trieff_key_at(
     image: &[u8],
@@ -212,6 +239,8 @@ pub extern "C" fn trieff_key_at(
     face::found(answer)
 }
 
+// The position of a stored key given by its letters, in `value`. Refusals: 1 to 8, with 5 for
+// either list, 25, 9, 10, 15 for a key that is not stored.
 #[no_mangle]
 pub extern "C" fn trieff_position(
     image: &[u8],
@@ -226,6 +255,7 @@ pub extern "C" fn trieff_position(
     face::placed(answer)
 }
 
+// The same for a key given as text. Refusals: 1 to 8, with 5 for either list, 25, 10, 9, 15.
 #[no_mangle]
 pub extern "C" fn trieff_position_text(
     image: &[u8],

@@ -1,5 +1,5 @@
--- `face::done` meets its contract: each case of the answer has the numbers that are listed for it.
--- Assumes nothing.
+-- `face::done` meets its contract: each case of the answer has the numbers that `doneOf` gives
+-- it. Assumes nothing.
 use borrow.Author.Needs.{needs}
 use mathlib.Core.Path.{sym, _∙_, ap}
 use Rattle.paper.specs.Answers.{doneOf}

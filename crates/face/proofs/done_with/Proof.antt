@@ -1,4 +1,4 @@
--- `face::done_with` meets its contract: the fields are the numbers, the change as it fits its 32
+-- `face::done_with` meets its contract: the fields are the numbers, and the change fits its 32
 -- bits. Assumes nothing.
 use mathlib.Core.Path.{ap}
 use lib.IntN.{ℤ}

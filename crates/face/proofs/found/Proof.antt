@@ -1,4 +1,4 @@
--- `face::found` meets its contract: each case of the answer has the numbers that are listed for
+-- `face::found` meets its contract: each case of the answer has the numbers that `foundOf` gives
 -- it. Assumes nothing.
 use borrow.Author.Needs.{needs}
 use mathlib.Core.Path.{sym, _∙_, ap}

@@ -1,5 +1,5 @@
--- `face::looked` meets its contract: each case of the answer has the numbers that are listed for
--- it. Assumes nothing.
+-- `face::looked` meets its contract: each case of the answer has the numbers that `lookedOf`
+-- gives it. Assumes nothing.
 use borrow.Author.Needs.{needs}
 use mathlib.Core.Path.{sym, _∙_, ap}
 use Rattle.paper.specs.Answers.{lookedOf}

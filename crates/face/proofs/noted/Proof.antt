@@ -1,4 +1,4 @@
--- `face::noted` meets its contract: each case of the answer has the numbers that are listed for
+-- `face::noted` meets its contract: each case of the answer has the numbers that `notedOf` gives
 -- it. Assumes nothing.
 use mir.Syntax.{w32}
 use mir.Facts.{toZ-ofZ}

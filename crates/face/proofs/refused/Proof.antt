@@ -1,4 +1,4 @@
--- `face::refused` meets its contract: a refusal tells its number and its place. Assumes nothing.
+-- `face::refused` meets its contract: a refusal has its number and its place. Assumes nothing.
 use borrow.Author.Needs.{needs}
 use Rattle.paper.specs.Hearing.{refusedNumbers}
 use Rattle.paper.specs.Answers.{refusalNumbers}

@@ -1,5 +1,5 @@
--- `face::stored` meets its contract: each case of the answer has the numbers that are listed for
--- it. Assumes nothing.
+-- `face::stored` meets its contract: each case of the answer has the numbers that `storedOf`
+-- gives it. Assumes nothing.
 use mir.Syntax.{w32}
 use mir.Facts.{toZ-ofZ}
 use borrow.Author.Needs.{needs, sfits-of}

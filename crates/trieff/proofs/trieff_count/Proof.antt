@@ -1,5 +1,5 @@
--- `trieff::trieff_count` meets its contract: `checks::count` does, and its answer is listed in
--- numbers. Assumes nothing.
+-- `trieff::trieff_count` meets its contract: `checks::count` keeps the same promise, and
+-- `face::counted` gives its answer in numbers. Assumes nothing.
 use borrow.Author.Needs.{needs}
 use Rattle.face.proofs.Face.{by-numbers}
 use Rattle.trieff.proofs.trieff_count.Statement.{statement}

@@ -1,5 +1,5 @@
--- `trieff::trieff_key_at` meets its contract: `jumps::key_at` does, and its answer is listed in
--- numbers. Assumes nothing.
+-- `trieff::trieff_key_at` meets its contract: `jumps::key_at` keeps the same promise, and
+-- `face::found` gives its answer in numbers. Assumes nothing.
 use borrow.Author.Needs.{needs}
 use Rattle.face.proofs.Face.{by-numbers}
 use Rattle.trieff.proofs.trieff_key_at.Statement.{statement}

@@ -1,5 +1,5 @@
--- `trieff::trieff_look_up` meets its contract: `lookups::look_up` does, and its answer is listed
--- in numbers. Assumes nothing.
+-- `trieff::trieff_look_up` meets its contract: `lookups::look_up` keeps the same promise, and
+-- `face::looked` gives its answer in numbers. Assumes nothing.
 use borrow.Author.Needs.{needs}
 use Rattle.face.proofs.Face.{by-numbers}
 use Rattle.trieff.proofs.trieff_look_up.Statement.{statement}

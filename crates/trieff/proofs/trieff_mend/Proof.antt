@@ -1,5 +1,5 @@
--- `trieff::trieff_mend` meets its contract: `images::mend` does, and its answer is listed in
--- numbers. Assumes nothing.
+-- `trieff::trieff_mend` meets its contract: `images::mend` keeps the same promise, and
+-- `face::done` gives its answer in numbers. Assumes nothing.
 use borrow.Author.Needs.{needs}
 use Rattle.face.proofs.Face.{by-numbers}
 use Rattle.trieff.proofs.trieff_mend.Statement.{statement}

@@ -1,5 +1,5 @@
--- `trieff::trieff_next_key` meets its contract: `checks::next_key` does, and its answer is listed
--- in numbers. Assumes nothing.
+-- `trieff::trieff_next_key` meets its contract: `checks::next_key` keeps the same promise, and
+-- `face::found` gives its answer in numbers. Assumes nothing.
 use borrow.Author.Needs.{needs}
 use Rattle.face.proofs.Face.{by-numbers}
 use Rattle.trieff.proofs.trieff_next_key.Statement.{statement}

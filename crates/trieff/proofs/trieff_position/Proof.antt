@@ -1,5 +1,5 @@
--- `trieff::trieff_position` meets its contract: `jumps::position` does, and its answer is listed
--- in numbers. Assumes nothing.
+-- `trieff::trieff_position` meets its contract: `jumps::position` keeps the same promise, and
+-- `face::placed` gives its answer in numbers. Assumes nothing.
 use borrow.Author.Needs.{needs}
 use Rattle.face.proofs.Face.{by-numbers}
 use Rattle.trieff.proofs.trieff_position.Statement.{statement}

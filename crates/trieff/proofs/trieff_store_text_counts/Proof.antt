@@ -1,5 +1,5 @@
--- `trieff::trieff_store_text_counts` meets its contract: `counts::store_text_counts` does, and its
--- answer is listed in numbers. Assumes nothing.
+-- `trieff::trieff_store_text_counts` meets its contract: `counts::store_text_counts` keeps the
+-- same promise, and `face::stored` gives its answer in numbers. Assumes nothing.
 use borrow.Author.Needs.{needs}
 use Rattle.face.proofs.Face.{by-numbers}
 use Rattle.trieff.proofs.trieff_store_text_counts.Statement.{statement}
