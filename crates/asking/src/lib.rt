@@ -1,6 +1,6 @@
 // What every store judges before 11: 1 to 8, then 9 and 10 of the key given. `by_letters` and
-// `by_text` are the key's part alone. They go on from any part of an order before the key, and
-// require a permitted head if it has passed. `ask` and `ask_text` require nothing.
+// `by_text` are the key's part alone, after any part of an order that has judged the head
+// (`Judgeable`). `ask` and `ask_text` require nothing.
 ghost use mathlib.Core.Path.{_≡_};
 ghost use mathlib.Core.List.{List};
 ghost use Prim.Native.Nat.{ℕ};

@@ -1,7 +1,6 @@
-// The calls that begin with the check and do not change the image: the check itself, the number
-// of keys, the next key. None has a `requires`: any bytes or key may be passed. The contract of
-// each is one line: the numbers of its answer and the last content of every lent buffer are the
-// outcome that document 01 states (crate `paper`).
+// The calls that begin with the check and only read the image. None has a `requires`: any bytes
+// or key may be passed. Each contract is one line: the numbers of the answer and the last
+// content of every lent buffer are the outcome that document 01 states (crate `paper`).
 ghost use Rattle.paper.specs.Answers.{doneOf, countedOf, foundOf};
 ghost use Rattle.paper.specs.Promises.{Checks, CountsKeys, Nexts};
 use head::Head;
@@ -38,9 +37,8 @@ pub fn count(image: &[u8], work: &mut [u32]) -> Counted
     }
 }
 
-// The first stored key at or after the key given or, if `after` is true, after it: its letters
-// at the front of the key buffer, its length and its value. Refusals: 1 to 8, 9 for a key longer
-// than max, 10, 14, 15.
+// The first stored key at or after the key given or, if `after` is true, after it, in the key
+// buffer. Refusals: 1 to 8, 9 for a key longer than max, 10, 14, 15.
 pub fn next_key(
     image: &[u8],
     work: &mut [u32],

@@ -1,7 +1,6 @@
--- The outcome of the comparison at each return of the code: what the check answers, lent a part
--- of the working numbers, or 25 if it has passed. The fresh counts are the front of the working
--- numbers. So the comparison of the two lists gives row 25, and clearing the front leaves what
--- the check left.
+-- The outcome of the comparison at each return of the code: what the check answers, or 25 if it
+-- has passed. The fresh counts are the front of the working numbers. So comparing the two lists
+-- gives row 25, and clearing the front leaves what the check left.
 use Prim.Native.Nat.{ℕ, _+_, _≤_, _<_, _^_}
 use native.Mathlib.Omega.{arith}
 use mathlib.Core.Path.{_≡_, refl, sym, _∙_, ap}

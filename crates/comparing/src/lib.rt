@@ -97,8 +97,8 @@ fn first_different(fresh: &[u32], counts: &[u32], nodes: usize) -> usize
     nodes
 }
 
-// How many numbers are compared at a time. The compiler knows this length, so it compares them
-// by straight-line code.
+// How many numbers are compared at a time. The compiler knows this length, so it can compare
+// them by straight-line code.
 const PART: usize = 128;
 
 // Are the first `nodes` numbers of the two lists the same? The answer false promises nothing.

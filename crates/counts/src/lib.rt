@@ -1,7 +1,6 @@
-// The calls that keep counts beside an image: working the counts out, the check with counts, and
-// the stores with counts. None has a `requires`: any bytes, counts, key, text or value may be
-// passed. The contract of each is one line: the numbers of its answer and the last content of
-// every lent buffer are the outcome that document 02, Ask 7, states (crate `position`).
+// The calls that keep counts beside an image. None has a `requires`: any bytes, counts, key,
+// text or value may be passed. Each contract is one line: the numbers of the answer and the last
+// content of every lent buffer are the outcome that 02, Ask 7, states (crate `position`).
 ghost use Rattle.paper.specs.Answers.{doneOf, storedOf};
 ghost use Rattle.paper.specs.Given.{asLetters, asText};
 ghost use Rattle.position.specs.Promises.{WorksOut, ChecksCounts, StoresCounts};
@@ -43,10 +42,8 @@ pub fn check_counts(image: &[u8], work: &mut [u32], list: &[u32]) -> Done
     }
 }
 
-// A store with counts: stores a value under a key given by its letters, 0 to delete it, and
-// keeps the counts right. Answers the change in the number of stored keys. Refusals: 1 to 8,
-// with 5 for either list, 25, 9, 10, 11, 12, 13, then 5 again if the list has no number for a
-// new node.
+// As `stores::store`, and keeps the counts right. Refusals: 1 to 8, with 5 for either list, 25,
+// 9, 10, 11, 12, 13, then 5 again if the list has no number for a new node.
 pub fn store_counts(
     image: &mut [u8],
     work: &mut [u32],

@@ -1,5 +1,5 @@
 -- One link of a node at a depth. The keys through this link are the child's own key and the keys
--- below the child, each with the link's letter before it. The searches and the counts go from
+-- below the child, each with the link's letter before it. The search and the count both go from
 -- letter to letter by this law, and read a node's own key by `ownValue`.
 use Prim.Native.Nat.{ℕ, suc, pred, _-_, _<_, _≤_}
 use native.Mathlib.Omega.{arith}

@@ -15,8 +15,8 @@ use Rattle.node.specs.Image.{Masks}
 unfoldable pub ownValue : Head → Table → ℕ → ℕ → ℕ
 ownValue h t q depth = cond (ltb depth (h .min)) 0 (t .value q)
 
--- what is known of the keys below a node at a depth: true promises that there is none, from any
--- letter on; false promises only that a letter may follow
+-- what the answer promises of the keys below a node at a depth: true, that there is none, from
+-- any letter on; false, only that a letter may follow
 pub record KeysBelow (h : Head) (t : Table) (q depth : ℕ) (noKeys : Bool) : Type 0 where
   pub nothing : noKeys ≡ true
       → (x : ℕ) → keysFrom t (h .n) (h .min - depth) (h .max - depth) q x ≡ []

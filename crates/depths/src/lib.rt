@@ -1,6 +1,6 @@
 // A node at a depth: the data of the key that ends there, and whether longer keys can lie below
 // it. The depth of a node is the length of the key that leads to it. The searches and the counts
-// of the crates above ask this of every node that they meet.
+// of the crates above read nodes by these functions.
 ghost use mathlib.Core.Path.{_≡_};
 ghost use Prim.Native.Nat.{_+_, _^_, _≤_};
 ghost use Rattle.node.specs.Image.{Open, tableOf};
@@ -27,9 +27,8 @@ pub fn own_value_by(image: &[u8], h: Head, mask: u32, node: u32, depth: usize) -
     node::data_by(image, h, mask, node)
 }
 
-// Answers true only if no stored key lies below a node at a depth: no letter may follow, or all
-// its links are empty. Most keys end at a node without links. A search that asks this of each
-// child first makes no call for such a node.
+// True only if no stored key lies below a node at a depth: no letter may follow, or all its
+// links are empty. Most keys end at such a node, and a search need not go there.
 pub fn no_keys_below(image: &[u8], h: Head, node: u32, depth: usize) -> bool
     requires { ⌜ Open h (now image) ⌝ ∗ ⌜ node ≤ h .g ⌝ }
     ensures { λ r. ⌜ KeysBelow h (tableOf h (now (image .entry))) node depth r ⌝ }

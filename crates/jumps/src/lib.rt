@@ -1,7 +1,6 @@
-// The calls that jump by position: the key at a position, and the position of a key. No public
-// function has a `requires`: any bytes, counts, position, key or text may be passed. The
-// contract of each is one line: the numbers of its answer and the last content of every lent
-// buffer are the outcome that document 02, Ask 7, states (crate `position`).
+// The calls that jump by position. No public one has a `requires`: any bytes, counts, position,
+// key or text may be passed. Each contract is one line: the numbers of the answer and the last
+// content of every lent buffer are the outcome that 02, Ask 7, states (crate `position`).
 ghost use mathlib.Core.Path.{_≡_};
 ghost use mathlib.Core.Bool.{true};
 ghost use lib.ListN.{length};

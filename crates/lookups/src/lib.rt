@@ -1,6 +1,5 @@
-// The lookups. Neither has a `requires`: any bytes, key or text may be passed. The contract of
-// each is one line: the numbers of its answer are the outcome that document 01 states (crate
-// `paper`).
+// The lookups. Neither has a `requires`: any bytes, key or text may be passed. Each contract is
+// one line: the numbers of the answer are the outcome that document 01 states (crate `paper`).
 ghost use Rattle.paper.specs.Answers.{lookedOf};
 ghost use Rattle.paper.specs.Given.{asLetters, asText};
 ghost use Rattle.paper.specs.Promises.{LooksUp};

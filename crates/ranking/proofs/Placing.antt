@@ -1,7 +1,6 @@
 -- The way down to a key, letter by letter. The keys before it are the keys passed so far, and
 -- the keys under the node reached that come before the rest of the key. One letter more passes
--- the node's own key and all keys of lower letters. At the end of the key the rest is empty, and
--- no key comes before it.
+-- the node's own key and all keys of lower letters. No key comes before an empty rest.
 use Prim.Native.Nat.{ℕ, suc, _+_, _-_, _^_, _≤_, _<_}
 use native.Mathlib.Omega.{arith}
 use native.Mathlib.Numerals.{add-one}

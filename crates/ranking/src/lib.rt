@@ -110,8 +110,7 @@ fn branch_at(
 }
 
 // The position of a key whose length is allowed: the number of stored keys before it. On the way
-// down the own key of each node above the key's node comes before it, and so does every key at
-// or under a child with a lower letter.
+// down these are each node's own key and all keys at or under the children of lower letters.
 pub fn rank(image: &[u8], h: Head, counts: &[u32], key: Key) -> Ranked
     requires { ⌜ Accepted (now image) ⌝ ∗ ⌜ h ≡ headOf (now image) ⌝
         ∗ ⌜ RightCounts (now image) (now counts) ⌝ }

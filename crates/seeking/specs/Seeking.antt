@@ -13,6 +13,7 @@ use Rattle.paper.specs.Orders.{checkOrder}
 use Rattle.paper.specs.Calls.{workAfter}
 use Rattle.paper.specs.Promises.{Nexts}
 
+-- what this part promises, once the check has passed
 abbrev pub Seeks : List ℕ → List ℕ → Bool → List ℕ → Found → List ℕ → Type 0
 Seeks l key after buffer r buffer′ =
     (work : List ℕ) → first (checkOrder l work) ≡ none

@@ -11,9 +11,8 @@ use paper::Refusal;
 use paper::Verdict;
 use traversal::Search;
 
-// Finds the first stored key at or after the key given or, if `after` is true, after it, and
-// writes its letters to the front of the buffer. Refusals: 9 for a key longer than max, 10, 14,
-// 15. The search writes to a path of its own, since a refused call leaves the buffer as it was.
+// Finds the first stored key at or after the key given or, if `after` is true, after it.
+// Refusals: 9 for a key longer than max, 10, 14, 15.
 pub fn seek(image: &[u8], h: Head, letters: &[u8], after: bool, buffer: &mut [u8]) -> Found
     requires { ⌜ Accepted (now image) ⌝ }
     requires { ⌜ h ≡ headOf (now image) ⌝ }
@@ -28,6 +27,7 @@ pub fn seek(image: &[u8], h: Head, letters: &[u8], after: bool, buffer: &mut [u8
             if buffer.len() < (h.max as usize) {
                 return Found::Refused(Refusal::ShortBuffer);
             }
+            // 15 leaves the buffer as it was, so the search writes to a path of its own.
             let mut path = [0u8; Head::MAX_MOST as usize];
             let mut nodes = [0u32; Head::PATH_MOST as usize];
             let found = traversal::next(image, h, key, after, &mut path, &mut nodes);

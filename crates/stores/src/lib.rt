@@ -1,7 +1,6 @@
 // The stores, without and with writes. None has a `requires`: any bytes, key, text or value may
-// be passed. The contract of each is one line: the numbers of its answer and the last content of
-// every lent buffer are the outcome that document 01 states or, for the stores with writes, 02,
-// Ask 1 (crate `paper`).
+// be passed. Each contract is one line: the numbers of the answer and the last content of every
+// lent buffer are the outcome that 01 states, or 02, Ask 1, for writes (crate `paper`).
 ghost use Rattle.paper.specs.Answers.{storedOf, notedOf};
 ghost use Rattle.paper.specs.Given.{asLetters, asText};
 ghost use Rattle.paper.specs.Promises.{Stores, StoresWrites};
@@ -40,9 +39,8 @@ pub fn store_text(image: &mut [u8], work: &mut [u32], text: &[u8], value: u32) -
     }
 }
 
-// A store with writes: as `store`, and it notes a place and a length for each write, in order.
-// The bytes of a write are those of the image after the call. Refusals: 1 to 8, 9, 10, 11, 12,
-// 13.
+// As `store`, and notes the place and the length of each write, in order. The bytes of a write
+// are those of the image after the call. Refusals: 1 to 8, 9, 10, 11, 12, 13.
 pub fn store_writes(
     image: &mut [u8],
     work: &mut [u32],

@@ -37,7 +37,7 @@ use Rattle.tracking.specs.Tracking.{Whole, gainOf, lossOf, CountsFit, Sh
 
 -- ---- the change
 
--- the key before the store and the gain make up the key after it and the loss
+-- with 1 for a stored key: the key before and the gain equal the key after and the loss
 one-change : (old v : ℕ) → one old + gainOf (changeOf old v) ≡ one v + lossOf (changeOf old v)
 unfolding one gainOf lossOf changeOf
 one-change zero zero = refl
@@ -187,7 +187,7 @@ module _ {l k : List ℕ} {value : ℕ} (s : Granted l k value) where
   last-same : headOf after .g ≡ last
   last-same = ap (λ (h : Head). h .g) (stored-head s)
 
-  -- the key passes no node above it
+  -- the key passes no address above it
   off : (q : ℕ) → last < q → on q ≡ false
   off q b =
       passes-within (tableIn after) (headOf after .g) q 0 k

@@ -170,7 +170,7 @@ module _ {h : Head} {l path₀ nodes₀ : List ℕ} {end first : ℕ} {path node
       told-same h l (c .same ∙ coming-found h l path nodes x
       (omega (arith, c .room .letters, c .deep)) (c .along) e ∙ sym e) told
 
-  -- no key lies below the root: there is none
+  -- no key lies below the root, so there is none to come
   pub climbing-end : Nothing h l path nodes depth x path₁ nodes₁ → depth ≡ 0
       → firstOf (coming h l path₀ end first) ≡ none
   climbing-end nothing z =

@@ -1,6 +1,6 @@
 -- Which keys of the listing meet a request. The key given is followed to its end or to an empty
 -- link. The keys that meet the request are those still to come from there. If the key ends there
--- and "at or after" is asked, its own key is one of them.
+-- and is stored, it meets the request "at or after" too.
 use Prim.Native.Nat.{ℕ, suc, _+_, _<_, _≤_}
 use native.Mathlib.Numerals.{add-one}
 use native.Mathlib.Omega.{arith}

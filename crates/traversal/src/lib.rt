@@ -1,7 +1,6 @@
-// The stored keys of an image in order: the first key at or after a key, and the key after the
-// one found. The caller has checked the image once; no function here checks it again. A search
-// leaves the path of the key that it found, letters and nodes. The next search starts from it,
-// so that a whole listing is one walk through the image.
+// The stored keys of an image in order. The caller has checked the image once; no function here
+// checks it again. A search leaves the path of the key that it found, letters and nodes. The
+// next search starts from it, so that a whole listing is one walk through the image.
 ghost use mathlib.Core.Path.{_≡_};
 ghost use mathlib.Core.Bool.{true};
 ghost use mathlib.Core.List.{List};

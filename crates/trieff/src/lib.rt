@@ -1,7 +1,6 @@
-// What a bench links: the functions that the static library exports. Each calls one public call
-// of the library and gives its answer as a `TrieffAnswer`; its promise is that call's own. C
-// passes a slice as a pointer and a length, and the list of writes as a pointer alone.
-// include/trieff.h declares all of them for C.
+// What a bench links: the functions that the static library exports; include/trieff.h declares
+// them. Each calls one public call and answers a `TrieffAnswer`; its promise is that call's own.
+// C passes a slice as a pointer and a length, the list of writes as a pointer alone.
 ghost use Rattle.paper.specs.Given.{asLetters, asText};
 ghost use Rattle.paper.specs.Promises.{Makes, Checks, CountsKeys, LooksUp, Stores, StoresWrites};
 ghost use Rattle.paper.specs.Promises.{Mends, Nexts};

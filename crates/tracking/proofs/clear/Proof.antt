@@ -1,5 +1,5 @@
--- `tracking::clear` meets its contract: at each turn the numbers from `from` up to the turn's
--- own are 0. Assumes nothing.
+-- `tracking::clear` meets its contract: at each turn the numbers from `from` to i - 1 are 0.
+-- Assumes nothing.
 use Prim.Native.Nat.{_-_, _≤_}
 use mathlib.Core.Path.{subst}
 use native.Mathlib.Omega.{arith}

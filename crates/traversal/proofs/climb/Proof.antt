@@ -1,7 +1,6 @@
 -- `traversal::climb` meets its contract: from node to node up the path the first key still to
--- come stays the same, until it is found below a node or the root is done. A search that begins
--- with the first letter is made only if keys may lie below the node; one that begins with a
--- later letter is made below max. Assumes nothing.
+-- come stays the same, until it is found below a node or the root is done. A search is made only
+-- at a depth below max. Assumes nothing.
 use Prim.Native.Nat.{_-_, _<_}
 use mathlib.Core.Bool.{true≢false}
 use mathlib.Core.Logic.{⊎-elim}
