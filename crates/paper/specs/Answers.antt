@@ -1,5 +1,5 @@
 -- 01, "Where an answer is an enum, a definition lists this paper's number and values for each
--- case": the table's numbers and places for each refusal, and the numbers of each call's answer.
+-- case": the number and the place of each refusal, and the numbers of each call's answer.
 use Prim.Native.Nat.{ℕ}
 use mathlib.Core.Option.{none, some}
 use lib.IntN.{pos}
@@ -20,9 +20,11 @@ use Rattle.paper.specs.declared.Noted.{Noted}
 use Rattle.paper.specs.declared.Found.{Found}
 use Rattle.paper.specs.Hearing.{Said, Row, Numbers, refusedNumbers, doneNumbers}
 
+-- the number and the place of a refusal
 abbrev pub said : ℕ → ℕ → Said
 said number place = record { number = number; place = place }
 
+-- the number and the place of each refusal, as 01's table and, for 25, 02's Ask 7 give them
 abbrev pub saidOf : Refusal → Said
 saidOf ImageLength = said 1 0
 saidOf HeadField = said 2 0
@@ -41,45 +43,53 @@ saidOf ShortBuffer = said 14 0
 saidOf NoKey = said 15 0
 saidOf (CountsDiffer node) = said 25 node
 
--- a part of an order that has been gone through
+-- the row that a part of an order gives; none where the part passed
 unfoldable pub rowOf : Verdict → Row
 rowOf Verdict.Passed = none
 rowOf (Verdict.Refused r) = some (saidOf r)
 
+-- the numbers of an answer that is refused
 unfoldable pub refusalNumbers : Refusal → Numbers
 unfolding refusedNumbers
 refusalNumbers r = refusedNumbers (saidOf r)
 
+-- the calls that answer done or refused and nothing more: all numbers of done are 0
 unfoldable pub doneOf : Done → Numbers
 unfolding refusalNumbers doneNumbers
 doneOf Done.Done = doneNumbers 0 (pos 0) 0
 doneOf (Done.Refused r) = refusalNumbers r
 
+-- number of keys: that number is the value
 unfoldable pub countedOf : Counted → Numbers
 unfolding refusalNumbers doneNumbers
 countedOf (Counted.Keys n) = doneNumbers 0 (pos 0) n
 countedOf (Counted.Refused r) = refusalNumbers r
 
+-- position of a key: the position is the value
 unfoldable pub placedOf : Placed → Numbers
 unfolding refusalNumbers doneNumbers
 placedOf (Placed.At n) = doneNumbers 0 (pos 0) n
 placedOf (Placed.Refused r) = refusalNumbers r
 
+-- look up: the value, 0 for absent
 unfoldable pub lookedOf : Looked → Numbers
 unfolding refusalNumbers doneNumbers
 lookedOf (Looked.Value v) = doneNumbers 0 (pos 0) v
 lookedOf (Looked.Refused r) = refusalNumbers r
 
+-- store: the change in the number of stored keys
 unfoldable pub storedOf : Stored → Numbers
 unfolding refusalNumbers doneNumbers
 storedOf (Stored.Change c) = doneNumbers 0 c 0
 storedOf (Stored.Refused r) = refusalNumbers r
 
+-- store with writes: the change, and as the length how many writes are noted
 unfoldable pub notedOf : Noted → Numbers
 unfolding refusalNumbers doneNumbers
 notedOf (Noted.Change c n) = doneNumbers n c 0
 notedOf (Noted.Refused r) = refusalNumbers r
 
+-- next key and key at a position: the key's length and value
 unfoldable pub foundOf : Found → Numbers
 unfolding refusalNumbers doneNumbers
 foundOf (Found.Key length value) = doneNumbers length (pos 0) value

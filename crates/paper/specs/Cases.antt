@@ -1,6 +1,7 @@
--- 01, "Cases from one small file": those marked P, as one table of calls and what each must leave.
--- N = 3, A = 1, D = 1, letters ABC, min 1, max 3. The lent buffers hold rubbish (AA in images and
--- key buffers, 7 in working numbers), so that what is kept and what is cleared shows.
+-- 01, "Cases from one small file": those marked P, as one table of calls and of what each must
+-- leave. N = 3, A = 1, D = 1, letters ABC, min 1, max 3. The lent buffers hold rubbish (AA in
+-- images and key buffers, 7 in working numbers), so that the table shows what a call keeps and
+-- what it changes.
 use Prim.Native.Nat.{ℕ}
 use mathlib.Core.Bool.{true, false}
 use mathlib.Core.List.{List, [], _∷_, _++_}
@@ -10,45 +11,53 @@ use Rattle.paper.specs.Hearing.{Outcome, outcome, refusedNumbers, doneNu
 use Rattle.paper.specs.Given.{Given, asLetters, asText}
 use Rattle.paper.specs.Calls.{makeOf, checkOf, countOf, lookUpOf, storeOf, nextKeyOf}
 
+-- a call, and the outcome that it must leave
 pub record Case : Type 0 where
   pub call : Outcome
   pub leaves : Outcome
 
+-- n bytes AA
 abbrev rubbish : ℕ → List ℕ
 rubbish n = replicate n 0xAA
 
--- the file with this G and body, and so many spare bytes
+-- the file with this G and this body, and after them this many spare bytes
 abbrev pub file : ℕ → List ℕ → ℕ → List ℕ
 file g body spare =
     (0 ∷ 0 ∷ 0 ∷ g ∷ 0 ∷ 0 ∷ 0 ∷ 3 ∷ 0 ∷ 0 ∷ 0 ∷ 1 ∷ 0 ∷ 0 ∷ 0 ∷ 1
     ∷ 0 ∷ 0 ∷ 0 ∷ 3 ∷ 0 ∷ 0 ∷ 0 ∷ 1 ∷ 0 ∷ 0 ∷ 0 ∷ 3 ∷ 0x41 ∷ 0x42 ∷ 0x43 ∷ [])
     ++ (body ++ rubbish spare)
 
+-- P1's body: an empty root
 abbrev body1 : List ℕ
 body1 = 0 ∷ 0 ∷ 0 ∷ 0 ∷ []
 
+-- P2's body
 abbrev pub body2 : List ℕ
 body2 = 0 ∷ 1 ∷ 0 ∷ 0 ∷ 2 ∷ 0 ∷ 0 ∷ 0 ∷ 0 ∷ 0 ∷ 0 ∷ 9 ∷ []
 
+-- P3's body
 abbrev pub body3 : List ℕ
 body3 = 0 ∷ 1 ∷ 0 ∷ 0 ∷ 2 ∷ 0 ∷ 0 ∷ 5 ∷ 0 ∷ 0 ∷ 0 ∷ 9 ∷ []
 
--- P7's: CCC linked below the root, by three new nodes
+-- P7's body: three new nodes for CCC
 abbrev pub body7 : List ℕ
 body7 =
     0 ∷ 1 ∷ 3 ∷ 0 ∷ 2 ∷ 0 ∷ 0 ∷ 5 ∷ 0 ∷ 0 ∷ 0 ∷ 9
     ∷ 0 ∷ 0 ∷ 4 ∷ 0 ∷ 0 ∷ 0 ∷ 5 ∷ 0 ∷ 0 ∷ 0 ∷ 0 ∷ 1 ∷ []
 
--- after P3
+-- the file after P3, with 17 spare bytes
 abbrev pub file3 : List ℕ
 file3 = file 2 body3 17
 
+-- refused with this number and place
 abbrev pub refused : ℕ → ℕ → List (List ℕ) → Outcome
 refused number place ls = outcome (refusedNumbers (record { number = number; place = place })) ls
 
+-- done with these numbers
 abbrev pub done : ℕ → ℤ → ℕ → List (List ℕ) → Outcome
 done length change value ls = outcome (doneNumbers length change value) ls
 
+-- P1's make in a slice of this length
 abbrev make : ℕ → Outcome
 make room = makeOf (rubbish room) 3 1 1 (0x41 ∷ 0x42 ∷ 0x43 ∷ []) 1 3
 
@@ -56,20 +65,23 @@ make room = makeOf (rubbish room) 3 1 1 (0x41 ∷ 0x42 ∷ 0x43 ∷ []) 1 3
 abbrev work : List ℕ
 work = 7 ∷ 7 ∷ 7 ∷ []
 
+-- the same, cleared
 abbrev cleared : List ℕ
 cleared = 0 ∷ 0 ∷ 0 ∷ []
 
+-- a key buffer
 abbrev buffer : List ℕ
 buffer = rubbish 3
 
--- a look up after P3
+-- a lookup after P3 that answers this value
 abbrev finds : Given → ℕ → Case
 finds given value = record { call = lookUpOf file3 given; leaves = done 0 (pos 0) value [] }
 
+-- a lookup after P3 that is refused
 abbrev turnsAway : Given → ℕ → Case
 turnsAway given number = record { call = lookUpOf file3 given; leaves = refused number 0 [] }
 
--- a check of the file with G = 1 and this body
+-- a check of the file with G = 1 and this body: it is refused and clears two working numbers
 abbrev checks : List ℕ → ℕ → ℕ → Case
 checks body number place =
     record {
@@ -77,17 +89,18 @@ checks body number place =
       leaves = refused number place ((0 ∷ 0 ∷ 7 ∷ []) ∷ []);
     }
 
+-- P1 to P12
 abbrev pub cases : List Case
 cases =
-    -- P1
+    -- P1: "fresh in 35 bytes .. With 34 bytes, 4"
     record { call = make 35; leaves = done 0 (pos 0) 0 (file 0 body1 0 ∷ []) }
     ∷ record { call = make 34; leaves = refused 4 0 (rubbish 34 ∷ []) }
-    -- P2
+    -- P2: "then, with room, store BA = 9: change 1, G = 2, U = 43"
     ∷ record {
       call = storeOf (file 0 body1 25) work (asLetters (1 ∷ 0 ∷ [])) 9;
       leaves = done 0 (pos 1) 0 (file 2 body2 17 ∷ (0 ∷ 7 ∷ 7 ∷ []) ∷ []);
     }
-    -- P3, by letters and by text
+    -- P3: "then store B = 5: change 1", by letters and by text; then number of keys is 2
     ∷ record {
       call = storeOf (file 2 body2 17) work (asLetters (1 ∷ [])) 5;
       leaves = done 0 (pos 1) 0 (file3 ∷ cleared ∷ []);
@@ -97,7 +110,7 @@ cases =
       leaves = done 0 (pos 1) 0 (file3 ∷ cleared ∷ []);
     }
     ∷ record { call = countOf file3 work; leaves = done 0 (pos 0) 2 (cleared ∷ []) }
-    -- P4
+    -- P4: "look up BA 9; B 5; A, BB and BAC absent", by letters and by text
     ∷ finds (asLetters (1 ∷ 0 ∷ [])) 9
     ∷ finds (asLetters (1 ∷ [])) 5
     ∷ finds (asLetters (0 ∷ [])) 0
@@ -108,14 +121,14 @@ cases =
     ∷ finds (asText (0x41 ∷ [])) 0
     ∷ finds (asText (0x42 ∷ 0x42 ∷ [])) 0
     ∷ finds (asText (0x42 ∷ 0x41 ∷ 0x43 ∷ [])) 0
-    -- P5
+    -- P5: "the empty key 9; BABA 9; letter number 3 gives 10", by letters and by text
     ∷ turnsAway (asLetters []) 9
     ∷ turnsAway (asLetters (1 ∷ 0 ∷ 1 ∷ 0 ∷ [])) 9
     ∷ turnsAway (asLetters (3 ∷ [])) 10
     ∷ turnsAway (asText []) 9
     ∷ turnsAway (asText (0x42 ∷ 0x41 ∷ 0x42 ∷ 0x41 ∷ [])) 9
     ∷ turnsAway (asText (0x44 ∷ [])) 10
-    -- P6
+    -- P6: "store BA = 256 gives 11. Store ABC = 0: nothing changes."
     ∷ record {
       call = storeOf file3 work (asLetters (1 ∷ 0 ∷ [])) 256;
       leaves = refused 11 0 (file3 ∷ cleared ∷ []);
@@ -124,7 +137,7 @@ cases =
       call = storeOf file3 work (asLetters (0 ∷ 1 ∷ 2 ∷ [])) 0;
       leaves = done 0 (pos 0) 0 (file3 ∷ cleared ∷ []);
     }
-    -- P7
+    -- P7: "in 54 bytes, store CCC = 1 after P3 gives 13; in 55 bytes it is done with G = 5"
     ∷ record {
       call = storeOf (file 2 body3 11) work (asLetters (2 ∷ 2 ∷ 2 ∷ [])) 1;
       leaves = refused 13 0 (file 2 body3 11 ∷ cleared ∷ []);
@@ -133,12 +146,12 @@ cases =
       call = storeOf (file 2 body3 12) work (asLetters (2 ∷ 2 ∷ 2 ∷ [])) 1;
       leaves = done 0 (pos 1) 0 (file 5 body7 0 ∷ cleared ∷ []);
     }
-    -- P8 to P11
+    -- P8 to P11: "7 at 1", "6 at 0", "8 at 1", "6 at 1"
     ∷ checks (0 ∷ 1 ∷ 1 ∷ 0 ∷ 0 ∷ 0 ∷ 0 ∷ 0 ∷ []) 7 1
     ∷ checks (0 ∷ 2 ∷ 0 ∷ 0 ∷ 0 ∷ 0 ∷ 0 ∷ 0 ∷ []) 6 0
     ∷ checks (0 ∷ 0 ∷ 0 ∷ 0 ∷ 0 ∷ 0 ∷ 0 ∷ 0 ∷ []) 8 1
     ∷ checks (0 ∷ 1 ∷ 0 ∷ 0 ∷ 0 ∷ 1 ∷ 0 ∷ 0 ∷ []) 6 1
-    -- P12
+    -- P12: "after P3, next at or after the empty key is B; after B is BA; after BA gives 15"
     ∷ record {
       call = nextKeyOf file3 work [] false buffer;
       leaves = done 1 (pos 0) 5 (cleared ∷ (1 ∷ 0xAA ∷ 0xAA ∷ []) ∷ []);

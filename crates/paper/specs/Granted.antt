@@ -1,6 +1,7 @@
--- What a store must have to be done, in 01's words and with no word of the rows: the image meets
--- the rules, and none of 9 to 13 has a ground. (That a store is done exactly where it has this and
--- enough working numbers is demand 3's theorem.)
+-- 01, "What the bench may hear", 1 to 13: what a store needs to be done, stated without the
+-- rows. The image is accepted, and none of 9 to 13 applies. A store is done exactly where it has
+-- this, for the key that is meant, and enough working numbers: demand 3's theorem
+-- (`store-done-exactly`).
 use Prim.Native.Nat.{ℕ, _+_, _*_, _^_, _≤_, _<_}
 use mathlib.Core.Path.{_≡_}
 use mathlib.Core.Bool.{true}
@@ -13,19 +14,22 @@ use Rattle.head.specs.Fields.{headOf, nodeWidth, usedLen}
 use Rattle.paper.specs.Orders.{newOf}
 use Rattle.paper.specs.Accepted.{Accepted}
 
--- a key whose length is in min..max and whose letter numbers are below N
+-- a key that 9 and 10 do not refuse
 pub record Fit (h : Head) (key : List ℕ) : Type 0 where
+  -- its length is in min..max
   pub allowed : between (length key) (h .min) (h .max) ≡ true
+  -- its letter numbers are below N
   pub below : LettersBelow (h .n) key
 
+-- a store of a value under a key, which nothing but too few working numbers can refuse
 pub record Granted (l key : List ℕ) (value : ℕ) : Type 0 where
   pub accepted : Accepted l
   pub fit : Fit (headOf l) key
-  -- the value is not "above 256^D - 1"
+  -- not 11: "value above 256^D - 1"
   pub value-fits : value < 256 ^ headOf l .d
-  -- nor is "G + k above 256^A - 1, with k above 0"
+  -- not 12: "G + k above 256^A - 1, with k above 0"
   pub addresses : 0 < newOf (headOf l) l key value
       → headOf l .g + newOf (headOf l) l key value < 256 ^ headOf l .a
-  -- nor is it that "U + k*W exceeds the image's length, with k above 0"
+  -- not 13: "U + k*W exceeds the image's length, with k above 0"
   pub room : 0 < newOf (headOf l) l key value
       → usedLen (headOf l) + newOf (headOf l) l key value * nodeWidth (headOf l) ≤ length l

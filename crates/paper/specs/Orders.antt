@@ -1,5 +1,5 @@
--- 01, "The first that applies is given, in this order": the order of each call, as a list of rows.
--- Orders are joined from named parts, so that they read as 01 writes them.
+-- 01, "The first that applies is given, in this order": the order of each call, as a list of
+-- rows. An order is joined from named parts and reads as 01 writes it.
 use Prim.Native.Nat.{ℕ}
 use mathlib.Core.Option.{Option}
 use mathlib.Core.List.{List, [], _∷_, _++_}
@@ -15,16 +15,16 @@ use Rattle.paper.specs.Given.{Given, asLetters, asText, alphabetIn, mean
 use Rattle.paper.specs.Rows.{row1, row2, row3, row4, row5, row6, row6path, row7, row8, row9}
 use Rattle.paper.specs.Rows.{row9next, row10, row10text, row11, row12, row13, row14, row15}
 
--- 1 to 4, of a head, its alphabet and the length of the image
+-- 1 to 4, for a head, an alphabet and the image's length; "make: 1, 2, 3, 4"
 unfoldable pub openingRows : Head → List ℕ → ℕ → List Row
 openingRows h alphabet len = row1 len ∷ row2 h ∷ row3 h alphabet ∷ row4 h len ∷ []
 
--- 1 to 4, of an image
+-- 1 to 4, for an image with its own head and alphabet
 unfoldable pub openingRowsOf : List ℕ → List Row
 unfolding openingRows alphabetIn headOf
 openingRowsOf l = openingRows (headOf l) (alphabetIn (headOf l) l) (length l)
 
--- 6 to 8
+-- 6 to 8, for a table
 unfoldable pub linkRows : Head → Table → List Row
 linkRows h t = row6 h t ∷ row7 h t ∷ row8 h t ∷ []
 
@@ -34,28 +34,27 @@ unfolding openingRowsOf linkRows tableOf
 checkOrder l work =
     openingRowsOf l ++ (row5 (headOf l) (length work) ∷ linkRows (headOf l) (tableOf (headOf l) l))
 
--- 9, 10 for letters
+-- 9, 10 for a key by its letter numbers
 unfoldable pub lettersRows : Head → List ℕ → List Row
 lettersRows h key = row9 h key ∷ row10 h key ∷ []
 
--- "For text, 10 stands before 9." A text that names no key has no length; 10 is given before it is
--- asked.
+-- "For text, 10 stands before 9." A text that names no key has no length; then 10 is given.
 unfoldable pub textRows : Head → Option (List ℕ) → List Row
 unfolding orEmpty
 textRows h named = row10text named ∷ row9 h (orEmpty named) ∷ []
 
--- 9 and 10 of a key as it is given, with this head and this alphabet, and in an image
+-- 9 and 10 for a key by letters or by text, with this head and this alphabet
 unfoldable pub keyRowsBy : Head → List ℕ → Given → List Row
 unfolding lettersRows textRows meantBy
 keyRowsBy h alphabet (asLetters key) = lettersRows h key
 keyRowsBy h alphabet (asText text) = textRows h (meantBy alphabet (asText text))
 
+-- the same in an image, with its own head and alphabet
 unfoldable pub keyRows : List ℕ → Given → List Row
 unfolding keyRowsBy alphabetIn headOf
 keyRows l given = keyRowsBy (headOf l) (alphabetIn (headOf l) l) given
 
--- 9, 10 of the key from which the next one is sought. "For next key, 9 means only a key longer
--- than max."
+-- 9, 10 for the key given to next key: "For next key, 9 means only a key longer than max."
 unfoldable pub nextRows : Head → List ℕ → List Row
 nextRows h key = row9next h key ∷ row10 h key ∷ []
 
@@ -67,7 +66,7 @@ lookUpOrder l given =
     ++ (keyRows l given
     ++ (row6path (headOf l) (tableOf (headOf l) l) (keyIn l given) ∷ []))
 
--- 11, 12, 13, with k missing nodes
+-- 11, 12, 13, for k new nodes in an image of this length
 unfoldable pub addingRows : Head → ℕ → ℕ → ℕ → List Row
 addingRows h value k len = row11 h value ∷ row12 h k ∷ row13 h k len ∷ []
 

@@ -1,8 +1,6 @@
--- TRIEFF 0.6.0 (source document 002), "Querying the document": its sample algorithm, transcribed
--- line by line and apart from our own walk, for demand 2. It knows no table and no refusal: it
--- reads fields at computed places of the document, and answers 0 for whatever is not there. Where
--- 002 writes s.indexOf(..) for a character, the allowed characters are meant; its -1, "not found",
--- is here [N], which the same test turns away.
+-- TRIEFF 0.6.0 (source document 002), section Querying the document: its sample algorithm, line
+-- by line and independent of our own walk, for demand 2. It has no table and no refusal: it
+-- reads fields at computed places of the document, and answers 0 for what is not there.
 use Prim.Native.Nat.{ℕ, zero, suc, _+_, _*_}
 use mathlib.Core.Bool.{_||_, cond}
 use mathlib.Core.Option.{Option, none, some}
@@ -26,7 +24,7 @@ unfoldable pub linkRead : Head → List ℕ → ℕ → ℕ → ℕ
 unfolding fieldAt
 linkRead h l address x = fieldAt l (address * (h .n * h .a + h .d) + h .f + 28 + x * h .a) (h .a)
 
--- if (address == 0) { return 0; //not found }, else on with the next letter
+-- if (address == 0) { return 0; //not found }, else the next letter
 unfoldable pub unlessEmpty : ℕ → (ℕ → ℕ) → ℕ
 unlessEmpty zero on = 0
 unlessEmpty (suc c) on = on (suc c)
@@ -45,20 +43,22 @@ query002 l query =
     cond (ltb (length query) (headOf l .min) || ltb (headOf l .max) (length query)) 0
     (queryFrom (headOf l) l 0 query)
 
--- s.indexOf(qTemp.charAt(f)): the place of a character among the allowed ones, and [N] for -1
+-- s.indexOf(qTemp.charAt(f)): the place of a character among the allowed characters, which 002
+-- means by s there. For a character that is not found it has -1, here [N]; the same test turns
+-- both away.
 unfoldable pub indexOf : Head → List ℕ → ℕ → ℕ
 unfolding letterOf
 indexOf h allowedChars c =
     cond (ltb (letterOf allowedChars c) (length allowedChars)) (letterOf allowedChars c) (h .n)
 
--- for (int f = 0; f < s.length; f++) { query[f] = s.indexOf(qTemp.charAt(f)); }; bytes that are no
--- text are not stored
+-- for (int f = 0; f < s.length; f++) { query[f] = s.indexOf(qTemp.charAt(f)); }; bytes that are
+-- not well-formed text answer 0
 unfoldable pub queryChars : List ℕ → Option (List ℕ) → ℕ
 unfolding query002 indexOf letters alphabetIn
 queryChars l none = 0
 queryChars l (some s) = query002 l (map (indexOf (headOf l) (letters (alphabetIn (headOf l) l))) s)
 
--- a query by letters, or by text
+-- the query for a key by its letters or by its text
 unfoldable pub queryOf002 : List ℕ → Given → ℕ
 unfolding query002 queryChars chars
 queryOf002 l (asLetters query) = query002 l query

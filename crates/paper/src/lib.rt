@@ -1,31 +1,48 @@
-// What the bench may hear: document 01's refusals with their numbers, and the answer of each call.
-// The rows, their orders and every call's outcome stand in specs/.
+// Document 01, "What the bench may hear": the refusals with their numbers and places, and the
+// answer of each call. specs/ has the rows, their orders and the outcome of each call.
 ghost use mathlib.Core.Path.{_≡_};
 ghost use Rattle.paper.specs.Answers.{saidOf};
 ghost use Rattle.paper.specs.Rows.{badLink};
 
-// One variant for each number of 01's table from 1 on, and for those of 02 that have landed. Those
-// whose place is a node or an address carry it.
+// The refusals of 01's table, and 25 of 02. A refusal whose place is a node or an address carries
+// it; every other place is 0.
 pub enum Refusal {
+    // 1: the image is shorter than 28 or longer than 16,777,216 bytes.
     ImageLength,
+    // 2: a head field is outside its limits.
     HeadField,
+    // 3: the alphabet is not N different well-formed characters.
     Alphabet,
+    // 4: the nodes do not fit: U exceeds the image's length.
     ImageRoom,
+    // 5: too few working numbers, or counts, are lent.
     TooFewNumbers,
+    // 6: a link is above G, or not above the node that holds it. The place is that node.
     Link(u32),
+    // 7: an address stands in two links or more. The place is the lowest such address.
     LinkedTwice(u32),
+    // 8: an address in 1..G stands in no link. The place is the lowest such address.
     NotLinked(u32),
+    // 9: the key's length is outside min..max; for next key, above max.
     KeyLength,
+    // 10: a letter number is N or more, or the text names no key.
     Letter,
+    // 11: the value is above 256^D - 1.
     ValueTooGreat,
+    // 12: the new nodes find no address in A bytes.
     NoAddress,
+    // 13: the new nodes find no room in the image.
     NoRoom,
+    // 14: the key buffer is shorter than max.
     ShortBuffer,
+    // 15: no stored key meets the request.
     NoKey,
+    // 25: a count is not the fresh one. The place is the lowest such node.
     CountsDiffer(u32),
 }
 
 impl Refusal {
+    // The number that 01's table has for it; 25 is 02's.
     pub fn number(self) -> u32
         ensures { λ r. ⌜ r ≡ saidOf self .number ⌝ }
     {
@@ -49,7 +66,7 @@ impl Refusal {
         }
     }
 
-    // The node or address that 01 names, else 0.
+    // The node or the address that 01 or 02 names as the place, else 0.
     pub fn place(self) -> u32
         ensures { λ r. ⌜ r ≡ saidOf self .place ⌝ }
     {
@@ -74,59 +91,74 @@ impl Refusal {
     }
 }
 
-// 01's first link rule, for the check and for the path of a lookup: does link c of node q break
-// it, where the greatest address is g?
+// Does link c of node q break 01's first link rule, in an image whose greatest address is g? The
+// check asks it of every link, a lookup of the links on the key's path.
 pub fn bad_link(g: u32, q: u32, c: u32) -> bool
     ensures { λ r. ⌜ r ≡ badLink g q c ⌝ }
 {
     (c != 0) & ((g < c) | (c <= q))
 }
 
-// How far an order has come: nothing in it was given, or the first that was.
+// The outcome of a part of an order.
 pub enum Verdict {
+    // None of its refusals is given.
     Passed,
+    // The first of its refusals that is given.
     Refused(Refusal),
 }
 
-// The answer of make, of check and of mend.
+// The answer of make, check and mend, and of the calls that work out and check counts.
 pub enum Done {
+    // Done, with nothing more to answer.
     Done,
+    // The refusal that is given.
     Refused(Refusal),
 }
 
 // The answer of number of keys.
 pub enum Counted {
+    // The number of stored keys.
     Keys(u32),
+    // The refusal that is given.
     Refused(Refusal),
 }
 
-// The answer of a key's position: how many stored keys come before it.
+// The answer of position of a key.
 pub enum Placed {
+    // The position: how many stored keys come before the key.
     At(u32),
+    // The refusal that is given.
     Refused(Refusal),
 }
 
-// The answer of look up: the value, 0 for absent.
+// The answer of look up.
 pub enum Looked {
+    // The value, 0 for absent.
     Value(u64),
+    // The refusal that is given.
     Refused(Refusal),
 }
 
-// The answer of store: the change in the number of stored keys.
+// The answer of a store, with counts or without.
 pub enum Stored {
+    // The change in the number of stored keys: -1, 0 or 1.
     Change(i32),
+    // The refusal that is given.
     Refused(Refusal),
 }
 
-// The answer of a store that lists its writes: the change, and how many they are.
+// The answer of a store with writes.
 pub enum Noted {
+    // The change in the number of stored keys, and how many writes are noted in the list.
     Change { change: i32, writes: u32 },
+    // The refusal that is given.
     Refused(Refusal),
 }
 
-// The answer of next key: the length of the key found, whose letters are in the buffer, and its
-// value.
+// The answer of next key and of key at a position.
 pub enum Found {
+    // The key's length and its value. Its letters are at the front of the key buffer.
     Key { length: u32, value: u64 },
+    // The refusal that is given.
     Refused(Refusal),
 }
