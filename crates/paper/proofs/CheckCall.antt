@@ -1,5 +1,6 @@
--- 1 to 8 and the rules of `Accepted`: demand 2's theorem, both ways. What 6 to 8 are of the links
--- is in Linking.
+-- Demand 2, "Lent enough working numbers, the check accepts exactly the images that meet the
+-- TRIEFF rules as document 01 reads them": 1 to 8 pass exactly where the image is `Accepted`.
+-- Each row is a rule negated; 6 to 8 are in `Linking`.
 use Prim.Native.Nat.{ℕ, _+_, _≤_}
 use mathlib.Core.Path.{_≡_, refl, _∙_}
 use mathlib.Core.Logic.{_↔_}
@@ -50,14 +51,14 @@ abbrev pub checkNumbers : List ℕ
 checkNumbers = 1 ∷ 2 ∷ 3 ∷ 4 ∷ 5 ∷ 6 ∷ 7 ∷ 8 ∷ []
 
 module _ (l work : List ℕ) where
-  -- where 1 to 5 have passed, what is heard is of 6 to 8
+  -- once 1 to 5 have passed, 6 to 8 decide
   pub left-6 : first (openingRowsOf l) ≡ none → headOf l .g + 1 ≤ length work
       → first (checkOrder l work) ≡ first (linkRows (headOf l) (tableOf (headOf l) l))
   unfolding checkOrder row5
   left-6 e b =
       second-part (openingRowsOf l) _ e ∙ no-row 5 0 _ (le-ltb (length work) (headOf l .g + 1) b)
 
-  -- what a check that passed tells
+  -- what is known of an image and the working numbers once 1 to 8 have passed
   pub record Checked : Type 0 where
     pub opened : Passed (headOf l) (alphabetIn (headOf l) l) (length l)
     pub lent : headOf l .g + 1 ≤ length work
@@ -102,7 +103,7 @@ module _ (l work : List ℕ) where
       left-6 (accepted-opens a) b ∙ rules-pass (headOf l) (tableIn l) (framed (headOf l) l)
       (a .links)
 
-  -- ---- in the words of the outcome
+  -- ---- the same by the number of the answer
 
   pub checking-says : AllSay checkNumbers (checkOrder l work)
   unfolding checkOrder openingRowsOf row5 among
@@ -121,12 +122,12 @@ module _ (l work : List ℕ) where
     λ a. rw (accepted-checks a b),
   )
 
--- ---- what an accepted image leaves to count on
+-- ---- what is known of an accepted image
 
 pub accepted-open : {l : List ℕ} → Accepted l → Open (headOf l) l
 accepted-open a = record { head-permitted = a .head-permitted; room = a .room }
 
--- by a head in hand that is the image's own
+-- the same for a head that is the image's own
 pub head-open : {l : List ℕ} {h : Head} → Accepted l → h ≡ headOf l → Open h l
 head-open a same = rw same (accepted-open a)
 

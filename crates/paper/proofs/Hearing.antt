@@ -1,6 +1,6 @@
--- Laws on rows, orders and outcomes, for every call alike: a row that is given ends its order, one
--- that is not is passed over, orders are joined, and an order that passed tells of each row that
--- its test failed. Each is by cases on the row.
+-- Laws on rows, orders and outcomes, for every call: a row that is given ends its order, one
+-- that is not given is passed over, orders are joined, and where an order passed, the test of
+-- each of its rows is false. Each is by cases on the row.
 use Prim.Native.Nat.{ℕ}
 use mathlib.Core.Path.{_≡_, refl, sym, _∙_, ap}
 use mathlib.Core.Bool.{Bool, true, false, not}
@@ -16,7 +16,7 @@ use Rattle.paper.specs.Hearing.{refusedNumbers}
 
 -- ---- one row
 
--- a rule that holds is a test that fails, where a row negates it
+-- where a row negates a rule, its test is false if the rule holds
 pub untrue : {b : Bool} → b ≡ true → not b ≡ false
 untrue e = rw e
 
@@ -32,7 +32,7 @@ pub not-given : (number place : ℕ) {test : Bool} → test ≡ false → rowWhe
 unfolding rowWhen
 not-given number place e = rw e
 
--- a row that is not given has a test that failed
+-- the test of a row that is not given is false
 pub was-false : (number place : ℕ) (test : Bool) → rowWhen number place test ≡ none → test ≡ false
 unfolding rowWhen
 was-false number place true e = let z : _≡_ {A = ℕ} 0 1 = cc in absurd (omega arith)
@@ -52,7 +52,7 @@ pub first-none : (r : Row) (rows : List Row) → r ≡ none → first (r ∷ row
 unfolding first
 first-none r rows e = rw e
 
--- a row that is given is heard, whatever follows
+-- a row that is given decides its order, whatever follows
 pub yes-row : (number place : ℕ) {test : Bool} (rows : List Row) → test ≡ true
     → first (rowWhen number place test ∷ rows) ≡ some (record { number = number; place = place })
 yes-row number place rows e = first-some _ rows (is-given number place e)
@@ -62,13 +62,14 @@ pub no-row : (number place : ℕ) {test : Bool} (rows : List Row) → test ≡ f
     → first (rowWhen number place test ∷ rows) ≡ first rows
 no-row number place rows e = first-none _ rows (not-given number place e)
 
--- the first part of a joined order is heard first
+-- in a joined order the first part decides if it gives a row
 pub first-part : (xs ys : List Row) {s : Said} → first xs ≡ some s → first (xs ++ ys) ≡ some s
 unfolding first
 first-part [] ys e = let z : _≡_ {A = ℕ} 0 1 = cc in absurd (omega arith)
 first-part (none ∷ xs) ys e = first-part xs ys e
 first-part (some t ∷ xs) ys e = e
 
+-- else the second part decides
 pub second-part : (xs ys : List Row) → first xs ≡ none → first (xs ++ ys) ≡ first ys
 unfolding first
 second-part [] ys e = refl
@@ -89,7 +90,7 @@ passed-parts [] ys e = (refl, e)
 passed-parts (none ∷ xs) ys e = passed-parts xs ys e
 passed-parts (some t ∷ xs) ys e = let z : _≡_ {A = ℕ} 0 1 = cc in absurd (omega arith)
 
--- rows that say nothing can be left off the end
+-- a part that gives no row can be left off the end
 pub silent-end : (xs ys : List Row) → first ys ≡ none → first (xs ++ ys) ≡ first xs
 silent-end xs ys e = go (first xs) refl
   where
@@ -97,7 +98,7 @@ silent-end xs ys e = go (first xs) refl
     go none f = second-part xs ys f ∙ e ∙ sym f
     go (some t) f = first-part xs ys f ∙ sym f
 
--- ---- a verdict, which tells the row that its part of an order came to
+-- ---- a verdict: the row that its part of an order gives
 
 pub told-refused : {v : Verdict} {row : Row} {why : Refusal} → rowOf v ≡ row
     → v ≡ Verdict.Refused why → row ≡ some (saidOf why)
@@ -120,14 +121,14 @@ pub heard-done : (r : Row) (kept : List (List ℕ)) (done : Outcome) → r ≡ n
 unfolding heard
 heard-done r kept done e = rw e
 
--- two outcomes that differ only where something is done
+-- what is done matters only where no row is given
 pub heard-alike : (r : Row) (kept : List (List ℕ)) {x y : Outcome} → (r ≡ none → x ≡ y)
     → heard r kept x ≡ heard r kept y
 unfolding heard
 heard-alike none kept e = e refl
 heard-alike (some t) kept e = refl
 
--- an answer with another number than what is done is a refusal
+-- an answer whose number is not 0 is a refusal, and leaves what a refusal leaves
 pub kept-lent : (r : Row) (kept : List (List ℕ)) (done : Outcome) → done .numbers .number ≡ 0
     → heard r kept done .numbers .number ≢ 0
     → heard r kept done .lent ≡ kept

@@ -1,5 +1,5 @@
--- 9 and 10, whoever asks: what a key that passes them is known to be, by letters, by text and for
--- next key, and which numbers they say. Each law goes down the two rows by the laws of `Hearing`.
+-- 9 and 10, for every call: what is known of a key that passes them, by letters, by text and for
+-- next key, and which numbers they give. Each law follows the two rows by the laws of `Hearing`.
 use Prim.Native.Nat.{ℕ, _≤_}
 use mathlib.Core.Path.{_≡_, refl, ap, _∙_}
 use mathlib.Core.Logic.{_↔_}
@@ -23,7 +23,7 @@ use Rattle.paper.specs.Granted.{Fit}
 use Rattle.paper.proofs.Hearing.{untrue, was-false, first-nil, no-row, passed-row}
 use Rattle.paper.proofs.Numbers.{Says, AllSay, end, _then_, given-says}
 
--- what 10 asks of the letters
+-- 10 passes exactly where every letter is below N
 pub below-letters : (n : ℕ) (k : List ℕ) → (allBelow n k ≡ true) ↔ LettersBelow n k
 unfolding allBelow
 below-letters n [] = (λ e. tt, λ s. refl)
@@ -33,7 +33,7 @@ below-letters n (x ∷ k) = (
   λ s. rw (lt-ltb x n (s .0), below-letters n k .1 (s .1)),
 )
 
--- a text that names a key names this one
+-- a key that is there is the one that `orEmpty` gives
 pub some-found : (found : Option (List ℕ)) → isNone found ≡ false → found ≡ some (orEmpty found)
 unfolding isNone orEmpty
 some-found none e = let z : _≡_ {A = ℕ} 0 1 = cc in absurd (omega arith)
@@ -51,7 +51,7 @@ letters-fit h key e =
       below = below-letters (h .n) key .0 (not-false _ (was-false 10 0 _ (after10 .0)));
     }
 
--- whichever of the two rows stands first
+-- the proof does not ask which of the two rows comes first
 pub text-fit : (h : Head) (named : Option (List ℕ)) → first (textRows h named) ≡ none
     → (isNone named ≡ false) × (between (length (orEmpty named)) (h .min) (h .max) ≡ true)
 unfolding textRows row10text row9
@@ -72,9 +72,9 @@ pub fit-text : {h : Head} {key : List ℕ} → Fit h key → first (textRows h (
 unfolding textRows row10text isNone row9 orEmpty
 fit-text f = no-row 10 0 _ refl ∙ no-row 9 0 _ (untrue (f .allowed)) ∙ first-nil
 
--- ---- a key as it is given, by letters or by text
+-- ---- a key by letters or by text
 
--- one that passes is meant
+-- where 9 and 10 pass, a key is meant
 pub given-meant : (h : Head) (alphabet : List ℕ) (given : Given)
     → first (keyRowsBy h alphabet given) ≡ none
     → meantBy alphabet given ≡ some (orEmpty (meantBy alphabet given))
@@ -83,7 +83,7 @@ given-meant h alphabet (asLetters key) e = refl
 given-meant h alphabet (asText text) e =
     let named = meantBy alphabet (asText text) in some-found named (text-fit h named e .0)
 
--- one that is meant, and fit, passes
+-- where the key that is meant is fit, 9 and 10 pass
 pub fit-given : (h : Head) (alphabet : List ℕ) (given : Given) {key : List ℕ}
     → meantBy alphabet given ≡ some key → Fit h key
     → first (keyRowsBy h alphabet given) ≡ none

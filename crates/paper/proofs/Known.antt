@@ -1,5 +1,5 @@
--- What a call knows once 1 to 4 have passed: the head in hand is the image's own, and the nodes
--- lie inside the image.
+-- What a call knows once 1 to 4 have passed: the head that it read is the image's own, and the
+-- nodes are inside the image.
 use Prim.Native.Nat.{ℕ}
 use mathlib.Core.Path.{_≡_}
 use mathlib.Core.Option.{none}

@@ -1,6 +1,6 @@
--- Rows 6 to 8 and 01's rules on links: none of the rows is given exactly where the rules hold. The
--- rows ask of the nodes and letters what the rules ask of every link, since a table has no link
--- outside them; how often an address stands in a link is a sum, above 0 where one link holds it.
+-- Rows 6 to 8 and 01's rules on links: the rows pass exactly where the rules hold. The rows
+-- speak of the nodes and letters of the image, the rules of every link; a table has no other
+-- link. In how many links an address stands is a sum, above 0 where one link holds the address.
 use Prim.Native.Nat.{ℕ, zero, suc, _+_, _≤_, _<_}
 use mathlib.Core.Path.{_≡_, refl, sym, _∙_}
 use mathlib.Core.Bool.{Bool, true, false, not, _&&_, _||_, cond, or-true}
@@ -53,7 +53,7 @@ good-link g q c d e = ⊎-elim (λ z. absurd (d z)) (λ b. b) (not-bad g q c .0 
 pub link-within : (g q c : ℕ) → badLink g q c ≡ false → c ≤ g
 link-within g q c e = ⊎-elim (λ z. omega arith) (λ b. b .0) (not-bad g q c .0 e)
 
--- a link that is not bad is not with a greater G
+-- a link that is not bad is not bad with a greater G either
 pub milder : (g g′ q c : ℕ) → g ≤ g′ → badLink g q c ≡ false → badLink g′ q c ≡ false
 milder g g′ q c b e =
     not-bad g′ q c .1 (⊎-elim inl (λ d. inr (omega arith, d .1)) (not-bad g q c .0 e))
@@ -119,10 +119,11 @@ module _ (t : Table) (x : ℕ) where
   unfolding times
   in-nodes n = record { start = refl; more = λ k. refl }
 
-  -- a link that holds x counts; so do two, if they are not one
+  -- a link that holds x is counted
   pub counted : (n : ℕ) {q i k : ℕ} → q < k → i < n → t .child q i ≡ x → 1 ≤ times t n x k
   counted n {q} a b e = omega (arith, one-part (in-node q) b, hit-one e, one-part (in-nodes n) a)
 
+  -- where x is counted less than twice, two links that hold it are one link
   counted-once : (n : ℕ) {q i p j k : ℕ} → q < k → i < n → p < k → j < n → t .child q i ≡ x
       → t .child p j ≡ x → times t n x k < 2
       → (q ≡ p) × (i ≡ j)
@@ -149,13 +150,14 @@ module _ (t : Table) (x : ℕ) where
           ))
       go (yes s) (yes r) = (s, r)
 
-  -- what counts stands in a link, and in no other if no two links are one
+  -- an address that is counted stands in a link
   pub stands : (n k : ℕ) → 1 ≤ times t n x k → (q : ℕ) × (i : ℕ) × (t .child q i ≡ x)
   stands n k h =
       let (q, a, u) = some-part (in-nodes n) k h in
       let (i, b, v) = some-part (in-node q) n u in
       (q, i, one-hit x (t .child q i) v)
 
+  -- where no two links hold one address, it is counted less than twice
   stands-once : (n k : ℕ) → 1 ≤ x → Once t → times t n x k < 2
   stands-once n k h once =
       omega (
@@ -178,7 +180,7 @@ module _ (t : Table) (x : ℕ) where
 
 -- ---- rows with a place
 
--- the lowest that passes is heard; nothing is heard where none passes; and then none passed
+-- a row with a place is given exactly where a number passes its test
 module _ (number : ℕ) (test : ℕ → Bool) (a k : ℕ) where
   pub lowest-passed : NonePasses test a k → rowWhenLowest number test a k ≡ none
   unfolding rowWhenLowest
@@ -233,7 +235,7 @@ module _ (h : Head) (t : Table) where
 -- ---- 6 to 8 are the rules on links: none of them is given exactly where the rules hold
 
 module _ (h : Head) (t : Table) (f : Framed t (h .g) (h .n)) where
-  -- a link that is not empty stands in a node, at a letter
+  -- a link that is not empty is one of a node up to G, for a letter below N
   pub inside : (q i : ℕ) → t .child q i ≢ 0 → (q ≤ h .g) × (i < h .n)
   inside q i d = (node (decLe q (h .g)), letter (decLe (h .n) i))
     where
@@ -245,7 +247,7 @@ module _ (h : Head) (t : Table) (f : Framed t (h .g) (h .n)) where
       letter (no b) = omega arith
       letter (yes b) = absurd (d (f .no-letter q i b))
 
-  -- what row 6 asks of a link
+  -- what row 6 asks of a link: it is empty, or at most G and greater than its node's address
   abbrev Fair : ℕ → ℕ → Type 0
   Fair q i = (t .child q i ≡ 0) ⊎ ((t .child q i ≤ h .g) × (q < t .child q i))
 
@@ -297,7 +299,7 @@ module _ (h : Head) (t : Table) (f : Framed t (h .g) (h .n)) where
       let (a, b′) = inside q i (omega arith) in
       omega (arith, counted t x (h .n) {q = q} {i = i} {k = h .g + 1} (omega arith) b′ e))
 
-  -- 6 to 8 of a table, in both directions
+  -- 6 to 8 for a table, in both directions
   pub rules-pass : LinkRules t (h .g) → first (linkRows h t) ≡ none
   unfolding linkRows
   rules-pass r =
@@ -320,12 +322,12 @@ module _ (h : Head) (t : Table) (f : Framed t (h .g) (h .n)) where
         once = none-once within (after7 .0);
       }
 
--- a link that is as 01 rules is no bad one
+-- a link that meets 01's rules is not bad
 pub ruled-link : {t : Table} {g : ℕ} → LinkRules t g → (q i : ℕ) → t .child q i ≢ 0
     → badLink g q (t .child q i) ≡ false
 ruled-link {t} {g} r q i d = not-bad g q (t .child q i) .1 (inr (r .within q i, r .rising q i d))
 
--- the numbers that 6 to 8 say
+-- 6 to 8 give no other number
 pub linking-says : (h : Head) (t : Table) → AllSay (6 ∷ 7 ∷ 8 ∷ []) (linkRows h t)
 unfolding linkRows row6 row7 row8 among
 linking-says h t =
@@ -334,9 +336,9 @@ linking-says h t =
     then lowest-says 8 (nowhere h t) 1 (h .g) refl
     then end
 
--- ---- what an 8 tells
+-- ---- what is known where 8 is given
 
--- the place of a row that has one
+-- the place of such a row is one of the numbers that it tests
 lowest-said : (number : ℕ) (test : ℕ → Bool) (a k : ℕ) {s : Said} → rowWhenLowest number test a k
     ≡ some s → (a ≤ s .place) × (s .place < a + k)
 unfolding rowWhenLowest rowWhen
@@ -366,9 +368,10 @@ eight-place h t e n =
     only none f = let z : _≡_ {A = ℕ} 0 1 = cc in absurd (omega arith)
     only (some s) f = f
 
--- ---- a table that wants one link: 8 is given at the address of that link, and nothing before it
+-- ---- a table that lacks one link: 8 is given at the address that the link would hold, and no
+-- row before it is given
 
--- link x of node q is empty, and with address c in it the links are as 01 rules
+-- link x of node q is empty, and with address c in it the links meet 01's rules
 pub record Unlinked (g : ℕ) (t : Table) (q x c : ℕ) : Type 0 where
   pub empty : t .child q x ≡ 0
   pub least : 1 ≤ c

@@ -1,7 +1,7 @@
--- 01, "A lookup that is not refused answers what TRIEFF's walk answers", for letters and for text.
--- Where no link on the key's path is bad, each is at most G: there an entry of the table is the
--- field that 002 reads, and an empty link ends both walks with 0. A text that names a key names
--- the one that 002 makes of it, since an opened image's alphabet has N letters or none.
+-- Demand 2, "A lookup that 01 doesn't refuse answers what TRIEFF's walk answers", by letters and
+-- by text. Where no link on the key's path is bad, each is at most G: there the table has what
+-- 002 reads, and an empty link ends both walks with 0. A text that names a key names the one
+-- that 002 makes of it, since the alphabet of an opened image has N letters or none.
 use Prim.Native.Nat.{ℕ, zero, suc, _+_, _*_, _≤_, _<_}
 use mathlib.Core.Path.{_≡_, refl, sym, _∙_, ap}
 use mathlib.Core.Bool.{Bool, true, false, cond}
@@ -72,7 +72,7 @@ module _ (h : Head) (l : List ℕ) where
   queried q x xs b c = rw (lt-leb (h .n) x c, link-read q x b c)
       (unless (tableOf h l .child q x) (λ c. queryFrom h l c xs))
 
-  -- from a node up to G on, the walks agree
+  -- the two walks answer the same from any node up to G
   abbrev Agree : ℕ → List ℕ → Type 0
   Agree q k =
       q ≤ h .g → LettersBelow (h .n) k → fault (badLink (h .g)) (tableOf h l) q k ≡ none
@@ -104,7 +104,7 @@ module _ (h : Head) (l : List ℕ) where
 
 -- ---- the key that a text names
 
--- where characters have letters, those are what 002 finds for them
+-- where characters name a key, its letters are what 002 finds for them
 abbrev Spells : Head → List ℕ → List ℕ → Option (List ℕ) → Type 0
 Spells h alphabet cs none = Unit {0}
 Spells h alphabet cs (some k) = map (indexOf h alphabet) cs ≡ k
@@ -138,7 +138,7 @@ module _ (h : Head) (alphabet : List ℕ) where
 abbrev allowedIn : List ℕ → List ℕ
 allowedIn l = letters (alphabetIn (headOf l) l)
 
--- in an image that was opened there are N of them, or none where F is 0
+-- an opened image has at most N of them: N, or none where F is 0
 pub alphabet-most : (l : List ℕ) → first (openingRowsOf l) ≡ none → length (allowedIn l)
     ≤ headOf l .n
 unfolding openingRowsOf
@@ -160,7 +160,7 @@ alphabet-most l e = go (ℕ-discrete (headOf l .f) 0)
               (omega arith) whole),
         )
 
--- a text that names a key: 002 makes the same of it
+-- where a text names a key, 002 looks up the same key
 named-002 : (l : List ℕ) (cs : Option (List ℕ)) → isNone (keyOfChars (allowedIn l) cs) ≡ false
     → queryChars l cs ≡ query002 l (orEmpty (keyOfChars (allowedIn l) cs))
 unfolding keyOfChars queryChars isNone orEmpty
@@ -174,7 +174,7 @@ named-002 l (some cs) e =
     go none s f = let z : _≡_ {A = ℕ} 0 1 = cc in absurd (omega arith)
     go (some k) s f = ap (query002 l) s
 
--- the letters of the key that is meant are letters of the image
+-- where 1 to 4, 9 and 10 pass, the key that is meant is fit
 pub given-fit : (l : List ℕ) (given : Given) → first (openingRowsOf l) ≡ none
     → first (keyRows l given) ≡ none → Fit (headOf l) (keyIn l given)
 unfolding keyRows keyRowsBy keyIn meantIn meantBy orEmpty
@@ -194,7 +194,7 @@ given-fit l (asText text) opened passes =
 abbrev pub lookUpNumbers : List ℕ
 lookUpNumbers = 1 ∷ 2 ∷ 3 ∷ 4 ∷ 9 ∷ 10 ∷ 6 ∷ []
 
--- what a lookup that is not refused has passed
+-- what is known of a lookup that is not refused
 pub record Unrefused (l : List ℕ) (given : Given) : Type 0 where
   pub none-given : first (lookUpOrder l given) ≡ none
   pub opened : first (openingRowsOf l) ≡ none
@@ -206,7 +206,7 @@ unfolding row6At
 no-fault none e = refl
 no-fault (some q) e = let z : _≡_ {A = ℕ} 0 1 = cc in absurd (omega arith)
 
--- where the key passed, 002 makes the same of what is given
+-- where 9 and 10 pass, 002 looks up the key that is meant
 meant-002 : (l : List ℕ) (given : Given) → first (keyRows l given) ≡ none → queryOf002 l given
     ≡ query002 l (keyIn l given)
 unfolding keyRows keyRowsBy keyIn meantIn meantBy orEmpty queryOf002 keyOfText
@@ -225,7 +225,7 @@ module _ (l : List ℕ) (given : Given) where
       first-says (parts-say (opening-says (headOf l) (alphabetIn (headOf l) l) (length l))
       (parts-say keyed (path then end)))
 
-  -- a lookup's refusals have these numbers alone
+  -- a lookup is refused with one of these numbers
   pub looking-refuses : {s : Said} → first (lookUpOrder l given) ≡ some s
       → among (s .number) lookUpNumbers ≡ true
   looking-refuses e = one-of looking-says e
@@ -244,7 +244,7 @@ module _ (l : List ℕ) (given : Given) where
         path = no-fault _ (passed-row _ [] (after10 .1) .0);
       }
 
-  -- the core: guarded by the rows passed, our walk is 002's
+  -- the core: once all rows have passed, our walk answers what 002's walk answers
   answered : Unrefused l given → lookUpOf l given .numbers .value ≡ query002 l (keyIn l given)
   unfolding lookUpOf query002 answer tableIn doneNumbers
   answered o =

@@ -1,6 +1,6 @@
--- The image that a make leaves which was done: its head and alphabet are those given, its one node
--- has no link and no data. So it is accepted, answers 0 to every key and lists none. Head,
--- alphabet and root stand one behind the other, and U is where the root ends.
+-- The image that make leaves where it is done: its head and alphabet are those given, and its
+-- one node has no link and no data. So it is accepted, every key in it is absent, and no key is
+-- stored. Head, alphabet and root follow one another, and the root ends at U.
 use Prim.Native.Nat.{ℕ, zero, suc, _+_, _*_, _≤_}
 use mathlib.Core.Path.{_≡_, refl, sym, _∙_, ap, subst}
 use mathlib.Core.Option.{none}
@@ -35,9 +35,9 @@ use Rattle.paper.proofs.Hearing.{heard-done}
 use Rattle.paper.proofs.Numbers.{first-says, none-heard}
 use Rattle.paper.proofs.Opening.{Passed, passed, opening-says, unspoilt-good}
 
--- ---- what make writes, part after part
+-- ---- what make writes
 
--- head, alphabet and one node lie inside the image
+-- head, alphabet and one node are inside the image
 pub whole : (h : Head) (alphabet image : List ℕ) → h .g ≡ 0 → h .f ≡ length alphabet
     → usedLen h ≤ length image
     → fieldsLen + length alphabet + nodeWidth h ≤ length image
@@ -46,6 +46,7 @@ whole h alphabet image g f room =
     ap (λ (k : ℕ). (k + 1) * nodeWidth h) g ∙ one-mul (nodeWidth h) in
     omega (arith, used h)
 
+-- the three writes together give the fresh image
 pub parts : (h : Head) (alphabet image : List ℕ)
     → cleared (sets (sets image 0 (headBytes h)) fieldsLen alphabet) (fieldsLen + length alphabet)
     (nodeWidth h) ≡ freshImage h alphabet image
@@ -58,7 +59,7 @@ parts h alphabet image =
     ∙ ap (λ (k : ℕ). sets (sets image 0 (headBytes h)) k (alphabet ++ zeros)) end
     ∙ sets-append (sets image 0 (headBytes h)) fieldsLen alphabet zeros)
 
--- the middle part of a list that was laid at the front
+-- the middle part of what is written at the front of a list
 middle : (l a b c : List ℕ) → length (a ++ (b ++ c)) ≤ length l
     → take (length b) (drop (length a) (sets l 0 (a ++ (b ++ c)))) ≡ b
 middle l a b c r =
@@ -70,8 +71,8 @@ middle l a b c r =
 
 -- ---- a make that is done
 
--- what it is given: a head with no node but the root, for this alphabet and an image that passes 1
--- to 4
+-- what is known where make is done: the head has no node but the root, it counts the bytes of
+-- this alphabet, and 1 to 4 pass
 pub record Made (h : Head) (alphabet image : List ℕ) : Type 0 where
   pub root-alone : h .g ≡ 0
   pub all-letters : h .f ≡ length alphabet

@@ -1,5 +1,6 @@
--- Mending (02, Ask 1) in the words of the check: what it answers and leaves either way, what an 8
--- of the check tells, and that the working numbers of the trial are enough.
+-- Mending (02, Ask 1) by the check's answer: what it answers and leaves in either case, what is
+-- known where the check answers 8, and why the working numbers are enough for the trial, the
+-- check of the image with the lower G.
 use Prim.Native.Nat.{ℕ, zero, suc, _+_, _-_, _^_, _≤_, _<_}
 use mathlib.Core.Path.{_≡_, refl, sym, _∙_, ap}
 use mathlib.Core.Bool.{Bool, true, false, _&&_, and-false}
@@ -32,7 +33,7 @@ use Rattle.paper.proofs.Opening.{passed, opening-says}
 use Rattle.paper.proofs.Linking.{eight-place}
 use Rattle.paper.proofs.CheckCall.{check-accepts, accepted-checks, check-exactly}
 
--- "accepted" in the two ways that 01 says it
+-- an image is accepted by the check's answer exactly where it is `Accepted`
 pub accepted-exactly : (l : List ℕ) → (isAccepted l ≡ true) ↔ Accepted l
 unfolding isAccepted
 accepted-exactly l =
@@ -41,7 +42,7 @@ accepted-exactly l =
     (λ t. e .0 (eqb-true _ 0 t), λ a. eq-eqb _ 0 (e .1 a))
 
 module _ (l work : List ℕ) where
-  -- however the check ends, the working numbers are left as 01 says
+  -- done or refused, the check leaves the working numbers as 01 says
   pub check-lent : checkOf l work .lent ≡ workAfter l work ∷ []
   unfolding checkOf heard
   check-lent = go (first (checkOrder l work))
@@ -66,7 +67,7 @@ module _ (l work : List ℕ) where
       (ap (λ (ls : List (List ℕ)). outcome (doneNumbers 0 (pos 0) 0)
       (putTotal l (checkOf l work .numbers .place - 1) ∷ ls)) check-lent)
 
--- ---- what an 8 tells
+-- ---- what is known where the check answers 8
 
 module _ (l work : List ℕ) where
   abbrev place : ℕ
@@ -78,7 +79,7 @@ module _ (l work : List ℕ) where
     pub least : 1 ≤ place
     pub most : place ≤ headOf l .g
 
-  -- the row that was heard
+  -- the row that was given
   heard-eight : checkOf l work .numbers .number ≡ 8 → first (checkOrder l work)
       ≡ some (record { number = 8; place = place })
   unfolding checkOf heard refusedNumbers doneNumbers
@@ -117,7 +118,7 @@ module _ (l work : List ℕ) where
 
 -- ---- the trial
 
--- numbers of which the first m are 0 stay so where no more of them are cleared
+-- numbers whose first m are 0 stay as they are where at most m of them are cleared
 zeros-kept : (n m : ℕ) (rest : List ℕ) → n ≤ m → replicate n 0 ++ drop n (replicate m 0 ++ rest)
     ≡ replicate m 0 ++ rest
 zeros-kept zero m rest b = refl
@@ -134,7 +135,7 @@ module _ (l work : List ℕ) (e : checkOf l work .numbers .number ≡ 8) where
   abbrev lower : ℕ
   lower = place l work - 1
 
-  -- the check came past 1
+  -- 8 is given only after 1 has passed
   pub eight-long : totalAt + totalLen ≤ length l
   unfolding openingRowsOf
   eight-long =
@@ -149,7 +150,7 @@ module _ (l work : List ℕ) (e : checkOf l work .numbers .number ≡ 8) where
       (second-part (openingRowsOf l) (row5 (headOf l) (length work) ∷ []) (g .opened)
       ∙ no-row 5 0 [] (le-ltb (length work) (headOf l .g + 1) (g .lent)) ∙ first-nil)
 
-  -- a trial that passed is one of an accepted image
+  -- where the trial passes, the image with the lower G is accepted
   pub trial-mends : (w : List ℕ) → first (checkOrder (putTotal l lower) w) ≡ none
       → mends l (checkOf l work .numbers) ≡ true
   unfolding mends
@@ -176,7 +177,7 @@ module _ (l work : List ℕ) (e : checkOf l work .numbers .number ≡ 8) where
         (drop (headOf l .g + 1) work)
         (omega (arith, trial-total, g .least, g .most)))
 
-    -- they are enough for it
+    -- and these are enough for it
     trial-lent : headOf (putTotal l lower) .g + 1 ≤ length (workAfter l work)
     trial-lent =
         let g = eight l work e in
@@ -185,7 +186,7 @@ module _ (l work : List ℕ) (e : checkOf l work .numbers .number ≡ 8) where
         simp (length-append, length-replicate, length-drop) (omega (arith, g .lent)) in
         omega (arith, trial-total, g .least, g .most, g .lent, ap length eight-work ∙ n)
 
-    -- so a trial that was refused is not one of an accepted image
+    -- so where the trial is refused, the image with the lower G is not accepted
     pub trial-keeps : {s : Said} → first (checkOrder (putTotal l lower) (workAfter l work))
         ≡ some s → mends l (checkOf l work .numbers) ≡ false
     unfolding mends

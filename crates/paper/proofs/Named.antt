@@ -1,5 +1,5 @@
--- The letters of a key that a text names are letters of the alphabet: each was put in front
--- because its number is below the alphabet's length.
+-- The letters of a key that a text names are letters of the alphabet: a letter is added to the
+-- key only if its number is below the alphabet's length.
 use Prim.Native.Nat.{ℕ}
 use mathlib.Core.Path.{_≡_, refl, subst}
 use mathlib.Core.Bool.{Bool, true, false}
@@ -13,7 +13,7 @@ use Rattle.utf8.specs.Text.{chars}
 use Rattle.trie.specs.Table.{LettersBelow}
 use Rattle.alphabet.specs.Letters.{letterOf, withLetter, lettersOfChars, keyOfChars, keyOfText}
 
--- one letter in front of the others
+-- one letter added at the front
 in-front : (n x : ℕ) (o : Option (List ℕ)) {k : List ℕ}
     → ((m : List ℕ) → o ≡ some m → LettersBelow n m)
     → withLetter n x o ≡ some k → LettersBelow n k

@@ -1,7 +1,7 @@
--- 01 on next key, about the outcomes that its promise cites: what it gives is the first stored key
--- that meets the request, 15 is given exactly where there is none, and calls of it one after the
--- other list the stored keys, each once and in order. Every key on the way is stored, so that 9
--- and 10 let it pass; the rest are the laws on lists in order.
+-- Demand 2 on next key, for the outcomes that its promise cites: it gives the first stored key
+-- that meets the request, 15 is given exactly where there is none, and repeated calls list the
+-- stored keys, each once and in order. Every key on the way is stored, so it passes 9 and 10;
+-- the rest are laws on keys in order.
 use Prim.Native.Nat.{ℕ, suc, _+_, _^_, _≤_, _<_}
 use mathlib.Core.Path.{_≡_, refl, sym, _∙_, ap}
 use mathlib.Core.Logic.{_↔_, _≢_}
@@ -56,14 +56,14 @@ unfolding storedKeys
 stored-ascending l =
     keysUnder-ascending (tableIn l) (headOf l .n) (headOf l .min) (headOf l .max) 0
 
--- 9 and 10 let the key after a stored key be asked for
+-- next key refuses no stored key with 9 or 10
 pub stored-askable : (l k : List ℕ) → List·Memᴰ k (storedKeys l) → Askable (headOf l) k
 unfolding storedKeys
 stored-askable l k a =
     let f = under-listed (tableIn l) (headOf l .n) (headOf l .min) (headOf l .max) 0 k a in
     record { short = f .deep; below = f .letters }
 
--- their number: at most that of the nodes, and these lie inside the image
+-- there are at most as many stored keys as nodes, and the nodes are inside the image
 pub counted-few : {l : List ℕ} → Accepted l → length (storedKeys l) ≤ suc (headOf l .g)
 unfolding storedKeys
 counted-few {l} a = listing-few (accepted-linked a) (headOf l .min) (headOf l .max)
@@ -87,13 +87,13 @@ counted-fits {l} a =
 abbrev pub nextNumbers : List ℕ
 nextNumbers = 1 ∷ 2 ∷ 3 ∷ 4 ∷ 5 ∷ 6 ∷ 7 ∷ 8 ∷ 9 ∷ 10 ∷ 14 ∷ 15 ∷ []
 
--- a key at the front of a buffer that has room for it is read back
+-- a key that is written at the front of a buffer with room for it can be read there
 pub front : (buffer k : List ℕ) → length k ≤ length buffer → take (length k) (sets buffer 0 k) ≡ k
 front buffer k b = ap (take (length k)) (sets-eq k buffer 0 (omega arith))
     ∙ take-at k (drop (0 + length k) buffer) (length k) refl
 
 module _ (l work key : List ℕ) (after : Bool) (buffer : List ℕ) where
-  -- what next key tells and leaves where it gives k
+  -- what next key answers and leaves where it gives k
   pub record Gives (k : List ℕ) : Type 0 where
     pub heard-key : keyHeard (nextKeyOf l work key after buffer) ≡ some k
     pub first-key : First (meets after key) (storedKeys l) k
@@ -150,7 +150,7 @@ module _ (l work key : List ℕ) (after : Bool) (buffer : List ℕ) where
           lent-left = ap (λ (r : Outcome). r .lent) o;
         }
 
-    -- the key that is heard is the one sought
+    -- the key that next key gives is the first that meets the request
     pub hears : keyHeard (nextKeyOf l work key after buffer) ≡ nextIn l key after
     unfolding keyHeard refusedNumbers
     hears = go (nextIn l key after) refl
@@ -201,7 +201,7 @@ module _ (l work key : List ℕ) (after : Bool) (buffer : List ℕ) where
 
 -- ---- calls one after the other
 
--- the first key, then those after it
+-- the first key of a list in order, then those after it, are the whole list
 first-and-after : (keys : List (List ℕ)) (rest : List ℕ → List (List ℕ)) → Ascending keys
     → ((m : List ℕ) → List·Memᴰ m keys → rest m ≡ filter (meets true m) keys)
     → withKey (firstOf keys) (λ m. m ∷ rest m) ≡ keys
@@ -220,6 +220,7 @@ module _ (l work buffer : List ℕ) (a : Accepted l) (lent : headOf l .g + 1 ≤
       hears l work key after buffer (accepted-checks l work a lent)
       (askable-passes (headOf l) key s) room
 
+  -- repeated calls from k on give the stored keys after k
   pub listed-after : (k : List ℕ) → LettersBelow (headOf l .n) k → length k ≤ headOf l .max
       → (times : ℕ) → length (storedKeys l) ≤ times
       → askedAfter l work buffer times k ≡ filter (meets true k) (storedKeys l)
@@ -232,7 +233,7 @@ module _ (l work buffer : List ℕ) (a : Accepted l) (lent : headOf l .g + 1 ≤
       times k (record { short = short; below = below })
       ∙ in-turn (storedKeys l) (stored-ascending l) times enough k
 
-  -- "The listing names each stored key once, in order"
+  -- demand 2: "the listing of an accepted image names each stored key once, in order"
   pub listed-all : (times : ℕ) → length (storedKeys l) ≤ times → askedForAll l work buffer times
       ≡ storedKeys l
   unfolding askedForAll nextIn

@@ -1,6 +1,6 @@
--- Which numbers an order can say. A row says its own number or nothing, a joined order says the
--- numbers of its parts, and so what is heard first is one of them: where 0 is none of them, number
--- 0 is left to what is done.
+-- Which numbers an order can give. A row gives its own number or none, a joined order gives the
+-- numbers of its parts, so its first row has one of these numbers. Where 0 is not among them, an
+-- answer with number 0 is done.
 use Prim.Native.Nat.{ℕ, _+_}
 use mathlib.Core.Path.{_≡_, refl, sym, _∙_, ap}
 use mathlib.Core.Bool.{Bool, true, false, true≢false, or-true}
@@ -14,11 +14,12 @@ use Rattle.alphabet.proofs.Alphabets.{among-append}
 use Rattle.paper.specs.Hearing.{Said, Row, Outcome, rowWhen, first, heard, refusedNumbers}
 use Rattle.paper.specs.Rows.{rowWhenLowest, row6At}
 
--- a row that is given says one of these numbers
+-- if the row is given, it has one of these numbers
 pub data Says (numbers : List ℕ) : Row → Type 0 where
   silent : Says numbers none
   saying : {s : Said} → among (s .number) numbers ≡ true → Says numbers (some s)
 
+-- and so does every row of an order
 infixr 5 _then_
 pub data AllSay (numbers : List ℕ) : List Row → Type 0 where
   end : AllSay numbers []
@@ -81,7 +82,7 @@ one-of (saying p) e = cc
 
 -- ---- an outcome
 
--- where 0 is none of the numbers, an answer with number 0 is no refusal
+-- where 0 is not among the numbers, an answer with number 0 is no refusal
 pub none-heard : {numbers : List ℕ} {r : Row} (kept : List (List ℕ)) (done : Outcome)
     → Says numbers r → among 0 numbers ≡ false
     → heard r kept done .numbers .number ≡ 0 → r ≡ none
@@ -90,9 +91,9 @@ none-heard kept done silent z e = refl
 none-heard {numbers} kept done (saying p) z e =
     absurd (true≢false (sym p ∙ ap (λ (m : ℕ). among m numbers) e ∙ z))
 
--- ---- which row said a number
+-- ---- which row gave a number
 
--- a row that cannot say a number is not what said it
+-- a row that cannot have the number did not give it
 pub pass-row : {numbers : List ℕ} {r : Row} (rows : List Row) {s : Said} (n : ℕ) → Says numbers r
     → among n numbers ≡ false → s .number ≡ n
     → first (r ∷ rows) ≡ some s → (r ≡ none) × (first rows ≡ some s)

@@ -1,5 +1,5 @@
--- 1 to 4, row by row, for whoever opens an image: which is heard when, and what is known where
--- none is. Each law goes down the order by the laws of `Hearing`.
+-- 1 to 4, row by row, for every call that opens an image: which row is given when, and what is
+-- known where none is. Each law follows the order by the laws of `Hearing`.
 use Prim.Native.Nat.{ℕ, _+_, _≤_, _<_}
 use mathlib.Core.Path.{_≡_, refl, _∙_}
 use mathlib.Core.Bool.{Bool, true, false, not, _&&_, and-false}
@@ -25,13 +25,13 @@ use Rattle.paper.proofs.Hearing.{is-given, not-given, untrue, unfalse, 
 use Rattle.paper.proofs.Hearing.{passed-row, was-false}
 use Rattle.paper.proofs.Numbers.{AllSay, given-says, end, _then_}
 
--- the order's last row alone is the row
+-- an order of one row gives that row
 last-row : (r : Row) → first (r ∷ []) ≡ r
 unfolding first
 last-row none = refl
 last-row (some s) = refl
 
--- row 4, by the test that the used bytes fit
+-- row 4, by the test whether the used bytes fit
 pub fits-4 : (h : Head) (len : ℕ) → leb (usedLen h) len ≡ true → row4 h len ≡ none
 unfolding row4
 fits-4 h len e = not-given 4 0 (le-ltb len (usedLen h) (leb-true (usedLen h) len e))
@@ -60,14 +60,14 @@ module _ (h : Head) (alphabet : List ℕ) (len : ℕ) where
   unfolding openingRows row1 row2 row3
   heard-3 e p s = no-row 1 0 _ (untrue e) ∙ no-row 2 0 _ (untrue p) ∙ yes-row 3 0 _ s
 
-  -- where 1 to 3 have passed, what is heard is row 4
+  -- once 1 to 3 have passed, 4 decides
   pub left-4 : between len shortestImage longestImage ≡ true → permitted h ≡ true → spoilt ≡ false
       → first (openingRows h alphabet len) ≡ row4 h len
   unfolding openingRows row1 row2 row3
   left-4 e p s =
       no-row 1 0 _ (untrue e) ∙ no-row 2 0 _ (untrue p) ∙ no-row 3 0 _ s ∙ last-row (row4 h len)
 
-  -- what an image that was opened is known to be
+  -- what is known of an image once 1 to 4 have passed
   pub record Passed : Type 0 where
     pub allowed : between len shortestImage longestImage ≡ true
     pub head-permitted : permitted h ≡ true
@@ -97,7 +97,7 @@ module _ (h : Head) (alphabet : List ℕ) (len : ℕ) where
       then given-says 4 0 (ltb len (usedLen h)) refl
       then end
 
-  -- row 3 asks that the alphabet is good where F is above 0 and all of it is there
+  -- row 3 asks for a good alphabet only where F is above 0 and all F bytes are there
   pub good-unspoilt : (0 < h .f → length alphabet ≡ h .f → goodAlphabet (h .n) alphabet ≡ true)
       → spoilt ≡ false
   good-unspoilt good = go (decLe 1 (h .f)) (ℕ-discrete (length alphabet) (h .f))
@@ -112,7 +112,7 @@ module _ (h : Head) (alphabet : List ℕ) (len : ℕ) where
   unspoilt-good s f w =
       not-false _ (simp (lt-ltb 0 (h .f) f, eq-eqb (length alphabet) (h .f) w) at s)
 
--- images of one length whose F bytes after the fields are the same have the same alphabet
+-- images of one length with the same F bytes after the fields have the same alphabet
 pub alphabet-same : (h : Head) (a b : List ℕ) → length a ≡ length b
     → ((i : ℕ) → i < h .f → getD a (fieldsLen + i) 0 ≡ getD b (fieldsLen + i) 0) → alphabetIn h a
     ≡ alphabetIn h b
@@ -124,7 +124,7 @@ alphabet-same h a b n e =
     let d : i < h .f = omega (arith, simp length-take at c) in
     simp (getD-take, getD-drop) (e i d))
 
--- where what is used lies inside the image, so does the alphabet
+-- where the used bytes are inside the image, so are all F bytes of the alphabet
 pub alphabet-whole : (h : Head) (l : List ℕ) → usedLen h ≤ length l → length (alphabetIn h l)
     ≡ h .f
 unfolding alphabetIn

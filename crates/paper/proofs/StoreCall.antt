@@ -1,6 +1,6 @@
 -- Demand 3: what a store that is not refused does to an image, to its answers and to its stored
--- keys, and for which reasons a store is refused. The image after a store is the table after a
--- store (`stored-table`), so the laws on tables are laws on images.
+-- keys, and for which reasons a store is refused. The table of the stored image is the stored
+-- table (`stored-table`), so the laws on tables are laws on images.
 use Prim.Native.Nat.{ℕ, zero, suc, _+_, _-_, _*_, _^_, _≤_, _<_}
 use mathlib.Core.Path.{_≡_, refl, sym, ap, ap₂, subst, _∙_}
 use mathlib.Core.Bool.{Bool, true, false, _&&_, and-false}
@@ -62,9 +62,9 @@ use Rattle.paper.proofs.CheckCall.{checking-says, checked, accepted-lin
 use Rattle.paper.proofs.Linking.{ruled-link}
 use Rattle.paper.proofs.LookUpCall.{given-fit}
 
--- ---- the head and the table after it
+-- ---- the head and the table after a store
 
--- where nodes are missing, what is granted is what the writes of the new ones ask
+-- where nodes are missing, a granted store has what the writes of the new nodes need
 pub able : {l key : List ℕ} {v q x : ℕ} {xs : List ℕ} → Granted l key (suc v)
     → descend (tableIn l) 0 key ≡ stopped q x xs
     → Storable (headOf l) l q x xs (suc v)
@@ -83,8 +83,8 @@ able {l} {key} {v} {xs = xs} s e =
       room = rw (used-more h (suc (length xs))) lies;
     }
 
--- what the writes of a store make of them, where the key's walk ended so and g is the G there will
--- be
+-- the head and the table after the writes of a store, given how the key's walk ended; g is the
+-- new G
 record Written (l : List ℕ) (d : Descent) (v g : ℕ) : Type 0 where
   head : headOf (carriedOut l (storeWrites (headOf l) d v)) ≡ withTotal (headOf l) g
   table : tableOf (withTotal (headOf l) g) (carriedOut l (storeWrites (headOf l) d v))
@@ -135,7 +135,7 @@ module _ {l key : List ℕ} {value : ℕ} (s : Granted l key value) where
       let w = written (descend (tableIn l) 0 key) value refl refl ends in
       ap (λ (k : Head). tableOf k (storedImage l key value)) (w .head) ∙ w .table
 
--- whether it is granted or not
+-- a store keeps the image's length, whether it is granted or not
 pub stored-length : (l key : List ℕ) (value : ℕ) → length (storedImage l key value) ≡ length l
 unfolding storedImage
 stored-length l key value =
@@ -150,7 +150,7 @@ module _ {l key : List ℕ} {value : ℕ} (s : Granted l key value) where
   unfolding storedImage
   stored-frame p miss = frame (headOf l) l (descend (tableIn l) 0 key) value p (ends s) miss
 
-  -- "bytes from U on are spare", with the U there is now
+  -- "bytes from U on are spare": those from the new U on keep what they held
   pub stored-spare : (p : ℕ) → usedLen (headOf (storedImage l key value)) ≤ p
       → getD (storedImage l key value) p 0 ≡ getD l p 0
   unfolding storedImage newOf tableIn
@@ -207,7 +207,7 @@ quiet e = ap row6At e
 
 module _ (l : List ℕ) (given : Given) (opened : first (openingRowsOf l) ≡ none)
     (fair : fault (badLink (headOf l .g)) (tableIn l) 0 (keyIn l given) ≡ none) where
-  -- none of 1 to 4 and no 6 is heard, so the part for the key alone decides
+  -- neither 1 to 4 nor 6 is given, so 9 and 10 decide
   key-decides : first (lookUpOrder l given) ≡ first (keyRows l given)
   unfolding lookUpOrder row6path tableIn
   key-decides = second-part (openingRowsOf l) _ opened ∙ silent-end (keyRows l given) _
@@ -222,7 +222,7 @@ module _ (l : List ℕ) (given : Given) (opened : first (openingRowsOf l) ≡ no
 -- ---- and in an accepted image
 
 module _ {l : List ℕ} (a : Accepted l) where
-  -- on no key's path is there a bad link
+  -- no key's path has a bad link
   pub unfaulted : (q : ℕ) (k : List ℕ) → fault (badLink (headOf l .g)) (tableIn l) q k ≡ none
   unfaulted q [] = fault-nil (badLink (headOf l .g)) (tableIn l) q
   unfaulted q (x ∷ xs) = go (ℕ-discrete c 0) (unfaulted c xs)
@@ -243,7 +243,7 @@ module _ {l : List ℕ} (a : Accepted l) where
       (telling (answer (tableIn l) (keyIn l given)))
   looks-up-accepted given = looks-up-open l given (accepted-opens a) (unfaulted 0 (keyIn l given))
 
--- ---- the part for the key, where G alone changed and the alphabet did not
+-- ---- 9 and 10, where G changed and the other fields and the alphabet did not
 
 pub keying-total : (h : Head) (g : ℕ) (alphabet : List ℕ) (given : Given)
     → keyRowsBy (withTotal h g) alphabet given ≡ keyRowsBy h alphabet given
@@ -274,7 +274,7 @@ module _ {l key : List ℕ} {value : ℕ} (s : Granted l key value) (given : Giv
   abbrev after : List ℕ
   after = storedImage l key value
 
-  -- 9 and 10 are what they were, and the key that is meant is the same
+  -- 9 and 10 are as before the store, and the same key is meant
   looks-after : lookUpOf after given ≡ heard (first (keyRows l given)) []
       (telling (answer (tableIn after) (keyIn l given)))
   looks-after =
@@ -366,14 +366,15 @@ module _ (h : Head) where
 
 -- ---- a store
 
--- the numbers of its refusals, and of those in an accepted image
+-- the numbers of its refusals
 abbrev pub storeNumbers : List ℕ
 storeNumbers = 1 ∷ 2 ∷ 3 ∷ 4 ∷ 5 ∷ 6 ∷ 7 ∷ 8 ∷ 9 ∷ 10 ∷ 11 ∷ 12 ∷ 13 ∷ []
 
+-- the numbers of its refusals in an accepted image
 abbrev pub acceptedNumbers : List ℕ
 acceptedNumbers = 5 ∷ 9 ∷ 10 ∷ 11 ∷ 12 ∷ 13 ∷ []
 
--- the part for the value: 11, 12 and 13
+-- 11, 12 and 13 for a key and a value
 abbrev pub valued : List ℕ → List ℕ → ℕ → List Row
 valued l key value = addingRows (headOf l) value (newOf (headOf l) l key value) (length l)
 
@@ -391,7 +392,7 @@ module _ (l work : List ℕ) (given : Given) (value : ℕ) where
   abbrev key : List ℕ
   key = keyIn l given
 
-  -- what an order that passed tells of its parts
+  -- where the order passes, each of its parts passes
   pub order-passed : first (storeOrder l work given value) ≡ none
       → (first (checkOrder l work) ≡ none) × (first (keyRows l given) ≡ none)
       × (first (valued l key value) ≡ none)
@@ -420,7 +421,7 @@ module _ (l work : List ℕ) (given : Given) (value : ℕ) where
         room = none-13 h k (length l) .0 (after13 .0);
       }
 
-  -- and one that is granted passes them, where its key does and the working numbers are enough
+  -- a granted store passes every row, where its key does and the working numbers are enough
   pub grants : Granted l key value → headOf l .g + 1 ≤ length work → first (keyRows l given) ≡ none
       → first (storeOrder l work given value) ≡ none
   unfolding storeOrder addingRows
@@ -435,7 +436,7 @@ module _ (l work : List ℕ) (given : Given) (value : ℕ) where
       ∙ first-none (row13 h k (length l)) _ (none-13 h k (length l) .1 (s .room))
       ∙ first-nil
 
-  -- in an accepted image 5 is asked, then the key's part, then the value's
+  -- in an accepted image the order is 5, then 9 and 10, then 11 to 13
   pub accepted-order : Accepted l
       → first (storeOrder l work given value)
       ≡ first (row5 (headOf l) (length work) ∷ (keyRows l given ++ valued l key value))
@@ -461,7 +462,8 @@ module _ (l work : List ℕ) (given : Given) (value : ℕ) where
   unfolding keyRows
   says = given-says-key (headOf l) (alphabetIn (headOf l) l) given
 
-  -- the reasons for which a store in an accepted image is refused
+  -- "Storing in an accepted image is refused only for a bad key, a value too large, spent
+  -- addresses, missing room or too few working numbers"
   pub store-refuses : {s : Said} → Accepted l → first (storeOrder l work given value) ≡ some s
       → among (s .number) acceptedNumbers ≡ true
   unfolding row5 among
@@ -475,7 +477,7 @@ module _ (l work : List ℕ) (given : Given) (value : ℕ) where
   unfolding storeOrder
   storing-says = parts-say (checking-says l work) (parts-say says (valued-says l key value))
 
-  -- number 0 is said by no row
+  -- no row has the number 0
   pub store-passed : storeOf l work given value .numbers .number ≡ 0
       → first (storeOrder l work given value) ≡ none
   unfolding storeOf among
@@ -484,7 +486,7 @@ module _ (l work : List ℕ) (given : Given) (value : ℕ) where
   pub store-granted : storeOf l work given value .numbers .number ≡ 0 → Granted l key value
   store-granted z = granted (store-passed z)
 
-  -- the key that it means
+  -- a store that is done means a key
   pub store-means : storeOf l work given value .numbers .number ≡ 0 → meantIn l given ≡ some key
   unfolding keyRows keyIn meantIn
   store-means z =
@@ -498,8 +500,8 @@ module _ (l work : List ℕ) (given : Given) (value : ℕ) where
   unfolding storeOf
   store-leaves z = heard-done (first (storeOrder l work given value)) _ _ (store-passed z)
 
-  -- it is done exactly where enough working numbers are lent, a key is meant, and it is granted
-  -- for that key
+  -- a store is done exactly where enough working numbers are lent, a key is meant, and the store
+  -- is granted for that key
   pub store-done-exactly : (storeOf l work given value .numbers .number ≡ 0)
       ↔ ((headOf l .g + 1 ≤ length work) × (k : List ℕ) × (meantIn l given ≡ some k)
       × Granted l k value)

@@ -1,5 +1,5 @@
--- P1 to P12 of document 01, together: each call of the table leaves what the table says. The
--- checker computes it.
+-- 01: "Prove those marked P, together, as a single tabulated fact about the written rules". Each
+-- call of the table leaves what the table says; the checker computes it.
 use mathlib.Core.Path.{_≡_, refl}
 use mathlib.Core.List.{map}
 use Rattle.field.specs.Field.{fieldAt, digits}

@@ -1,8 +1,8 @@
 -- 01, "Where the written promises must bite": "For each input, that statement leaves only one
--- possible answer and one possible content of image, key buffer and working numbers, refusals too.
--- Prove that any pair of outcomes allowed by it is equal." An answer is known from its numbers
--- (each list of numbers has a left inverse), and an outcome holds the numbers and the buffers; the
--- rest is one law for all calls and for every form of answer: a Rattle enum, a C struct.
+-- possible answer and one possible content of image, key buffer and working numbers, refusals
+-- too. Prove that any pair of outcomes allowed by it is equal". An answer is recovered from its
+-- numbers, and an outcome is the numbers and the buffers; so one law serves all calls and all
+-- forms of answer.
 use Prim.Native.Nat.{ℕ, zero, suc}
 use mathlib.Core.Path.{_≡_, refl, sym, _∙_, ap}
 use mathlib.Core.Bool.{Bool, true, false}
@@ -32,9 +32,9 @@ use Rattle.paper.specs.Given.{Given}
 use Rattle.paper.specs.Promises.{Makes, Checks, CountsKeys, LooksUp, Stores, StoresWrites}
 use Rattle.paper.specs.Promises.{Mends, Nexts}
 
--- ---- an answer, from its numbers
+-- ---- an answer is recovered from its numbers
 
--- the refusal with this number and place; number 0 is none, nor is any that has not landed
+-- the refusal with this number and place; `NoKey` stands for the numbers that no refusal has
 refusalIn : Numbers → Refusal
 refusalIn m =
     getD
@@ -97,13 +97,12 @@ refusal-said r = by-test (saidOf r .number) ∙ by-refusal true false r
     by-test zero = refl
     by-test (suc n) = ne-eqb (suc n) 0 (suc-ne-zero n)
 
--- an answer type is known from its numbers
+-- the answers of a type are recovered from their numbers
 pub record Told (R : Type 0) (numbersOf : R → Numbers) : Type 0 where
   pub back : Numbers → R
   pub inverse : (r : R) → back (numbersOf r) ≡ r
 
--- an answer that is done in one way or refused: what is done is had from the numbers, and so is
--- the refusal
+-- an answer that is done in one way, or refused: either is recovered from the numbers
 tellBy : {R : Type 0} → (Numbers → R) → (Refusal → R) → Numbers → R
 tellBy done refused m = byNumber (m .number) (done m) (refused (refusalIn m))
 
@@ -188,8 +187,7 @@ told-found = record {
 
 -- ---- the law
 
--- two answers with their buffers that are the one outcome are the same answer, with the same
--- buffers
+-- two answers with their buffers that are one outcome are equal
 pub one-outcome : {R : Type 0} {numbersOf : R → Numbers} → Told R numbersOf
     → (r s : R) (ls ms : List (List ℕ)) (o : Outcome)
     → outcome (numbersOf r) ls ≡ o → outcome (numbersOf s) ms ≡ o → (r ≡ s) × (ls ≡ ms)
@@ -209,7 +207,8 @@ pub three : {a b c d i j : List ℕ} → (a ∷ c ∷ i ∷ []) ≡ (b ∷ d ∷
     → (a ≡ b) × ((c ≡ d) × (i ≡ j))
 three e = (cc, (cc, cc))
 
--- ---- the calls, for whatever form of answer tells its numbers
+-- ---- the calls, for every form of answer that is recovered from its numbers: a Rattle enum, a
+-- C struct
 
 module _ {R : Type 0} {numbersOf : R → Numbers} (told : Told R numbersOf) {r s : R} where
   pub makes-once : (image : List ℕ) (n a d : ℕ) (alphabet : List ℕ) (least most : ℕ) {i j : List ℕ}
