@@ -114,6 +114,7 @@ module _ (l work : List ℕ) where
       parts-say (opening-says h (alphabetIn h l) (length l))
       (parts-say five (linking-says h (tableOf h l)))
 
+  -- lent enough working numbers, the check answers 0 exactly where the image is `Accepted`
   pub check-exactly : headOf l .g + 1 ≤ length work → (checkOf l work .numbers .number ≡ 0)
       ↔ Accepted l
   unfolding checkOf doneNumbers heard among

@@ -260,6 +260,7 @@ module _ (l : List ℕ) (given : Given) where
             (b .1),
       ))
 
+  -- a lookup whose number is 0 answers the value that 002's walk answers
   pub looks-up-002 : lookUpOf l given .numbers .number ≡ 0 → lookUpOf l given .numbers .value
       ≡ queryOf002 l given
   looks-up-002 e = let o = unrefused e in answered o ∙ sym (meant-002 l given (o .key-passed))

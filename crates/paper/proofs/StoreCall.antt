@@ -187,6 +187,7 @@ module _ {l key : List ℕ} {value : ℕ} (s : Granted l key value) where
   unfolding permitted
   stored-permitted = ap permitted (stored-head s) ∙ s .accepted .head-permitted
 
+  -- "Otherwise the image is again accepted"
   pub accepted-again : Accepted (storedImage l key value)
   accepted-again =
       let a = s .accepted in
@@ -284,7 +285,7 @@ module _ {l key : List ℕ} {value : ℕ} (s : Granted l key value) (given : Giv
       (same-keying after l (stored-head s) (stored-alphabet s) given)
       (same-key after l (stored-head s) (stored-alphabet s) given)
 
-  -- the key answers the value, by letters and by every text that means it
+  -- "the key answers the new value", by letters and by every text that means it
   pub stored-answers : meantIn l given ≡ some key → lookUpOf after given ≡ telling value
   unfolding keyRows keyIn meantIn orEmpty
   stored-answers e =
@@ -294,7 +295,7 @@ module _ {l key : List ℕ} {value : ℕ} (s : Granted l key value) (given : Giv
       ∙ ap (λ (t : Table). telling (answer t key)) (stored-table s)
       ∙ ap telling (stored-answer (accepted-linked (s .accepted)) key (s .fit .below) value)
 
-  -- every other key answers, or is refused, as before
+  -- "every other key answers as before", or is refused as before
   pub others-answer : meantIn l given ≢ some key → lookUpOf after given ≡ lookUpOf l given
   unfolding keyRows keyIn meantIn
   others-answer other =

@@ -1,6 +1,6 @@
--- A call that takes counts, held against the call without them. The check is lent the shorter of
--- the two lists, so it passes where the plain check passes and the counts are long enough; then it
--- clears the same working numbers, and the rows that follow are the same.
+-- A call with counts beside the call without them. Its check may use as many working numbers as
+-- the shorter list has, so it passes where the plain check passes and the counts are long
+-- enough. Then it clears the same working numbers, and the rows that follow are the same.
 use Prim.Native.Nat.{ℕ, _+_, _≤_, _<_, min}
 use mathlib.Core.Path.{_≡_, refl, sym, _∙_, ap}
 use mathlib.Core.Logic.{_↔_, _≢_}
@@ -38,7 +38,7 @@ use Rattle.position.specs.Counts.{countIn, row25, row5again}
 use Rattle.position.specs.Orders.{usable, countsOrder, checkCountsOrder, storeCountsOrder}
 use Rattle.position.specs.Calls.{workLeft, worked, storeCountsOf}
 
--- ---- the list that the check is lent
+-- ---- the working numbers that the check may use
 
 usable-length : (work counts : List ℕ) → length (usable work counts) ≡ min (length counts)
     (length work)
@@ -85,7 +85,7 @@ five-either h work counts =
               (omega arith),
         ))
 
--- ---- the working numbers that are left
+-- ---- the working numbers after the call
 
 -- in an accepted image with enough of them, the first G+1 are cleared
 cleared : (l work : List ℕ) → Accepted l → headOf l .g + 1 ≤ length work
@@ -97,7 +97,7 @@ cleared l work a b =
     ∙ no-row 5 0 [] (le-ltb (length work) (headOf l .g + 1) b)
     ∙ first-nil)
 
--- the rest of a front part, and what stands behind that part
+-- the rest of a front part, and then what follows that part, are the rest of the whole
 rest-joined : (n m : ℕ) (l : List ℕ) → n ≤ length (take m l) → drop n (take m l) ++ drop m l
     ≡ drop n l
 rest-joined n m l b =
@@ -142,7 +142,7 @@ pub counts-say : (l work counts : List ℕ) → AllSay (checkNumbers ++ (25 ∷ 
 unfolding checkCountsOrder countsOrder
 counts-say l work counts = parts-say (checking-says l (usable work counts)) (says-only-25 l counts)
 
--- what a check with counts that passed tells
+-- what is known where a check with counts passes
 pub record CountsChecked (l work counts : List ℕ) : Type 0 where
   pub passes : first (checkOrder l (usable work counts)) ≡ none
   pub accepted : Accepted l
@@ -165,7 +165,7 @@ counts-checked l work counts e =
       same = passed-row (row25 l counts) [] rest .0;
     }
 
--- the numbers of a store's refusals
+-- the numbers of the refusals of a store with counts
 abbrev pub storeCountsNumbers : List ℕ
 storeCountsNumbers = 1 ∷ 2 ∷ 3 ∷ 4 ∷ 5 ∷ 6 ∷ 7 ∷ 8 ∷ 25 ∷ 9 ∷ 10 ∷ 11 ∷ 12 ∷ 13 ∷ 5 ∷ []
 
@@ -176,11 +176,11 @@ module _ (l work : List ℕ) (given : Given) (value : ℕ) (counts : List ℕ) w
   abbrev new : ℕ
   new = newOf (headOf l) l key value
 
-  -- the numbers of a store that is done
+  -- the numbers of the answer where the store is done
   abbrev told : Numbers
   told = doneNumbers 0 (changeOf (answer (tableIn l) key) value) 0
 
-  -- what an order that passed tells of its parts
+  -- what is known where the order of a store with counts passes
   pub record StorePassed : Type 0 where
     pub counts-passed : CountsChecked l work counts
     pub keys : first (keyRows l given) ≡ none
@@ -225,8 +225,10 @@ module _ (l work : List ℕ) (given : Given) (value : ℕ) (counts : List ℕ) w
       ∙ second-part (keyRows l given) (valued l key value) (p .keys)
       ∙ p .values
 
-  -- ---- held against the plain store
+  -- ---- beside the plain store
 
+  -- where a store with counts is done, so is the plain store, with the same answer, image and
+  -- working numbers
   pub store-counts-plain : storeCountsOf l work given value counts .numbers .number ≡ 0
       → (storeOf l work given value .numbers .number ≡ 0)
       × (storeCountsOf l work given value counts

@@ -1,8 +1,7 @@
--- 02, Ask 7, on positions: the key at a position is the first stored key moved on by so many steps
--- of next key, the position of a stored key is the one at which it is found, and 15 is given
--- exactly past the end and for a key that is not stored. The rows before 15 pass, as the counts
--- are right; and in a list in order the key at a position and the rank of a key undo one another
--- (`Ranks`).
+-- 02, Ask 7, on positions: the key at position i is the first stored key moved on by i steps of
+-- next key, the position of a stored key is the one at which it is found, and 15 is given exactly
+-- past the end and for a key that is not stored. With right counts the rows before 15 pass; and
+-- in a list in order the key at a position and the rank of a key undo each other (`Ranks`).
 use Prim.Native.Nat.{ℕ, zero, suc, _+_, _≤_, _<_}
 use mathlib.Core.Path.{_≡_, refl, sym, _∙_, ap}
 use mathlib.Core.Logic.{_↔_, _≢_}
@@ -95,7 +94,7 @@ module _ (l work counts : List ℕ) (a : Accepted l) (lent : headOf l .g + 1 ≤
         ∙ ap (λ (w : List ℕ). outcome (doneNumbers (length k) (pos 0) (answer (tableIn l) k))
         (w ∷ sets buffer 0 k ∷ [])) left-cleared
 
-    -- what is heard is the key at the position
+    -- the key that the call gives is the one at the position
     pub heard-at : (i : ℕ) → keyHeard (keyAtOf l work counts i buffer) ≡ keyAt (storedKeys l) i
     unfolding keyHeard keyLeft refusedNumbers doneNumbers foundIn
     heard-at i = go (keyAt (storedKeys l) i) refl
@@ -109,7 +108,7 @@ module _ (l work counts : List ℕ) (a : Accepted l) (lent : headOf l .g + 1 ≤
             ap keyHeard (one-key-at i e) ∙ ap (λ (j : List ℕ). some j) (front buffer k fits)
             ∙ sym e
 
-    -- a next key that gives what stands at the position leaves the same outcome
+    -- where next key gives the key at the position, the two outcomes are the same
     as-next : (i : ℕ) (key : List ℕ) (after : Bool) → Askable (headOf l) key → nextIn l key after
         ≡ keyAt (storedKeys l) i
         → keyAtOf l work counts i buffer ≡ nextKeyOf l work key after buffer
@@ -134,7 +133,7 @@ module _ (l work counts : List ℕ) (a : Accepted l) (lent : headOf l .g + 1 ≤
     key-at-first =
         as-next 0 [] false (record { short = omega arith; below = tt }) (at-first (storedKeys l))
 
-    -- "moved on by ... steps of next key": one step
+    -- "moved on by .. steps of next key": one step
     pub key-at-next : (i : ℕ) {k : List ℕ} → keyHeard (keyAtOf l work counts i buffer) ≡ some k
         → keyAtOf l work counts (suc i) buffer ≡ nextKeyOf l work k true buffer
     unfolding nextIn
@@ -143,7 +142,7 @@ module _ (l work counts : List ℕ) (a : Accepted l) (lent : headOf l .g + 1 ≤
         as-next (suc i) k true (stored-askable l k (at-held (storedKeys l) i at))
         (at-next (storedKeys l) i (stored-ascending l) at)
 
-    -- past the end there is nothing further on
+    -- after a position without a key there is no key
     past : (i : ℕ) → keyAt (storedKeys l) i ≡ none → keyAt (storedKeys l) (suc i) ≡ none
     past i e = go (decLt i (length (storedKeys l)))
       where
@@ -204,7 +203,7 @@ module _ (l work counts : List ℕ) (a : Accepted l) (lent : headOf l .g + 1 ≤
         (checks-counts l work counts a lent right)
         ∙ second-part (keyRows l given) (row15 (ifStored l key) ∷ []) keyed
 
-    -- a key that passed 9 and 10 is stored where it answers anything
+    -- a key that passed 9 and 10 is stored where its value is not 0
     answers-stored : first (keyRows l given) ≡ none → answer (tableIn l) key ≢ 0
         → List·Memᴰ key (storedKeys l)
     answers-stored keyed full =
@@ -265,7 +264,7 @@ module _ (l work counts : List ℕ) (a : Accepted l) (lent : headOf l .g + 1 ≤
         full f z = let e : isNone (ifStored l key) ≡ true =
             rw (eq-eqb (answer (tableIn l) key) 0 z) in true≢false (sym e ∙ f)
 
-    -- "15 for ... a key not stored"
+    -- "15 for .. a key not stored"
     pub position-15 : first (keyRows l given) ≡ none
         → (positionOf l work counts given .numbers .number ≡ 15) ↔ (¬ List·Memᴰ key (storedKeys l))
     unfolding positionOf row15 isNone refusedNumbers doneNumbers
@@ -278,7 +277,7 @@ module _ (l work counts : List ℕ) (a : Accepted l) (lent : headOf l .g + 1 ≤
           (not-held keyed h) ∙ yes-row 15 0 [] refl)),
     )
 
-    -- ---- one undoes the other
+    -- ---- key at a position and position of a key undo each other
 
     module _ (buffer : List ℕ) (room : headOf l .max ≤ length buffer) where
       pub key-then-position : (i : ℕ) {k : List ℕ} → keyHeard (keyAtOf l work counts i buffer)

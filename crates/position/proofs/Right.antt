@@ -1,6 +1,6 @@
--- 02, Ask 7, on the counts alone: when 25 is given and where, that the counts worked out are
--- right, and for which images and lists the call that works them out and the check with counts are
--- done. Each goes down the rows: the check's part is 01's theorem on `Accepted`.
+-- 02, Ask 7, on the counts alone: when 25 is given and at which node, that the counts worked out
+-- are right, and for which images and lists working out and the check with counts are done. Each
+-- law follows the rows; the check's part is the theorem on `Accepted`.
 use Prim.Native.Nat.{ℕ, zero, suc, _+_, _≤_, _<_}
 use mathlib.Core.Path.{_≡_, refl, sym, _∙_, ap}
 use mathlib.Core.Logic.{_↔_, _≢_}
@@ -61,7 +61,7 @@ lowest-found p a (suc k) h = go (p a) refl (lowest-found p (suc a) k)
         before y (no b) low high f = let same : y ≡ a = omega arith in ap p same ∙ e
 
 module _ (l counts : List ℕ) where
-  -- the count that the list holds for a node is not the node's
+  -- does the list hold another number for a node than its count?
   abbrev differs : ℕ → Bool
   differs q = not (eqb (getD counts q 0) (countIn l q))
 
@@ -76,7 +76,7 @@ module _ (l counts : List ℕ) where
         (λ q _ b. untrue (eq-eqb (getD counts q 0) (countIn l q) (f q (omega arith)))),
   )
 
-  -- "25, counts differ, ... place the lowest such node"
+  -- "25, counts differ, .. place the lowest such node"
   pub says-25 : {s : Said} → row25 l counts ≡ some s
       → (s .number ≡ 25)
       × (s .place ≤ headOf l .g)
@@ -113,7 +113,7 @@ pub counts-length : (l : List ℕ) → length (countsIn l) ≡ headOf l .g + 1
 unfolding countsIn
 counts-length l = each-length (countIn l) 0 (headOf l .g + 1)
 
--- what stands behind a run of stores
+-- numbers after those that are written keep what they held
 sets-past : (vs l : List ℕ) (i q : ℕ) → i + length vs ≤ q → getD (sets l i vs) q 0 ≡ getD l q 0
 sets-past [] l i q h = refl
 sets-past (a ∷ vs) l i q h =
@@ -142,7 +142,7 @@ module _ (l counts : List ℕ) where
   pub worked-right : headOf l .g + 1 ≤ length counts → RightCounts l (worked l counts)
   worked-right long = record { long = omega (arith, worked-length); each = worked-at long }
 
-  -- right counts are worked out as they are
+  -- working out right counts changes none of them
   pub right-worked : RightCounts l counts → worked l counts ≡ counts
   right-worked r =
       ext-getD 0 (worked l counts) counts worked-length (λ q _. go q (decLe q (headOf l .g)))
@@ -154,7 +154,7 @@ module _ (l counts : List ℕ) where
 -- ---- the calls
 
 module _ (l work counts : List ℕ) where
-  -- where the lists are long enough, an accepted image passes the check
+  -- in an accepted image, with lists that are long enough, 1 to 8 pass
   pub works-out : Accepted l → headOf l .g + 1 ≤ length work → headOf l .g + 1 ≤ length counts
       → first (countsOrder l work counts) ≡ none
   unfolding countsOrder
@@ -219,7 +219,7 @@ module _ (l work counts : List ℕ) where
         (heard-done _ _ _ (checks-counts (s .1) (s .0) (s .2))),
   )
 
-  -- done or refused, the working numbers alone are left changed
+  -- done or refused, the check with counts writes the working numbers alone
   pub check-counts-kept : checkCountsOf l work counts .lent ≡ workLeft l work counts ∷ []
   unfolding checkCountsOf heard
   check-counts-kept = go (first (checkCountsOrder l work counts))
@@ -230,7 +230,7 @@ module _ (l work counts : List ℕ) where
       go none = refl
       go (some s) = refl
 
--- counts that were worked out are found right
+-- counts that were worked out pass the check with counts
 pub counts-then-check : (l work counts : List ℕ) → countsOf l work counts .numbers .number ≡ 0
     → (work₂ : List ℕ) → headOf l .g + 1 ≤ length work₂
     → checkCountsOf l work₂ (worked l counts) .numbers .number ≡ 0

@@ -1,8 +1,7 @@
 -- 02, Ask 7, on stores: a store with counts is done exactly where the plain store is, the counts
--- are right and they are long enough for the new nodes; the counts it leaves are right again and
--- changed on the key's path alone; and for which reasons it is refused. With right counts its
--- order is the plain store's but for the second 5, and what a store does to the counts is the law
--- on tables (`Shifted`).
+-- are right and they are long enough for the new nodes; it leaves right counts, changed on the
+-- key's path alone; and for which reasons it is refused. With right counts its order is the plain
+-- store's but for the second 5. What a store does to the counts is the law on tables (`Shifted`).
 use Prim.Native.Nat.{ℕ, _+_, _≤_, _<_}
 use mathlib.Core.Path.{_≡_, refl, sym, _∙_, ap, ap₂, subst}
 use mathlib.Core.Logic.{_↔_, _≢_}
@@ -50,9 +49,9 @@ use Rattle.position.proofs.Plain.{store-counts-passed, store-counts-pla
 use Rattle.position.proofs.Right.{none-25, says-25, worked-at, worked-rest, worked-right}
 use Rattle.position.proofs.Right.{works-out, checks-counts, check-counts-exactly}
 
--- ---- what is heard, by its number
+-- ---- the number of an answer
 
--- a number that no row says is not heard
+-- an answer has no number but 0 and those of its rows
 not-heard : {numbers : List ℕ} {r : Row} (kept : List (List ℕ)) (done : Outcome) (n : ℕ)
     → Says numbers r → among n numbers ≡ false
     → n ≢ 0
@@ -63,7 +62,7 @@ not-heard kept done n silent z some-number e f = some-number (sym f ∙ e)
 not-heard {numbers} kept done n (saying p) z some-number e f =
     true≢false (sym p ∙ ap (λ (m : ℕ). among m numbers) f ∙ z)
 
--- the numbers of an answer do not ask what is kept
+-- the numbers of an answer do not depend on what is kept
 same-numbers : (r : Row) (kept kept′ : List (List ℕ)) (done done′ : Outcome) → done .numbers
     ≡ done′ .numbers
     → heard r kept done .numbers ≡ heard r kept′ done′ .numbers
@@ -71,11 +70,11 @@ unfolding heard
 same-numbers none kept kept′ done done′ e = e
 same-numbers (some s) kept kept′ done done′ e = refl
 
--- the numbers of a store's refusals in an accepted image
+-- the numbers of the refusals of a store with counts in an accepted image
 abbrev pub acceptedCountsNumbers : List ℕ
 acceptedCountsNumbers = 5 ∷ 25 ∷ 9 ∷ 10 ∷ 11 ∷ 12 ∷ 13 ∷ []
 
--- 5 named again says no other number
+-- the second 5 adds no number
 five-again : (n : ℕ) → among n (5 ∷ 25 ∷ 9 ∷ 10 ∷ 11 ∷ 12 ∷ 13 ∷ 5 ∷ []) ≡ true
     → among n acceptedCountsNumbers ≡ true
 unfolding among
@@ -85,7 +84,7 @@ five-again n h = go (eqb n 5) refl
     go true e = rw e
     go false e = rw e (rw e at h)
 
--- where the counts are long enough, 5 is of the working numbers alone
+-- where the counts are long enough, 5 depends on the working numbers alone
 same-check : (l work counts : List ℕ) → headOf l .g + 1 ≤ length counts → countsOrder l work counts
     ≡ checkOrder l work
 unfolding countsOrder checkOrder row5
@@ -112,9 +111,9 @@ module _ (l work : List ℕ) (given : Given) (value : ℕ) (counts : List ℕ) w
   abbrev rest : List Row
   rest = keyRows l given ++ (valued l key value ++ (row5again (headOf l) new (length counts) ∷ []))
 
-  -- ---- where it is done
+  -- ---- where a store with counts is done
 
-  -- with right counts that are long enough, a plain store that is done is done with counts
+  -- with right counts: where the plain store is done, only the second 5 can refuse
   module _ (right : RightCounts l counts) (done : storeOf l work given value .numbers .number ≡ 0)
     where
       left-5 : first (storeCountsOrder l work given value counts)
@@ -158,7 +157,7 @@ module _ (l work : List ℕ) (given : Given) (value : ℕ) (counts : List ℕ) w
           go z (yes b) = b
           go z (no b) = absurd (omega (arith, z, done-too (omega arith)))
 
-  -- what a store that is done tells
+  -- what is known where a store with counts is done
   long-enough : storeCountsOf l work given value counts .numbers .number ≡ 0 → headOf l .g + new
       + 1 ≤ length counts
   unfolding row5again
@@ -204,7 +203,7 @@ module _ (l work : List ℕ) (given : Given) (value : ℕ) (counts : List ℕ) w
         done-too right (store-done-exactly l work given value .1 (lent, k, meant, granted)) fits,
   )
 
-  -- ---- the counts that are left
+  -- ---- the counts after the store
 
   module _ (z : storeCountsOf l work given value counts .numbers .number ≡ 0) where
     new-total : headOf image .g ≡ headOf l .g + new
@@ -223,7 +222,7 @@ module _ (l work : List ℕ) (given : Given) (value : ℕ) (counts : List ℕ) w
         check-counts-exactly image work₂ (worked image counts) .1
         (lent, accepted-again (is-granted z), store-counts-right)
 
-    -- off the key's path a node of before counts what it counted
+    -- the count of an old node off the key's path stays
     count-stays : (q : ℕ) → passes (tableIn image) q 0 key ≡ false → countIn image q ≡ countIn l q
     unfolding countIn
     count-stays q off =
@@ -236,7 +235,7 @@ module _ (l work : List ℕ) (given : Given) (value : ℕ) (counts : List ℕ) w
         (headOf l .min) (headOf l .max) low high q
         (subst (λ (t : Table). passes t q 0 key ≡ false) t off)
 
-    -- and a new node is on it
+    -- a new node is on the key's path
     new-on-path : (q : ℕ) → headOf l .g < q → q ≤ headOf l .g + new
         → passes (tableIn image) q 0 key ≡ true
     unfolding newOf tableIn
@@ -263,7 +262,7 @@ module _ (l work : List ℕ) (given : Given) (value : ℕ) (counts : List ℕ) w
   abbrev five : Row
   five = row5 (headOf l) (length (usable work counts))
 
-  -- in an accepted image 5 is asked, then 25, then the rest
+  -- in an accepted image the order is 5, then 25, then 9 to 13 and the second 5
   accepted-order : Accepted l → first (storeCountsOrder l work given value counts)
       ≡ first (five ∷ row25 l counts ∷ rest)
   unfolding storeCountsOrder checkCountsOrder countsOrder checkOrder row5
@@ -337,7 +336,7 @@ module _ (l work : List ℕ) (given : Given) (value : ℕ) (counts : List ℕ) w
 
   -- ---- the same numbers as the plain store
 
-  -- 25 and the second 5 say nothing, and what is left is the plain order
+  -- 25 and the second 5 are not given, so the plain order decides
   same-order : RightCounts l counts → headOf l .g + new + 1 ≤ length counts
       → first (storeCountsOrder l work given value counts) ≡ first (storeOrder l work given value)
   unfolding storeCountsOrder checkCountsOrder storeOrder row5again

@@ -1,5 +1,5 @@
--- The calls of Ask 7 on 01's small file, together: each call of the table leaves what the table
--- says. The checker computes it.
+-- The calls of Ask 7 on 01's small file: each call of the table leaves what the table says. The
+-- checker computes it.
 use mathlib.Core.Path.{_≡_, refl}
 use mathlib.Core.List.{map}
 use Rattle.field.specs.Field.{fieldAt, digits}

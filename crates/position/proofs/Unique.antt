@@ -1,5 +1,5 @@
--- 01, "Where the written promises must bite", for the calls of Ask 7: any two answers and contents
--- of the lent buffers that a promise allows are equal.
+-- 01, "Where the written promises must bite", for the calls of Ask 7: "any pair of outcomes
+-- allowed by it is equal". The law is that of crate `paper`.
 use Prim.Native.Nat.{ℕ}
 use mathlib.Core.Path.{_≡_}
 use mathlib.Core.List.{List}

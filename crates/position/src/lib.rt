@@ -1,1 +1,1 @@
-// Document 02, Ask 7, and its laws: definitions and proofs alone, no code.
+// Document 02, Ask 7: the calls with counts, as definitions and laws. The crate has no code.
