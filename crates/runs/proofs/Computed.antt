@@ -1,6 +1,6 @@
--- One run from P1's fresh image, computed: what was stored last is in front of the plain list, a
--- refused store is not in it, mending leaves both as they are, a store with counts is a store, and
--- the changes sum up to the two keys that are left.
+-- One run on a fresh image of P1's head and alphabet, computed: what was stored last is at the
+-- front of the plain list, a refused store is not in it, mending leaves image and list as they
+-- are, a store with counts is a store, and the changes sum up to the two keys that are left.
 use Prim.Native.Nat.{ℕ}
 use mathlib.Core.Path.{_≡_, refl}
 use mathlib.Core.List.{List, [], _∷_, map}
@@ -30,10 +30,10 @@ counts = 3 ∷ 1 ∷ 0 ∷ 2 ∷ 1 ∷ []
 abbrev entry : List ℕ → ℕ → Entry
 entry k v = record { key = k; value = v }
 
--- BA = 9, B = 5, BA = 256, C = 7 by text, D = 1 by text, B = 6 by text, BA = 0, and two look ups
--- on the way; then listed CA = 3, C = 8 by text and D = 1 by text, and two mendings, one lent a
--- working number too few; then with counts C = 0 by text, B = 1 with the same list, which is no
--- longer right, and the key at position 1
+-- BA = 9, B = 5, BA = 256, C = 7 by text, D = 1 by text, B = 6 by text, BA = 0, and two lookups
+-- among them; then, with writes, CA = 3, C = 8 by text and D = 1 by text; then two mendings, one
+-- lent a working number too few; then, with counts, C = 0 by text, B = 1 with the same list,
+-- which is no longer right, and the key at position 1
 abbrev calls : List Call
 calls =
     store work (asLetters (1 ∷ 0 ∷ [])) 9

@@ -1,7 +1,7 @@
--- Demand 3, "A run of calls from a fresh image answers as a plain list of last values", and 01's
--- sum of the changes. One invariant says both: it holds of a fresh image, every call keeps it, and
--- what is asked of a run is read off it. Every beginning of a run is a run, so that a call in the
--- middle is answered by the same laws.
+-- Demand 3, "After any run of such calls on a fresh image, answers are those of a plain list of
+-- last values", and 01's sum of the changes. One invariant (`Holds`) says both: a fresh image
+-- meets it, every call keeps it, and the laws on a run follow from it. Every beginning of a run
+-- is a run, so they hold for a call in the middle too.
 use Prim.Native.Nat.{ℕ, _+_, _-_, _≤_}
 use mathlib.Core.Path.{_≡_, refl, sym, _∙_, ap, ap₂, subst}
 use mathlib.Core.Bool.{Bool, true, false, true≢false, _&&_}
@@ -69,9 +69,10 @@ same-key (x ∷ k) (y ∷ m) e =
 
 -- ---- the invariant
 
+-- the invariant of a run on an image that was made with this head and this alphabet
 pub record Holds (h : Head) (alphabet : List ℕ) (r : Run) : Type 0 where
   pub accepted : Accepted (r .image)
-  -- the head has changed in its G alone, the alphabet not at all
+  -- the head has changed in G alone, the alphabet not at all
   pub same-head : headOf (r .image) ≡ withTotal h (headOf (r .image) .g)
   pub same-alphabet : alphabetIn (headOf (r .image)) (r .image) ≡ alphabet
   pub answers : (k : List ℕ) → Fit h k → answer (tableIn (r .image)) k ≡ lastOf (r .plain) k
@@ -94,8 +95,8 @@ start {h} {alphabet} {image} m =
 
 -- ---- a store
 
--- how a store ends, listed or not, with counts or without: granted and done, or refused with the
--- image as it was
+-- how a store ends, with writes, with counts or with neither: granted and done, or refused with
+-- the image as it was
 data Ended (l key : List ℕ) (value : ℕ) : Outcome → Type 0 where
   was-done : (writes : ℕ) {others : List (List ℕ)} → Granted l key value
       → Ended l key value (outcome (doneNumbers writes (changeOf (answer (tableIn l) key) value) 0)
@@ -115,7 +116,7 @@ ended l work given value = go (first (storeOrder l work given value)) refl
         rw e (was-refused (refusedNumbers s)
         (λ z. Option·some-ne-none s (sym e ∙ store-passed l work given value (rw e z))) refl)
 
--- the list of its writes is one buffer more, and changes neither the number nor the change
+-- a store with writes leaves one buffer more, and the same number and change
 ended-listed : {l key : List ℕ} {value : ℕ} (ws : List Write) (list : List ℕ) {o : Outcome}
     → Ended l key value o
     → Ended l key value (withWrites ws list o)
@@ -123,7 +124,7 @@ unfolding withWrites doneNumbers refusedNumbers
 ended-listed ws list (was-done n s) = was-done (length ws) s
 ended-listed ws list (was-refused n d c) = rw (ne-eqb (n .number) 0 d) (was-refused n d c)
 
--- with counts beside the image it does what the plain store does, or nothing
+-- a store with counts does what the plain store does, or nothing
 ended-counts : (l work : List ℕ) (given : Given) (value : ℕ) (tally : List ℕ)
     → Ended l (keyIn l given) value (storeCountsOf l work given value tally)
 ended-counts l work given value tally = go (ℕ-discrete (o .numbers .number) 0)
@@ -147,7 +148,7 @@ ended-counts l work given value tally = go (ℕ-discrete (o .numbers .number) 0)
         subst (Ended l (keyIn l given) value) (ap (outcome (o .numbers)) (sym (k .0)))
         (was-refused (o .numbers) z (k .1))
 
--- where a run stands after a store that left this outcome
+-- the state of a run after a store with this outcome
 abbrev storedRun : Run → List ℕ → ℕ → Outcome → Run
 storedRun r key value o =
     record {
@@ -157,7 +158,7 @@ storedRun r key value o =
     }
 
 module _ {h : Head} {alphabet : List ℕ} {r : Run} (i : Holds h alphabet r) where
-  -- a call that answers no change and leaves the image
+  -- a call that answers no change and leaves the image as it is
   unchanged : {change : ℤ} → change ≡ pos 0
       → Holds h alphabet (record { image = r .image; plain = r .plain; sum = r .sum +ℤ change })
   unchanged e =
@@ -169,7 +170,7 @@ module _ {h : Head} {alphabet : List ℕ} {r : Run} (i : Holds h alphabet r) whe
         sums = ap (r .sum +ℤ_) e ∙ +ℤ-idr (r .sum) ∙ i .sums;
       }
 
-  -- the key answers its new value, every other key as before
+  -- the key answers its new value, and every other key as before
   answers-stored : {key : List ℕ} {value : ℕ} → Granted (r .image) key value → (k : List ℕ)
       → Fit h k
       → answer (tableIn (storedImage (r .image) key value)) k
@@ -192,7 +193,7 @@ module _ {h : Head} {alphabet : List ℕ} {r : Run} (i : Holds h alphabet r) whe
           rw e (stored-answer-other (accepted-linked (s .accepted)) key (s .fit .below) value k
           other ∙ i .answers k f)
 
-  -- however a store ended
+  -- after a store, however it ended
   step-store : {key : List ℕ} {value : ℕ} {o : Outcome} → Ended (r .image) key value o
       → Holds h alphabet (storedRun r key value o)
   unfolding firstLeft plainBy doneNumbers refusedNumbers
@@ -211,8 +212,8 @@ module _ {h : Head} {alphabet : List ℕ} {r : Run} (i : Holds h alphabet r) whe
 
 -- ---- mending
 
--- an accepted image is never mended: an 8 came past 5, and lent enough working numbers its check
--- answers 0
+-- an accepted image is never mended: 8 is given only after 5 has passed, and with enough working
+-- numbers the check answers 0
 not-mended : {l : List ℕ} → Accepted l → (work : List ℕ) → mends l (checkOf l work .numbers)
     ≡ false
 unfolding mends
@@ -299,7 +300,7 @@ module _ (image : List ℕ) (n a d : ℕ) (alphabet : List ℕ) (least most : �
     below = rw (at-end .same-head) at (f .below);
   }
 
-  -- 9 and 10 ask what they asked at the start, and the key that is meant is the same
+  -- 9 and 10 are as at the start, and the same key is meant
   keyed-same : (given : Given) → keyRows (r .image) given ≡ keyRowsBy h alphabet given
   unfolding keyRows
   keyed-same given =
@@ -311,8 +312,8 @@ module _ (image : List ℕ) (n a d : ℕ) (alphabet : List ℕ) (least most : �
   unfolding keyIn meantIn
   meant-same given = ap (λ (b : List ℕ). orEmpty (meantBy b given)) (at-end .same-alphabet)
 
-  -- "answers as a plain list of last values": 9 or 10 for a key that no image with this head has,
-  -- the last value for any other
+  -- "answers are those of a plain list of last values": 9 or 10 for what is no key of such an
+  -- image, else the last value
   pub run-answers : (given : Given) → lookUpOf (r .image) given
       ≡ heard (first (keyRowsBy h alphabet given)) []
       (telling (lastOf (r .plain) (orEmpty (meantBy alphabet given))))
@@ -325,11 +326,11 @@ module _ (image : List ℕ) (n a d : ℕ) (alphabet : List ℕ) (least most : �
       ∙ ap₂ (λ (rows : List Row) (k : List ℕ). heard (first rows) []
       (telling (lastOf (r .plain) k))) (keyed-same given) (meant-same given)
 
-  -- "The sum of these from a fresh image equals the number of keys stored now", and that is the
-  -- number that is told
+  -- "The sum of these from a fresh image equals the number of keys stored now"
   pub run-sums : r .sum ≡ pos (length (storedKeys (r .image)))
   run-sums = at-end .sums
 
+  -- and number of keys answers that sum
   pub run-counts : (work : List ℕ) → headOf (r .image) .g + 1 ≤ length work
       → (m : ℕ) × (pos m ≡ r .sum)
       × (countOf (r .image) work ≡ outcome (doneNumbers 0 (pos 0) m)

@@ -1,9 +1,6 @@
--- Demand 3, "A run of calls from a fresh image answers as a plain list of last values"; 01, "The
--- sum of these from a fresh image equals the number of keys stored now". A run is any list of
--- calls on one image, each on what the one before left; the listed stores and mending are 02's,
--- Ask 1, and the calls with counts its Ask 7: each is lent any list of counts, right or not.
--- Beside it goes a plain list: a store that was done adds its key and value in front, and nothing
--- else changes the list.
+-- Demand 3, "After any run of such calls on a fresh image, answers are those of a plain list of
+-- last values"; 01, "The sum of these from a fresh image equals the number of keys stored now":
+-- runs of calls, and the plain list beside a run.
 use Prim.Native.Nat.{ℕ}
 use mathlib.Core.Bool.{Bool, true, false, _&&_, cond}
 use mathlib.Core.List.{List, [], _∷_}
@@ -16,19 +13,22 @@ use Rattle.paper.specs.Calls.{freshImage, checkOf, countOf, lookUpOf, storeOf, 
 use Rattle.paper.specs.Calls.{mendOf, nextKeyOf}
 use Rattle.position.specs.Calls.{countsOf, checkCountsOf, storeCountsOf, keyAtOf, positionOf}
 
--- ---- the plain list
+-- ---- the plain list: a store that is done adds its key and value at the front, and no other
+-- call changes it
 
+-- are two keys equal?
 unfoldable pub sameKey : List ℕ → List ℕ → Bool
 sameKey [] [] = true
 sameKey [] (y ∷ m) = false
 sameKey (x ∷ k) [] = false
 sameKey (x ∷ k) (y ∷ m) = eqb x y && sameKey k m
 
+-- a key and a value that was stored under it
 pub record Entry : Type 0 where
   pub key : List ℕ
   pub value : ℕ
 
--- the last value that was stored under a key, 0 for none
+-- "last values": the value that was stored last under a key, 0 where there is none
 unfoldable pub lastOf : List Entry → List ℕ → ℕ
 unfolding sameKey
 lastOf [] k = 0
@@ -36,8 +36,8 @@ lastOf (e ∷ plain) k = cond (sameKey (e .key) k) (e .value) (lastOf plain k)
 
 -- ---- the calls
 
--- a call on an image that is there, with what it is given and lent; `tally` is a lent list of
--- counts
+-- a call on an image, with what it is given and lent; stores with writes and mending (02, Ask 1)
+-- and the calls with counts (Ask 7) too. `tally` is any list of counts, right or wrong.
 pub data Call : Type 0 where
   check : (work : List ℕ) → Call
   count : (work : List ℕ) → Call
@@ -52,7 +52,7 @@ pub data Call : Type 0 where
   keyAt : (work tally : List ℕ) (at : ℕ) (buffer : List ℕ) → Call
   position : (work tally : List ℕ) (given : Given) → Call
 
--- what it answers and leaves, in this image
+-- the outcome of a call on this image
 unfoldable pub heardOf : List ℕ → Call → Outcome
 unfolding checkOf countOf lookUpOf storeOf storeWritesOf mendOf nextKeyOf countsOf checkCountsOf
     storeCountsOf keyAtOf positionOf
@@ -69,12 +69,12 @@ heardOf l (storeCounts work given value tally) = storeCountsOf l work given valu
 heardOf l (keyAt work tally at buffer) = keyAtOf l work tally at buffer
 heardOf l (position work tally given) = positionOf l work tally given
 
--- the first of the buffers that a call leaves: for a store and for a mending, the image
+-- the first of the buffers that a call leaves: for stores and mending, the image
 unfoldable pub firstLeft : List (List ℕ) → List ℕ
 firstLeft [] = []
 firstLeft (l ∷ rest) = l
 
--- the image after a call: only a store and a mending are lent it to write
+-- the image after a call: only stores and mending may write it
 unfoldable pub imageAfter : List ℕ → Call → List ℕ
 unfolding firstLeft heardOf
 imageAfter l (store work given value) = firstLeft (heardOf l (store work given value) .lent)
@@ -92,12 +92,12 @@ imageAfter l (checkCounts work tally) = l
 imageAfter l (keyAt work tally at buffer) = l
 imageAfter l (position work tally given) = l
 
--- the plain list after a store that left this outcome: one that answers number 0 is noted
+-- the plain list after a store with this outcome: a store that answers number 0 is added
 unfoldable pub plainBy : Outcome → List ℕ → ℕ → List Entry → List Entry
 plainBy o key value plain =
     cond (eqb (o .numbers .number) 0) (record { key = key; value = value } ∷ plain) plain
 
--- and after any call on this image
+-- the plain list after any call on this image
 unfoldable pub plainAfter : List ℕ → Call → List Entry → List Entry
 unfolding plainBy heardOf keyIn
 plainAfter l (store work given value) plain =
@@ -118,12 +118,14 @@ plainAfter l (position work tally given) plain = plain
 
 -- ---- a run
 
--- where a run stands: the image, the plain list, and the sum of the changes that were answered
+-- the state of a run, in which each call is made on what the call before it left: the image, the
+-- plain list, and the sum of the changes answered so far
 pub record Run : Type 0 where
   pub image : List ℕ
   pub plain : List Entry
   pub sum : ℤ
 
+-- the state after one more call
 unfoldable pub after : Run → Call → Run
 unfolding imageAfter plainAfter heardOf
 after r c =
@@ -133,15 +135,16 @@ after r c =
       sum = r .sum +ℤ heardOf (r .image) c .numbers .change;
     }
 
+-- the state after more calls, made one after the other
 unfoldable pub ran : Run → List Call → Run
 unfolding after
 ran r [] = r
 ran r (c ∷ cs) = ran (after r c) cs
 
--- from an image with nothing in it
+-- the state at the start: the plain list is empty and the sum is 0
 unfoldable pub startOf : List ℕ → Run
 startOf l = record { image = l; plain = []; sum = pos 0 }
 
--- from the fresh image of a head and an alphabet, which is what a make leaves that is done
+-- the state after these calls on the fresh image of a head and an alphabet, which make leaves
 abbrev pub ranFrom : Head → List ℕ → List ℕ → List Call → Run
 ranFrom h alphabet image cs = ran (startOf (freshImage h alphabet image)) cs

@@ -1,1 +1,1 @@
-// Runs of calls and their laws: definitions and proofs alone, no code.
+// Runs of calls on one image, as definitions and laws. The crate has no code.

@@ -1,5 +1,5 @@
--- Images that look the same answer alike, since every outcome is a function of what is seen. Bytes
--- from U on are not seen, and of the first four only the number in them.
+-- Images that look the same answer alike, since every outcome is a function of what is seen.
+-- Bytes from U on are not seen. Of the first four bytes only G, the number in them, is seen.
 use Prim.Native.Nat.{ℕ, _+_, _≤_, _<_}
 use mathlib.Core.Path.{_≡_, sym, ap, ap₂, subst, _∙_}
 use mathlib.Core.Bool.{true, not, cond}
@@ -44,11 +44,11 @@ seen-eq s t h u a n i = record { head = h i; table = u i; alphabet = a i; len = 
 
 -- ---- what looks the same
 
--- the F bytes after the fields are inside what is used
+-- the F bytes after the fields are used bytes
 pub before-used : (h : Head) → fieldsLen + h .f ≤ usedLen h
 before-used h = omega (arith, place-least h 0, used-le h 0 (omega arith))
 
--- two images have the same bytes from G's end up to a place
+-- two images have the same bytes from the end of G up to a place
 abbrev pub SameUpTo : ℕ → List ℕ → List ℕ → Type 0
 SameUpTo to a b = (p : ℕ) → totalAt + totalLen ≤ p → p < to → getD a p 0 ≡ getD b p 0
 
@@ -57,7 +57,7 @@ pub same-alphabet : (h : Head) (a b : List ℕ) → length a ≡ length b
 same-alphabet h a b n e =
     alphabet-same h a b n (λ i c. e (fieldsLen + i) (omega arith) (omega arith))
 
--- of 1 to 4 the nodes' bytes are no part
+-- 1 to 4 do not depend on the bytes of the nodes
 pub opens-same : (a b : List ℕ) → headOf a ≡ headOf b → length a ≡ length b
     → SameUpTo (fieldsLen + headOf b .f) a b → openingRowsOf a ≡ openingRowsOf b
 unfolding openingRowsOf
@@ -65,7 +65,7 @@ opens-same a b heads n e =
     ap (λ (k : Head). openingRows k (alphabetIn k a) (length a)) heads
     ∙ ap₂ (openingRows (headOf b)) (same-alphabet (headOf b) a b n e) n
 
--- where the heads are equal and the bytes after G, as far as is used
+-- images with equal heads, and with equal bytes from the end of G up to U, look the same
 pub seen-same : (a b : List ℕ) → headOf a ≡ headOf b → length a ≡ length b
     → SameUpTo (usedLen (headOf b)) a b → seenIn a ≡ seenIn b
 unfolding tableIn
@@ -77,7 +77,7 @@ seen-same a b heads n e =
     (λ p c d. e p c (omega (arith, before-used h))))
     n
 
--- where all bytes are equal, as far as is used
+-- so do images with equal bytes up to U
 pub seen-below : (a b : List ℕ) → length a ≡ length b
     → ((p : ℕ) → p < usedLen (headOf b) → getD a p 0 ≡ getD b p 0)
     → seenIn a ≡ seenIn b
@@ -85,9 +85,9 @@ seen-below a b n e =
     seen-same a b (head-same a b (λ k c. e k (omega (arith, before-used (headOf b))))) n
     (λ p _ c. e p c)
 
--- ---- it answers alike
+-- ---- what looks the same answers alike
 
--- the orders and what is left, by what is seen
+-- orders and outcomes as functions of what is seen
 abbrev opens : Seen → List Row
 opens s = openingRows (s .head) (s .alphabet) (s .len)
 
@@ -119,7 +119,7 @@ nexts s work key buffer found =
     (outcome (doneNumbers (length (orEmpty found)) (pos 0) (answer (s .table) (orEmpty found)))
     (clears s work ∷ sets buffer 0 (orEmpty found) ∷ []))
 
--- and those of the calls with counts
+-- the same for the calls with counts
 abbrev count : Seen → ℕ → ℕ
 count s q = countAt (s .table) (s .head .n) (s .head .min) (s .head .max) q
 
@@ -189,7 +189,7 @@ module _ {a b : List ℕ} (e : seenIn a ≡ seenIn b) where
         weighed = ap weighs e;
       }
 
-  -- and one is accepted where the other is
+  -- and one image is accepted where the other is
   pub same-accepted : Accepted b → Accepted a
   same-accepted x =
       let back : seenIn b ≡ seenIn a = sym e in

@@ -1,1 +1,2 @@
-// What an image shows to the calls that read it: definitions and laws alone.
+// What the calls that only read an image see of it, as definitions and laws. The crate has no
+// code.
