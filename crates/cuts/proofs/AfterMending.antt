@@ -1,6 +1,6 @@
--- Mending, for every image: what it leaves, and that no look up's answer changes by it. Where G is
--- lowered the lowered image is accepted, so that a walk in it stays among the nodes that it still
--- has; and these are as they were, so the walk goes alike before and after.
+-- Mending, for every image: what it leaves, and that it changes no lookup's answer. Where G is
+-- lowered, the image with the lower G is accepted, so a walk in it stays among the nodes that
+-- are left. These are as they were, so the walk is the same before and after.
 use Prim.Native.Nat.{ℕ, _+_, _-_, _*_, _^_, _≤_, _<_}
 use mathlib.Core.Path.{_≡_, refl, sym, ap, ap₂, subst, _∙_}
 use mathlib.Core.Bool.{Bool, true, false, cond}
@@ -41,9 +41,10 @@ use Rattle.paper.proofs.MendCall.{accepted-exactly, mend-kept, mend-lowered, Ei
 use Rattle.seen.proofs.Seen.{same-alphabet}
 use Rattle.cuts.specs.Mended.{mendedImage}
 
--- ---- either way
+-- ---- G is lowered or the image is kept
 
--- "if the check answers 8 at p, and the image with G set to p-1 is accepted"
+-- "if the check answers 8 at p, and the image with G set to p-1 is accepted": both hold where G
+-- is lowered
 lowers-tell : (l : List ℕ) (m : Numbers) → mends l m ≡ true → (m .number ≡ 8)
     × (isAccepted (putTotal l (m .place - 1)) ≡ true)
 unfolding mends
@@ -70,7 +71,7 @@ module _ (l work : List ℕ) where
       go false e = subst P (sym (mended-kept e)) kept
       go true e = subst P (sym (mended-lowered e)) (lowered e)
 
-  -- what it leaves of the image and of the working numbers
+  -- the image and the working numbers after mending
   pub mend-leaves : mendOf l work .lent ≡ mendedImage l work ∷ workAfter l work ∷ []
   mend-leaves = go (mends l numbers) refl
     where
@@ -83,7 +84,7 @@ module _ (l work : List ℕ) where
           ap (λ (o : Outcome). o .lent) (mend-lowered l work e)
           ∙ ap (λ (r : List ℕ). r ∷ workAfter l work ∷ []) (sym (mended-lowered e))
 
-  -- the image is as long as it was, and of its bytes only the four of G change
+  -- the image keeps its length, and only the four bytes of G change
   pub mend-length : length (mendedImage l work) ≡ length l
   mend-length =
       either (λ (r : List ℕ). length r ≡ length l) refl (λ _. length-total l (numbers .place - 1))
@@ -92,7 +93,7 @@ module _ (l work : List ℕ) where
   mend-four p b = either (λ (r : List ℕ). getD r p 0 ≡ getD l p 0) refl
       (λ _. total-outside l (numbers .place - 1) p b)
 
-  -- an accepted image is left as it is, with whatever working numbers
+  -- an accepted image is left as it is, however many working numbers are lent
   pub mend-accepted : Accepted l → mendedImage l work ≡ l
   mend-accepted a =
       either (λ (r : List ℕ). r ≡ l) refl
@@ -122,10 +123,11 @@ module _ (l work : List ℕ) (e : mends l (checkOf l work .numbers) ≡ true) wh
   unfolding openingRowsOf
   opened = passed h (alphabetIn h l) (length l) (told .opened)
 
-  -- every node takes a byte at least, so G is less than the image is long
+  -- the lower G is at most the old one
   below : low < h .g + 1
   below = omega (arith, told .least, told .most)
 
+  -- every node takes at least one byte, so G is below the image's length and fits 32 bits
   fits : low < 2 ^ 32
   fits =
       let long = between-true (length l) shortestImage longestImage (opened .allowed) in
@@ -157,7 +159,7 @@ module _ (l work : List ℕ) (e : mends l (checkOf l work .numbers) ≡ true) wh
   within : Within (tableIn m) low
   within = subst (λ (k : Head). Within (tableIn m) (k .g)) heads (again .links .within)
 
-  -- what is bad with the G there was is bad with the lower one
+  -- a link that is not bad with the lower G is not bad with the old one
   milder-here : (q c : ℕ) → badLink (headOf m .g) q c ≡ false → badLink (h .g) q c ≡ false
   milder-here q c f = let g : headOf m .g ≡ low = ap (λ (k : Head). k .g) heads in
       milder (headOf m .g) (h .g) q c (omega (arith, below)) f
@@ -182,7 +184,7 @@ module _ (l work : List ℕ) (e : mends l (checkOf l work .numbers) ≡ true) wh
       (fault-alike agree within (badLink (headOf m .g)) (badLink (h .g)) milder-here 0 key
       (omega arith) (unfaulted again 0 key)))
 
--- ---- no look up's answer changes: no stored key's value becomes another's
+-- ---- no lookup's answer changes
 
 pub mend-looks : (l work : List ℕ) (given : Given) → lookUpOf (mendedImage l work) given
     ≡ lookUpOf l given

@@ -1,6 +1,6 @@
--- What a caller has of a listed store: all that the store leaves, and of the lent array the
--- writes, since they are at most 66. Read back with the image after the call they are the store's
--- own.
+-- What a caller gets from a store with writes: all that the store leaves, and its writes in the
+-- list. They fit its 132 numbers, since they are at most 66. Read back with the image after the
+-- call, they are the writes of the store.
 use Prim.Native.Nat.{ℕ, zero, suc, _+_, _*_, _≤_}
 use mathlib.Core.Path.{_≡_, refl, sym, ap, _∙_}
 use mathlib.Core.Bool.{Bool, true, false, cond}
@@ -30,7 +30,7 @@ use Rattle.cuts.proofs.Noted.{read-back}
 
 -- ---- how many they are
 
--- a node for each letter of the key at most, the node total and the link
+-- at most one node for each letter of the key, G and the link
 long-writes : (h : Head) (key : List ℕ) (d : Descent) (v : ℕ)
     → ((q x : ℕ) (xs : List ℕ) → d ≡ stopped q x xs → suc (length xs) ≤ length key)
     → length (storeWrites h d v) ≤ length key + 2
@@ -55,7 +55,7 @@ few-writes {l} {key} {value} s =
         let w = where-stopped (tableIn l) 0 key e in
         omega (arith, ap length (w .key), length-append (w .path) (x ∷ xs))
 
--- ---- the array, read by its caller
+-- ---- the list of writes, read by its caller
 
 length-noted : (ws : List Write) → length (noted ws) ≡ 2 * length ws
 unfolding noted
@@ -66,8 +66,8 @@ front : (list vs : List ℕ) → length vs ≤ length list → take (length vs) 
 front list vs b = ap (take (length vs)) (sets-eq vs list 0 (omega arith)) ∙ take-append-seam vs
     (drop (0 + length vs) list)
 
--- the writes that the first entries of the array and the image after the call tell are those of
--- the store
+-- what a caller reads back from the first entries of the list and from the image after the call
+-- are the writes of the store
 pub had-writes : {l key : List ℕ} {value : ℕ} → Granted l key value → (list : List ℕ)
     → mostNoted ≤ length list
     → readBack (storedImage l key value)
@@ -82,7 +82,7 @@ had-writes {l} {key} {value} s list b =
 
 -- ---- the calls
 
--- the store's own number
+-- the number of the answer is the store's
 same-number : (ws : List Write) (list : List ℕ) (o : Outcome)
     → withWrites ws list o .numbers .number ≡ o .numbers .number
 unfolding withWrites doneNumbers
@@ -105,6 +105,7 @@ module _ (l work : List ℕ) (given : Given) (value : ℕ) (list : List ℕ) whe
   unfolding storeWritesOf
   store-writes-number = same-number (writesIn l key value) list (storeOf l work given value)
 
+  -- what a store with writes answers and leaves where the store is done
   pub store-writes-leaves : storeOf l work given value .numbers .number ≡ 0
       → storeWritesOf l work given value list
       ≡ outcome (doneNumbers (length (writesIn l key value))

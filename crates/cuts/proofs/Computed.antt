@@ -1,8 +1,8 @@
--- P7's store of 01, CCC = 1 in 55 bytes after P3, cut behind each of its writes, computed: what is
--- left, where of the write that was hit the bytes at odd places would land, and what mending makes
--- of it. The bytes of G and of the link stand at odd places too. Then mending where no store was
--- cut: P10's image, P8's, and one whose 8 is not mended, since the link to node 2 would lead above
--- G.
+-- P7's store, CCC = 1 in 55 bytes after P3, cut before, between and after its five writes,
+-- computed: what the cut leaves, and what mending leaves then. Of a write to spare bytes that is
+-- hit, the bytes at odd places land; G and the link have such bytes too, but land whole or not
+-- at all. Then mending where no store was cut: P10's image, P8's, and one whose 8 is not mended,
+-- since with the lower G the link to node 2 is above G.
 use Prim.Native.Nat.{ℕ, _%_}
 use mathlib.Core.Path.{_≡_, refl}
 use mathlib.Core.Bool.{Bool, cond}
@@ -21,14 +21,14 @@ use Rattle.cuts.specs.Mended.{mendedImage, readBack}
 abbrev odd : ℕ → Bool
 odd p = eqb (p % 2) 1
 
--- the image after P3 with these 12 bytes behind it
+-- the image after P3, followed by these 12 spare bytes
 abbrev after : List ℕ → List ℕ
 after spare = file 2 (0 ∷ 1 ∷ 0 ∷ 0 ∷ 2 ∷ 0 ∷ 0 ∷ 5 ∷ 0 ∷ 0 ∷ 0 ∷ 9 ∷ spare) 0
 
 abbrev before : List ℕ
 before = file 2 (0 ∷ 1 ∷ 0 ∷ 0 ∷ 2 ∷ 0 ∷ 0 ∷ 5 ∷ 0 ∷ 0 ∷ 0 ∷ 9 ∷ []) 12
 
--- what it is with three more nodes, with the link or without it
+-- the image with three more nodes, this G, and this link for C in the root
 abbrev grown : ℕ → ℕ → List ℕ
 grown g link =
     file g (0 ∷ 1 ∷ link ∷ 0 ∷ 2 ∷ 0 ∷ 0 ∷ 5 ∷ 0 ∷ 0 ∷ 0 ∷ 9 ∷ 0 ∷ 0 ∷ 4 ∷ 0 ∷ 0 ∷ 0 ∷ 5 ∷ 0 ∷ 0
@@ -67,7 +67,7 @@ unfolding row1 row2 row3 row4 row6 row7 row8 cutAfter mendedImage mendOf storedI
     storeWrites tableIn
 computed = (refl, refl, refl, refl, refl)
 
--- with three working numbers
+-- three working numbers
 abbrev three : List ℕ
 three = 7 ∷ 7 ∷ 7 ∷ []
 

@@ -1,8 +1,7 @@
 -- 02, Ask 1: "After a cut anywhere, a mending call with enough working numbers must leave the
--- answers from before the store or after it." A cut among the new nodes has changed spare bytes
--- alone. Once G has landed and the link has not, the first new node is the only one that stands in
--- no link; the check answers 8 there, and G lowered to the address before it is the G that was.
--- Else all has landed.
+-- answers from before the store or after it." A cut among the new nodes has changed only spare
+-- bytes. Once G has landed and the link has not, the first new node is the only one that stands in
+-- no link: the check answers 8 there, and p-1 is the old G. After the last write all has landed.
 use Prim.Native.Nat.{ℕ, zero, suc, _+_, _-_, _^_, _≤_, _<_}
 use mathlib.Core.Path.{_≡_, refl, sym, ap, ap₂, subst, _∙_}
 use mathlib.Core.Bool.{Bool, true, false, _&&_}
@@ -56,7 +55,7 @@ use Rattle.seen.proofs.Seen.{before-used, opens-same, seen-same, seen-below, sa
 use Rattle.seen.proofs.Seen.{same-accepted}
 use Rattle.cuts.proofs.OneLinkShort.{check-unlinked}
 
--- ---- an image that looks as an accepted one does
+-- ---- an image that looks as an accepted one does is kept
 
 module _ (a work m : List ℕ) (same : seenIn a ≡ seenIn m) (accepted : Accepted m)
     (lent : headOf a .g + 1 ≤ length work) where
@@ -67,7 +66,7 @@ module _ (a work m : List ℕ) (same : seenIn a ≡ seenIn m) (accepted : Accept
       (heard-done (first (checkOrder a work)) _ _
       (accepted-checks a work (same-accepted same accepted) lent))
 
-  -- it is left as it is
+  -- mending leaves it as it is
   pub mends-kept : MendsTo a work m
   unfolding mends doneNumbers
   mends-kept =
@@ -88,9 +87,9 @@ unfolding mends
 lowers l m n p e =
     ap₂ _&&_ (eq-eqb (m .number) 8 n) (ap (λ (g : ℕ). isAccepted (putTotal l g)) p ∙ e)
 
--- ---- a write that was hit, and was none to spare bytes
+-- ---- the cut hits a write that is not to spare bytes
 
--- mending what was left answers 0 and leaves the answers from before
+-- mending what the cut left answers 0 and leaves the answers from before the store
 abbrev Before : List ℕ → List ℕ → List ℕ → Type 0
 Before l work r = headOf r .g + 1 ≤ length work → MendsTo r work l
 
@@ -100,9 +99,9 @@ not-landed : {l : List ℕ} (lands : ℕ → Bool) (work r : List ℕ) (w : Writ
 not-landed {l} lands work r w a same b lent =
     mends-kept (hit lands r w) work l (ap seenIn (hit-none lands r w b) ∙ same) a lent
 
--- ---- new nodes, of which no link tells yet
+-- ---- new nodes to which no link leads yet
 
--- they are written to spare bytes
+-- they are written at the place of the first one or after it
 pub nodes-from : (h : Head) (q : ℕ) (ys : List ℕ) (v : ℕ)
     → From (nodePlace h q) (newNodes h q ys v)
 unfolding newNodes
@@ -156,7 +155,7 @@ module _ {l key : List ℕ} {v : ℕ} (s : Granted l key (suc v)) {q x : ℕ} {x
   after-g : (p : ℕ) → totalAt + totalLen ≤ p → p < usedLen h → getD counted p 0 ≡ getD l p 0
   after-g p a b = total-outside begun total p a ∙ carried-before p l nodes (spare p b)
 
-  -- with G lowered again it looks as the image did
+  -- with G lowered again the image looks as before the store
   lowered : seenIn (putTotal counted g) ≡ seenIn l
   lowered =
       seen-same (putTotal counted g) l
@@ -223,7 +222,7 @@ module _ {l key : List ℕ} {v : ℕ} (s : Granted l key (suc v)) {q x : ℕ} {x
       (λ p low high. rw last (sym (getD-outside counted bs at p 0 (inl (omega (arith, far)))))))
       ∙ accepted-opens a
 
-  -- ---- the image between the two writes that tell of the nodes
+  -- ---- between the write of G and the write of the link
 
   eight : (work : List ℕ) → headOf counted .g + 1 ≤ length work → checkOf counted work .numbers
       ≡ refusedNumbers (said 8 (suc g))
@@ -249,7 +248,7 @@ module _ {l key : List ℕ} {v : ℕ} (s : Granted l key (suc v)) {q x : ℕ} {x
         answers = same-answers lowered;
       }
 
-  -- ---- a cut behind the nodes
+  -- ---- a cut after the nodes
 
   looks-begun : seenIn begun ≡ seenIn l
   looks-begun =
@@ -277,7 +276,7 @@ module _ {l key : List ℕ} {v : ℕ} (s : Granted l key (suc v)) {q x : ℕ} {x
       (mends-lowered work)
   cut-later lands work (suc (suc j)) b = absurd (omega arith)
 
-  -- ---- a cut among them or behind them
+  -- ---- a cut among the nodes or after them
 
   cut-new : (lands : ℕ → Bool) (work : List ℕ) (k : ℕ)
       → k < length (storeWrites (headOf l) (stopped q x xs) (suc v))
@@ -330,7 +329,7 @@ none-written h q x xs k b = omega arith
 
 module _ {l key : List ℕ} {value : ℕ} (s : Granted l key value) (k : ℕ) (lands : ℕ → Bool)
     (work : List ℕ) where
-  -- before the last write landed: the answers from before the store
+  -- before the last write has landed: the answers from before the store
   pub cut-before : k < length (writesIn l key value)
       → headOf (cutAfter k lands l (writesIn l key value)) .g + 1 ≤ length work
       → MendsTo (cutAfter k lands l (writesIn l key value)) work l
@@ -343,7 +342,7 @@ module _ {l key : List ℕ} {value : ℕ} (s : Granted l key value) (k : ℕ) (l
       go (stopped q x xs) zero e t b = absurd (none-written (headOf l) q x xs k b)
       go (stopped q x xs) (suc v) e t b = cut-new t e lands work k b
 
-  -- after it: those from after the store
+  -- once it has landed: those from after the store
   pub cut-after : length (writesIn l key value) ≤ k
       → headOf (cutAfter k lands l (writesIn l key value)) .g + 1 ≤ length work
       → MendsTo (cutAfter k lands l (writesIn l key value)) work (storedImage l key value)
@@ -351,9 +350,9 @@ module _ {l key : List ℕ} {value : ℕ} (s : Granted l key value) (k : ℕ) (l
   cut-after b = mends-kept _ work _ (ap seenIn (cut-whole k lands l (writesIn l key value) b))
       (accepted-again s)
 
--- ---- by the calls, whose numbers tell that the store is done
+-- ---- for a store whose answer is done
 
--- either way
+-- "the answers from before the store or after it", wherever the cut is and whatever lands
 abbrev pub Mended : List ℕ → List ℕ → ℕ → Type 0
 Mended l key value =
     (k : ℕ) (lands : ℕ → Bool) (work : List ℕ)

@@ -1,6 +1,6 @@
--- 02, Ask 1: "The list carried out whole gives the bytes of 01's store." And from those bytes and
--- the list of places and lengths a caller has the writes again: no two of them meet, since a new
--- node meets no other node, nor the four bytes of G, nor a link of an older node.
+-- 02, Ask 1: "The list carried out whole gives the bytes of 01's store." From these bytes and
+-- the list of places and lengths a caller recovers the writes: no two of them go to one byte,
+-- since a new node shares no byte with another node, with G or with a link of an older node.
 use Prim.Native.Nat.{ℕ, zero, suc, _+_, _≤_}
 use mathlib.Core.Path.{_≡_, refl, ap}
 use mathlib.Core.Logic.{inl, inr}
@@ -28,13 +28,13 @@ use Rattle.cuts.specs.Mended.{readBack}
 use Rattle.cuts.proofs.WriteLists.{From, Misses, Laid, read-laid}
 use Rattle.cuts.proofs.Cuts.{nodes-from}
 
--- whether the store is granted or not
+-- whether the store is granted or not, by definition
 pub whole : (l key : List ℕ) (value : ℕ) → carriedOut l (writesIn l key value)
     ≡ storedImage l key value
 unfolding storedImage
 whole l key value = refl
 
--- ---- new nodes, and writes to what lies before them
+-- ---- new nodes, and writes before them
 
 -- every write of a list ends before a place
 abbrev Until : ℕ → List Write → Type 0
@@ -50,7 +50,7 @@ misses at n [] [] f t = tt
 misses at n [] (w ∷ ws) f t = (inl (t .0), misses at n [] ws f (t .1))
 misses at n (u ∷ us) ws f t = (inr (f .0), misses at n us ws (f .1) t)
 
--- the next node begins where a node ends
+-- a node begins where the one before it ends
 next-place : (h : Head) (q : ℕ) → nodePlace h (suc q) ≡ nodePlace h q + nodeWidth h
 next-place h q = omega (arith, ap (nodePlace h) (add-one q), place-add h q 1)
 

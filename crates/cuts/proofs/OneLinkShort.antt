@@ -1,5 +1,5 @@
--- An image that wants one link, and is accepted with it: the check answers 8 at the address of
--- that link.
+-- An image that lacks one link and would be accepted with it: the check answers 8 at the address
+-- that the link would hold.
 use Prim.Native.Nat.{ℕ, _+_, _≤_}
 use mathlib.Core.Path.{_≡_, _∙_, ap}
 use mathlib.Core.Option.{none}

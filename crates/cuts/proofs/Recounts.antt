@@ -1,6 +1,7 @@
--- 02, Ask 7, after Ask 1: counts stand beside the image, so a cut and a mending may leave them
--- wrong. In any accepted image working out makes the list right again; a mending that answers 0
--- leaves an accepted image, and after a cut in a store it answers 0.
+-- 02, Ask 7: "A call of its own works them out, as after a mending of Ask 1". A cut and mending
+-- may leave the counts wrong, since they are beside the image. In any accepted image working out
+-- makes them right; mending that answers 0 leaves such an image, and after a cut in a store it
+-- answers 0.
 use Prim.Native.Nat.{ℕ, _+_, _≤_, _<_}
 use mathlib.Core.Path.{_≡_, ap}
 use mathlib.Core.Bool.{Bool}
@@ -25,7 +26,7 @@ use Rattle.cuts.proofs.AfterMending.{mend-zero}
 
 -- ---- right again
 
--- the counts were worked out, the list that was left is right, and a check with it answers 0
+-- the counts are worked out, the list that is left is right, and the check with counts answers 0
 pub record Recounted (l work counts work₂ : List ℕ) : Type 0 where
   pub done : countsOf l work counts .numbers .number ≡ 0
   pub leaves : countsOf l work counts ≡ outcome (doneNumbers 0 (pos 0) 0)
@@ -33,7 +34,7 @@ pub record Recounted (l work counts work₂ : List ℕ) : Type 0 where
   pub right : RightCounts l (worked l counts)
   pub checked : checkCountsOf l work₂ (worked l counts) .numbers .number ≡ 0
 
--- whatever the lists hold, where they are long enough
+-- so it is for any lists that are long enough
 abbrev pub Recounts : List ℕ → Type 0
 Recounts l =
     (work counts work₂ : List ℕ) → headOf l .g + 1 ≤ length work → headOf l .g + 1 ≤ length counts
@@ -58,7 +59,7 @@ mend-recounts l work z = accepted-recounts (mend-zero l work z)
 
 -- ---- after a store that was cut anywhere and mended
 
--- with working numbers enough for what the cut left
+-- with enough working numbers for the image that the cut left
 abbrev pub RecountsAfter : List ℕ → List ℕ → ℕ → Type 0
 RecountsAfter l key value =
     (k : ℕ) (lands : ℕ → Bool) (work : List ℕ)
@@ -85,7 +86,7 @@ module _ (l work : List ℕ) (given : Given) (value : ℕ) where
       → RecountsAfter l (keyIn l given) value
   cut-recounts z = mended-recounts l (keyIn l given) value (cut-store l work given value z)
 
-  -- a store with counts is cut and mended as the plain one
+  -- a store with counts is cut and mended as the plain store is
   pub cut-store-counts : (counts : List ℕ)
       → storeCountsOf l work given value counts .numbers .number ≡ 0
       → Mended l (keyIn l given) value

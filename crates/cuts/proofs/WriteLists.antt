@@ -1,6 +1,6 @@
--- Lists of writes, carried out in part and in whole. A write changes the bytes it goes to and no
--- other, torn or not, so what lies before all writes stays; and where no two writes meet, each has
--- left its bytes in the image that is left.
+-- Lists of writes, carried out in part or whole. A write changes only the bytes that it goes to,
+-- in part or whole, so bytes before all writes stay. Where no two writes go to one byte, each
+-- leaves its bytes in the image after the last.
 use Prim.Native.Nat.{ℕ, zero, suc, _+_, _≤_, _<_}
 use mathlib.Core.Path.{_≡_, refl, ap, ap₂, _∙_}
 use mathlib.Core.Logic.{_⊎_, inl, inr, ⊎-elim}
@@ -47,7 +47,7 @@ length-cut zero lands l (w ∷ ws) = length-hit lands l w
 length-cut (suc k) lands l (w ∷ ws) =
     length-cut k lands (sets l (w .place) (w .bytes)) ws ∙ length-sets l (w .place) (w .bytes)
 
--- ---- what lies before all writes stays
+-- ---- bytes before all writes stay
 
 -- every write of a list begins at a place or after it
 abbrev pub From : ℕ → List Write → Type 0
@@ -89,7 +89,7 @@ module _ (p : ℕ) where
       go true = torn-before lands l (w .place) (w .bytes) h
       go false = refl
 
-  -- a cut among the first of the writes
+  -- a cut among the first writes
   pub cut-before-all : (k : ℕ) (lands : ℕ → Bool) (l : List ℕ) (us ws : List Write)
       → From (suc p) us → k < length us
       → getD (cutAfter k lands l (us ++ ws)) p 0 ≡ getD l p 0
@@ -100,7 +100,7 @@ module _ (p : ℕ) where
       cut-before-all k lands (sets l (u .place) (u .bytes)) us ws (f .1) (omega arith)
       ∙ getD-outside l (u .bytes) (u .place) p 0 (inl (f .0))
 
--- ---- a cut after the first of the writes, and after all
+-- ---- a cut after the first writes, and after all
 
 pub cut-append : (j : ℕ) (lands : ℕ → Bool) (l : List ℕ) (us ws : List Write)
     → cutAfter (length us + j) lands l (us ++ ws) ≡ cutAfter j lands (carriedOut l us) ws
@@ -118,13 +118,13 @@ cut-whole zero lands l (w ∷ ws) h = absurd (omega arith)
 cut-whole (suc k) lands l (w ∷ ws) h =
     cut-whole k lands (sets l (w .place) (w .bytes)) ws (omega arith)
 
--- a write that does not go to spare bytes, where it was hit, has not landed
+-- a write that does not go to spare bytes does not land where the cut hits it
 pub hit-none : (lands : ℕ → Bool) (l : List ℕ) (w : Write) → w .place < usedLen (headOf l)
     → hit lands l w ≡ l
 unfolding hit
 hit-none lands l w h = rw (lt-leb (usedLen (headOf l)) (w .place) h)
 
--- ---- what each write has left
+-- ---- what each write leaves
 
 -- no write of a list goes to one of the n bytes from a place on
 abbrev pub Misses : ℕ → ℕ → List Write → Type 0
@@ -146,7 +146,7 @@ missed l (w ∷ ws) at n i m h =
     ∙ getD-outside l (w .bytes) (w .place) (at + i) 0
     (⊎-elim (λ b. inr (omega arith)) (λ b. inl (omega arith)) (m .0))
 
--- the bytes of the first write are in the image after all
+-- the bytes of the first write are in the image after all writes
 first-left : (l : List ℕ) (w : Write) (ws : List Write) → w .place + length (w .bytes) ≤ length l
     → Misses (w .place) (length (w .bytes)) ws
     → take (length (w .bytes)) (drop (w .place) (carriedOut (sets l (w .place) (w .bytes)) ws))

@@ -1,5 +1,5 @@
 -- 02, Ask 1: "a mending call with enough working numbers must leave the answers from before the
--- store or after it".
+-- store or after it". What mending leaves, and what a caller knows of the writes.
 use Prim.Native.Nat.{ℕ, _-_}
 use mathlib.Core.Path.{_≡_}
 use mathlib.Core.Bool.{cond}
@@ -13,21 +13,21 @@ use Rattle.paper.specs.Accepted.{Accepted}
 use Rattle.paper.specs.Calls.{workAfter, checkOf, mends, mendOf}
 use Rattle.seen.specs.Seen.{SameAnswers}
 
--- mending an image answers 0 and leaves an accepted one that answers as another does
+-- mending the image l answers 0 and leaves an accepted image that answers as m does
 pub record MendsTo (l work m : List ℕ) : Type 0 where
   pub image : List ℕ
   pub heard : mendOf l work ≡ outcome (doneNumbers 0 (pos 0) 0) (image ∷ workAfter l work ∷ [])
   pub accepted : Accepted image
   pub answers : SameAnswers image m
 
--- the image that mending leaves, whatever it answers
+-- the image that mending leaves, done or refused
 unfoldable pub mendedImage : List ℕ → List ℕ → List ℕ
 unfolding mends checkOf
 mendedImage l work =
     cond (mends l (checkOf l work .numbers)) (putTotal l (checkOf l work .numbers .place - 1)) l
 
--- The bytes of a write are those of the image after the call: the writes that a caller has from
--- the list and the image
+-- the writes that a caller recovers from the list of writes and the image after the call: the
+-- bytes of a write are those that the image has at its place
 unfoldable pub readBack : List ℕ → List ℕ → List Write
 readBack after [] = []
 readBack after (place ∷ []) = []

@@ -1,1 +1,2 @@
-// A cut between two writes, and what mending makes of it: definitions and proofs alone, no code.
+// A cut between two writes of a store, and what mending leaves, as definitions and laws. The
+// crate has no code.
