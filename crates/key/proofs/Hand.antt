@@ -1,5 +1,5 @@
--- The key in hand of a list of letters holds it: its front is the list where the array is long
--- enough, and zeros fill the rest. All by going down the array.
+-- The key in hand of a list of letters holds the list: the list is the front of the array where
+-- it fits, and zeros fill the rest. Each law follows the array from its front.
 use Prim.Native.Nat.{ℕ, zero, suc, _+_, _≤_, _<_, min}
 use mathlib.Core.Path.{_≡_, refl, sym, _∙_, ap}
 use mathlib.Core.Bool.{Bool, true, false}
@@ -38,7 +38,7 @@ padded-more (suc w) [] x h = refl
 padded-more (suc w) (y ∷ k) x h =
     ap (λ (l : List ℕ). y ∷ l) (padded-more w k x (le-of-suc-le-suc h))
 
--- and where there is none
+-- one letter more, where there is no room for it
 pub padded-full : (w : ℕ) (k : List ℕ) (x : ℕ) → w ≤ length k
     → padded w k ≡ padded w (k ++ (x ∷ []))
 unfolding padded
@@ -54,7 +54,7 @@ padded-take zero k = refl
 padded-take (suc w) [] = refl
 padded-take (suc w) (x ∷ k) = ap (λ (l : List ℕ). x ∷ l) (padded-take w k)
 
--- ---- letters copied one after the other
+-- ---- the loop that copies letters
 
 pub copy-more : (w : ℕ) (l kept : List ℕ) (i : ℕ) → i < length l → i < w
     → kept ≡ padded w (take i l)
@@ -66,7 +66,7 @@ copy-more w l kept i h k e =
     ∙ padded-more w (take i l) (getD l i 0) (omega arith)
     ∙ ap (padded w) (sym (take-suc l i 0 h) ∙ ap (λ (j : ℕ). take j l) (sym (add-one i)))
 
--- as many as there are, and as the array can hold
+-- all letters, or as many as the array can hold
 pub copy-all : (w : ℕ) (l : List ℕ) (i : ℕ) → i ≡ min (length l) w → padded w (take i l)
     ≡ padded w l
 copy-all w l i e = go (leb (length l) w) refl
@@ -89,7 +89,7 @@ module _ (hand : Key) (w : length (hand .letters) ≡ mostLetters) (s : hand .le
     pub letters-count : length (lettersOf hand) ≡ hand .len
     letters-count = length-take-le (hand .len) (hand .letters) (omega arith)
 
-    -- those from the i-th on
+    -- the letters from the i-th on
     pub letters-from : (i : ℕ) → i < hand .len → drop i (lettersOf hand) ≡ getD (hand .letters) i 0
         ∷ drop (suc i) (lettersOf hand)
     letters-from i h =

@@ -1,6 +1,6 @@
--- 9 and 10, row by row, of a key in hand: a key whose length is allowed is at most max, and no max
--- is above what is held, so all of it is held. What neither refuses is ready for a walk: its
--- letters are those of the array, and all below N.
+-- 9 and 10, row by row, for a key in hand. A key whose length is allowed has at most max
+-- letters, and max is at most 64, so the key is held whole. A key that passes is ready for a
+-- walk: its letters are those of the array, and all are below N.
 use Prim.Native.Nat.{ℕ, zero, suc, _≤_, _<_}
 use mathlib.Core.Path.{_≡_, refl, sym, _∙_, ap}
 use mathlib.Core.Bool.{Bool, true, false, not, true≢false, and-false}
@@ -30,34 +30,35 @@ use Rattle.key.specs.declared.Typed.{Typed}
 use Rattle.key.specs.Hand.{inHand, Holds, typedAs, lettersOf, Ready}
 use Rattle.key.proofs.Hand.{hand-holds}
 
--- the letters of a key in hand that is not too long
+-- the letters of a key that is held whole are those of the array
 pub held : {hand : Key} {k : List ℕ} → Holds hand k → hand .len ≤ mostLetters → lettersOf hand ≡ k
 held {hand} {k} o h = rw (o .len) (o .letters (rw (o .len) at h))
 
--- a key whose length is allowed can be held
+-- a key whose length is allowed is held whole
 pub short : (h : Head) {len : ℕ} → permitted h ≡ true → between len (h .min) (h .max) ≡ true
     → len ≤ mostLetters
 short h {len} p b =
     let m = bounds h p in let u = between-true len (h .min) (h .max) b in omega arith
 
--- 10, by the letters of such a key
+-- 10, by the letters of a key that is held whole
 pub ten-by : (h : Head) {hand : Key} {k : List ℕ} {b : Bool} → Holds hand k
     → hand .len ≤ mostLetters → allBelow (h .n) (lettersOf hand) ≡ b
     → row10 h k ≡ rowWhen 10 0 (not b)
 unfolding row10
 ten-by h o l e = ap (λ (t : Bool). rowWhen 10 0 (not t)) (rw (held o l) at e)
 
--- ---- 9 by a test of the length, then 10, of a key given by its letters
+-- ---- 9 by a test of the length, then 10, for a key by its letters
 
 alone : (r : Row) → first (r ∷ []) ≡ r
 unfolding first
 alone none = refl
 alone (some s) = refl
 
--- the test of a key, and the test of the key from which the next one is sought
+-- the test of 9
 abbrev pub outside : Head → ℕ → Bool
 outside h len = not (between len (h .min) (h .max))
 
+-- the test of 9 for next key
 abbrev pub longer : Head → ℕ → Bool
 longer h len = ltb (h .max) len
 
@@ -70,20 +71,20 @@ module _ (h : Head) (test : ℕ → Bool) {hand : Key} {k : List ℕ} (o : Holds
       → first (rowWhen 9 0 (test (length k)) ∷ row10 h k ∷ []) ≡ row10 h k
   ten-decides e = no-row 9 0 _ (sym (ap test (o .len)) ∙ e) ∙ alone (row10 h k)
 
--- ---- 10, then 9, of a key given by its text
+-- ---- 10, then 9, for a key by its text
 
 -- a text that names no key
 pub text-10 : (h : Head) → first (textRows h none) ≡ some (said 10 0)
 unfolding textRows row10text isNone
 text-10 h = yes-row 10 0 _ refl
 
--- one that names a key: 9 by its length
+-- a text that names a key: 9 by the key's length
 text-by : (h : Head) (k : List ℕ) {b : Bool} → between (length k) (h .min) (h .max) ≡ b
     → first (textRows h (some k)) ≡ rowWhen 9 0 (not b)
 unfolding textRows row10text isNone row9 orEmpty
 text-by h k e = no-row 10 0 _ refl ∙ alone _ ∙ ap (λ (t : Bool). rowWhen 9 0 (not t)) e
 
--- the same of a typed key
+-- the same for the key in hand of a text
 module _ (h : Head) (t : Typed) where
   pub typed-10 : (named : Option (List ℕ)) → t ≡ typedAs named → t .named ≡ false
       → first (textRows h named) ≡ some (said 10 0)
@@ -100,7 +101,7 @@ module _ (h : Head) (t : Typed) where
       sym f ∙ ap (λ (r : Typed). r .named) e in absurd (true≢false z)
   typed-by (some k) e f b = text-by h k (rw (ap (λ (r : Typed). r .key .len) e) at b)
 
--- ---- the letters looked through one after the other
+-- ---- the loop over the letters
 
 pub below-none : (n : ℕ) (l : List ℕ) → allBelow n (take 0 l) ≡ true
 unfolding allBelow
@@ -133,7 +134,7 @@ ready h {hand} {k} o s l =
     let e = held o fits in
     (record { short = fits; letters = rw e l }, e)
 
--- of the two rows of a key given by its letters, neither is given
+-- where neither 9 nor 10 is given for letters
 neither : (h : Head) (k : List ℕ) {test : Bool} → first (rowWhen 9 0 test ∷ row10 h k ∷ []) ≡ none
     → (test ≡ false) × LettersBelow (h .n) k
 unfolding row10
@@ -156,7 +157,7 @@ module _ (h : Head) {hand : Key} {k : List ℕ} (p : permitted h ≡ true) (o : 
       let r = ready h o (omega (arith, bounds h p)) (u .1) in
       (r .0, r .1, rw (o .len) most)
 
--- a text that names no key does not pass, and the length of one that does is allowed
+-- a text that passes names a key, whose length is allowed
 text-passing : (h : Head) (named : Option (List ℕ)) → first (textRows h named) ≡ none
     → (k : List ℕ) × (named ≡ some k) × (between (length k) (h .min) (h .max) ≡ true)
 unfolding textRows row10text isNone row9 orEmpty
@@ -166,7 +167,7 @@ text-passing h (some k) e =
     let v = passed-row _ _ (u .1) in
     (k, refl, not-false _ (was-false 9 0 _ (v .0)))
 
--- the same of a text, whose letters are those of an alphabet of at most N
+-- the same for a text, whose letters are those of an alphabet of at most N letters
 pub typed-ready : (h : Head) (t : Typed) (alphabet text : List ℕ) {named : Option (List ℕ)}
     → permitted h ≡ true → t ≡ typedAs named
     → named ≡ keyOfText alphabet text → length alphabet ≤ h .n → first (textRows h named) ≡ none

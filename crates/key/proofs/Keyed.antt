@@ -1,6 +1,6 @@
--- A key in hand, judged against the head of an image that 1 to 4 have passed: what its verdict
--- says of the rows for the key, and what the key is where it passed them, for every call that
--- takes a key. The letters and the text differ in how the key in hand was made.
+-- A key in hand, judged by the head of an image that has passed 1 to 4, for every call that
+-- takes a key: the verdict is that of 9 and 10, and a key that passes is the one that is meant.
+-- Letters and text differ only in how the key in hand is made.
 use Prim.Native.Nat.{ℕ, _≤_}
 use mathlib.Core.Path.{_≡_, refl, sym, ap}
 use mathlib.Core.Option.{Option, some}
@@ -23,7 +23,7 @@ use Rattle.key.specs.Hand.{inHand, Holds, typedAs, lettersOf, Ready}
 use Rattle.key.proofs.Hand.{hand-holds}
 use Rattle.key.proofs.Judging.{letters-ready, typed-ready}
 
--- The verdict on a key's rows and, where it passed them, the key in hand.
+-- the verdict on 9 and 10 and, where they pass, the key in hand
 pub record Keyed (l : List ℕ) (h : Head) (given : Given) (hand : Key) (v : Verdict) : Type 0 where
   pub told : rowOf v ≡ first (keyRows l given)
   pub ready : v ≡ Verdict.Passed → Ready h hand
@@ -47,7 +47,7 @@ module _ {l : List ℕ} {h : Head} (b : Known l h) where
       same = λ f. hand-ready f .1;
     }
 
-  -- with the alphabet's letters decoded
+  -- for a text, with the alphabet's letters decoded
   module _ {codes : List ℕ} (decoded : codes ≡ letters (alphabetIn (headOf l) l)) (text : List ℕ)
       {t : Typed} (v : Verdict)
       (made : t ≡ typedAs (keyOfText codes text))

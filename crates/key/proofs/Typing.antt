@@ -1,5 +1,5 @@
--- A text typed letter by letter: the letters so far are those of the characters passed, and the
--- array holds as many of them as it can.
+-- The loop over a text: the letters so far are those of the characters read, and the array holds
+-- as many of them as it can.
 use Prim.Native.Nat.{ℕ, _+_, _≤_, _<_}
 use mathlib.Core.Path.{_≡_, refl, sym, _∙_, ap}
 use mathlib.Core.Logic.{_≢_}
@@ -52,7 +52,7 @@ module _ {alphabet text kept : List ℕ} {len at : ℕ} (t : Typing alphabet tex
         count = longer x;
       }
 
-  -- and counted alone where there is none
+  -- one letter more, counted but not kept where there is no room
   pub typing-past : {n x : ℕ} → n ≡ charLen text at → n ≢ 0
       → x ≡ letterOf alphabet (charAt text at) → x < length alphabet → mostLetters ≤ len
       → Typing alphabet text kept (len + 1) (at + n)

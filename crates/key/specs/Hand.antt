@@ -1,5 +1,5 @@
 -- 01, "Walking, storing, listing": "A key in hand is up to 64 letter numbers together with its
--- length." A key that is longer cannot be held whole; its length is, and no max reaches it.
+-- length." Of a longer key the first 64 letters are held, and a length that is above every max.
 use Prim.Native.Nat.{ℕ, zero, suc, _≤_}
 use mathlib.Core.Path.{_≡_}
 use mathlib.Core.Bool.{true, false}
@@ -12,24 +12,24 @@ use Rattle.head.specs.Fields.{mostLetters}
 use Rattle.key.specs.declared.Key.{Key}
 use Rattle.key.specs.declared.Typed.{Typed}
 
--- the first w letters of a key, and zeros where it has fewer
+-- the first w letters of a key, followed by zeros where it has fewer
 unfoldable pub padded : ℕ → List ℕ → List ℕ
 padded zero k = []
 padded (suc w) [] = 0 ∷ padded w []
 padded (suc w) (x ∷ k) = x ∷ padded w k
 
--- the key in hand with these letters: as many of them as are held, and how many there are
+-- the key in hand with these letters: as many of them as are held, and their number
 unfoldable pub inHand : List ℕ → Key
 unfolding padded
 inHand k = record { letters = padded mostLetters k; len = length k }
 
--- The key in hand holds this key: its length and, where they can be held, its letters. What stands
--- in the array after them is not judged.
+-- the key in hand holds this key: its length and, if they can be held, its letters; what the
+-- array has after them is not judged
 pub record Holds (hand : Key) (k : List ℕ) : Type 0 where
   pub len : hand .len ≡ length k
   pub letters : length k ≤ mostLetters → take (length k) (hand .letters) ≡ k
 
--- a text as a key in hand, and whether it names a key at all
+-- what a text names: no key, or this one
 unfoldable pub typedAs : Option (List ℕ) → Typed
 unfolding inHand
 typedAs none = record { named = false; key = inHand [] }
@@ -39,7 +39,7 @@ typedAs (some k) = record { named = true; key = inHand k }
 abbrev pub lettersOf : Key → List ℕ
 lettersOf hand = take (hand .len) (hand .letters)
 
--- what a key in hand is when 9 and 10 have passed: no longer than any max, of letters below N
+-- a key in hand, once 9 and 10 have passed: it is held whole, and its letters are below N
 pub record Ready (h : Head) (hand : Key) : Type 0 where
   pub short : hand .len ≤ mostLetters
   pub letters : LettersBelow (h .n) (lettersOf hand)

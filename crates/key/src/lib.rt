@@ -1,5 +1,6 @@
-// A key in hand, from letters and from text, and what is said against it: 9 and 10. A text is read
-// to its end however long it is, since one bad character far behind the sixty-fourth is still 10.
+// 01: "A key in hand is up to 64 letter numbers together with its length." It is made from
+// letters or from text, and judged by 9 and 10. A text is read to its end, since a bad character
+// after the sixty-fourth letter is still 10.
 ghost use mathlib.Core.Path.{_≡_};
 ghost use mathlib.Core.Bool.{true};
 ghost use mathlib.Core.Option.{Option, none};
@@ -18,18 +19,22 @@ use head::Head;
 use paper::Refusal;
 use paper::Verdict;
 
-// How many letters a key in hand holds: as many as any max allows.
+// How many letters a key in hand holds: the greatest max that is permitted.
 const HELD: usize = Head::MAX_MOST as usize;
 
-// Letters past `len` are never judged; a `len` above what is held is longer than any key may be.
+// A key in hand.
 pub struct Key {
+    // The first letters of the key; those from `len` on are never judged.
     pub letters: [u8; HELD],
+    // The length of the key. A key longer than 64 is not held whole, and is refused with 9.
     pub len: usize,
 }
 
-// What a text names: no key, or this one.
+// What a text names.
 pub struct Typed {
+    // Does the text name a key?
     pub named: bool,
+    // The key that it names, else the empty key.
     pub key: Key,
 }
 
@@ -55,7 +60,7 @@ impl Key {
         }
     }
 
-    // 9, then 10, of a key given by its letters.
+    // Judges a key by its letters. Refusals: 9, 10.
     pub fn judge(self, h: Head) -> Verdict
         requires { ⌜ permitted h ≡ true ⌝ }
         ensures { λ r. ⌜ ((k : List ℕ) → Holds self k → rowOf r ≡ first (lettersRows h k)) ⌝ }
@@ -67,8 +72,7 @@ impl Key {
         self.spelled(h)
     }
 
-    // 9, then 10, of the key from which the next one is sought: here only a key longer than max is
-    // 9.
+    // Judges the key given to next key. Refusals: 9 only for a key longer than max, 10.
     pub fn judge_next(self, h: Head) -> Verdict
         requires { ⌜ permitted h ≡ true ⌝ }
         ensures { λ r. ⌜ ((k : List ℕ) → Holds self k → rowOf r ≡ first (nextRows h k)) ⌝ }
@@ -79,7 +83,7 @@ impl Key {
         self.spelled(h)
     }
 
-    // 10, of a key that is not too long.
+    // Judges the letters of a key that is held whole. Refusals: 10.
     fn spelled(self, h: Head) -> Verdict
         requires { ⌜ self .len ≤ mostLetters ⌝ }
         ensures { λ r. ⌜ ((k : List ℕ) → Holds self k → rowOf r ≡ row10 h k) ⌝ }
@@ -93,7 +97,7 @@ impl Key {
 }
 
 impl Typed {
-    // The key that a text names, by an alphabet whose letters are the first n codes.
+    // What a text names, where the first n codes are the letters of the alphabet.
     pub fn of(text: &[u8], codes: &[u32; Head::N_MOST as usize], n: usize) -> Typed
         requires { ⌜ n ≤ mostLinks ⌝ }
         ensures { λ r. ⌜ r ≡ typedAs
@@ -124,7 +128,7 @@ impl Typed {
         }
     }
 
-    // 10, then 9, of a key given by its text.
+    // Judges a key by its text. Refusals: 10, 9.
     pub fn judge(self, h: Head) -> Verdict
         requires { ⌜ permitted h ≡ true ⌝ }
         ensures { λ r. ⌜ ((named : Option (List ℕ)) → self ≡ typedAs named
@@ -142,14 +146,14 @@ impl Typed {
     }
 }
 
-// Is a key of so many letters within min..max?
+// Is the length of a key in min..max?
 fn length_allowed(len: usize, h: Head) -> bool
     ensures { λ r. ⌜ r ≡ between len (h .min) (h .max) ⌝ }
 {
     ((h.min as usize) <= len) & (len <= (h.max as usize))
 }
 
-// Are the first `len` letters letter numbers below n?
+// Are the first `len` letter numbers all below n?
 fn all_below(letters: [u8; HELD], len: usize, n: u32) -> bool
     requires { ⌜ len ≤ mostLetters ⌝ }
     ensures { λ r. ⌜ r ≡ allBelow n (take len letters) ⌝ }
@@ -164,7 +168,7 @@ fn all_below(letters: [u8; HELD], len: usize, n: u32) -> bool
     true
 }
 
-// What a text that names no key is.
+// The result for a text that names no key.
 fn nameless() -> Typed
     ensures { λ r. ⌜ r ≡ typedAs none ⌝ }
 {

@@ -1,4 +1,4 @@
--- What an opening that passed tells its caller.
+-- What a caller knows once an opening has passed.
 use Prim.Native.Nat.{ℕ}
 use mathlib.Core.Path.{_≡_, refl}
 use mathlib.Core.List.{List}

@@ -1,5 +1,5 @@
--- What an opening tells at each way out, from what its stages returned: a refusal that is heard,
--- or row 4 with the letters that were decoded.
+-- What an opening answers at each way out, from what its stages returned: a refusal that is
+-- given, or row 4 with the letters decoded.
 use Prim.Native.Nat.{ℕ, _+_, _-_, _≤_, _<_, min}
 use mathlib.Core.Path.{_≡_, refl, sym, _∙_, ap}
 use mathlib.Core.Bool.{Bool, true, false}
@@ -46,7 +46,7 @@ module _ (h : Head) (alphabet : List ℕ) (len : ℕ) where
         decoded = λ n w. record { count = rw (o .count) b; codes = rw (o .count) (d w) };
       }
 
-  -- the test of row 3, by what its parts are
+  -- the test of row 3, case by case
   pub plain-empty : h .f ≡ 0 → spoilt h alphabet len ≡ false
   plain-empty e = good-unspoilt h alphabet len (λ b w. absurd (omega arith))
 
@@ -73,7 +73,7 @@ opens-refused l {h} {why} {r} o e =
       decoded = λ n. let z : _≡_ {A = ℕ} 0 1 = cc in absurd (omega arith);
     }
 
--- the part of the image that was judged is its alphabet, as much of it as is there
+-- the part of the image that is judged is its alphabet, or what the image has of it
 part : (l : List ℕ) (f end : ℕ) → fieldsLen ≤ length l → end ≡ min (fieldsLen + f) (length l)
     → take (end - fieldsLen) (drop fieldsLen l) ≡ take f (drop fieldsLen l)
 part l f end h e = go (leb (fieldsLen + f) (length l)) refl

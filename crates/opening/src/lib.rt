@@ -1,5 +1,5 @@
-// An image opened: 1 to 4, each judged once, with the head and the letters of the alphabet as what
-// was learnt on the way. Neither function has a `requires`.
+// 01, "What the bench may hear", 1 to 4: an image is opened by judging them, and the answer has
+// its head and the letters of its alphabet too. No public function has a `requires`.
 ghost use mathlib.Core.Path.{_≡_};
 ghost use mathlib.Core.Bool.{true};
 ghost use Prim.Native.Nat.{_+_, min};
@@ -9,15 +9,17 @@ use head::Head;
 use paper::Refusal;
 use paper::Verdict;
 
-// The letters of the alphabet are the first `count` of the lent codes. An image whose F is 0 has
-// none, and the codes are then not touched; what they hold after a refusal is left open.
+// What opening an image answers. After a refusal `open` promises the verdict alone.
 pub struct Opened {
+    // The outcome of 1 to 4.
     pub verdict: Verdict,
+    // The image's head.
     pub head: Head,
+    // How many letters the alphabet has, 0 where F is 0. They are the first of the lent codes.
     pub count: usize,
 }
 
-// 1 to 4 of an image.
+// Opens an image. Refusals: 1, 2, 3, 4.
 pub fn open(image: &[u8], codes: &mut [u32; Head::N_MOST as usize]) -> Opened
     ensures { λ r. ⌜ Opens (now (image .entry)) r (now (codes .exit)) ⌝ }
 {
@@ -41,7 +43,7 @@ pub fn open(image: &[u8], codes: &mut [u32; Head::N_MOST as usize]) -> Opened
     judge(h, &image[Head::FIELDS_LEN..end], len, codes)
 }
 
-// 1 to 4 of a head, its alphabet and the length of the image.
+// Judges a head, its alphabet and the length of the image. Refusals: 1, 2, 3, 4.
 pub fn judge(
     h: Head,
     alphabet: &[u8],
@@ -70,7 +72,7 @@ pub fn judge(
     room(h, len, n)
 }
 
-// 4, the last of them, where 1 to 3 have passed.
+// Judges 4, once 1 to 3 have passed.
 fn room(h: Head, len: usize, count: usize) -> Opened
     requires { ⌜ permitted h ≡ true ⌝ }
     ensures { λ r. ⌜ RoomOf h len count r ⌝ }
@@ -87,7 +89,7 @@ fn room(h: Head, len: usize, count: usize) -> Opened
     }
 }
 
-// An image that is refused. It has no letters.
+// The answer for an image that is refused with 1, 2 or 3.
 fn refused(h: Head, why: Refusal) -> Opened
     ensures { λ r. ⌜ RefusedOf h why r ⌝ }
 {
@@ -98,8 +100,8 @@ fn refused(h: Head, why: Refusal) -> Opened
     }
 }
 
-// Where the alphabet ends in an image of so many bytes: after its F bytes, or where the image ends
-// before that.
+// Where the alphabet ends in an image of this length: after its F bytes, or at the end of the
+// image if that comes first.
 fn alphabet_end(h: Head, len: usize) -> usize
     ensures { λ r. ⌜ r ≡ min (fieldsLen + h .f) len ⌝ }
 {

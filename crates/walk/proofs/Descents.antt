@@ -1,5 +1,5 @@
--- The descent from node to node. One letter meets an empty link, a bad one or one to go on by, and
--- each law on a walk goes by these three (`Met`). So a walk along a key (`Walking`) keeps in step
+-- The descent, letter by letter. A letter meets an empty link, a bad link or one to follow, and
+-- each law on a walk is by these three cases (`Met`). So a walk along a key (`Walking`) agrees
 -- with the table's own descent and with its first fault.
 use Prim.Native.Nat.{ℕ, _+_, _≤_, _<_}
 use mathlib.Core.Path.{_≡_, refl, sym, _∙_, ap, subst}
@@ -47,7 +47,7 @@ module _ (g : ℕ) (t : Table) (p : Position) (x : ℕ) {c : ℕ} (e : c ≡ t .
   pub step-on : c ≢ 0 → badLink g (p .node) c ≡ false → stepOf g t p x ≡ Step.At (onTo p c)
   step-on h b = judged h ∙ rw b
 
--- what is known of the link c where one letter led so
+-- what is known of the link c, given where one letter led
 data Met (g : ℕ) (p : Position) (c : ℕ) : Step → Type 0 where
   empty : c ≡ 0 → Met g p c Step.Empty
   bad : c ≢ 0 → badLink g (p .node) c ≡ true → Met g p c (Step.Bad (p .node))
@@ -79,8 +79,8 @@ walked-more g t p x xs e = ap (λ (s : Step). stepTaken p s (λ q. walkedFrom g 
 
 -- ---- a walk along a key
 
--- The walk has come this far: from here on along the letters left it ends as the whole walk does,
--- and so do descent and fault.
+-- the walk has reached this position: along the letters left it ends as the whole walk does, and
+-- so do descent and fault
 pub record Walking (g : ℕ) (t : Table) (k : List ℕ) (here : Position) : Type 0 where
   pub same : walkedFrom g t atRoot k ≡ walkedFrom g t here (drop (here .depth) k)
   pub faults : fault (badLink g) t 0 k ≡ fault (badLink g) t (here .node) (drop (here .depth) k)
@@ -94,7 +94,7 @@ pub record Arrived (g : ℕ) (t : Table) (k : List ℕ) (q : ℕ) : Type 0 where
   pub descent : descend t 0 k ≡ complete q
   pub within : q ≤ g
 
--- the walk stopped at an empty link, the letters left being this one and the rest
+-- the walk stopped at an empty link; the letters left are this one and the rest
 pub record Halted (g : ℕ) (t : Table) (k : List ℕ) (p : Position) : Type 0 where
   pub letter : ℕ
   pub rest : List ℕ
@@ -176,7 +176,7 @@ module _ {g : ℕ} {t : Table} {k : List ℕ} {here : Position} (w : Walking g t
   unfolding stepTaken
   walking-bad o e = walk-left (sym o ∙ e)
 
-  -- one to go on by
+  -- one to follow
   onward : {next : Position} → stepOf g t here x ≡ Step.At next
       → Met g here (t .child (here .node) x) (Step.At next) → Walking g t k next
       × (next .depth ≡ here .depth + 1)
@@ -200,7 +200,7 @@ module _ {g : ℕ} {t : Table} {k : List ℕ} {here : Position} (w : Walking g t
       → Walking g t k next × (next .depth ≡ here .depth + 1)
   walking-on o e = onward (sym o ∙ e) (met g t here x (sym o ∙ e))
 
--- ---- what a walk tells
+-- ---- what is known of the end of a walk
 
 abbrev Told : ℕ → Table → List ℕ → Walked → Type 0
 Told g t k (Walked.Complete q) = Arrived g t k q
@@ -208,7 +208,7 @@ Told g t k (Walked.Stopped p) = Halted g t k p
 Told g t k (Walked.Bad q) = fault (badLink g) t 0 k ≡ some q
 
 module _ (g : ℕ) (t : Table) (k : List ℕ) where
-  -- from where letters are left, by what the next one met
+  -- where letters are left, by what the next one meets
   told-more : {here : Position} {x : ℕ} {xs : List ℕ} → Walking g t k here → drop (here .depth) k
       ≡ x ∷ xs
       → ((next : Position) → Walking g t k next → drop (next .depth) k ≡ xs
@@ -228,7 +228,7 @@ module _ (g : ℕ) (t : Table) (k : List ℕ) where
       rw (walking-end w h) (arrived w h)
   told-from (x ∷ xs) here w l = told-more w l (told-from xs) refl (met g t here x refl)
 
-  -- of the walk's result, by what it is
+  -- for each result of the walk
   module _ {o : Walked} (is : o ≡ walkedFrom g t atRoot k) where
     told : Told g t k o
     told = subst (Told g t k) (sym is) (told-from k atRoot (walking-start g t k) refl)
@@ -242,7 +242,7 @@ module _ (g : ℕ) (t : Table) (k : List ℕ) where
     pub walked-bad : {q : ℕ} → o ≡ Walked.Bad q → fault (badLink g) t 0 k ≡ some q
     walked-bad e = subst (Told g t k) e told
 
-    -- what a lookup answers then
+    -- what a lookup answers there
     pub looked-complete : {q : ℕ} → o ≡ Walked.Complete q → lookedIn g t k ≡ Looked.Value
         (t .value q)
     unfolding lookedIn lookedBy

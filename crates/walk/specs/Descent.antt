@@ -14,39 +14,40 @@ use Rattle.walk.specs.declared.Position.{Position}
 use Rattle.walk.specs.declared.Step.{Step}
 use Rattle.walk.specs.declared.Walked.{Walked}
 
+-- the position at the root
 abbrev pub atRoot : Position
 atRoot = record { node = 0; depth = 0 }
 
--- the position behind a letter whose link is c
+-- the position after a letter whose link is c
 abbrev pub onTo : Position → ℕ → Position
 onTo p c = record { node = c; depth = p .depth + 1 }
 
--- one letter, in a table whose greatest address is g
+-- where one letter leads, in a table whose greatest address is g
 unfoldable pub stepOf : ℕ → Table → Position → ℕ → Step
 unfolding follow badLink
 stepOf g t p x =
     follow (t .child (p .node) x) Step.Empty
     (λ c. cond (badLink g (p .node) c) (Step.Bad (p .node)) (Step.At (onTo p c)))
 
--- The walk behind a step: it goes on from the next position, it stops at this one, or it ends with
--- the node that holds the bad link.
+-- the walk after a step: it goes on from the next position, it stops at this one, or it ends
+-- with the node that holds the bad link
 unfoldable pub stepTaken : Position → Step → (Position → Walked) → Walked
 stepTaken p (Step.At q) on = on q
 stepTaken p Step.Empty on = Walked.Stopped p
 stepTaken p (Step.Bad q) on = Walked.Bad q
 
--- a key's letters, one after the other
+-- where the letters of a key lead, one after the other
 unfoldable pub walkedFrom : ℕ → Table → Position → List ℕ → Walked
 unfolding stepOf stepTaken
 walkedFrom g t p [] = Walked.Complete (p .node)
 walkedFrom g t p (x ∷ xs) = stepTaken p (stepOf g t p x) (λ q. walkedFrom g t q xs)
 
--- a fault on the way is 6 with its node; else the value is answered
+-- a bad link on the path is 6 at its node, else the value is answered
 unfoldable pub lookedBy : Option ℕ → ℕ → Looked
 lookedBy none v = Looked.Value v
 lookedBy (some q) v = Looked.Refused (Link q)
 
--- what a key answers by the paper's own words for it
+-- what a lookup answers, by the first bad link on the path (`fault`) and the value (`answer`)
 unfoldable pub lookedIn : ℕ → Table → List ℕ → Looked
 unfolding lookedBy fault answer badLink
 lookedIn g t k = lookedBy (fault (badLink g) t 0 k) (answer t k)

@@ -1,6 +1,6 @@
-// The descent: a position is a node and a depth, each letter gives the next position. It follows
-// the links of an image that was opened and never checked, so that each link is judged where it is
-// met; the first bad one ends the walk, with the node that holds it.
+// 01: "The descent stands at a node and a depth; each letter gives the next position." The image
+// is opened, but need not have been checked, so each link is judged where it is met: the first
+// bad one ends the walk, with the node that holds it.
 ghost use mathlib.Core.Path.{_≡_};
 ghost use Prim.Native.Nat.{_≤_, _<_};
 ghost use Rattle.head.specs.Fields.{mostLetters};
@@ -12,27 +12,34 @@ use key::Key;
 use paper::Looked;
 use paper::Refusal;
 
+// Where the descent stands: a node, and how many letters led to it.
 pub struct Position {
     pub node: u32,
     pub depth: usize,
 }
 
-// Where one letter leads: on, to an empty link, or to a bad one, which the node holds.
+// Where one letter leads.
 pub enum Step {
+    // To the next position.
     At(Position),
+    // To an empty link.
     Empty,
+    // To a bad link, which this node holds.
     Bad(u32),
 }
 
-// Where a key leads: to its own node, to a position whose link for the next letter is empty, or to
-// a node that holds a bad link.
+// Where the letters of a key lead.
 pub enum Walked {
+    // To the key's own node.
     Complete(u32),
+    // To this position, whose link for the next letter is empty.
     Stopped(Position),
+    // To a bad link, which this node holds.
     Bad(u32),
 }
 
 impl Position {
+    // Follows the link for one letter.
     pub fn step(self, image: &[u8], h: Head, mask: u32, letter: u8) -> Step
         requires { ⌜ Open h (now image) ⌝ ∗ ⌜ Masks h mask ⌝ ∗ ⌜ self .node ≤ h .g ⌝
             ∗ ⌜ letter < h .n ⌝ ∗ ⌜ self .depth < mostLetters ⌝ }
@@ -53,7 +60,7 @@ impl Position {
     }
 }
 
-// Walks from the root along a key that 9 and 10 have passed.
+// Walks from the root along a key that has passed 9 and 10.
 pub fn walk(image: &[u8], h: Head, key: Key) -> Walked
     requires { ⌜ Open h (now image) ⌝ ∗ ⌜ Ready h key ⌝ }
     ensures { λ r. ⌜ r ≡ walkedFrom (h .g) (tableOf h (now (image .entry))) atRoot
@@ -76,7 +83,8 @@ pub fn walk(image: &[u8], h: Head, key: Key) -> Walked
     Walked::Complete(here.node)
 }
 
-// What a key answers, or 6 with the node that holds the bad link on its path.
+// The value of a key, 0 for absent. Refusals: 6, at the node that holds the first bad link on
+// the key's path.
 pub fn look(image: &[u8], h: Head, key: Key) -> Looked
     requires { ⌜ Open h (now image) ⌝ ∗ ⌜ Ready h key ⌝ }
     ensures { λ r. ⌜ r ≡ lookedIn (h .g) (tableOf h (now (image .entry))) (lettersOf key) ⌝ }

@@ -1,5 +1,5 @@
--- `key::all_below` meets its contract: the letters passed are below n, and the first that is not
--- settles it. Assumes nothing.
+-- `key::all_below` meets its contract: the letters read so far are below n, and the first that
+-- is not decides. Assumes nothing.
 use Prim.Native.Nat.{_-_, _≤_}
 use mathlib.Core.Path.{_≡_, sym}
 use mathlib.Core.Bool.{true}
@@ -19,7 +19,7 @@ Inv-loop len n letters i₀ i = (i ≤ len) × (allBelow n (take i letters) ≡ 
 abbrev μ-loop : tie.MeasureT-loop
 μ-loop len n letters i₀ i = len - i
 
--- the array has as many letters as a key may
+-- the array holds as many letters as a key may have
 whole : (c : tie.Start Inv-loop μ-loop) → length (c .args .t1) ≡ mostLetters
 whole c = search needs
 

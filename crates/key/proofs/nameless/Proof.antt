@@ -1,5 +1,4 @@
--- `key::nameless` meets its contract: the empty key in hand is zeros.
--- Assumes nothing.
+-- `key::nameless` meets its contract: the empty key in hand is zeros. Assumes nothing.
 use mathlib.Core.Path.{refl}
 use Rattle.key.specs.Hand.{padded, inHand, typedAs}
 use Rattle.key.proofs.nameless.Statement.{statement}

@@ -1,5 +1,5 @@
--- `opening::judge` meets its contract: each way out is one row of the order, reached past the rows
--- before it. Assumes nothing.
+-- `opening::judge` meets its contract: each way out is one row of the order, once the rows
+-- before it have passed. Assumes nothing.
 use Prim.Native.Nat.{_≤_}
 use mathlib.Core.Path.{_≡_, sym, _∙_}
 use mathlib.Core.Bool.{true}
@@ -16,11 +16,12 @@ use Rattle.opening.proofs.Stages.{plain-good, spoilt-bad}
 use Rattle.opening.proofs.judge.Statement.{statement}
 use Rattle.opening.proofs.judge.Tie as tie
 
--- past the first test, and past the second
+-- past the first test the length is allowed
 allowed : (c : tie.Else1) → between (c .before .before .before .args .len) shortestImage
     longestImage ≡ true
 allowed c = sym (c .before .length-allowed .ensures) ∙ not-false _ (c .if1 .left)
 
+-- past the second test the head is permitted
 good-head : (c : tie.Else2) → permitted (c .before .before .before .before .before .args .h) ≡ true
 good-head c = sym (c .before .permitted .ensures) ∙ not-false _ (c .if2 .left)
 

@@ -1,5 +1,5 @@
--- `opening::open` meets its contract: an image that has its seven fields is judged by them, and
--- its alphabet is the part behind them. Assumes nothing.
+-- `opening::open` meets its contract: an image that has the seven fields is judged by them, and
+-- its alphabet is the part after them. Assumes nothing.
 use Prim.Native.Nat.{_≤_}
 use mathlib.Core.Path.{sym, _∙_}
 use native.Mathlib.Omega.{arith}

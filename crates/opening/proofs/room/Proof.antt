@@ -1,4 +1,4 @@
--- `opening::room` meets its contract: row 4 is given exactly where what is used does not fit,
+-- `opening::room` meets its contract: row 4 is given exactly where the used bytes do not fit,
 -- which is what `fits` answers. Assumes nothing.
 use mathlib.Core.Path.{refl, sym, _∙_}
 use borrow.Author.Needs.{needs}

@@ -1,5 +1,5 @@
--- `walk::walk` meets its contract: from the position reached, the walk along the letters left ends
--- as the whole walk does. Assumes nothing.
+-- `walk::walk` meets its contract: from the position reached, the walk along the letters left
+-- ends as the whole walk does. Assumes nothing.
 use Prim.Native.Nat.{suc, _+_, _-_}
 use mathlib.Core.Logic.{⊎-elim}
 use mathlib.Core.Path.{_≡_, refl, sym}
@@ -27,18 +27,18 @@ Inv-loop image h key mask letters here₀ here =
 abbrev μ-loop : tie.MeasureT-loop
 μ-loop image h key mask letters here₀ here = key .len - here .depth
 
--- a step that is neither on nor to a bad link is to an empty one
+-- a step that is neither `At` nor `Bad` is `Empty`
 is-empty : (s : Step) → OneOf (1 ∷ 2 ∷ []) (tagOf the-type s)
     → OneOf (0 ∷ 1 ∷ []) (tagOf the-type s) → s ≡ Step.Empty
 is-empty (Step.At p) a b = ⊎-elim (λ e. absurd (omega arith)) (λ e. absurd (omega arith)) a
 is-empty Step.Empty a b = refl
 is-empty (Step.Bad q) a b = ⊎-elim (λ e. absurd (omega arith)) (λ e. absurd (omega arith)) b
 
--- the array has as many letters as a key may
+-- the array holds as many letters as a key may have
 whole : (c : tie.Start Inv-loop μ-loop) → length (c .args .key .letters) ≡ mostLetters
 whole c = search needs
 
--- the letters left before the key's end
+-- the letters that are left
 left : (c : tie.Then1 Inv-loop μ-loop) →
     let here = c .before .before .before .loop .here in
     let key = c .before .before .before .before .before .before .before .args .key in
@@ -50,7 +50,7 @@ left c =
     letters-from (start .args .key) (whole start) (start .pre .1 .short) (at .loop .here .depth)
     (c .if1 .taken)
 
--- the position behind a link to go on by
+-- the position after a link to follow
 onward : (c : tie.After-known-told Inv-loop μ-loop) →
     let one = c .before .before .before in
     let at = one .before .before .before .before in

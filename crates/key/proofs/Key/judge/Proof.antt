@@ -1,4 +1,4 @@
--- `key::Key::judge` meets its contract: 9 by the length, and then 10 by the letters, all of which
+-- `key::Key::judge` meets its contract: 9 by the length, then 10 by the letters, all of which
 -- are held once the length is allowed. Assumes nothing.
 use mathlib.Core.Path.{sym, ap, _∙_}
 use mathlib.Core.Bool.{not}

@@ -1,5 +1,5 @@
--- `key::Key::judge_next` meets its contract: 9 where the key is longer than max, and then 10 by
--- the letters, all of which are held. Assumes nothing.
+-- `key::Key::judge_next` meets its contract: 9 if the key is longer than max, then 10 by the
+-- letters, all of which are held. Assumes nothing.
 use mathlib.Core.Path.{sym, _∙_}
 use native.Mathlib.Omega.{arith}
 use borrow.Author.Needs.{needs}

@@ -1,5 +1,5 @@
--- `key::Key::of` meets its contract: the letters copied so far, with zeros behind them, are the
--- array. Assumes nothing.
+-- `key::Key::of` meets its contract: the array is the letters copied so far, followed by zeros.
+-- Assumes nothing.
 use Prim.Native.Nat.{_-_, _≤_, min}
 use mathlib.Core.Logic.{⊎-elim}
 use mathlib.Core.Path.{_≡_, refl, _∙_}

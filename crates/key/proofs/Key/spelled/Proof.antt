@@ -1,5 +1,5 @@
--- `key::Key::spelled` meets its contract: a key that is not too long is held, so its letters are
--- those of the array. Assumes nothing.
+-- `key::Key::spelled` meets its contract: the key is held whole, so its letters are those of the
+-- array. Assumes nothing.
 use mathlib.Core.Path.{sym, _∙_}
 use borrow.Author.Needs.{needs}
 use borrow.Author.Tests.{not-true, not-false}

@@ -1,4 +1,4 @@
--- `key::Typed::judge` meets its contract: 10 where the text names no key, then 9 by the length of
+-- `key::Typed::judge` meets its contract: 10 if the text names no key, then 9 by the length of
 -- the key that it names. Assumes nothing.
 use mathlib.Core.Path.{sym, _∙_}
 use borrow.Author.Needs.{needs}

@@ -1,6 +1,6 @@
--- `key::Typed::of` meets its contract: the loop goes from character to character, and what is left
--- of the text decides nothing more than whether the letters so far are the key. A character takes
--- a byte at least, so the length is at most the place reached. Assumes nothing.
+-- `key::Typed::of` meets its contract: each turn reads one character and adds its letter, or
+-- stops at a character that has none. A character takes at least one byte, so the length is at
+-- most the place reached. Assumes nothing.
 use Prim.Native.Nat.{_-_, _≤_, _<_}
 use mathlib.Core.Logic.{⊎-elim}
 use mathlib.Core.Path.{_≡_, sym, _∙_, ap}
@@ -23,14 +23,14 @@ Inv-loop text codes n letters kept₀ len₀ at₀ kept len at =
 abbrev μ-loop : tie.MeasureT-loop
 μ-loop text codes n letters kept₀ len₀ at₀ kept len at = length text - at
 
--- the alphabet has as many letters as are said
+-- the alphabet has n letters
 letters : (c : tie.After-letters Inv-loop μ-loop)
     → length (take (c .before .before .args .n) (c .before .before .args .codes .now))
     ≡ c .before .before .args .n
 letters c =
     length-take-le (c .before .before .args .n) (c .before .before .args .codes .now) (omega arith)
 
--- past the first test a character stands here, whole
+-- past the first test there is a whole character here
 character-here : (c : tie.Else1 Inv-loop μ-loop)
     → Character (c .before .before .before .before .before .before .args .text .now)
     (c .before .before .before .loop .at) (c .before .quick-len .result)

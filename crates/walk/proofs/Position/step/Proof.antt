@@ -1,5 +1,5 @@
 -- `walk::Position::step` meets its contract: the link read is the table's, and it is empty, bad,
--- or one to go on by. Assumes nothing.
+-- or one to follow. Assumes nothing.
 use mathlib.Core.Path.{sym, _∙_}
 use borrow.Author.Needs.{needs}
 use Rattle.walk.proofs.Descents.{step-empty, step-bad, step-on}
