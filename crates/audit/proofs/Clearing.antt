@@ -1,6 +1,5 @@
--- The working numbers made 0 from the front, one a turn. What stands behind them is kept, so that
--- it is the same after a second clearing, whatever was counted into the first numbers between the
--- two.
+-- The working numbers are set to 0 from the front, one in each turn. Those after them are kept, so
+-- a second clearing leaves the same, whatever was counted in the first numbers between the two.
 use mathlib.Core.Path.{_≡_, refl, sym, ap, _∙_}
 use mathlib.Core.List.{List, _++_}
 use Prim.Native.Nat.{ℕ, _+_, _≤_, _<_}
@@ -36,7 +35,7 @@ module _ {work work′ : List ℕ} {n i : ℕ} (p : Filling work n work′ i) wh
       p .filled ∙ ap (λ (k : ℕ). replicate k 0 ++ drop k work) e
 
 module _ (n : ℕ) (work : List ℕ) {work′ : List ℕ} (e : work′ ≡ replicate n 0 ++ drop n work) where
-  -- what stands behind the numbers that were made 0
+  -- the numbers after those that were set to 0
   pub cleared-rest : drop n work′ ≡ drop n work
   cleared-rest = ap (drop n) e ∙ drop-at (replicate n 0) (drop n work) n (length-replicate n 0)
 

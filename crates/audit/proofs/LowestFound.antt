@@ -1,6 +1,6 @@
--- A search upwards for the lowest number that passes a test. What is sought from the number it has
--- come to is what was sought at the start, since no number passed over passes. At the end: a pass
--- over the working numbers that makes two searches needless.
+-- A search upwards for the lowest number that passes a test. From the number reached the lowest
+-- is still the same, since no number passed over passes. At the end, the loop of `all_once`,
+-- after which two searches may be left out.
 use mathlib.Core.Path.{_≡_, refl, ap, _∙_}
 use mathlib.Core.Bool.{Bool, true, false, _&&_}
 use Prim.Native.Nat.{ℕ, zero, suc, _+_, _-_, _≤_, _<_}
@@ -15,7 +15,7 @@ use Rattle.trie.specs.Lowest.{lowest}
 use Rattle.field.proofs.Range.{both}
 use Rattle.audit.specs.Audit.{AllOnce}
 
--- of the k numbers from a on those below x are passed over
+-- of the k numbers from a on, those below x are passed over
 pub record Seeking (p : ℕ → Bool) (a k x : ℕ) : Type 0 where
   pub within : x ≤ a + k
   pub same : (j : ℕ) → x + j ≡ a + k → lowest p x j ≡ lowest p a k
@@ -44,7 +44,7 @@ module _ {p : ℕ → Bool} {a k x : ℕ} (s : Seeking p a k x) where
   seeking-all {end} e h =
       let z : end ≡ x = omega (arith, s .within) in z ∙ s .same 0 (omega (arith, s .within))
 
--- tests that agree on the numbers sought among have one lowest number
+-- tests that agree on these numbers have the same lowest number
 pub lowest-same : (p r : ℕ → Bool) (a k : ℕ) → ((x : ℕ) → a ≤ x → x < a + k → p x ≡ r x)
     → lowest p a k ≡ lowest r a k
 unfolding lowest
@@ -56,7 +56,7 @@ lowest-same p r a (suc k) h =
           (λ x low high. h x (omega arith) (omega arith)),
     )
 
--- `all_once`: if the answer is yes, the working numbers from 1 on, below x, are 1
+-- the loop of `all_once`: if the answer is true, the working numbers from 1 on, below x, are 1
 pub record Sole (work : List ℕ) (once : Bool) (x : ℕ) : Type 0 where
   pub told : once ≡ true → AllOnce work x
 

@@ -1,6 +1,6 @@
--- What the two loops of the tally keep. Over a node's links: none so far is bad, and each address
--- is counted as often as it stands in them, up to 2. Over the nodes: none so far holds a bad link,
--- and the working numbers are the tally of the nodes so far.
+-- The invariants of the two loops of the tally. Over a node's links: none so far is bad, and
+-- each address is counted for each link that holds it, up to 2. Over the nodes: none so far
+-- holds a bad link, and the working numbers are the tally of the nodes so far.
 use mathlib.Core.Path.{_≡_, refl, sym, ap, _∙_}
 use mathlib.Core.Bool.{Bool, true, false, cond}
 use mathlib.Core.List.{List, _++_}
@@ -61,7 +61,7 @@ counting-room {g} {n} {t} {q} {work} {work′} {i} {c} p room good =
 
 module _ {g n : ℕ} {t : Table} {q : ℕ} {work work′ : List ℕ} {i : ℕ}
     (p : Counting g n t q work work′ i) (below : i < n) where
-  -- one more link, that is not bad, and working numbers in which it is counted
+  -- one more link that is not bad, with working numbers that count it
   one-more : {c : ℕ} {work″ : List ℕ} → c ≡ t .child q i → badLink g q c ≡ false
       → RestKept g work′ work″
       → ((x m : ℕ) → 1 ≤ x → getD work′ x 0 ≡ min 2 m → getD work″ x 0
@@ -118,7 +118,7 @@ module _ {g n : ℕ} {t : Table} {q : ℕ} {work work′ : List ℕ} {i : ℕ}
       go x m b (no s) =
           rw (ne-eqb c x s) (getD-set-other work′ c x v 0 (λ w. s (sym w)) ∙ omega arith)
 
--- ---- what a node tells
+-- ---- the result for a node
 
 module _ {h : Head} {l : List ℕ} {q : ℕ} {work work′ : List ℕ} {i : ℕ}
     (p : Counting (h .g) (h .n) (tableOf h l) q work work′ i) where
@@ -140,7 +140,7 @@ module _ {h : Head} {l : List ℕ} {q : ℕ} {work work′ : List ℕ} {i : ℕ}
         kept = p .kept;
       }
 
--- empty links are all passed over
+-- a node without links adds nothing
 pub tallied-childless : (h : Head) (l : List ℕ) (q : ℕ) (work : List ℕ)
     → ((i : ℕ) → tableOf h l .child q i ≡ 0)
     → Tallied h l q work true work

@@ -1,6 +1,6 @@
--- Which row is heard at each way out, from what the stages returned. A tally that stops at 2 is 2
--- exactly where the address stands in two links or more, and 0 exactly where it stands in none: so
--- a search in the working numbers finds the place of 7 and of 8.
+-- Which row is given at each way out, from what the stages returned. A tally that stops at 2 is
+-- 2 exactly where the address stands in two links or more, and 0 exactly where it stands in
+-- none. So a search in the working numbers finds the place of 7 and of 8.
 use mathlib.Core.Path.{_≡_, refl, sym, ap, _∙_}
 use mathlib.Core.Bool.{Bool}
 use mathlib.Core.Option.{none, some}
@@ -62,7 +62,7 @@ never m = go (ℕ-discrete m 0)
     go (yes b) = rw (eq-eqb m 0 b) (eq-eqb (min 2 m) 0 (omega arith))
     go (no b) = rw (ne-eqb m 0 b) (ne-eqb (min 2 m) 0 (λ e. omega arith))
 
--- what is found in the working numbers is the lowest address whose tally passes
+-- the address found in the working numbers is the lowest whose tally passes
 found : (t : Table) (n g v : ℕ) (work : List ℕ) (test : ℕ → Bool) {x : ℕ}
     → Tally t n g (g + 1) work → ((m : ℕ) → eqb (min 2 m) v ≡ test m)
     → FoundFrom work (g + 1) v x → x ≡ lowest (λ y. test (times t n y (g + 1))) 1 g
@@ -131,7 +131,7 @@ module _ {h : Head} {l work work′ : List ℕ} {bad : ℕ} (b : BadFrom h l wor
             kept = b .kept;
           }
 
-  -- where each address has the tally 1, the searches would find none: they need not be run
+  -- where each address has the tally 1, the searches would find none and are left out
   pub linked-once : h .g + 1 ≤ bad → AllOnce work′ (h .g + 1)
       → LinksJudged h l work Verdict.Passed work′
   linked-once high once = linked-all high (nowhere 2 (λ e. omega arith)) (omega arith)
@@ -172,10 +172,11 @@ audited-linked {h} {l} {work} enough e k f =
 
 -- ---- 1 to 4
 
--- what stands behind 1 to 4: 5 alone, by which the working numbers are left, and 5 to 8
+-- after 1 to 4: 5 alone, which decides how the working numbers are left
 abbrev fifth : List ℕ → List ℕ → List Row
 fifth l work = row5 (headOf l) (length work) ∷ []
 
+-- after 1 to 4: 5 to 8
 abbrev others : List ℕ → List ℕ → List Row
 others l work = row5 (headOf l) (length work) ∷ linkRows (headOf l) (tableOf (headOf l) l)
 
@@ -216,7 +217,7 @@ module _ {l : List ℕ} {r : Opened} {codes : List ℕ} (o : Opens l r codes) wh
           decoded = λ _. record { count = d .count; codes = d .codes };
         }
 
--- ---- what a check that passed tells its caller
+-- ---- what a caller knows once a check has passed
 
 module _ {l work : List ℕ} {r : Opened} {work′ codes : List ℕ} (o : Checked l work r work′ codes)
     (e : r .verdict ≡ Verdict.Passed) where

@@ -1,5 +1,5 @@
--- 01, "What the bench may hear", 1 to 8: what the check of an image tells and how it leaves the
--- working numbers.
+-- 01, "What the bench may hear", 1 to 8: what the check of an image answers, and how it leaves
+-- the working numbers.
 use Prim.Native.Nat.{ℕ, _+_, _-_, _≤_, _<_, min}
 use mathlib.Core.Path.{_≡_}
 use mathlib.Core.Bool.{Bool, true, false}
@@ -22,19 +22,19 @@ use Rattle.paper.specs.Calls.{clearedBy, workAfter}
 use Rattle.opening.specs.declared.Opened.{Opened}
 use Rattle.opening.specs.Opened.{Decoded}
 
--- 1 to 8 of an image, and what opening it tells where none is given
+-- 1 to 8 for an image, and its head and letters where none is given
 pub record Checked (l work : List ℕ) (r : Opened) (work′ codes : List ℕ) : Type 0 where
   pub verdict : rowOf (r .verdict) ≡ first (checkOrder l work)
   pub numbers : work′ ≡ workAfter l work
   pub head : rowOf (r .verdict) ≡ none → r .head ≡ headOf l
   pub decoded : rowOf (r .verdict) ≡ none → Decoded (alphabetIn (headOf l) l) r codes
 
--- 5 to 8 of an image that is open
+-- 5 to 8 for an opened image
 pub record Audited (h : Head) (l work : List ℕ) (r : Verdict) (work′ : List ℕ) : Type 0 where
   pub verdict : rowOf r ≡ first (row5 h (length work) ∷ linkRows h (tableOf h l))
   pub numbers : work′ ≡ clearedBy (first (row5 h (length work) ∷ [])) (h .g + 1) work
 
--- the working numbers are as many as before and, but for the first G+1, what they were
+-- the list of working numbers keeps its length, and from G+1 on what it held
 pub record RestKept (g : ℕ) (work work′ : List ℕ) : Type 0 where
   pub long : length work′ ≡ length work
   pub rest : drop (g + 1) work′ ≡ drop (g + 1) work
@@ -44,8 +44,7 @@ pub record LinksJudged (h : Head) (l work : List ℕ) (r : Verdict) (work′ : L
   pub verdict : rowOf r ≡ first (linkRows h (tableOf h l))
   pub kept : RestKept (h .g) work work′
 
--- the tally of the addresses 1 to g over the first k nodes: how often each stands in a link, and 2
--- for more
+-- the tally of the addresses 1 to g over the first k nodes: how many links hold each, up to 2
 abbrev pub Tally : Table → ℕ → ℕ → ℕ → List ℕ → Type 0
 Tally t n g k work = (x : ℕ) → 1 ≤ x → x ≤ g → getD work x 0 ≡ min 2 (times t n x k)
 
@@ -55,14 +54,14 @@ pub record BadFrom (h : Head) (l work : List ℕ) (bad : ℕ) (work′ : List �
   pub tally : h .g < bad → Tally (tableOf h l) (h .n) (h .g) (h .g + 1) work′
   pub kept : RestKept (h .g) work work′
 
--- the first i links of node q are counted: none is bad, and each address is met as often as it
--- stands in them
+-- the first i links of node q are counted: none is bad, and the tally of each address has grown
+-- by the links that hold it
 pub record LinksCounted (g : ℕ) (t : Table) (q i : ℕ) (work work′ : List ℕ) : Type 0 where
   pub good : holdsBad g t q i ≡ false
   pub met : (x m : ℕ) → 1 ≤ x → x ≤ g → getD work x 0 ≡ min 2 m
       → getD work′ x 0 ≡ min 2 (m + timesIn t x q i)
 
--- the links of a node: all counted, or one is bad
+-- the links of a node are all counted, or one is bad
 pub record Tallied (h : Head) (l : List ℕ) (q : ℕ) (work : List ℕ) (r : Bool) (work′ : List ℕ)
     : Type 0 where
   pub counted : r ≡ true → LinksCounted (h .g) (tableOf h l) q (h .n) work work′

@@ -1,6 +1,6 @@
-// The check of an image over lent working numbers: 1 to 8, in time linear in the image and with no
-// recursion, since a chain of links may be as long as the image. Working number x holds how often
-// address x has been met in a link so far, and stops at 2.
+// The check of an image over lent working numbers: 1 to 8. It takes time linear in the image and
+// does not recurse, since a chain of links may be as long as the image. Working number x counts
+// the links met so far that hold the address x, and stops at 2.
 ghost use mathlib.Core.Path.{_≡_};
 ghost use mathlib.Core.Bool.{true};
 ghost use Prim.Native.Nat.{_≤_, _+_};
@@ -14,7 +14,7 @@ use opening::Opened;
 use paper::Refusal;
 use paper::Verdict;
 
-// 1 to 8 of an image, with what opening it tells.
+// Checks an image, and answers its head and letters as opening does. Refusals: 1 to 8.
 pub fn check(image: &[u8], work: &mut [u32], codes: &mut [u32; Head::N_MOST as usize]) -> Opened
     ensures { λ r. ⌜ Checked (now (image .entry)) (now (work .entry)) r (now (work .exit))
         (now (codes .exit)) ⌝ }
@@ -34,7 +34,8 @@ pub fn check(image: &[u8], work: &mut [u32], codes: &mut [u32; Head::N_MOST as u
     }
 }
 
-// 5 to 8. The first G+1 working numbers are 0 in the end, the rest are kept; at 5 all are.
+// Judges 5 to 8. Once 5 is passed, the first G+1 working numbers are 0 when it returns, and the
+// rest keep what they held; at 5 all keep it.
 fn audit(image: &[u8], h: Head, work: &mut [u32]) -> Verdict
     requires { ⌜ Open h (now image) ⌝ }
     ensures { λ r. ⌜ Audited h (now (image .entry)) (now (work .entry)) r (now (work .exit)) ⌝ }
@@ -49,7 +50,7 @@ fn audit(image: &[u8], h: Head, work: &mut [u32]) -> Verdict
     verdict
 }
 
-// 6 to 8, over working numbers of which the first G+1 are 0.
+// Judges 6 to 8, with working numbers whose first G+1 are 0.
 fn links(image: &[u8], h: Head, work: &mut [u32]) -> Verdict
     requires { ⌜ Open h (now image) ⌝ }
     requires { ⌜ h .g + 1 ≤ length (now work) ⌝ }
@@ -76,8 +77,8 @@ fn links(image: &[u8], h: Head, work: &mut [u32]) -> Verdict
     Verdict::Passed
 }
 
-// The lowest node that holds a bad link, G+1 where none does. Then the working numbers have the
-// tally of every address from 1 on.
+// The lowest node that holds a bad link, or G+1 if none does. In that case the working numbers
+// have the tally of the addresses 1 to G.
 fn first_bad_node(image: &[u8], h: Head, work: &mut [u32]) -> usize
     requires { ⌜ Open h (now image) ⌝ }
     requires { ⌜ h .g + 1 ≤ length (now work) ⌝ }
@@ -96,9 +97,8 @@ fn first_bad_node(image: &[u8], h: Head, work: &mut [u32]) -> usize
     nodes
 }
 
-// Counts the links of node q into the working numbers and answers true, or stops at its first bad
-// link and answers false. Most nodes of a season have no links at all, and are passed over at
-// once.
+// Counts the links of node q in the working numbers and answers true, or stops at its first bad
+// link and answers false. A node that `childless` finds without links is passed over at once.
 fn tally(image: &[u8], h: Head, mask: u32, q: u32, work: &mut [u32]) -> bool
     requires { ⌜ Open h (now image) ⌝ }
     requires { ⌜ Masks h mask ⌝ }
@@ -127,9 +127,9 @@ fn tally(image: &[u8], h: Head, mask: u32, q: u32, work: &mut [u32]) -> bool
     true
 }
 
-// Are the working numbers of the addresses from 1 on, below `nodes`, all 1? Then neither 7 nor 8
-// can apply. The loop has no early exit, so that it runs over several numbers at once; "no"
-// promises nothing.
+// Are the working numbers of the addresses from 1 on, below `nodes`, all 1? If so, neither 7 nor
+// 8 can apply. The loop has no early exit, so that it can handle several numbers at once. The
+// answer false promises nothing.
 fn all_once(work: &[u32], nodes: usize) -> bool
     requires { ⌜ nodes ≤ length (now work) ⌝ }
     ensures { λ r. ⌜ (r ≡ true → AllOnce (now (work .entry)) nodes) ⌝ }
@@ -143,7 +143,7 @@ fn all_once(work: &[u32], nodes: usize) -> bool
     once
 }
 
-// The lowest address from 1 on, below `nodes`, whose working number is v; `nodes` where there is
+// The lowest address from 1 on, below `nodes`, whose working number is v; `nodes` if there is
 // none.
 fn first_holding(work: &[u32], nodes: usize, v: u32) -> usize
     requires { ⌜ 1 ≤ nodes ⌝ }

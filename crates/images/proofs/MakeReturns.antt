@@ -1,4 +1,4 @@
--- The outcome of make, at each way out: refused with the image as it was, or done with the fresh
+-- The outcome of make at each way out: refused with the slice as it was, or done with the fresh
 -- image.
 use Prim.Native.Nat.{ℕ, _<_}
 use mathlib.Core.Path.{_≡_, refl, sym, _∙_, ap}
@@ -26,7 +26,7 @@ module _ (image : List ℕ) (n a d : ℕ) (alphabet : List ℕ) (least most : �
   abbrev fresh : Head
   fresh = record { g = 0; n = n; a = a; d = d; f = length alphabet; min = least; max = most }
 
-  -- what is heard of 1 to 4
+  -- the row that 1 to 4 give
   abbrev pub heardOf : Row
   heardOf = first (openingRows fresh alphabet (length image))
 
@@ -41,7 +41,7 @@ module _ (image : List ℕ) (n a d : ℕ) (alphabet : List ℕ) (least most : �
   makes-done e f =
       ap (λ (l : List ℕ). outcome (doneNumbers 0 (pos 0) 0) (l ∷ [])) f ∙ sym (heard-done _ _ _ e)
 
-  -- an alphabet of more bytes than F may count
+  -- an alphabet that is longer than any permitted F
   pub too-many : between (length image) shortestImage longestImage ≡ true → mostAlphabet
       < length alphabet → heardOf ≡ some (said 2 0)
   too-many l b = heard-2 fresh alphabet (length image) l (go (permitted fresh) refl)

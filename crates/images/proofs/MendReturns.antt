@@ -1,5 +1,5 @@
--- The outcome of mend, at each way out: the check passed, it answered another number than 8, or
--- the trial was made and passed or was refused.
+-- The outcome of mend at each way out: the check passed, it answered another number than 8, or
+-- it answered 8 and the trial passed or was refused.
 use Prim.Native.Nat.{ℕ, _+_, _-_, _^_, _≤_, _<_}
 use mathlib.Core.Path.{_≡_, sym, _∙_, ap}
 use mathlib.Core.Bool.{false}
@@ -28,7 +28,7 @@ use Rattle.opening.specs.declared.Opened.{Opened}
 use Rattle.audit.specs.Audit.{Checked}
 use Rattle.mending.specs.Trial.{Lowers}
 
--- a refusal is known from its numbers: 8 is that of one variant alone
+-- a refusal is recovered from its numbers: 8 is the number of one variant alone
 is-not-linked : (w : Refusal) → saidOf w .number ≡ 8 → w ≡ Refusal.NotLinked (saidOf w .place)
 unfolding doneOf refusalNumbers refusedNumbers
 is-not-linked w k =
@@ -38,14 +38,14 @@ is-not-linked w k =
     (Done.Refused (Refusal.NotLinked (saidOf w .place))) in
     cc
 
--- the variants but for that one
+-- the other variants
 abbrev others : List ℕ
 others = 0 ∷ 1 ∷ 2 ∷ 3 ∷ 4 ∷ 5 ∷ 6 ∷ 8 ∷ 9 ∷ 10 ∷ 11 ∷ 12 ∷ 13 ∷ 14 ∷ 15 ∷ []
 
 pub not-eight : (w : Refusal) → OneOf others (tagOf the-type w) → saidOf w .number ≢ 8
 not-eight w o k = miss others 7 tt (rw (is-not-linked w k) at o)
 
--- another number than 8 is not mended
+-- an image whose check answers another number than 8 is not mended
 other-number : (l : List ℕ) (m : Numbers) → m .number ≢ 8 → mends l m ≡ false
 unfolding mends
 other-number l m d = rw (ne-eqb (m .number) 8 d)
@@ -66,7 +66,7 @@ module _ {l work : List ℕ} {r : Opened} {work′ codes : List ℕ} (o : Checke
     check-refused e =
         ap (λ (x : Outcome). x .numbers) (heard-refused _ _ _ (told-refused (o .verdict) e))
 
-    -- nothing changed, and the check's answer is returned
+    -- "otherwise nothing changes and the check's answer is returned"
     keeps : {m : Numbers} → checkOf l work .numbers ≡ m → mends l m ≡ false
         → Mends l work m l work′
     keeps e f =
@@ -99,7 +99,7 @@ module _ {l work : List ℕ} {r : Opened} {work′ codes : List ℕ} (o : Checke
         narrow : checkOf l work .numbers .place - 1 < 2 ^ 32
         narrow = omega (arith, same-place)
 
-        -- the trial left the working numbers as the check did
+        -- the trial leaves the working numbers as the check did
         left : work″ ≡ workAfter l work
         left = t .numbers ∙ rw (o .numbers, ← same-place) (trial-work l work is-eight narrow)
 

@@ -1,6 +1,6 @@
-// The calls that write an image as a whole: make and mend. Neither has a `requires`: any bytes and
-// numbers may be handed over. Each promises one line, that the numbers of its answer and every
-// lent buffer's last content are the outcome that documents 01 and 02 state (crate `paper`).
+// The calls make and mend. Neither has a `requires`: any bytes and numbers may be handed over.
+// Each promises that the numbers of its answer and the last content of every lent buffer are the
+// outcome that documents 01 and 02 state (crate `paper`).
 ghost use Rattle.paper.specs.Answers.{doneOf};
 ghost use Rattle.paper.specs.Promises.{Makes, Mends};
 use head::Head;
@@ -42,8 +42,8 @@ pub fn make(image: &mut [u8], n: u32, a: u32, d: u32, alphabet: &[u8], min: u32,
     }
 }
 
-// Mends an image after a cut between two writes of a store: where the check answers 8 at p, and
-// the image is accepted with G set to p-1, G is set so. Otherwise nothing changes, and the check's
+// Mends an image after a cut between two writes of a store: if the check answers 8 at p, and the
+// image with G set to p-1 is accepted, G becomes p-1. Otherwise nothing changes, and the check's
 // answer is returned. Refusals: 1 to 8.
 pub fn mend(image: &mut [u8], work: &mut [u32]) -> Done
     ensures { λ r. ⌜ Mends (now (image .entry)) (now (work .entry)) (doneOf r) (now (image .exit))

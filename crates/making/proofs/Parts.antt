@@ -1,4 +1,4 @@
--- What make writes, part after part, is the fresh image.
+-- The three writes of make, one after the other, give the fresh image.
 use Prim.Native.Nat.{ℕ, _+_}
 use mathlib.Core.Path.{_≡_, _∙_}
 use mathlib.Core.List.{List}

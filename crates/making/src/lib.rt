@@ -1,5 +1,5 @@
-// What make writes: head, alphabet and a zero root, one behind the other. A caller has judged 1 to
-// 4, so all three lie inside the image.
+// What make writes: "head, alphabet and a zero root", one after the other. The caller has judged
+// 1 to 4, so all three are inside the image.
 ghost use mathlib.Core.Path.{_≡_};
 ghost use mathlib.Core.Bool.{true};
 ghost use Prim.Native.Nat.{_≤_};
@@ -8,7 +8,7 @@ ghost use Rattle.head.specs.Fields.{permitted, usedLen};
 ghost use Rattle.paper.specs.Calls.{freshImage};
 use head::Head;
 
-// The fresh image of a head whose G is 0. Bytes from U on keep what they held.
+// Writes the fresh image of a head whose G is 0. Bytes from U on keep what they held.
 pub fn fresh(image: &mut [u8], h: Head, alphabet: &[u8])
     requires { ⌜ permitted h ≡ true ⌝ }
     requires { ⌜ h .g ≡ 0 ⌝ }

@@ -1,5 +1,5 @@
--- The trial at each way out: the image with G lowered was checked and stays, or the old G is
--- written back over the lower one.
+-- The trial at each way out: the image with the lower G passed the check and stays, or the old G
+-- is written back.
 use Prim.Native.Nat.{ℕ, _+_, _-_, _≤_}
 use mathlib.Core.Path.{_≡_, sym, _∙_}
 use mathlib.Core.Logic.{_≢_}

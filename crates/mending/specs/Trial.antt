@@ -1,5 +1,5 @@
--- 02, Ask 1: "the image with G set to p-1 is accepted". The trial checks that image; what it
--- leaves is that image or, where it is refused, the one that was there.
+-- 02, Ask 1: "the image with G set to p-1 is accepted". The trial checks that image, and leaves
+-- it if it is accepted, else the image as it was.
 use Prim.Native.Nat.{ℕ, _-_}
 use mathlib.Core.Path.{_≡_}
 use mathlib.Core.List.{List}
@@ -11,6 +11,7 @@ use Rattle.paper.specs.Answers.{rowOf}
 use Rattle.paper.specs.Orders.{checkOrder}
 use Rattle.paper.specs.Calls.{workAfter}
 
+-- the verdict of the trial, and what it leaves
 pub record Lowers (l work : List ℕ) (p : ℕ) (r : Verdict) (l′ work′ : List ℕ) : Type 0 where
   pub verdict : rowOf r ≡ first (checkOrder (putTotal l (p - 1)) work)
   pub numbers : work′ ≡ workAfter (putTotal l (p - 1)) work

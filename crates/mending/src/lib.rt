@@ -1,4 +1,4 @@
-// The trial of mending: what there would be with fewer nodes, checked whole.
+// The trial of mending (02, Ask 1): the image with a lower G is checked as a whole.
 ghost use Prim.Native.Nat.{_+_, _≤_};
 ghost use lib.ListN.{length};
 ghost use Rattle.head.specs.Fields.{totalAt, totalLen};
@@ -6,9 +6,8 @@ ghost use Rattle.mending.specs.Trial.{Lowers};
 use head::Head;
 use paper::Verdict;
 
-// Sets G to p-1 where the image is accepted then; where it is refused, the image is left as it
-// was. What is told is the trial's 1 to 8. The codes are lent for the alphabet's letters, which
-// are unused here.
+// Sets G to p-1 if the image is accepted with it; else the image is left as it was. Refusals: 1 to
+// 8, of the image with G set to p-1. The codes are lent for the letters, which are unused here.
 pub fn lower(
     image: &mut [u8],
     work: &mut [u32],

@@ -1,5 +1,5 @@
--- `audit::all_once` meets its contract: while the answer is yes, every working number passed is 1.
--- The measure is how many are left. Assumes nothing.
+-- `audit::all_once` meets its contract: while the answer is true, every working number passed is
+-- 1. The measure is how many are left. Assumes nothing.
 use Prim.Native.Nat.{_-_}
 use native.Mathlib.Omega.{arith}
 use Rattle.audit.proofs.LowestFound.{Sole, sole-none, sole-more, sole-all}

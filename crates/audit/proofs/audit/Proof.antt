@@ -1,6 +1,5 @@
--- `audit::audit` meets its contract: 5 is judged first, and what the last clearing leaves is what
--- was lent with the first numbers 0, since neither the first clearing nor the stages between touch
--- the rest. Assumes nothing.
+-- `audit::audit` meets its contract: 5 is judged first. After the last clearing the first numbers
+-- are 0 and the rest are as lent, since nothing before it changes the rest. Assumes nothing.
 use Prim.Native.Nat.{_+_}
 use native.Mathlib.Omega.{arith}
 use borrow.Author.Needs.{needs}

@@ -1,5 +1,5 @@
--- `audit::check` meets its contract: what opening tells stands where it refuses, and else 5 to 8
--- follow it. Assumes nothing.
+-- `audit::check` meets its contract: where opening refuses, its answer is the check's; else 5 to
+-- 8 follow. Assumes nothing.
 use borrow.Author.Needs.{needs}
 use Rattle.opening.proofs.Passed.{known-opened}
 use Rattle.audit.proofs.Verdicts.{checked-refused, checked-audited}

@@ -1,5 +1,5 @@
--- `audit::clear` meets its contract. A turn makes one more of the first numbers 0. The measure is
--- how many are left. Assumes nothing.
+-- `audit::clear` meets its contract: each turn sets one more of the first numbers to 0. The
+-- measure is how many are left. Assumes nothing.
 use Prim.Native.Nat.{_-_}
 use native.Mathlib.Omega.{arith}
 use Rattle.audit.proofs.Clearing.{Filling, filling-none, filling-more, filling-all}

@@ -1,6 +1,6 @@
--- `audit::first_bad_node` meets its contract. Each turn counts the links of one more node, or
--- stops at the node, which is then the lowest. The measure is how many nodes are left. Assumes
--- nothing.
+-- `audit::first_bad_node` meets its contract: each turn counts the links of one more node, or
+-- stops at a node with a bad link, which is then the lowest. The measure is how many nodes are
+-- left. Assumes nothing.
 use Prim.Native.Nat.{_-_}
 use native.Mathlib.Omega.{arith}
 use borrow.Author.Needs.{needs}

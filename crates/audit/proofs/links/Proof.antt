@@ -1,5 +1,5 @@
 -- `audit::links` meets its contract: each way out has its law, from what the search for a bad
--- link, the pass over the working numbers and the two searches in them returned. Assumes nothing.
+-- link, `all_once` and the two searches in the working numbers returned. Assumes nothing.
 use borrow.Author.Needs.{needs}
 use Rattle.audit.proofs.Verdicts.{linked-bad, linked-once, linked-twice, linked-missing}
 use Rattle.audit.proofs.Verdicts.{linked-all}

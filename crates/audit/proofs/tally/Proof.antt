@@ -1,6 +1,5 @@
--- `audit::tally` meets its contract. A node without links is counted as it stands; each turn
--- counts one more link, or stops at a bad one. The measure is how many links are left. Assumes
--- nothing.
+-- `audit::tally` meets its contract: a node without links adds nothing; else each turn counts
+-- one more link, or stops at a bad one. The measure is how many links are left. Assumes nothing.
 use mathlib.Core.Path.{sym, _∙_}
 use Prim.Native.Nat.{_-_}
 use native.Mathlib.Omega.{arith}

@@ -1,5 +1,6 @@
--- `images::make` meets its contract: 1 and the part of 2 that a 32-bit F cannot say are judged
--- here, the rest of 1 to 4 by the opening. Assumes nothing.
+-- `images::make` meets its contract: 1 is judged first, then 2 for an alphabet that is longer
+-- than any permitted F, since its length may not fit 32 bits. `opening::judge` judges the rest
+-- of 1 to 4. Assumes nothing.
 use mathlib.Core.Path.{_≡_, refl, sym, _∙_}
 use mathlib.Core.Option.{none}
 use borrow.Author.Needs.{needs}
@@ -41,7 +42,7 @@ enum-known-verdict c = search needs
 enum-told : tie.Need-enum-told
 enum-told c = search needs
 
--- in the arm where nothing was refused
+-- where nothing is refused
 unheard : (c : tie.After-enum-told)
     → let s = c .before .before .before .before .before .before .before .before .before .args in
     heardOf (s .image .now) (s .n) (s .a) (s .d) (s .alphabet .now) (s .min) (s .max) ≡ none

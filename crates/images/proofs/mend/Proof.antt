@@ -1,5 +1,5 @@
--- `images::mend` meets its contract: the check's answer, but for an 8 whose trial passed. Assumes
--- nothing.
+-- `images::mend` meets its contract: the answer is the check's, except for an 8 whose trial
+-- passed. Assumes nothing.
 use mathlib.Core.Path.{_∙_, ap}
 use native.Mathlib.Omega.{arith}
 use borrow.Author.Needs.{needs}

@@ -1,5 +1,5 @@
--- `making::fresh` meets its contract: the three parts lie one behind the other inside the image,
--- and are the fresh image. Assumes nothing.
+-- `making::fresh` meets its contract: the three parts follow one another inside the image, and
+-- are the fresh image. Assumes nothing.
 use Prim.Native.Nat.{_+_, _≤_}
 use native.Mathlib.Omega.{arith}
 use borrow.Author.Needs.{needs}
@@ -10,7 +10,7 @@ use Rattle.making.proofs.Parts.{written}
 use Rattle.making.proofs.fresh.Statement.{statement}
 use Rattle.making.proofs.fresh.Tie as tie
 
--- head, alphabet and root lie inside the image
+-- head, alphabet and root are inside the image
 inside : (c : tie.Start) → fieldsLen + length (c .args .alphabet .now) + nodeWidth (c .args .h)
     ≤ length (c .args .image .now)
 inside c = whole (c .args .h) (c .args .alphabet .now) (c .args .image .now) (c .pre .1 .0)

@@ -1,5 +1,5 @@
--- `mending::lower` meets its contract: the check is of the image with the lower G, and a refused
--- one is left as it was. Assumes nothing.
+-- `mending::lower` meets its contract: the image with the lower G is checked, and where it is
+-- refused the image is left as it was. Assumes nothing.
 use borrow.Author.Needs.{needs}
 use Rattle.mending.proofs.Trial.{trial-passed, trial-refused}
 use Rattle.mending.proofs.lower.Statement.{statement}
