@@ -143,8 +143,7 @@ fn all_once(work: &[u32], nodes: usize) -> bool
     once
 }
 
-// The lowest address from 1 on, below `nodes`, whose working number is v; `nodes` if there is
-// none.
+// The lowest address from 1 on, below `nodes`, whose working number is v; else `nodes`.
 fn first_holding(work: &[u32], nodes: usize, v: u32) -> usize
     requires { ⌜ 1 ≤ nodes ⌝ }
     requires { ⌜ nodes ≤ length (now work) ⌝ }

@@ -126,10 +126,11 @@ module _ {l key : List ℕ} {v : ℕ} (s : Granted l key (suc v)) {q x : ℕ} {x
   abbrev nodes : List Write
   nodes = newNodes h (suc g) xs (suc v)
 
-  -- the image with the nodes alone, and with G as well
+  -- the image with the new nodes
   abbrev begun : List ℕ
   begun = carriedOut l nodes
 
+  -- the image with the new nodes and the new G
   abbrev counted : List ℕ
   counted = putTotal begun total
 

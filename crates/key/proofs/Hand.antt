@@ -82,7 +82,7 @@ pub hand-holds : (k : List ℕ) → Holds (inHand k) k
 unfolding inHand
 hand-holds k = record { len = refl; letters = λ h. take-padded mostLetters k h }
 
--- ---- the letters of a key in hand that is not too long
+-- ---- the letters of a key in hand that is held whole
 
 module _ (hand : Key) (w : length (hand .letters) ≡ mostLetters) (s : hand .len ≤ mostLetters)
   where

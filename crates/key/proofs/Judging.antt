@@ -124,7 +124,7 @@ below-not n (x ∷ l) zero (suc len) k m h = rw (le-ltb x n h)
 below-not n (x ∷ l) (suc i) (suc len) k m h =
     rw (below-not n l i len (omega arith) (omega arith) h) (and-false (ltb x n))
 
--- ---- what is known of a key that 9 and 10 have passed
+-- ---- what is known of a key that has passed 9 and 10
 
 ready : (h : Head) {hand : Key} {k : List ℕ} → Holds hand k → length k ≤ mostLetters
     → LettersBelow (h .n) k

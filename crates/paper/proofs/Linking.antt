@@ -85,7 +85,7 @@ module _ (g : ℕ) (t : Table) (q : ℕ) where
       go true f = sym (holds-bad m h f) ∙ e
       go false f = refl
 
--- ---- how often an address stands in a link
+-- ---- in how many links an address stands
 
 hit : ℕ → ℕ → ℕ
 hit x c = cond (eqb c x) 1 0
@@ -193,17 +193,19 @@ module _ (number : ℕ) (test : ℕ → Bool) (a k : ℕ) where
       none-lowest test a k (ltb-false (lowest test a k) (a + k) (was-false number _ _ e))
 
 module _ (h : Head) (t : Table) where
-  -- what rows 6 to 8 test: a node holds a bad link, an address stands in two links or more, or in
-  -- none
+  -- row 6: does a node hold a bad link?
   abbrev pub holds : ℕ → Bool
   holds q = holdsBad (h .g) t q (h .n)
 
+  -- in how many links an address stands
   abbrev pub count : ℕ → ℕ
   count x = times t (h .n) x (h .g + 1)
 
+  -- row 7: does an address stand in two links or more?
   abbrev twice : ℕ → Bool
   twice x = leb 2 (count x)
 
+  -- row 8: does an address stand in no link?
   abbrev pub nowhere : ℕ → Bool
   nowhere x = eqb (count x) 0
 
@@ -232,7 +234,7 @@ module _ (h : Head) (t : Table) where
   unfolding row8
   none-row8 e x b c = eqb-false (count x) 0 (passed-lowest 8 nowhere 1 (h .g) e x b (omega arith))
 
--- ---- 6 to 8 are the rules on links: none of them is given exactly where the rules hold
+-- ---- 6 to 8 pass exactly where the rules on links hold
 
 module _ (h : Head) (t : Table) (f : Framed t (h .g) (h .n)) where
   -- a link that is not empty is one of a node up to G, for a letter below N

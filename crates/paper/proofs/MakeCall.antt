@@ -71,7 +71,7 @@ middle l a b c r =
 
 -- ---- a make that is done
 
--- what is known where make is done: the head has no node but the root, it counts the bytes of
+-- what is known where make is done: the head has no node but the root, its F is the length of
 -- this alphabet, and 1 to 4 pass
 pub record Made (h : Head) (alphabet image : List ℕ) : Type 0 where
   pub root-alone : h .g ≡ 0

@@ -324,7 +324,7 @@ module _ {l key : List ℕ} {value : ℕ} (s : Granted l key value) where
       ∙ stored-count (accepted-linked (s .accepted)) key (s .fit .below) value (headOf l .min)
       (headOf l .max) (b .0) (b .1)
 
--- ---- 11, 12 and 13: none is given exactly where value, new addresses and new nodes fit
+-- ---- 11, 12 and 13 pass exactly where the value, the new addresses and the new nodes fit
 
 -- a test "with k above 0"
 with-new : (k most x : ℕ) → ((ltb 0 k && ltb most x) ≡ false) ↔ (0 < k → x ≤ most)

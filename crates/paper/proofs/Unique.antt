@@ -1,8 +1,6 @@
--- 01, "Where the written promises must bite": "For each input, that statement leaves only one
--- possible answer and one possible content of image, key buffer and working numbers, refusals
--- too. Prove that any pair of outcomes allowed by it is equal". An answer is recovered from its
--- numbers, and an outcome is the numbers and the buffers; so one law serves all calls and all
--- forms of answer.
+-- 01, "Where the written promises must bite": "Prove that any pair of outcomes allowed by it is
+-- equal". An answer is recovered from its numbers, and an outcome is the numbers and the
+-- buffers; so one law serves all calls and all forms of answer.
 use Prim.Native.Nat.{ℕ, zero, suc}
 use mathlib.Core.Path.{_≡_, refl, sym, _∙_, ap}
 use mathlib.Core.Bool.{Bool, true, false}

@@ -27,7 +27,7 @@ unfoldable pub worked : List ℕ → List ℕ → List ℕ
 unfolding countsIn
 worked l counts = sets counts 0 (countsIn l)
 
--- counts: "A call of its own works them out"; a refusal leaves the list as it was
+-- working out the counts: "A call of its own works them out"; a refusal leaves the list as it was
 unfoldable pub countsOf : List ℕ → List ℕ → List ℕ → Outcome
 unfolding heard first countsOrder workLeft worked doneNumbers
 countsOf l work counts =

@@ -65,7 +65,7 @@ noPosition given number =
 -- the calls with counts
 abbrev pub cases : List Case
 cases =
-    -- counts: done; 5 for either list; the check's answers; never 25
+    -- working out the counts: done; 5 for either list; the check's answers; never 25
     record {
       call = countsOf file3 work (9 ∷ 9 ∷ 9 ∷ 9 ∷ []);
       leaves = done 0 (pos 0) 0 (cleared ∷ right ∷ []);

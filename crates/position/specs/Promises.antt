@@ -7,7 +7,7 @@ use Rattle.paper.specs.Hearing.{Numbers, outcome}
 use Rattle.paper.specs.Given.{Given}
 use Rattle.position.specs.Calls.{countsOf, checkCountsOf, storeCountsOf, keyAtOf, positionOf}
 
--- counts answers m and leaves these working numbers and this list of counts
+-- working out the counts answers m and leaves these working numbers and this list of counts
 abbrev pub WorksOut : List ℕ → List ℕ → List ℕ → Numbers → List ℕ → List ℕ → Type 0
 WorksOut l work counts m work′ counts′ = outcome m (work′ ∷ counts′ ∷ []) ≡ countsOf l work counts
 

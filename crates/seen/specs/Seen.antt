@@ -44,7 +44,7 @@ pub record SameAnswers (l m : List ℕ) : Type 0 where
       → nextKeyOf l work key after buffer ≡ nextKeyOf m work key after buffer
   -- the stored keys, in order
   pub lists : storedKeys l ≡ storedKeys m
-  -- counts
+  -- working out the counts
   pub workedOut : (work counts : List ℕ) → countsOf l work counts ≡ countsOf m work counts
   -- check with counts
   pub checksCounts : (work counts : List ℕ)

@@ -1,4 +1,4 @@
--- `audit::all_once` meets its contract: while the answer is true, every working number passed is
+-- `audit::all_once` meets its contract: while the answer is true, every working number read is
 -- 1. The measure is how many are left. Assumes nothing.
 use Prim.Native.Nat.{_-_}
 use native.Mathlib.Omega.{arith}
