@@ -29,8 +29,8 @@ unfoldable pub tableIn : List ℕ → Table
 unfolding tableOf headOf
 tableIn l = tableOf (headOf l) l
 
--- given the first row of 1 to 5: where it is none, the first numbers are 0 and the rest keep
--- what they held; else all keep what they held
+-- by the row that 1 to 5 give: where they pass, the first numbers are 0 and the rest keep what
+-- they held; else all keep what they held
 unfoldable pub clearedBy : Row → ℕ → List ℕ → List ℕ
 clearedBy none nodes work = replicate nodes 0 ++ drop nodes work
 clearedBy (some s) nodes work = work

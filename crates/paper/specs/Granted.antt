@@ -1,7 +1,6 @@
--- 01, "What the bench may hear", 1 to 13: what a store needs to be done, stated without the
--- rows. The image is accepted, and none of 9 to 13 applies. A store is done exactly where it has
--- this, for the key that is meant, and enough working numbers: demand 3's theorem
--- (`store-done-exactly`).
+-- 01, "What the bench may hear", 1 to 13: what a store needs to be done, stated without the rows.
+-- The image is accepted, and none of 9 to 13 applies. Demand 3's theorem (`store-done-exactly`): a
+-- store is done exactly where the key that is meant has this and enough working numbers are lent.
 use Prim.Native.Nat.{ℕ, _+_, _*_, _^_, _≤_, _<_}
 use mathlib.Core.Path.{_≡_}
 use mathlib.Core.Bool.{true}
