@@ -20,7 +20,7 @@ use Rattle.node.specs.Image.{tableOf}
 use Rattle.paper.specs.declared.Refusal.{Refusal}
 use Rattle.paper.specs.declared.Verdict.{Verdict}
 use Rattle.paper.specs.Hearing.{Row, first}
-use Rattle.paper.specs.Answers.{said, rowOf}
+use Rattle.paper.specs.Answers.{numberAt, rowOf}
 use Rattle.paper.specs.Rows.{rowWhenLowest, row5, row6, row7, row8, times}
 use Rattle.paper.specs.Orders.{openingRowsOf, linkRows, checkOrder}
 use Rattle.paper.specs.Calls.{clearedBy, workAfter}
@@ -38,7 +38,7 @@ use Rattle.audit.proofs.LowestFound.{lowest-same}
 -- ---- 6 to 8
 
 given-at : (number : ℕ) (test : ℕ → Bool) (a k : ℕ) {x : ℕ} → x ≡ lowest test a k → x < a + k
-    → rowWhenLowest number test a k ≡ some (said number x)
+    → rowWhenLowest number test a k ≡ some (numberAt number x)
 unfolding rowWhenLowest
 given-at number test a k e b = rw (← e) (is-given number _ (lt-ltb _ _ b))
 

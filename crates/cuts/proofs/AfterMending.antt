@@ -28,7 +28,7 @@ use Rattle.paper.specs.Hearing.{Row, Numbers, Outcome, first, heard}
 use Rattle.paper.specs.Given.{Given, alphabetIn, keyIn}
 use Rattle.paper.specs.Rows.{badLink}
 use Rattle.paper.specs.Orders.{openingRowsOf, keyRows}
-use Rattle.paper.specs.Calls.{tableIn, workAfter, checkOf, telling, lookUpOf, isAccepted, mends}
+use Rattle.paper.specs.Calls.{tableIn, workAfter, checkOf, telling, lookUpOf, isAccepted, canMend}
 use Rattle.paper.specs.Calls.{mendOf}
 use Rattle.paper.specs.Accepted.{Accepted}
 use Rattle.paper.proofs.Numbers.{first-says, none-heard}
@@ -45,9 +45,9 @@ use Rattle.cuts.specs.Mended.{mendedImage}
 
 -- "if the check answers 8 at p, and the image with G set to p-1 is accepted": both hold where G
 -- is lowered
-lowers-tell : (l : List ℕ) (m : Numbers) → mends l m ≡ true → (m .number ≡ 8)
+lowers-tell : (l : List ℕ) (m : Numbers) → canMend l m ≡ true → (m .number ≡ 8)
     × (isAccepted (putTotal l (m .place - 1)) ≡ true)
-unfolding mends
+unfolding canMend
 lowers-tell l m e = let b = both (eqb (m .number) 8) (isAccepted (putTotal l (m .place - 1))) e in
     (eqb-true (m .number) 8 (b .0), b .1)
 
@@ -55,27 +55,27 @@ module _ (l work : List ℕ) where
   abbrev numbers : Numbers
   numbers = checkOf l work .numbers
 
-  mended-kept : mends l numbers ≡ false → mendedImage l work ≡ l
+  mended-kept : canMend l numbers ≡ false → mendedImage l work ≡ l
   unfolding mendedImage
   mended-kept e = ap (λ (b : Bool). cond b (putTotal l (numbers .place - 1)) l) e
 
-  mended-lowered : mends l numbers ≡ true → mendedImage l work ≡ putTotal l (numbers .place - 1)
+  mended-lowered : canMend l numbers ≡ true → mendedImage l work ≡ putTotal l (numbers .place - 1)
   unfolding mendedImage
   mended-lowered e = ap (λ (b : Bool). cond b (putTotal l (numbers .place - 1)) l) e
 
   either : (P : List ℕ → Type 0) → P l
-      → (mends l numbers ≡ true → P (putTotal l (numbers .place - 1))) → P (mendedImage l work)
-  either P kept lowered = go (mends l numbers) refl
+      → (canMend l numbers ≡ true → P (putTotal l (numbers .place - 1))) → P (mendedImage l work)
+  either P kept lowered = go (canMend l numbers) refl
     where
-      go : (b : Bool) → mends l (checkOf l work .numbers) ≡ b → P (mendedImage l work)
+      go : (b : Bool) → canMend l (checkOf l work .numbers) ≡ b → P (mendedImage l work)
       go false e = subst P (sym (mended-kept e)) kept
       go true e = subst P (sym (mended-lowered e)) (lowered e)
 
   -- the image and the working numbers after mending
   pub mend-leaves : mendOf l work .lent ≡ mendedImage l work ∷ workAfter l work ∷ []
-  mend-leaves = go (mends l numbers) refl
+  mend-leaves = go (canMend l numbers) refl
     where
-      go : (b : Bool) → mends l (checkOf l work .numbers) ≡ b → mendOf l work .lent
+      go : (b : Bool) → canMend l (checkOf l work .numbers) ≡ b → mendOf l work .lent
           ≡ mendedImage l work ∷ workAfter l work ∷ []
       go false e =
           ap (λ (o : Outcome). o .lent) (mend-kept l work e)
@@ -103,7 +103,7 @@ module _ (l work : List ℕ) where
 
 -- ---- where G is lowered
 
-module _ (l work : List ℕ) (e : mends l (checkOf l work .numbers) ≡ true) where
+module _ (l work : List ℕ) (e : canMend l (checkOf l work .numbers) ≡ true) where
   abbrev h : Head
   h = headOf l
 
@@ -200,9 +200,9 @@ check-zero l work z =
 
 pub mend-zero : (l work : List ℕ) → mendOf l work .numbers .number ≡ 0
     → Accepted (mendedImage l work)
-mend-zero l work z = go (mends l (checkOf l work .numbers)) refl
+mend-zero l work z = go (canMend l (checkOf l work .numbers)) refl
   where
-    go : (b : Bool) → mends l (checkOf l work .numbers) ≡ b → Accepted (mendedImage l work)
+    go : (b : Bool) → canMend l (checkOf l work .numbers) ≡ b → Accepted (mendedImage l work)
     go false e =
         let n : checkOf l work .numbers .number ≡ 0 =
         sym (ap (λ (o : Outcome). o .numbers .number) (mend-kept l work e)) ∙ z in

@@ -11,7 +11,7 @@ use lib.Dec.{eqb}
 use lib.IntN.{pos}
 use Rattle.node.specs.Writes.{storeWrites, noted}
 use Rattle.paper.specs.Hearing.{Outcome, outcome, doneNumbers, refusedNumbers}
-use Rattle.paper.specs.Answers.{said}
+use Rattle.paper.specs.Answers.{numberAt}
 use Rattle.paper.specs.Rows.{row1, row2, row3, row4, row6, row7, row8}
 use Rattle.paper.specs.Calls.{tableIn, writesIn, storedImage, mendOf}
 use Rattle.paper.specs.Cases.{file}
@@ -81,8 +81,9 @@ abbrev blank : ℕ → List ℕ
 blank g = file g (0 ∷ 0 ∷ 0 ∷ 0 ∷ 0 ∷ 0 ∷ 0 ∷ 0 ∷ []) 0
 
 pub computed-images : (mendOf (blank 1) three ≡ done (blank 0) (0 ∷ 0 ∷ 7 ∷ []))
-    × (mendOf twice three ≡ outcome (refusedNumbers (said 7 1)) (twice ∷ (0 ∷ 0 ∷ 7 ∷ []) ∷ []))
-    × (mendOf unnamed three ≡ outcome (refusedNumbers (said 8 1))
+    × (mendOf twice three ≡ outcome (refusedNumbers (numberAt 7 1))
+    (twice ∷ (0 ∷ 0 ∷ 7 ∷ []) ∷ []))
+    × (mendOf unnamed three ≡ outcome (refusedNumbers (numberAt 8 1))
     (unnamed ∷ (0 ∷ 0 ∷ 0 ∷ []) ∷ []))
 unfolding row1 row2 row3 row4 row6 row7 row8 mendOf
 computed-images = (refl, refl, refl)

@@ -34,11 +34,11 @@ use Rattle.node.proofs.Writes.{table-link}
 use Rattle.node.proofs.Heads.{withTotal, child-kept, used-total}
 use Rattle.node.proofs.StoreOnTable.{Storable, length-carried, carried-append, new-head}
 use Rattle.paper.specs.Hearing.{Numbers, Outcome, outcome, first, refusedNumbers, doneNumbers}
-use Rattle.paper.specs.Answers.{said}
+use Rattle.paper.specs.Answers.{numberAt}
 use Rattle.paper.specs.Orders.{openingRowsOf, checkOrder}
 use Rattle.paper.specs.Given.{Given, keyIn}
 use Rattle.paper.specs.Calls.{tableIn, workAfter, checkOf, writesIn, storedImage, storeOf}
-use Rattle.paper.specs.Calls.{isAccepted, mends}
+use Rattle.paper.specs.Calls.{isAccepted, canMend}
 use Rattle.paper.specs.Accepted.{Accepted}
 use Rattle.paper.specs.Granted.{Granted}
 use Rattle.paper.proofs.Hearing.{heard-done}
@@ -68,9 +68,9 @@ module _ (a work m : List ℕ) (same : seenIn a ≡ seenIn m) (accepted : Accept
 
   -- mending leaves it as it is
   pub mends-kept : MendsTo a work m
-  unfolding mends doneNumbers
+  unfolding canMend doneNumbers
   mends-kept =
-      let still : mends a (checkOf a work .numbers) ≡ false = rw check-done in
+      let still : canMend a (checkOf a work .numbers) ≡ false = rw check-done in
       record {
         image = a;
         heard = mend-kept a work still
@@ -82,8 +82,8 @@ module _ (a work m : List ℕ) (same : seenIn a ≡ seenIn m) (accepted : Accept
 -- ---- where G is lowered
 
 lowers : (l : List ℕ) (m : Numbers) {g : ℕ} → m .number ≡ 8 → m .place - 1 ≡ g
-    → isAccepted (putTotal l g) ≡ true → mends l m ≡ true
-unfolding mends
+    → isAccepted (putTotal l g) ≡ true → canMend l m ≡ true
+unfolding canMend
 lowers l m n p e =
     ap₂ _&&_ (eq-eqb (m .number) 8 n) (ap (λ (g : ℕ). isAccepted (putTotal l g)) p ∙ e)
 
@@ -226,7 +226,7 @@ module _ {l key : List ℕ} {v : ℕ} (s : Granted l key (suc v)) {q x : ℕ} {x
   -- ---- between the write of G and the write of the link
 
   eight : (work : List ℕ) → headOf counted .g + 1 ≤ length work → checkOf counted work .numbers
-      ≡ refusedNumbers (said 8 (suc g))
+      ≡ refusedNumbers (numberAt 8 (suc g))
   eight work lent = check-unlinked counted work unlinked opened lent
 
   mends-lowered : (work : List ℕ) → headOf counted .g + 1 ≤ length work → MendsTo counted work l

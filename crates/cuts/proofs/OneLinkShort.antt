@@ -8,7 +8,7 @@ use lib.ListN.{length}
 use Rattle.head.specs.Fields.{headOf}
 use Rattle.node.proofs.Tables.{framed}
 use Rattle.paper.specs.Hearing.{Outcome, first, refusedNumbers}
-use Rattle.paper.specs.Answers.{said}
+use Rattle.paper.specs.Answers.{numberAt}
 use Rattle.paper.specs.Orders.{openingRowsOf, checkOrder}
 use Rattle.paper.specs.Calls.{tableIn, checkOf}
 use Rattle.paper.proofs.Hearing.{heard-refused}
@@ -17,7 +17,7 @@ use Rattle.paper.proofs.CheckCall.{left-6}
 
 module _ (l work : List ℕ) {q x c : ℕ} (u : Unlinked (headOf l .g) (tableIn l) q x c) where
   pub check-unlinked : first (openingRowsOf l) ≡ none → headOf l .g + 1 ≤ length work
-      → checkOf l work .numbers ≡ refusedNumbers (said 8 c)
+      → checkOf l work .numbers ≡ refusedNumbers (numberAt 8 c)
   unfolding checkOf tableIn
   check-unlinked opened lent =
       let e =

@@ -10,7 +10,7 @@ use Rattle.node.specs.Writes.{Write}
 use Rattle.head.specs.Fields.{putTotal}
 use Rattle.paper.specs.Hearing.{outcome, doneNumbers}
 use Rattle.paper.specs.Accepted.{Accepted}
-use Rattle.paper.specs.Calls.{workAfter, checkOf, mends, mendOf}
+use Rattle.paper.specs.Calls.{workAfter, checkOf, canMend, mendOf}
 use Rattle.seen.specs.Seen.{SameAnswers}
 
 -- mending the image l answers 0 and leaves an accepted image that answers as m does
@@ -22,9 +22,9 @@ pub record MendsTo (l work m : List ℕ) : Type 0 where
 
 -- the image that mending leaves, done or refused
 unfoldable pub mendedImage : List ℕ → List ℕ → List ℕ
-unfolding mends checkOf
+unfolding canMend checkOf
 mendedImage l work =
-    cond (mends l (checkOf l work .numbers)) (putTotal l (checkOf l work .numbers .place - 1)) l
+    cond (canMend l (checkOf l work .numbers)) (putTotal l (checkOf l work .numbers .place - 1)) l
 
 -- the writes that a caller recovers from the list of writes and the image after the call: the
 -- bytes of a write are those that the image has at its place

@@ -15,7 +15,7 @@ use Rattle.head.proofs.Permitted.{bounds}
 use Rattle.paper.specs.declared.Refusal.{Refusal}
 use Rattle.paper.specs.declared.Done.{Done}
 use Rattle.paper.specs.Hearing.{Row, first, outcome, doneNumbers}
-use Rattle.paper.specs.Answers.{said, saidOf, refusalNumbers, doneOf}
+use Rattle.paper.specs.Answers.{numberAt, saidOf, refusalNumbers, doneOf}
 use Rattle.paper.specs.Orders.{openingRows}
 use Rattle.paper.specs.Calls.{freshHead, freshImage, makeOf}
 use Rattle.paper.specs.Promises.{Makes}
@@ -43,7 +43,7 @@ module _ (image : List ℕ) (n a d : ℕ) (alphabet : List ℕ) (least most : �
 
   -- an alphabet that is longer than any permitted F
   pub too-many : between (length image) shortestImage longestImage ≡ true → mostAlphabet
-      < length alphabet → heardOf ≡ some (said 2 0)
+      < length alphabet → heardOf ≡ some (numberAt 2 0)
   too-many l b = heard-2 fresh alphabet (length image) l (go (permitted fresh) refl)
     where
       go : (p : Bool) → permitted fresh ≡ p → p ≡ false

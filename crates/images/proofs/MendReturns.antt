@@ -17,7 +17,7 @@ use Rattle.paper.specs.declared.Verdict.{Verdict}
 use Rattle.paper.specs.declared.Done.{Done}
 use Rattle.paper.specs.Hearing.{Numbers, Outcome, refusedNumbers, doneNumbers}
 use Rattle.paper.specs.Answers.{saidOf, refusalNumbers, doneOf}
-use Rattle.paper.specs.Calls.{workAfter, checkOf, mends}
+use Rattle.paper.specs.Calls.{workAfter, checkOf, canMend}
 use Rattle.paper.specs.Promises.{Mends}
 use Rattle.paper.proofs.Refusal.{the-type}
 use Rattle.paper.proofs.Hearing.{heard-refused, heard-done, told-refused, told-passed}
@@ -46,8 +46,8 @@ pub not-eight : (w : Refusal) → OneOf others (tagOf the-type w) → saidOf w .
 not-eight w o k = miss others 7 tt (rw (is-not-linked w k) at o)
 
 -- an image whose check answers another number than 8 is not mended
-other-number : (l : List ℕ) (m : Numbers) → m .number ≢ 8 → mends l m ≡ false
-unfolding mends
+other-number : (l : List ℕ) (m : Numbers) → m .number ≢ 8 → canMend l m ≡ false
+unfolding canMend
 other-number l m d = rw (ne-eqb (m .number) 8 d)
 
 module _ {l work : List ℕ} {r : Opened} {work′ codes : List ℕ} (o : Checked l work r work′ codes)
@@ -67,11 +67,11 @@ module _ {l work : List ℕ} {r : Opened} {work′ codes : List ℕ} (o : Checke
         ap (λ (x : Outcome). x .numbers) (heard-refused _ _ _ (told-refused (o .verdict) e))
 
     -- "otherwise nothing changes and the check's answer is returned"
-    keeps : {m : Numbers} → checkOf l work .numbers ≡ m → mends l m ≡ false
+    keeps : {m : Numbers} → checkOf l work .numbers ≡ m → canMend l m ≡ false
         → Mends l work m l work′
     keeps e f =
         rw (o .numbers, ← e)
-        (sym (mend-kept l work (ap (mends l) e ∙ f)))
+        (sym (mend-kept l work (ap (canMend l) e ∙ f)))
 
     pub mends-passed : r .verdict ≡ Verdict.Passed → Mends l work (doneOf Done.Done) l work′
     unfolding doneOf doneNumbers

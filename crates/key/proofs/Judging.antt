@@ -19,7 +19,7 @@ use Rattle.trie.specs.Table.{LettersBelow}
 use Rattle.trie.proofs.LettersBelow.{letters-at, letters-of}
 use Rattle.alphabet.specs.Letters.{orEmpty, keyOfText}
 use Rattle.paper.specs.Hearing.{Row, rowWhen, first}
-use Rattle.paper.specs.Answers.{said}
+use Rattle.paper.specs.Answers.{numberAt}
 use Rattle.paper.specs.Rows.{row9, row9next, row10, row10text, allBelow, isNone}
 use Rattle.paper.specs.Orders.{lettersRows, nextRows, textRows}
 use Rattle.paper.proofs.Hearing.{was-false, yes-row, no-row, passed-row}
@@ -64,7 +64,7 @@ longer h len = ltb (h .max) len
 
 module _ (h : Head) (test : ℕ → Bool) {hand : Key} {k : List ℕ} (o : Holds hand k) where
   pub nine-given : test (hand .len) ≡ true → first (rowWhen 9 0 (test (length k)) ∷ row10 h k ∷ [])
-      ≡ some (said 9 0)
+      ≡ some (numberAt 9 0)
   nine-given e = yes-row 9 0 _ (sym (ap test (o .len)) ∙ e)
 
   pub ten-decides : test (hand .len) ≡ false
@@ -74,7 +74,7 @@ module _ (h : Head) (test : ℕ → Bool) {hand : Key} {k : List ℕ} (o : Holds
 -- ---- 10, then 9, for a key by its text
 
 -- a text that names no key
-pub text-10 : (h : Head) → first (textRows h none) ≡ some (said 10 0)
+pub text-10 : (h : Head) → first (textRows h none) ≡ some (numberAt 10 0)
 unfolding textRows row10text isNone
 text-10 h = yes-row 10 0 _ refl
 
@@ -87,7 +87,7 @@ text-by h k e = no-row 10 0 _ refl ∙ alone _ ∙ ap (λ (t : Bool). rowWhen 9 
 -- the same for the key in hand of a text
 module _ (h : Head) (t : Typed) where
   pub typed-10 : (named : Option (List ℕ)) → t ≡ typedAs named → t .named ≡ false
-      → first (textRows h named) ≡ some (said 10 0)
+      → first (textRows h named) ≡ some (numberAt 10 0)
   unfolding typedAs
   typed-10 none e f = text-10 h
   typed-10 (some k) e f = let z : _≡_ {A = Bool} true false = ap (λ (r : Typed). r .named) (sym e)

@@ -24,7 +24,7 @@ use Rattle.trie.proofs.Unlinked.{unlinked-none}
 use Rattle.head.specs.declared.Head.{Head}
 use Rattle.alphabet.specs.Letters.{among}
 use Rattle.paper.specs.Hearing.{Said, Row, rowWhen, first}
-use Rattle.paper.specs.Answers.{said}
+use Rattle.paper.specs.Answers.{numberAt}
 use Rattle.paper.specs.Rows.{badLink, holdsBad, rowWhenLowest, row6, timesIn, times, row7}
 use Rattle.paper.specs.Rows.{row8}
 use Rattle.paper.specs.Orders.{linkRows}
@@ -399,7 +399,7 @@ module _ (h : Head) (t : Table) (f : Framed t (h .g) (h .n)) {q x c : ℕ}
       let (a, b) = inside h t f p i (omega arith) in
       omega (arith, counted t y (h .n) {q = p} {i = i} {k = h .g + 1} (omega arith) b e)
 
-  said-8 : row8 h t ≡ some (said 8 c)
+  said-8 : row8 h t ≡ some (numberAt 8 c)
   unfolding row8 rowWhenLowest
   said-8 =
       let at : lowest (nowhere h t) 1 (h .g) ≡ c =
@@ -408,7 +408,7 @@ module _ (h : Head) (t : Table) (f : Framed t (h .g) (h .n)) {q x c : ℕ}
       (λ y low high. ne-eqb (count h t y) 0 (others-counted y low high)) in
       rw at (is-given 8 c (lt-ltb c (1 + h .g) (omega (arith, u .most))))
 
-  pub unlinked-8 : first (linkRows h t) ≡ some (said 8 c)
+  pub unlinked-8 : first (linkRows h t) ≡ some (numberAt 8 c)
   unfolding linkRows
   unlinked-8 =
       first-none _ _

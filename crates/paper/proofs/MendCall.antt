@@ -24,7 +24,7 @@ use Rattle.paper.specs.Hearing.{doneNumbers}
 use Rattle.paper.specs.Rows.{row5}
 use Rattle.paper.specs.Given.{alphabetIn}
 use Rattle.paper.specs.Orders.{openingRowsOf, linkRows, checkOrder}
-use Rattle.paper.specs.Calls.{clearedBy, workAfter, checkOf, isAccepted, mends, mendBy}
+use Rattle.paper.specs.Calls.{clearedBy, workAfter, checkOf, isAccepted, canMend, mendBy}
 use Rattle.paper.specs.Calls.{mendOf}
 use Rattle.paper.specs.Accepted.{Accepted}
 use Rattle.paper.proofs.Hearing.{was-false, first-nil, no-row, second-part}
@@ -52,13 +52,13 @@ module _ (l work : List ℕ) where
       go none = refl
       go (some s) = refl
 
-  pub mend-kept : mends l (checkOf l work .numbers) ≡ false → mendOf l work
+  pub mend-kept : canMend l (checkOf l work .numbers) ≡ false → mendOf l work
       ≡ outcome (checkOf l work .numbers) (l ∷ workAfter l work ∷ [])
   unfolding mendOf mendBy
   mend-kept e =
       rw e (ap (λ (ls : List (List ℕ)). outcome (checkOf l work .numbers) (l ∷ ls)) check-lent)
 
-  pub mend-lowered : mends l (checkOf l work .numbers) ≡ true
+  pub mend-lowered : canMend l (checkOf l work .numbers) ≡ true
       → mendOf l work ≡ outcome (doneNumbers 0 (pos 0) 0)
       (putTotal l (checkOf l work .numbers .place - 1) ∷ workAfter l work ∷ [])
   unfolding mendOf mendBy
@@ -152,8 +152,8 @@ module _ (l work : List ℕ) (e : checkOf l work .numbers .number ≡ 8) where
 
   -- where the trial passes, the image with the lower G is accepted
   pub trial-mends : (w : List ℕ) → first (checkOrder (putTotal l lower) w) ≡ none
-      → mends l (checkOf l work .numbers) ≡ true
-  unfolding mends
+      → canMend l (checkOf l work .numbers) ≡ true
+  unfolding canMend
   trial-mends w f =
       rw (
         eq-eqb _ 8 e,
@@ -188,8 +188,8 @@ module _ (l work : List ℕ) (e : checkOf l work .numbers .number ≡ 8) where
 
     -- so where the trial is refused, the image with the lower G is not accepted
     pub trial-keeps : {s : Said} → first (checkOrder (putTotal l lower) (workAfter l work))
-        ≡ some s → mends l (checkOf l work .numbers) ≡ false
-    unfolding mends
+        ≡ some s → canMend l (checkOf l work .numbers) ≡ false
+    unfolding canMend
     trial-keeps {s} f = go (isAccepted (putTotal l lower)) refl
       where
         go : (b : Bool) → isAccepted (putTotal l lower) ≡ b

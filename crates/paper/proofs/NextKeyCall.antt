@@ -29,7 +29,7 @@ use Rattle.head.proofs.Places.{used, width-least}
 use Rattle.alphabet.specs.Letters.{among, orEmpty}
 use Rattle.node.proofs.Tables.{framed}
 use Rattle.paper.specs.Hearing.{Row, Outcome, first, outcome, refusedNumbers, doneNumbers}
-use Rattle.paper.specs.Answers.{said}
+use Rattle.paper.specs.Answers.{numberAt}
 use Rattle.paper.specs.Rows.{isNone, row14, row15}
 use Rattle.paper.specs.Orders.{checkOrder, nextRows, nextKeyOrder}
 use Rattle.paper.specs.Calls.{tableIn, workAfter, storedKeys, nextIn, foundIn, nextKeyOf}
@@ -124,7 +124,7 @@ module _ (l work key : List ℕ) (after : Bool) (buffer : List ℕ) where
         ∙ no-row 14 0 _ (le-ltb (length buffer) (headOf l .max) room)
 
     pub leaves-none : nextIn l key after ≡ none
-        → nextKeyOf l work key after buffer ≡ outcome (refusedNumbers (said 15 0))
+        → nextKeyOf l work key after buffer ≡ outcome (refusedNumbers (numberAt 15 0))
         (workAfter l work ∷ buffer ∷ [])
     unfolding nextKeyOf row15 isNone
     leaves-none e = rw e (heard-refused _ _ _ (left-15 none ∙ yes-row 15 0 [] refl))

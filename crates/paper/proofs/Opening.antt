@@ -17,7 +17,7 @@ use Rattle.head.specs.Fields.{fieldsLen, shortestImage, longestImage, permitted
 use Rattle.head.proofs.Places.{used-le, place-least}
 use Rattle.alphabet.specs.Letters.{among, goodAlphabet}
 use Rattle.paper.specs.Hearing.{Row, first}
-use Rattle.paper.specs.Answers.{said}
+use Rattle.paper.specs.Answers.{numberAt}
 use Rattle.paper.specs.Rows.{row1, row2, row3, row4}
 use Rattle.paper.specs.Given.{alphabetIn}
 use Rattle.paper.specs.Orders.{openingRows}
@@ -36,7 +36,7 @@ pub fits-4 : (h : Head) (len : ℕ) → leb (usedLen h) len ≡ true → row4 h 
 unfolding row4
 fits-4 h len e = not-given 4 0 (le-ltb len (usedLen h) (leb-true (usedLen h) len e))
 
-pub heard-4 : (h : Head) (len : ℕ) → leb (usedLen h) len ≡ false → row4 h len ≡ some (said 4 0)
+pub heard-4 : (h : Head) (len : ℕ) → leb (usedLen h) len ≡ false → row4 h len ≡ some (numberAt 4 0)
 unfolding row4
 heard-4 h len e = is-given 4 0 (lt-ltb len (usedLen h) (leb-false (usedLen h) len e))
 
@@ -46,17 +46,17 @@ module _ (h : Head) (alphabet : List ℕ) (len : ℕ) where
   spoilt = ltb 0 (h .f) && eqb (length alphabet) (h .f) && not (goodAlphabet (h .n) alphabet)
 
   pub heard-1 : between len shortestImage longestImage ≡ false → first (openingRows h alphabet len)
-      ≡ some (said 1 0)
+      ≡ some (numberAt 1 0)
   unfolding openingRows row1
   heard-1 e = yes-row 1 0 _ (unfalse e)
 
   pub heard-2 : between len shortestImage longestImage ≡ true → permitted h ≡ false
-      → first (openingRows h alphabet len) ≡ some (said 2 0)
+      → first (openingRows h alphabet len) ≡ some (numberAt 2 0)
   unfolding openingRows row1 row2
   heard-2 e p = no-row 1 0 _ (untrue e) ∙ yes-row 2 0 _ (unfalse p)
 
   pub heard-3 : between len shortestImage longestImage ≡ true → permitted h ≡ true → spoilt ≡ true
-      → first (openingRows h alphabet len) ≡ some (said 3 0)
+      → first (openingRows h alphabet len) ≡ some (numberAt 3 0)
   unfolding openingRows row1 row2 row3
   heard-3 e p s = no-row 1 0 _ (untrue e) ∙ no-row 2 0 _ (untrue p) ∙ yes-row 3 0 _ s
 

@@ -219,9 +219,9 @@ module _ {R : Type 0} {numbersOf : R → Numbers} (told : Told R numbersOf) {r s
       → Checks l work (numbersOf s) j → (r ≡ s) × (i ≡ j)
   checks-once l work p q = let u = one-outcome told r s _ _ _ p q in (u .0, one (u .1))
 
-  pub counts-once : (l work : List ℕ) {i j : List ℕ} → CountsKeys l work (numbersOf r) i
+  pub counts-keys-once : (l work : List ℕ) {i j : List ℕ} → CountsKeys l work (numbersOf r) i
       → CountsKeys l work (numbersOf s) j → (r ≡ s) × (i ≡ j)
-  counts-once l work p q = let u = one-outcome told r s _ _ _ p q in (u .0, one (u .1))
+  counts-keys-once l work p q = let u = one-outcome told r s _ _ _ p q in (u .0, one (u .1))
 
   pub looks-up-once : (l : List ℕ) (given : Given) → LooksUp l given (numbersOf r)
       → LooksUp l given (numbersOf s) → r ≡ s

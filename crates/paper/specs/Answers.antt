@@ -21,27 +21,27 @@ use Rattle.paper.specs.declared.Found.{Found}
 use Rattle.paper.specs.Hearing.{Said, Row, Numbers, refusedNumbers, doneNumbers}
 
 -- the number and the place of a refusal
-abbrev pub said : ℕ → ℕ → Said
-said number place = record { number = number; place = place }
+abbrev pub numberAt : ℕ → ℕ → Said
+numberAt number place = record { number = number; place = place }
 
 -- the number and the place of each refusal, as 01's table and, for 25, 02's Ask 7 give them
 abbrev pub saidOf : Refusal → Said
-saidOf ImageLength = said 1 0
-saidOf HeadField = said 2 0
-saidOf Alphabet = said 3 0
-saidOf ImageRoom = said 4 0
-saidOf TooFewNumbers = said 5 0
-saidOf (Link node) = said 6 node
-saidOf (LinkedTwice address) = said 7 address
-saidOf (NotLinked address) = said 8 address
-saidOf KeyLength = said 9 0
-saidOf Letter = said 10 0
-saidOf ValueTooGreat = said 11 0
-saidOf NoAddress = said 12 0
-saidOf NoRoom = said 13 0
-saidOf ShortBuffer = said 14 0
-saidOf NoKey = said 15 0
-saidOf (CountsDiffer node) = said 25 node
+saidOf ImageLength = numberAt 1 0
+saidOf HeadField = numberAt 2 0
+saidOf Alphabet = numberAt 3 0
+saidOf ImageRoom = numberAt 4 0
+saidOf TooFewNumbers = numberAt 5 0
+saidOf (Link node) = numberAt 6 node
+saidOf (LinkedTwice address) = numberAt 7 address
+saidOf (NotLinked address) = numberAt 8 address
+saidOf KeyLength = numberAt 9 0
+saidOf Letter = numberAt 10 0
+saidOf ValueTooGreat = numberAt 11 0
+saidOf NoAddress = numberAt 12 0
+saidOf NoRoom = numberAt 13 0
+saidOf ShortBuffer = numberAt 14 0
+saidOf NoKey = numberAt 15 0
+saidOf (CountsDiffer node) = numberAt 25 node
 
 -- the row that a part of an order gives; none where the part passed
 unfoldable pub rowOf : Verdict → Row

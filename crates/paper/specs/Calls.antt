@@ -147,9 +147,9 @@ unfolding checkOf headOf
 isAccepted l = eqb (checkOf l (replicate (headOf l .g + 1) 0) .numbers .number) 0
 
 -- is G lowered? "if the check answers 8 at p, and the image with G set to p-1 is accepted"
-unfoldable pub mends : List ℕ → Numbers → Bool
+unfoldable pub canMend : List ℕ → Numbers → Bool
 unfolding isAccepted digits
-mends l m = eqb (m .number) 8 && isAccepted (putTotal l (m .place - 1))
+canMend l m = eqb (m .number) 8 && isAccepted (putTotal l (m .place - 1))
 
 -- "G becomes p-1 and the answer is 0; otherwise nothing changes and the check's answer is
 -- returned"
@@ -160,8 +160,8 @@ mendBy false l o = outcome (o .numbers) (l ∷ o .lent)
 
 -- mend: "Mending is fixed for every image"
 unfoldable pub mendOf : List ℕ → List ℕ → Outcome
-unfolding mendBy mends checkOf
-mendOf l work = mendBy (mends l (checkOf l work .numbers)) l (checkOf l work)
+unfolding mendBy canMend checkOf
+mendOf l work = mendBy (canMend l (checkOf l work .numbers)) l (checkOf l work)
 
 -- ---- next key
 

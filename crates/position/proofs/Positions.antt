@@ -21,7 +21,7 @@ use Rattle.alphabet.specs.Letters.{among, orEmpty}
 use Rattle.passing.specs.Passing.{keyAt, rankIn}
 use Rattle.passing.proofs.Ranks.{at-some, at-none, at-held, at-first, at-next, at-rank, rank-at}
 use Rattle.paper.specs.Hearing.{Row, Outcome, first, outcome, refusedNumbers, doneNumbers}
-use Rattle.paper.specs.Answers.{said}
+use Rattle.paper.specs.Answers.{numberAt}
 use Rattle.paper.specs.Rows.{isNone, row14, row15}
 use Rattle.paper.specs.Given.{Given, alphabetIn, meantIn, keyIn}
 use Rattle.paper.specs.Orders.{checkOrder, keyRows, nextRows}
@@ -76,13 +76,14 @@ module _ (l work counts : List ℕ) (a : Accepted l) (lent : headOf l .g + 1 ≤
         ∙ no-row 14 0 _ (le-ltb (length buffer) (headOf l .max) room)
 
     no-key-at : (i : ℕ) → keyAt (storedKeys l) i ≡ none
-        → keyAtOf l work counts i buffer ≡ outcome (refusedNumbers (said 15 0))
+        → keyAtOf l work counts i buffer ≡ outcome (refusedNumbers (numberAt 15 0))
         (workAfter l work ∷ buffer ∷ [])
     unfolding keyAtOf row15 isNone
     no-key-at i e =
         heard-refused _ _ _ (at-15 i ∙ ap (λ (o : Option (List ℕ)). first (row15 o ∷ [])) e
         ∙ yes-row 15 0 [] refl)
-        ∙ ap (λ (w : List ℕ). outcome (refusedNumbers (said 15 0)) (w ∷ buffer ∷ [])) left-cleared
+        ∙ ap (λ (w : List ℕ). outcome (refusedNumbers (numberAt 15 0)) (w ∷ buffer ∷ []))
+        left-cleared
 
     one-key-at : (i : ℕ) {k : List ℕ} → keyAt (storedKeys l) i ≡ some k
         → keyAtOf l work counts i buffer ≡ foundIn l work buffer k

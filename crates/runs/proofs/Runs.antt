@@ -30,7 +30,7 @@ use Rattle.paper.specs.Orders.{newOf, checkOrder, keyRowsBy, keyRows, lookUpOrd
 use Rattle.paper.specs.Orders.{nextKeyOrder}
 use Rattle.paper.specs.Calls.{tableIn, workAfter, freshHead, freshImage, makeOf, storedKeys}
 use Rattle.paper.specs.Calls.{countOf, telling, lookUpOf, writesIn, storedImage, storeOf}
-use Rattle.paper.specs.Calls.{withWrites, checkOf, isAccepted, mends, nextIn}
+use Rattle.paper.specs.Calls.{withWrites, checkOf, isAccepted, canMend, nextIn}
 use Rattle.paper.specs.Accepted.{Accepted}
 use Rattle.paper.specs.Granted.{Fit, Granted}
 use Rattle.paper.proofs.Hearing.{heard-done, heard-alike}
@@ -214,9 +214,9 @@ module _ {h : Head} {alphabet : List ℕ} {r : Run} (i : Holds h alphabet r) whe
 
 -- an accepted image is never mended: 8 is given only after 5 has passed, and with enough working
 -- numbers the check answers 0
-not-mended : {l : List ℕ} → Accepted l → (work : List ℕ) → mends l (checkOf l work .numbers)
+not-mended : {l : List ℕ} → Accepted l → (work : List ℕ) → canMend l (checkOf l work .numbers)
     ≡ false
-unfolding mends
+unfolding canMend
 not-mended {l} a work = go (eqb (checkOf l work .numbers .number) 8) refl
   where
     go : (b : Bool) → eqb (checkOf l work .numbers .number) 8 ≡ b

@@ -33,7 +33,7 @@ use Rattle.paper.proofs.StoreCall.{stored-head, stored-table, accepted-again}
 use Rattle.position.specs.Counts.{countIn, RightCounts}
 use Rattle.position.specs.Calls.{worked}
 use Rattle.position.proofs.Right.{worked-length, worked-rest, worked-at}
-use Rattle.tracking.specs.Tracking.{Whole, gainOf, lossOf, CountsFit, Shifted, Cleared}
+use Rattle.tracking.specs.Tracking.{Whole, gainOf, lossOf, CountsFit, Shifted, RangeCleared}
 
 -- ---- the change
 
@@ -203,7 +203,7 @@ module _ {l k : List ℕ} {value : ℕ} (s : Granted l k value) where
 
   -- `start` is the list with zeros for the new nodes
   module _ {counts start : List ℕ} (r : RightCounts l counts)
-      (z : Cleared (headOf l .g + 1) (last + 1) counts start) where
+      (z : RangeCleared (headOf l .g + 1) (last + 1) counts start) where
     started : (q : ℕ) → q ≤ last → getD start q 0 ≡ countIn l q
     unfolding countIn
     started q b = go (decLe q (headOf l .g))

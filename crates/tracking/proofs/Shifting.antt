@@ -16,11 +16,11 @@ use Rattle.trie.proofs.Walk.{descend-nil, descend-empty, descend-append, comple
 use Rattle.passing.specs.Passing.{passes}
 use Rattle.passing.proofs.Passing.{passes-here, passes-nil, passes-link, prefix-passes}
 use Rattle.passing.proofs.Passing.{child-reached, never-again}
-use Rattle.tracking.specs.Tracking.{Whole, CountsFit, Shifted, Cleared}
+use Rattle.tracking.specs.Tracking.{Whole, CountsFit, Shifted, RangeCleared}
 
 -- ---- numbers set to 0
 
-pub cleared-start : {from : ℕ} {list₀ : List ℕ} → Cleared from from list₀ list₀
+pub cleared-start : {from : ℕ} {list₀ : List ℕ} → RangeCleared from from list₀ list₀
 cleared-start = record {
   long = refl;
   within = λ q a b. absurd (omega arith);
@@ -29,8 +29,8 @@ cleared-start = record {
 }
 
 pub cleared-on : {from i : ℕ} {list₀ list : List ℕ} → from ≤ i → i < length list
-    → Cleared from i list₀ list
-    → Cleared from (i + 1) list₀ (set list i 0)
+    → RangeCleared from i list₀ list
+    → RangeCleared from (i + 1) list₀ (set list i 0)
 cleared-on {from} {i} {list₀} {list} low room c =
     record {
       long = length-set list i 0 ∙ c .long;

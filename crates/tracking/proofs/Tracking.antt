@@ -45,7 +45,7 @@ use Rattle.storing.specs.StoreStage.{endOf}
 use Rattle.storing.proofs.Adding.{passed}
 use Rattle.storing.proofs.StoreStage.{in-hand}
 use Rattle.tracking.specs.Tracking.{addingCountsRows, storeCounted, StoresCounted, Whole}
-use Rattle.tracking.specs.Tracking.{gainOf, lossOf, CountsFit, Shifted, Cleared}
+use Rattle.tracking.specs.Tracking.{gainOf, lossOf, CountsFit, Shifted, RangeCleared}
 use Rattle.tracking.proofs.PathCounts.{whole, room, kept}
 
 -- what is known after the walk along the key: the image's head, the key, and the number of new
@@ -184,9 +184,10 @@ module _ {l : List ℕ} {h : Head} {key : Key} {o : Walked} {value new : ℕ}
       table-same = ap₂ tableOf head-same image-same
 
       module _ {counts start : List ℕ} (right : RightCounts l counts)
-          (clear : Cleared (h .g + 1) (h .g + new + 1) counts start)
+          (clear : RangeCleared (h .g + 1) (h .g + new + 1) counts start)
           (long : h .g + new + 1 ≤ length counts) where
-        cleared : Cleared (headOf l .g + 1) (headOf l .g + newOf (headOf l) l k value + 1) counts
+        cleared : RangeCleared (headOf l .g + 1) (headOf l .g + newOf (headOf l) l k value + 1)
+            counts
             start
         cleared = rw (x .same, new-same) at clear
 

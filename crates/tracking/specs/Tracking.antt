@@ -71,7 +71,7 @@ pub record Shifted (t : Table) (k : List ℕ) (gain loss : ℕ) (list list′ : 
       ≡ getD list q 0 + cond (passes t q 0 k) gain 0
 
 -- the numbers from `from` to `to` - 1 are 0; the other numbers keep what they held
-pub record Cleared (from to : ℕ) (list list′ : List ℕ) : Type 0 where
+pub record RangeCleared (from to : ℕ) (list list′ : List ℕ) : Type 0 where
   pub long : length list′ ≡ length list
   pub within : (q : ℕ) → from ≤ q → q < to → getD list′ q 0 ≡ 0
   pub before : (q : ℕ) → q < from → getD list′ q 0 ≡ getD list q 0

@@ -15,7 +15,7 @@ ghost use Rattle.paper.specs.Accepted.{Accepted};
 ghost use Rattle.position.specs.Counts.{RightCounts};
 ghost use Rattle.key.specs.Hand.{Ready, lettersOf};
 ghost use Rattle.tracking.specs.Tracking.{StoresCounted, Whole, gainOf, lossOf, CountsFit};
-ghost use Rattle.tracking.specs.Tracking.{Shifted, Cleared};
+ghost use Rattle.tracking.specs.Tracking.{Shifted, RangeCleared};
 use head::Head;
 use key::Key;
 use paper::Refusal;
@@ -62,7 +62,7 @@ pub fn store_counted(image: &mut [u8], h: Head, key: Key, value: u64, counts: &m
 // Sets the numbers from `from` to `to` - 1 to 0: they belonged to no node and may hold anything.
 fn clear(counts: &mut [u32], from: usize, to: usize)
     requires { ⌜ from ≤ to ⌝ ∗ ⌜ to ≤ length (now counts) ⌝ }
-    ensures { λ _. ⌜ Cleared from to (now (counts .entry)) (now (counts .exit)) ⌝ }
+    ensures { λ _. ⌜ RangeCleared from to (now (counts .entry)) (now (counts .exit)) ⌝ }
 {
     let mut i = from;
     while i < to {

@@ -4,13 +4,13 @@ use Prim.Native.Nat.{_-_, _≤_}
 use mathlib.Core.Path.{subst}
 use native.Mathlib.Omega.{arith}
 use borrow.Author.Needs.{needs}
-use Rattle.tracking.specs.Tracking.{Cleared}
+use Rattle.tracking.specs.Tracking.{RangeCleared}
 use Rattle.tracking.proofs.Shifting.{cleared-start, cleared-on}
 use Rattle.tracking.proofs.clear.Statement.{statement}
 use Rattle.tracking.proofs.clear.Tie as tie
 
 abbrev Inv-loop : tie.InvT-loop
-Inv-loop counts₀ from to i₀ counts i = (from ≤ i) × (i ≤ to) × Cleared from i counts₀ counts
+Inv-loop counts₀ from to i₀ counts i = (from ≤ i) × (i ≤ to) × RangeCleared from i counts₀ counts
 
 abbrev μ-loop : tie.MeasureT-loop
 μ-loop counts₀ from to i₀ counts i = to - i
@@ -53,7 +53,7 @@ returns : tie.Need-returns Inv-loop μ-loop
 returns c =
     let at = c .before .loop in
     let a = c .before .before .args in
-    subst (λ i. Cleared (a .from) i (a .counts .now) (at .counts))
+    subst (λ i. RangeCleared (a .from) i (a .counts .now) (at .counts))
     (omega (arith, c .loop-test .left, at .inv .1)) (at .inv .2)
 
 pub clear-spec : {M : Type 1} → statement M
