@@ -8,7 +8,6 @@ from checks.house import (
 
 # quotations from a document that is not here: 002, the public text of TRIEFF 0.6.0
 ELSEWHERE = {
-    "Querying the document": "002",
     "A UTF-8 character": "002",
     "Address can't refer to an ancestor or its own node": "002",
     "every node except the root node has exactly one parent": "002",
