@@ -59,11 +59,11 @@ module _ {t : Table} {g n : ℕ} (linked : Linked t g n) (least most : ℕ) wher
       )
 
   -- the converse
-  behind : (k : List ℕ) {p : ℕ} → descend t 0 k ≡ complete p → length k ≤ most → (r : List ℕ)
+  followed : (k : List ℕ) {p : ℕ} → descend t 0 k ≡ complete p → length k ≤ most → (r : List ℕ)
       → List·Memᴰ r (rests k p)
       → List·Memᴰ (k ++ r) (listing t n least most)
   unfolding valueAt
-  behind k {p} e deep r a =
+  followed k {p} e deep r a =
       let f = under-listed t n (least - length k) (most - length k) p r a in
       let size : length (k ++ r) ≡ length k + length r = length-append k r in
       let ends : descend t 0 (k ++ r) ≡ complete (f .node) =
@@ -109,7 +109,7 @@ module _ {t : Table} {g n : ℕ} (linked : Linked t g n) (least most : ℕ) wher
           let (r, hr, f) = Memᴰ·of-map (k ++_) (rests k p) a in
           let met : passes t p 0 (k ++ r) ≡ true = prefix-passes t p 0 k r e in
           Memᴰ·cast (sym f) (filter-holds (passes t p 0) (listing t n least most) (k ++ r) .1
-          (behind k e deep r hr, met))
+          (followed k e deep r hr, met))
 
   pub count-reached : (k : List ℕ) {p : ℕ} → descend t 0 k ≡ complete p → length k ≤ most
       → countAt t n least most p ≡ length (keysUnder t n (least - length k) (most - length k) p)

@@ -135,7 +135,7 @@ module _ {h : Head} {l : List ℕ} {o : Option (List ℕ)} {r : Search} {path no
 -- ---- after the check, with the image's head and a key in hand
 
 -- what is known once 9 and 10 have passed
-pub record Behind (l : List ℕ) (h : Head) (key : List ℕ) (hand : Key) : Type 0 where
+pub record AfterCheck (l : List ℕ) (h : Head) (key : List ℕ) (hand : Key) : Type 0 where
   pub same : h ≡ headOf l
   pub walk : Walkable h l
   pub unheard : first (nextRows (headOf l) key) ≡ none
@@ -159,8 +159,8 @@ module _ {l : List ℕ} {h : Head} (a : Accepted l) (same : h ≡ headOf l) wher
         → Seeks l key after buffer (Found.Refused why) buffer
     seek-unkeyed after buffer e work checked = unkeyed l work key after buffer checked judged e
 
-    pub behind : v ≡ Verdict.Passed → Behind l h key hand
-    behind e =
+    pub after-check : v ≡ Verdict.Passed → AfterCheck l h key hand
+    after-check e =
         let r = next-ready h head-permitted holds (told-passed (told key holds) e) in
         record {
           same = same;
@@ -171,7 +171,7 @@ module _ {l : List ℕ} {h : Head} (a : Accepted l) (same : h ≡ headOf l) wher
           short = r .2;
         }
 
-module _ {l : List ℕ} {h : Head} {key : List ℕ} {hand : Key} (p : Behind l h key hand)
+module _ {l : List ℕ} {h : Head} {key : List ℕ} {hand : Key} (p : AfterCheck l h key hand)
     (after : Bool) (buffer : List ℕ) where
   pub seek-short : length buffer < h .max
       → Seeks l key after buffer (Found.Refused Refusal.ShortBuffer) buffer

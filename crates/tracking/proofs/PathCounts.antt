@@ -251,7 +251,7 @@ module _ {l k : List ℕ} {value : ℕ} (s : Granted l k value) where
             let e = rw (off q (omega arith)) at (w .each q) in
             omega (
               arith,
-              z .behind q (omega arith),
+              z .after q (omega arith),
               worked-rest after counts q
                   (omega (arith, last-same)),
             )

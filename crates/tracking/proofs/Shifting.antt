@@ -25,7 +25,7 @@ cleared-start = record {
   long = refl;
   within = λ q a b. absurd (omega arith);
   before = λ q a. refl;
-  behind = λ q a. refl;
+  after = λ q a. refl;
 }
 
 pub cleared-on : {from i : ℕ} {list₀ list : List ℕ} → from ≤ i → i < length list
@@ -36,7 +36,7 @@ cleared-on {from} {i} {list₀} {list} low room c =
       long = length-set list i 0 ∙ c .long;
       within = λ q a b. go q a b (ℕ-discrete q i);
       before = λ q a. getD-set-other list i q 0 0 (λ e. omega arith) ∙ c .before q a;
-      behind = λ q a. getD-set-other list i q 0 0 (λ e. omega arith) ∙ c .behind q (omega arith);
+      after = λ q a. getD-set-other list i q 0 0 (λ e. omega arith) ∙ c .after q (omega arith);
     }
   where
     go : (q : ℕ) → from ≤ q → q < i + 1 → Dec (q ≡ i) → getD (set list i 0) q 0 ≡ 0

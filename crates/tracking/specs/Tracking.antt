@@ -75,4 +75,4 @@ pub record RangeCleared (from to : ℕ) (list list′ : List ℕ) : Type 0 where
   pub long : length list′ ≡ length list
   pub within : (q : ℕ) → from ≤ q → q < to → getD list′ q 0 ≡ 0
   pub before : (q : ℕ) → q < from → getD list′ q 0 ≡ getD list q 0
-  pub behind : (q : ℕ) → to ≤ q → getD list′ q 0 ≡ getD list q 0
+  pub after : (q : ℕ) → to ≤ q → getD list′ q 0 ≡ getD list q 0

@@ -5,7 +5,7 @@ use native.Mathlib.Omega.{arith}
 use borrow.Author.Needs.{needs}
 use Rattle.depths.proofs.Walkable.{short}
 use Rattle.traversal.proofs.Walking.{has-room, met}
-use Rattle.seeking.proofs.Seeking.{head-permitted, Behind, behind, found-within}
+use Rattle.seeking.proofs.Seeking.{head-permitted, AfterCheck, after-check, found-within}
 use Rattle.seeking.proofs.Seeking.{found-front, found-room}
 use Rattle.seeking.proofs.Seeking.{seek-unkeyed, seek-short, seek-missing, seek-found}
 use Rattle.seeking.proofs.seek.Statement.{statement}
@@ -28,11 +28,11 @@ enum-told c = search needs
 known : (c : tie.After-enum-told)
     → let of = c .before .before .before in
     let args = of .before .before .before .before .args in
-    Behind (args .image .now) (args .h) (args .letters .now) (of .of .result)
+    AfterCheck (args .image .now) (args .h) (args .letters .now) (of .of .result)
 known c =
     let judge = c .before .before in
     let p = judge .before .before .before .before .before .pre in
-    behind (p .0) (p .1) _ _ (judge .before .of .ensures) (judge .judge-next .ensures)
+    after-check (p .0) (p .1) _ _ (judge .before .of .ensures) (judge .judge-next .ensures)
     (c .enum-told .given .1)
 
 cast-if1 : tie.Need-cast-if1
