@@ -120,10 +120,19 @@ def links(page):
             yield line, match[2] in anchors(path), f"no heading #{match[2]} in {path.name}"
 
 
+def folders(page):
+    """(line, is it there, what is wrong if not) of each file that is named after its folder."""
+    named = r"`((?:crates/)?\w+/(?:specs|proofs))`: ((?:`\w+`(?: \([^)]*\))?(?:, | and )?)+)"
+    for line, match in found_in(page, named):
+        for name in re.findall(r"`(\w+)`", match[2]):
+            there = place(f"{match[1]}/{name}.antt")
+            yield line, there, f"no file {match[1]}/{name}.antt"
+
+
 def names():
     read = 0
     for page in PAGES:
-        found = list(links(page))
+        found = [*links(page), *folders(page)]
         for line, span, drawn in spans(page):
             found += ((line, *cited) for cited in cited_files(span, drawn))
             if not drawn and not FILE.search(span) and not EDITS.search(span):
