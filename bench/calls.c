@@ -15,11 +15,20 @@ const char *const version_names[VERSIONS] = {"project", "naive", "tuned"};
 #define BUFFER lent->buffer, lent->buffer_len
 #define COUNTS lent->counts, lent->counts_len
 
-#define ON(of, name, ...) \
-    static trieff_answer on_##of##_##name(const struct lent *lent) { return of##_##name(__VA_ARGS__); }
-#define ON_ALL(name, ...) ON(trieff, name, __VA_ARGS__) ON(naive, name, __VA_ARGS__) ON(tuned, name, __VA_ARGS__)
-#define ON_WALK(of, walk) \
-    static trieff_answer on_##of##_walk(const struct lent *lent) { return (trieff_answer){.value = walk(IMAGE, WORK)}; }
+#define ON(of, name, ...)                                          \
+    static trieff_answer on_##of##_##name(const struct lent *lent) \
+    {                                                              \
+        return of##_##name(__VA_ARGS__);                           \
+    }
+#define ON_ALL(name, ...)         \
+    ON(trieff, name, __VA_ARGS__) \
+    ON(naive, name, __VA_ARGS__)  \
+    ON(tuned, name, __VA_ARGS__)
+#define ON_WALK(of, walk)                                        \
+    static trieff_answer on_##of##_walk(const struct lent *lent) \
+    {                                                            \
+        return (trieff_answer){.value = walk(IMAGE, WORK)};      \
+    }
 #define ROW(name) {#name, {on_trieff_##name, on_naive_##name, on_tuned_##name}}
 
 ON_ALL(check, IMAGE, WORK)
@@ -44,8 +53,8 @@ ON_WALK(naive, naive_walk)
 ON_WALK(tuned, tuned_walk)
 
 static const struct call calls[] = {
-    ROW(check), ROW(count), ROW(look_up), ROW(look_up_text), ROW(store), ROW(store_text), ROW(store_writes), ROW(store_text_writes),
-    ROW(mend), ROW(next_key), ROW(walk),
+    ROW(check), ROW(count), ROW(look_up), ROW(look_up_text), ROW(store), ROW(store_text),
+    ROW(store_writes), ROW(store_text_writes), ROW(mend), ROW(next_key), ROW(walk),
     ROW(counts), ROW(check_counts), ROW(store_counts), ROW(store_text_counts), ROW(key_at),
     ROW(position), ROW(position_text),
 };
@@ -106,17 +115,19 @@ static void drop(struct lent *lent)
 
 static void print_answer(const char *of, trieff_answer a)
 {
-    fprintf(stderr, "  %s: number %u, place %u, length %u, change %d, value %llu\n", of, a.number, a.place, a.length, a.change,
-            (unsigned long long)a.value);
+    fprintf(stderr, "  %s: number %u, place %u, length %u, change %d, value %llu\n", of, a.number,
+            a.place, a.length, a.change, (unsigned long long)a.value);
 }
 
 static bool same_answer(trieff_answer a, trieff_answer b)
 {
-    return a.number == b.number && a.place == b.place && a.length == b.length && a.change == b.change && a.value == b.value;
+    return a.number == b.number && a.place == b.place && a.length == b.length &&
+           a.change == b.change && a.value == b.value;
 }
 
 /* Are the answers and buffers of two versions the same? Prints the difference if not. */
-static bool same(const char *call, int version, const struct lent *a, const struct lent *b, trieff_answer x, trieff_answer y)
+static bool same(const char *call, int version, const struct lent *a, const struct lent *b,
+                 trieff_answer x, trieff_answer y)
 {
     bool answer = same_answer(x, y);
     bool image = memcmp(a->image, b->image, a->image_len) == 0;

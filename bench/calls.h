@@ -14,25 +14,34 @@
 #define KEY_MOST 64
 
 /* `walk` is a check, then the walk of a listing without its lines. */
-#define VERSION(of)                                                                                                    \
-    trieff_answer of##_check(const uint8_t *image, size_t image_len, uint32_t *work, size_t work_len);                 \
-    trieff_answer of##_count(const uint8_t *image, size_t image_len, uint32_t *work, size_t work_len);                 \
-    trieff_answer of##_look_up(const uint8_t *image, size_t image_len, const uint8_t *letters, size_t letters_len);    \
-    trieff_answer of##_look_up_text(const uint8_t *image, size_t image_len, const uint8_t *text, size_t text_len);     \
-    trieff_answer of##_store(uint8_t *image, size_t image_len, uint32_t *work, size_t work_len,                        \
-                             const uint8_t *letters, size_t letters_len, uint32_t value);                              \
-    trieff_answer of##_store_text(uint8_t *image, size_t image_len, uint32_t *work, size_t work_len,                   \
-                                  const uint8_t *text, size_t text_len, uint32_t value);                               \
-    trieff_answer of##_store_writes(uint8_t *image, size_t image_len, uint32_t *work, size_t work_len,                 \
-                                    const uint8_t *letters, size_t letters_len, uint32_t value, uint32_t *writes);     \
-    trieff_answer of##_store_text_writes(uint8_t *image, size_t image_len, uint32_t *work, size_t work_len,            \
-                                         const uint8_t *text, size_t text_len, uint32_t value, uint32_t *writes);      \
-    trieff_answer of##_mend(uint8_t *image, size_t image_len, uint32_t *work, size_t work_len);                        \
-    trieff_answer of##_next_key(const uint8_t *image, size_t image_len, uint32_t *work, size_t work_len,               \
-                                const uint8_t *letters, size_t letters_len, bool after, uint8_t *key, size_t key_len); \
-    /* the number of stored keys that the walk meets, without the root's; 0 for a refused image */                     \
-    uint64_t of##_walk(const uint8_t *image, size_t image_len, uint32_t *work, size_t work_len);                       \
-    /* writes document 01's lines for an image to standard output */                                                   \
+#define VERSION(of)                                                                               \
+    trieff_answer of##_check(const uint8_t *image, size_t image_len, uint32_t *work,              \
+                             size_t work_len);                                                    \
+    trieff_answer of##_count(const uint8_t *image, size_t image_len, uint32_t *work,              \
+                             size_t work_len);                                                    \
+    trieff_answer of##_look_up(const uint8_t *image, size_t image_len, const uint8_t *letters,    \
+                               size_t letters_len);                                               \
+    trieff_answer of##_look_up_text(const uint8_t *image, size_t image_len, const uint8_t *text,  \
+                                    size_t text_len);                                             \
+    trieff_answer of##_store(uint8_t *image, size_t image_len, uint32_t *work, size_t work_len,   \
+                             const uint8_t *letters, size_t letters_len, uint32_t value);         \
+    trieff_answer of##_store_text(uint8_t *image, size_t image_len, uint32_t *work,               \
+                                  size_t work_len, const uint8_t *text, size_t text_len,          \
+                                  uint32_t value);                                                \
+    trieff_answer of##_store_writes(uint8_t *image, size_t image_len, uint32_t *work,             \
+                                    size_t work_len, const uint8_t *letters, size_t letters_len,  \
+                                    uint32_t value, uint32_t *writes);                            \
+    trieff_answer of##_store_text_writes(uint8_t *image, size_t image_len, uint32_t *work,        \
+                                         size_t work_len, const uint8_t *text, size_t text_len,   \
+                                         uint32_t value, uint32_t *writes);                       \
+    trieff_answer of##_mend(uint8_t *image, size_t image_len, uint32_t *work, size_t work_len);   \
+    trieff_answer of##_next_key(const uint8_t *image, size_t image_len, uint32_t *work,           \
+                                size_t work_len, const uint8_t *letters, size_t letters_len,      \
+                                bool after, uint8_t *key, size_t key_len);                        \
+    /* the number of stored keys that the walk meets, without the root's;                         \
+       0 for a refused image */                                                                   \
+    uint64_t of##_walk(const uint8_t *image, size_t image_len, uint32_t *work, size_t work_len);  \
+    /* writes document 01's lines for an image to standard output */                              \
     void of##_list(const uint8_t *image, size_t image_len, uint32_t *work, size_t work_len);
 
 /* The calls with counts. */

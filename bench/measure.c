@@ -129,7 +129,8 @@ static size_t read_plan(const char *path, struct row *rows)
             wanted = named_in(line + 7);
             continue;
         }
-        if (sscanf(line, "%79s %255s %23s %23s %79[^\n]", call, key, value, row->answer, row->name) != 5)
+        if (sscanf(line, "%79s %255s %23s %23s %79[^\n]", call, key, value, row->answer,
+                   row->name) != 5)
             fail("not a row of the plan:", line);
         if (!wanted)
             continue;
@@ -148,7 +149,8 @@ static size_t read_plan(const char *path, struct row *rows)
 /* Empties the link to a key's own node, as a cut before the last write of its store leaves it. */
 static void cut(const struct row *row)
 {
-    uint32_t n = field(image + 4, 4), a = field(image + 8, 4), d = field(image + 12, 4), f = field(image + 16, 4), node = 0;
+    uint32_t n = field(image + 4, 4), a = field(image + 8, 4), d = field(image + 12, 4),
+             f = field(image + 16, 4), node = 0;
     uint8_t *link = NULL;
     for (size_t i = 0; i < row->key_len; i++) {
         link = image + 28 + f + (size_t)node * (n * a + d) + row->key[i] * a;
@@ -205,11 +207,13 @@ static bool compare(const struct row *row)
         return false;
     }
     char said[24];
-    snprintf(said, sizeof said, "%lld", row->stores ? (long long)answer.change : (long long)answer.value);
+    snprintf(said, sizeof said, "%lld",
+             row->stores ? (long long)answer.change : (long long)answer.value);
     printf("%s|%s|answer|%s\n", image_name, row->name, said);
     if (answer.number == 0 && (strcmp(row->answer, "*") == 0 || strcmp(row->answer, said) == 0))
         return true;
-    fprintf(stderr, "'%s' on %s: number %u, %s instead of %s\n", row->name, image_name, answer.number, said, row->answer);
+    fprintf(stderr, "'%s' on %s: number %u, %s instead of %s\n", row->name, image_name,
+            answer.number, said, row->answer);
     return false;
 }
 
@@ -219,7 +223,8 @@ static void count(const struct row *row, int version)
 {
     struct lent lent = lend(row);
     char description[400];
-    snprintf(description, sizeof description, "%s|%s|%s|", image_name, row->name, version_names[version]);
+    snprintf(description, sizeof description, "%s|%s|%s|", image_name, row->name,
+             version_names[version]);
     CALLGRIND_ZERO_STATS;
     row->call->perform[version](&lent);
     CALLGRIND_DUMP_STATS_AT(description);
@@ -268,14 +273,16 @@ static void time_row(const struct row *row)
     int calls = calls_in_a_run(row, &lent);
     for (int version = 0; version < VERSIONS; version++)
         least[version] = one_run(row, version, &lent, calls);
-    for (int run = 0; run < RUNS_LEAST || (run < RUNS_MOST && seconds() - start < SECONDS_A_ROW); run++)
+    for (int run = 0;
+         run < RUNS_LEAST || (run < RUNS_MOST && seconds() - start < SECONDS_A_ROW); run++)
         for (int version = 0; version < VERSIONS; version++) {
             double took = one_run(row, version, &lent, calls);
             if (took < least[version])
                 least[version] = took;
         }
     for (int version = 0; version < VERSIONS; version++)
-        printf("%s|%s|%s|%.1f\n", image_name, row->name, version_names[version], least[version] * 1e9);
+        printf("%s|%s|%s|%.1f\n", image_name, row->name, version_names[version],
+               least[version] * 1e9);
 }
 
 static int version_named(const char *name)

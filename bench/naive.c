@@ -132,8 +132,8 @@ static bool alphabet_good(const uint8_t *alphabet, const struct head *h)
 
 static bool permitted(const struct head *h)
 {
-    return 1 <= h->n && h->n <= 256 && 1 <= h->a && h->a <= 4 && 1 <= h->d && h->d <= 4 && h->f <= 1024 &&
-           h->min <= h->max && h->max <= KEY_MOST;
+    return 1 <= h->n && h->n <= 256 && 1 <= h->a && h->a <= 4 && 1 <= h->d && h->d <= 4 &&
+           h->f <= 1024 && h->min <= h->max && h->max <= KEY_MOST;
 }
 
 /* 1 to 4: the number of the first refusal that applies, or 0. */
@@ -177,8 +177,8 @@ static trieff_answer judge_links(const uint8_t *image, const struct head *h, uin
 }
 
 /* 1 to 8. It is not inlined, so that what a call takes beyond it can be measured. */
-__attribute__((noinline)) static trieff_answer check(const uint8_t *image, size_t len, uint32_t *work, size_t work_len,
-                                                     struct head *h)
+__attribute__((noinline)) static trieff_answer check(
+    const uint8_t *image, size_t len, uint32_t *work, size_t work_len, struct head *h)
 {
     uint32_t number = open_image(image, len, h);
     if (number != 0)
@@ -230,7 +230,8 @@ static uint32_t judge_key(const struct head *h, const struct key *key)
 }
 
 /* 10, then 9, for a key given by its text, which is read to its end. */
-static uint32_t judge_text(const uint8_t *image, const struct head *h, const uint8_t *text, size_t len, struct key *key)
+static uint32_t judge_text(const uint8_t *image, const struct head *h, const uint8_t *text,
+                           size_t len, struct key *key)
 {
     *key = (struct key){.len = 0};
     for (size_t at = 0; at < len;) {
@@ -262,7 +263,8 @@ static trieff_answer look(const uint8_t *image, const struct head *h, const stru
     return valued(data_of(image, h, node));
 }
 
-trieff_answer naive_look_up(const uint8_t *image, size_t image_len, const uint8_t *letters, size_t letters_len)
+trieff_answer naive_look_up(const uint8_t *image, size_t image_len, const uint8_t *letters,
+                            size_t letters_len)
 {
     struct head h;
     uint32_t number = open_image(image, image_len, &h);
@@ -273,7 +275,8 @@ trieff_answer naive_look_up(const uint8_t *image, size_t image_len, const uint8_
     return number != 0 ? refusal(number, 0) : look(image, &h, &key);
 }
 
-trieff_answer naive_look_up_text(const uint8_t *image, size_t image_len, const uint8_t *text, size_t text_len)
+trieff_answer naive_look_up_text(const uint8_t *image, size_t image_len, const uint8_t *text,
+                                 size_t text_len)
 {
     struct head h;
     uint32_t number = open_image(image, image_len, &h);
@@ -325,7 +328,8 @@ __attribute__((always_inline)) static inline trieff_answer extend(
     for (uint32_t fresh = h->g + 1; fresh <= total; fresh++) {
         memset(image + node_place(h, fresh), 0, node_width(h));
         if (fresh < total)
-            put_field(image + link_place(h, fresh, key->letters[depth + fresh - h->g]), h->a, fresh + 1);
+            put_field(image + link_place(h, fresh, key->letters[depth + fresh - h->g]), h->a,
+                      fresh + 1);
         else
             put_field(image + data_place(h, fresh), h->d, value);
         note(list, node_place(h, fresh), node_width(h));
@@ -359,14 +363,15 @@ __attribute__((always_inline)) static inline trieff_answer store_in(
 }
 
 /* It is not inlined, so that it can be counted alone. */
-__attribute__((noinline)) static trieff_answer inner_store(uint8_t *image, size_t len, const struct head *h,
-                                                           const struct key *key, uint32_t value)
+__attribute__((noinline)) static trieff_answer inner_store(
+    uint8_t *image, size_t len, const struct head *h, const struct key *key, uint32_t value)
 {
     return store_in(image, len, h, key, value, NULL, SIZE_MAX);
 }
 
-__attribute__((noinline)) static trieff_answer inner_store_writes(uint8_t *image, size_t len, const struct head *h,
-                                                                  const struct key *key, uint32_t value, uint32_t *writes)
+__attribute__((noinline)) static trieff_answer inner_store_writes(
+    uint8_t *image, size_t len, const struct head *h, const struct key *key, uint32_t value,
+    uint32_t *writes)
 {
     struct list list = {.numbers = writes};
     trieff_answer answer = store_in(image, len, h, key, value, &list, SIZE_MAX);
@@ -374,8 +379,8 @@ __attribute__((noinline)) static trieff_answer inner_store_writes(uint8_t *image
     return answer;
 }
 
-trieff_answer naive_store(uint8_t *image, size_t image_len, uint32_t *work, size_t work_len, const uint8_t *letters,
-                          size_t letters_len, uint32_t value)
+trieff_answer naive_store(uint8_t *image, size_t image_len, uint32_t *work, size_t work_len,
+                          const uint8_t *letters, size_t letters_len, uint32_t value)
 {
     struct head h;
     trieff_answer answer = check(image, image_len, work, work_len, &h);
@@ -386,8 +391,8 @@ trieff_answer naive_store(uint8_t *image, size_t image_len, uint32_t *work, size
     return number != 0 ? refusal(number, 0) : inner_store(image, image_len, &h, &key, value);
 }
 
-trieff_answer naive_store_text(uint8_t *image, size_t image_len, uint32_t *work, size_t work_len, const uint8_t *text,
-                               size_t text_len, uint32_t value)
+trieff_answer naive_store_text(uint8_t *image, size_t image_len, uint32_t *work, size_t work_len,
+                               const uint8_t *text, size_t text_len, uint32_t value)
 {
     struct head h;
     trieff_answer answer = check(image, image_len, work, work_len, &h);
@@ -398,8 +403,9 @@ trieff_answer naive_store_text(uint8_t *image, size_t image_len, uint32_t *work,
     return number != 0 ? refusal(number, 0) : inner_store(image, image_len, &h, &key, value);
 }
 
-trieff_answer naive_store_writes(uint8_t *image, size_t image_len, uint32_t *work, size_t work_len, const uint8_t *letters,
-                                 size_t letters_len, uint32_t value, uint32_t *writes)
+trieff_answer naive_store_writes(uint8_t *image, size_t image_len, uint32_t *work, size_t work_len,
+                                 const uint8_t *letters, size_t letters_len, uint32_t value,
+                                 uint32_t *writes)
 {
     struct head h;
     trieff_answer answer = check(image, image_len, work, work_len, &h);
@@ -407,11 +413,13 @@ trieff_answer naive_store_writes(uint8_t *image, size_t image_len, uint32_t *wor
         return answer;
     struct key key = key_of(letters, letters_len);
     uint32_t number = judge_key(&h, &key);
-    return number != 0 ? refusal(number, 0) : inner_store_writes(image, image_len, &h, &key, value, writes);
+    return number != 0 ? refusal(number, 0)
+                       : inner_store_writes(image, image_len, &h, &key, value, writes);
 }
 
-trieff_answer naive_store_text_writes(uint8_t *image, size_t image_len, uint32_t *work, size_t work_len,
-                                      const uint8_t *text, size_t text_len, uint32_t value, uint32_t *writes)
+trieff_answer naive_store_text_writes(uint8_t *image, size_t image_len, uint32_t *work,
+                                      size_t work_len, const uint8_t *text, size_t text_len,
+                                      uint32_t value, uint32_t *writes)
 {
     struct head h;
     trieff_answer answer = check(image, image_len, work, work_len, &h);
@@ -419,7 +427,8 @@ trieff_answer naive_store_text_writes(uint8_t *image, size_t image_len, uint32_t
         return answer;
     struct key key;
     uint32_t number = judge_text(image, &h, text, text_len, &key);
-    return number != 0 ? refusal(number, 0) : inner_store_writes(image, image_len, &h, &key, value, writes);
+    return number != 0 ? refusal(number, 0)
+                       : inner_store_writes(image, image_len, &h, &key, value, writes);
 }
 
 /* ---- mending */
@@ -441,8 +450,8 @@ trieff_answer naive_mend(uint8_t *image, size_t image_len, uint32_t *work, size_
 
 /* Passes the stored keys at and under a node at a depth to the sink. The letters up to the node
    are at the front of the path. */
-static void walk(const uint8_t *image, const struct head *h, uint32_t node, size_t depth, uint8_t *path, key_sink *sink,
-                 void *context)
+static void walk(const uint8_t *image, const struct head *h, uint32_t node, size_t depth,
+                 uint8_t *path, key_sink *sink, void *context)
 {
     uint32_t value = data_of(image, h, node);
     if (value != 0 && h->min <= depth)
@@ -522,8 +531,9 @@ static bool search(struct request *r, uint32_t node, size_t depth, bool tied)
     return false;
 }
 
-trieff_answer naive_next_key(const uint8_t *image, size_t image_len, uint32_t *work, size_t work_len,
-                             const uint8_t *letters, size_t letters_len, bool after, uint8_t *key, size_t key_len)
+trieff_answer naive_next_key(const uint8_t *image, size_t image_len, uint32_t *work,
+                             size_t work_len, const uint8_t *letters, size_t letters_len,
+                             bool after, uint8_t *key, size_t key_len)
 {
     struct head h;
     trieff_answer answer = check(image, image_len, work, work_len, &h);

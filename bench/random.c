@@ -60,13 +60,16 @@ static uint8_t *node_of(struct small *s, uint32_t node)
 }
 
 static const char *const CHARACTERS[] = {
-    "a", "b", "Z", "0", "\x7F", "\xC2\x80", "\xC3\xA4", "\xDF\xBF", "\xE0\xA0\x80", "\xE2\x82\xAC", "\xED\x9F\xBF",
-    "\xEF\xBF\xBF", "\xF0\x90\x80\x80", "\xF1\x80\x80\x80", "\xF4\x8F\xBF\xBF", "c", "d", "-", "\xC3\xA5", "\xE2\x82\xAD",
+    "a", "b", "Z", "0", "\x7F", "\xC2\x80", "\xC3\xA4", "\xDF\xBF", "\xE0\xA0\x80", "\xE2\x82\xAC",
+    "\xED\x9F\xBF", "\xEF\xBF\xBF", "\xF0\x90\x80\x80", "\xF1\x80\x80\x80", "\xF4\x8F\xBF\xBF",
+    "c", "d", "-", "\xC3\xA5", "\xE2\x82\xAD",
 };
 #define CHARACTERS_MANY (sizeof CHARACTERS / sizeof *CHARACTERS)
 
-static const char *const BROKEN[] = {"\x80", "\xC0\x80", "\xC2", "\xE0\x80\x80", "\xED\xA0\x80", "\xF4\x90\x80\x80", "\xF5\x80\x80\x80",
-                                     "\xE2\x82", "\xF0\x90\x80", "\xC1\xBF", "\xC2\xC0", "\xE2\x82\xC0", "\xF0\x90\x80\xC0"};
+static const char *const BROKEN[] = {
+    "\x80", "\xC0\x80", "\xC2", "\xE0\x80\x80", "\xED\xA0\x80", "\xF4\x90\x80\x80",
+    "\xF5\x80\x80\x80", "\xE2\x82", "\xF0\x90\x80", "\xC1\xBF", "\xC2\xC0", "\xE2\x82\xC0",
+    "\xF0\x90\x80\xC0"};
 #define BROKEN_MANY (sizeof BROKEN / sizeof *BROKEN)
 
 /* N characters, from a random one on, all different for N up to 20. At times one of them is
@@ -173,7 +176,8 @@ static void harm(struct small *s)
         break;
     case 1:
     case 2:
-        put_field(node_of(s, any_below(s->g + 1)) + any_below(s->n) * s->a, s->a, any_below(s->g + 2));
+        put_field(node_of(s, any_below(s->g + 1)) + any_below(s->n) * s->a, s->a,
+                  any_below(s->g + 2));
         break;
     case 3:
         s->bytes[any_below((uint32_t)s->len)] = (uint8_t)any_below(256);
@@ -471,6 +475,7 @@ int main(int argc, char **argv)
         if (!good)
             fprintf(stderr, "  on image %ld of seed %llu\n", i, seed);
     }
-    printf("random calls, seed %llu: %ld images, %d calls each; heard", seed, images, CALLS_PER_IMAGE);
+    printf("random calls, seed %llu: %ld images, %d calls each; heard", seed, images,
+           CALLS_PER_IMAGE);
     return all_heard(&heard) && good ? 0 : 1;
 }

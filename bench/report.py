@@ -32,13 +32,15 @@ def dumped(path):
     """Callgrind's dumps in a file: the trigger and the number of instructions of each."""
     with open(path, errors="replace") as file:
         text = file.read()
-    return re.findall(r"^desc: Trigger: (?:Client Request: )?(.*)$(?:.|\n)*?^summary: (\d+)$", text, re.M)
+    return re.findall(
+        r"^desc: Trigger: (?:Client Request: )?(.*)$(?:.|\n)*?^summary: (\d+)$", text, re.M)
 
 
 def counts():
     """The counts of the plan's rows. Those of the inner store have `inner` before their name."""
     table = {}
-    for path in glob.glob(os.path.join(folder, "calls-*.count")) + glob.glob(os.path.join(folder, "inner-*.count")):
+    for path in (glob.glob(os.path.join(folder, "calls-*.count"))
+                 + glob.glob(os.path.join(folder, "inner-*.count"))):
         inner = os.path.basename(path).startswith("inner-")
         for trigger, count in dumped(path):
             if trigger.count("|") != 3:
@@ -54,7 +56,9 @@ def counts():
 
 def whole(version, image):
     """The instructions of a whole run of the listing program."""
-    return sum(int(count) for _, count in dumped(os.path.join(folder, "list-%s-%s.count" % (version, image))))
+    return sum(
+        int(count)
+        for _, count in dumped(os.path.join(folder, "list-%s-%s.count" % (version, image))))
 
 
 answers = figures("answers")
@@ -83,7 +87,8 @@ def compares(row):
 
 def walk_per_key(image):
     keys = answers["listing walk", image]["answer"]
-    return {version: figure / keys for version, figure in beyond_check("listing walk", image).items()}
+    return {version: figure / keys
+            for version, figure in beyond_check("listing walk", image).items()}
 
 
 def program_per_key():
@@ -136,10 +141,12 @@ def print_table(title, heads, lines):
     widths = [max(len(line[i]) for line in lines) for i in range(len(heads))]
     print("\n%s\n" % title)
     for at, line in enumerate(lines):
-        cells = [cell.ljust(width) if i < 2 else cell.rjust(width) for i, (cell, width) in enumerate(zip(line, widths))]
+        cells = [cell.ljust(width) if i < 2 else cell.rjust(width)
+                 for i, (cell, width) in enumerate(zip(line, widths))]
         print("| " + " | ".join(cells) + " |")
         if at == 0:
-            print("|" + "|".join("-" * (width + 2) if i < 2 else "-" * (width + 1) + ":" for i, width in enumerate(widths)) + "|")
+            print("|" + "|".join("-" * (width + 2) if i < 2 else "-" * (width + 1) + ":"
+                                 for i, width in enumerate(widths)) + "|")
 
 
 def by_row(table):
@@ -156,7 +163,8 @@ def print_versions(title, table, form):
             ratios = "%.2f" % (project / tuned), "%.2f" % (project / naive)
             yield row, image, form(project), form(naive), form(tuned), *ratios
 
-    print_table(title, ("Call", "Image", *VERSIONS, "project:tuned", "project:naive"), joined(lines()))
+    print_table(title, ("Call", "Image", *VERSIONS, "project:tuned", "project:naive"),
+                joined(lines()))
 
 
 def goals(table):
@@ -171,7 +179,8 @@ def goals(table):
         yield goal(row, full, 2.5 * table["check", full]["project"])
     for row, image in table:
         if row.startswith("text look up"):
-            yield goal(row, image, {"full-16MiB": 1400, "ascending-200": 15000, "anyorder-200": 50000}[image])
+            yield goal(row, image, {"full-16MiB": 1400, "ascending-200": 15000,
+                                    "anyorder-200": 50000}[image])
     for row, image in by_row(table):
         if row.endswith(BEYOND):
             yield goal(row, image, 2000)
@@ -200,8 +209,11 @@ def microseconds(nanoseconds):
 
 table = all_counts()
 print_versions("Instructions, by callgrind", table, whole_number)
-print_versions("Microseconds, the least of many runs after one that warms the buffers", times, microseconds)
-judged = [(row, image, whole_number(count), whole_number(most), "MISSED" if count > most else "met") for row, image, count, most in goals(table)]
+print_versions("Microseconds, the least of many runs after one that warms the buffers", times,
+               microseconds)
+judged = [(row, image, whole_number(count), whole_number(most),
+           "MISSED" if count > most else "met")
+          for row, image, count, most in goals(table)]
 print_table("Goals, by count", ("What", "Image", "project", "goal", ""), joined(judged))
 missed = sum(line[-1] == "MISSED" for line in judged)
 print("\n%s" % ("%d MISSED" % missed if missed else "all met"))

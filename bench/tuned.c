@@ -32,7 +32,8 @@ static trieff_answer refusal(uint32_t number, uint32_t place)
 
 /* ---- fields */
 
-_Static_assert(__BYTE_ORDER__ == __ORDER_LITTLE_ENDIAN__, "fields are swapped on the way in and out");
+_Static_assert(__BYTE_ORDER__ == __ORDER_LITTLE_ENDIAN__,
+               "fields are swapped on the way in and out");
 
 static inline uint32_t load4(const uint8_t *at)
 {
@@ -197,10 +198,12 @@ static uint32_t open_image(const uint8_t *image, size_t len, struct opened *o, s
 {
     if (len - 28 > IMAGE_MOST - 28)
         return 1;
-    *o = (struct opened){.g = load4(image),           .n = load4(image + 4),    .a = load4(image + 8),
-                         .d = load4(image + 12),      .f = load4(image + 16),   .min = load4(image + 20),
+    *o = (struct opened){.g = load4(image),       .n = load4(image + 4),
+                         .a = load4(image + 8),   .d = load4(image + 12),
+                         .f = load4(image + 16),  .min = load4(image + 20),
                          .max = load4(image + 24)};
-    if (o->n - 1 > 255 || o->a - 1 > 3 || o->d - 1 > 3 || o->f > 1024 || o->min > o->max || o->max > KEY_MOST)
+    if (o->n - 1 > 255 || o->a - 1 > 3 || o->d - 1 > 3 || o->f > 1024 || o->min > o->max ||
+        o->max > KEY_MOST)
         return 2;
     al->wide = false;
     if (o->f > 0 && 28 + o->f <= len && !read_alphabet(al, image + 28, o->f, o->n))
@@ -279,7 +282,8 @@ static trieff_answer blame(const struct opened *o, uint32_t *work)
 
 /* 5 to 8. If keys are counted, the answer's value is the number of stored keys. `*links` is the
    number of links that are not empty, unless 5 or 6 is given. */
-static inline trieff_answer judge_links(const struct opened *o, uint32_t *work, size_t work_len, bool counting, uint32_t *links)
+static inline trieff_answer judge_links(const struct opened *o, uint32_t *work, size_t work_len,
+                                        bool counting, uint32_t *links)
 {
     size_t nodes = (size_t)o->g + 1;
     if (work_len < nodes)
@@ -300,8 +304,9 @@ static inline trieff_answer judge_links(const struct opened *o, uint32_t *work, 
 }
 
 /* 1 to 8. It is not inlined, so that what a call takes beyond it can be measured. */
-__attribute__((noinline)) static trieff_answer check(const uint8_t *image, size_t len, uint32_t *work, size_t work_len, struct opened *o,
-                                                     struct alphabet *al, uint32_t *links)
+__attribute__((noinline)) static trieff_answer check(
+    const uint8_t *image, size_t len, uint32_t *work, size_t work_len, struct opened *o,
+    struct alphabet *al, uint32_t *links)
 {
     uint32_t number = open_image(image, len, o, al);
     return number != 0 ? refusal(number, 0) : judge_links(o, work, work_len, false, links);
@@ -341,8 +346,8 @@ static uint32_t judge_key(const struct opened *o, const uint8_t *letters, size_t
 
 /* 10, then 9, for a text. Its first 64 letters are written to `letters`; `*count` is the number of
    its letters. */
-static uint32_t judge_text(const struct opened *o, struct alphabet *al, const uint8_t *text, size_t len,
-                           uint8_t *letters, size_t *count)
+static uint32_t judge_text(const struct opened *o, struct alphabet *al, const uint8_t *text,
+                           size_t len, uint8_t *letters, size_t *count)
 {
     size_t at = 0, most = 0;
     if (o->f == 0 && len > 0)
@@ -384,7 +389,8 @@ static inline trieff_answer look(const struct opened *o, const uint8_t *letters,
     return (trieff_answer){.value = data_of(o, node)};
 }
 
-trieff_answer tuned_look_up(const uint8_t *image, size_t image_len, const uint8_t *letters, size_t letters_len)
+trieff_answer tuned_look_up(const uint8_t *image, size_t image_len, const uint8_t *letters,
+                            size_t letters_len)
 {
     struct opened o;
     struct alphabet al;
@@ -394,7 +400,8 @@ trieff_answer tuned_look_up(const uint8_t *image, size_t image_len, const uint8_
     return number != 0 ? refusal(number, 0) : look(&o, letters, letters_len);
 }
 
-trieff_answer tuned_look_up_text(const uint8_t *image, size_t image_len, const uint8_t *text, size_t text_len)
+trieff_answer tuned_look_up_text(const uint8_t *image, size_t image_len, const uint8_t *text,
+                                 size_t text_len)
 {
     struct opened o;
     struct alphabet al;
@@ -487,21 +494,22 @@ __attribute__((always_inline)) static inline trieff_answer store_in(
 }
 
 /* It is not inlined, so that it can be counted alone. */
-__attribute__((noinline)) static trieff_answer inner_store(uint8_t *image, size_t image_len, const struct opened *o,
-                                                           const uint8_t *letters, size_t len, uint32_t value)
+__attribute__((noinline)) static trieff_answer inner_store(
+    uint8_t *image, size_t image_len, const struct opened *o, const uint8_t *letters, size_t len,
+    uint32_t value)
 {
     return store_in(image, image_len, o, letters, len, value, NULL, NULL);
 }
 
-__attribute__((noinline)) static trieff_answer inner_store_writes(uint8_t *image, size_t image_len, const struct opened *o,
-                                                                  const uint8_t *letters, size_t len, uint32_t value,
-                                                                  uint32_t *writes)
+__attribute__((noinline)) static trieff_answer inner_store_writes(
+    uint8_t *image, size_t image_len, const struct opened *o, const uint8_t *letters, size_t len,
+    uint32_t value, uint32_t *writes)
 {
     return store_in(image, image_len, o, letters, len, value, writes, NULL);
 }
 
-trieff_answer tuned_store(uint8_t *image, size_t image_len, uint32_t *work, size_t work_len, const uint8_t *letters,
-                          size_t letters_len, uint32_t value)
+trieff_answer tuned_store(uint8_t *image, size_t image_len, uint32_t *work, size_t work_len,
+                          const uint8_t *letters, size_t letters_len, uint32_t value)
 {
     struct opened o;
     struct alphabet al;
@@ -509,11 +517,12 @@ trieff_answer tuned_store(uint8_t *image, size_t image_len, uint32_t *work, size
     if (answer.number != 0)
         return answer;
     uint32_t number = judge_key(&o, letters, letters_len);
-    return number != 0 ? refusal(number, 0) : inner_store(image, image_len, &o, letters, letters_len, value);
+    return number != 0 ? refusal(number, 0)
+                       : inner_store(image, image_len, &o, letters, letters_len, value);
 }
 
-trieff_answer tuned_store_text(uint8_t *image, size_t image_len, uint32_t *work, size_t work_len, const uint8_t *text,
-                               size_t text_len, uint32_t value)
+trieff_answer tuned_store_text(uint8_t *image, size_t image_len, uint32_t *work, size_t work_len,
+                               const uint8_t *text, size_t text_len, uint32_t value)
 {
     struct opened o;
     struct alphabet al;
@@ -523,11 +532,13 @@ trieff_answer tuned_store_text(uint8_t *image, size_t image_len, uint32_t *work,
     if (answer.number != 0)
         return answer;
     uint32_t number = judge_text(&o, &al, text, text_len, letters, &len);
-    return number != 0 ? refusal(number, 0) : inner_store(image, image_len, &o, letters, len, value);
+    return number != 0 ? refusal(number, 0)
+                       : inner_store(image, image_len, &o, letters, len, value);
 }
 
-trieff_answer tuned_store_writes(uint8_t *image, size_t image_len, uint32_t *work, size_t work_len, const uint8_t *letters,
-                                 size_t letters_len, uint32_t value, uint32_t *writes)
+trieff_answer tuned_store_writes(uint8_t *image, size_t image_len, uint32_t *work, size_t work_len,
+                                 const uint8_t *letters, size_t letters_len, uint32_t value,
+                                 uint32_t *writes)
 {
     struct opened o;
     struct alphabet al;
@@ -535,11 +546,14 @@ trieff_answer tuned_store_writes(uint8_t *image, size_t image_len, uint32_t *wor
     if (answer.number != 0)
         return answer;
     uint32_t number = judge_key(&o, letters, letters_len);
-    return number != 0 ? refusal(number, 0) : inner_store_writes(image, image_len, &o, letters, letters_len, value, writes);
+    return number != 0 ? refusal(number, 0)
+                       : inner_store_writes(image, image_len, &o, letters, letters_len, value,
+                                            writes);
 }
 
-trieff_answer tuned_store_text_writes(uint8_t *image, size_t image_len, uint32_t *work, size_t work_len,
-                                      const uint8_t *text, size_t text_len, uint32_t value, uint32_t *writes)
+trieff_answer tuned_store_text_writes(uint8_t *image, size_t image_len, uint32_t *work,
+                                      size_t work_len, const uint8_t *text, size_t text_len,
+                                      uint32_t value, uint32_t *writes)
 {
     struct opened o;
     struct alphabet al;
@@ -549,7 +563,8 @@ trieff_answer tuned_store_text_writes(uint8_t *image, size_t image_len, uint32_t
     if (answer.number != 0)
         return answer;
     uint32_t number = judge_text(&o, &al, text, text_len, letters, &len);
-    return number != 0 ? refusal(number, 0) : inner_store_writes(image, image_len, &o, letters, len, value, writes);
+    return number != 0 ? refusal(number, 0)
+                       : inner_store_writes(image, image_len, &o, letters, len, value, writes);
 }
 
 /* ---- mending */
@@ -630,7 +645,8 @@ static uint32_t move_on(const struct opened *o, struct path *p, uint32_t letter)
 }
 
 /* Follows a key as far as its links go, and finds the first stored key from there on. */
-static uint32_t seek(const struct opened *o, const uint8_t *letters, size_t len, bool after, struct path *p)
+static uint32_t seek(const struct opened *o, const uint8_t *letters, size_t len, bool after,
+                     struct path *p)
 {
     p->nodes[0] = o->nodes;
     for (p->depth = 0; p->depth < len; p->depth++) {
@@ -645,8 +661,9 @@ static uint32_t seek(const struct opened *o, const uint8_t *letters, size_t len,
     return own != 0 ? own : move_on(o, p, 0);
 }
 
-trieff_answer tuned_next_key(const uint8_t *image, size_t image_len, uint32_t *work, size_t work_len,
-                             const uint8_t *letters, size_t letters_len, bool after, uint8_t *key, size_t key_len)
+trieff_answer tuned_next_key(const uint8_t *image, size_t image_len, uint32_t *work,
+                             size_t work_len, const uint8_t *letters, size_t letters_len,
+                             bool after, uint8_t *key, size_t key_len)
 {
     struct opened o;
     struct alphabet al;
@@ -997,8 +1014,8 @@ trieff_answer tuned_position_text(const uint8_t *image, size_t image_len, uint32
 /* ---- the walk of a listing, and its lines */
 
 /* Passes the stored keys under a node at a depth to the sink. A leaf is not entered. */
-static void walk_below(const struct opened *o, const uint8_t *node, size_t depth, uint8_t *letters, key_sink *sink,
-                       void *context)
+static void walk_below(const struct opened *o, const uint8_t *node, size_t depth, uint8_t *letters,
+                       key_sink *sink, void *context)
 {
     uint32_t n = o->n, a = o->a, mask = o->link_mask;
     const uint8_t *end = node + a;
@@ -1108,7 +1125,8 @@ void tuned_list(const uint8_t *image, size_t image_len, uint32_t *work, size_t w
     struct alphabet al;
     uint8_t letters[KEY_MOST];
     uint32_t number = open_image(image, image_len, &o, &al);
-    trieff_answer answer = number != 0 ? refusal(number, 0) : judge_links(&o, work, work_len, true, NULL);
+    trieff_answer answer =
+        number != 0 ? refusal(number, 0) : judge_links(&o, work, work_len, true, NULL);
     char *to = add_text(out.text, answer.number != 0 ? "refused " : "entries ");
     to = add_number(to, answer.number != 0 ? answer.number : answer.value);
     if (answer.number != 0)

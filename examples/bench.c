@@ -144,8 +144,10 @@ static void refused_keys(void)
     show("look up BX", trieff_look_up_text(ALL(small), TEXT("BX")));
     show("store BA = 256", trieff_store_text(ALL(small), ALL(work), TEXT("BA"), 256));
     show("store CCC = 1", trieff_store_text(ALL(small), ALL(work), TEXT("CCC"), 1));
-    show("next key, buffer of 2", trieff_next_key(ALL(small), ALL(work), ALL(letters), true, key, 2));
-    show("next key after BA", trieff_next_key(ALL(small), ALL(work), ALL(letters), true, ALL(key)));
+    show("next key, buffer of 2",
+         trieff_next_key(ALL(small), ALL(work), ALL(letters), true, key, 2));
+    show("next key after BA",
+         trieff_next_key(ALL(small), ALL(work), ALL(letters), true, ALL(key)));
 }
 
 /* Links of one byte reach node 255. Keys of two letters are stored until there is no address for a
@@ -187,9 +189,12 @@ static void cut_off(void)
     }
     show("cut before the last", trieff_check(ALL(kept), ALL(work)));
     show("mend", trieff_mend(ALL(kept), ALL(work)));
-    printf("AC: %llu in memory, %llu kept\n", (unsigned long long)trieff_look_up_text(ALL(small), TEXT("AC")).value,
+    printf("AC: %llu in memory, %llu kept\n",
+           (unsigned long long)trieff_look_up_text(ALL(small), TEXT("AC")).value,
            (unsigned long long)trieff_look_up_text(ALL(kept), TEXT("AC")).value);
-    printf("BA: %llu kept, node %u is the last\n", (unsigned long long)trieff_look_up_text(ALL(kept), TEXT("BA")).value, (unsigned)kept[3]);
+    printf("BA: %llu kept, node %u is the last\n",
+           (unsigned long long)trieff_look_up_text(ALL(kept), TEXT("BA")).value,
+           (unsigned)kept[3]);
 }
 
 /* A season of labels, in an image with the same alphabet and with room for more nodes. The counts

@@ -76,7 +76,8 @@ _Noreturn static void stop(const char *why, ...)
 static void flush(int fd)
 {
     if (fdatasync(fd) != 0)
-        stop("fdatasync: %s. Do not go on with this file: restart the machine first", strerror(errno));
+        stop("fdatasync: %s. Do not go on with this file: restart the machine first",
+             strerror(errno));
 }
 
 /* One write into a file, whole and flushed. If the disk is full or fails, the bench stops, and the
@@ -184,7 +185,8 @@ static void start(void)
             stop("it is gone again");
     }
     if (length_of(file) != (off_t)sizeof image)
-        stop("it has %lld bytes, an image of this bench has %zu", (long long)length_of(file), sizeof image);
+        stop("it has %lld bytes, an image of this bench has %zu", (long long)length_of(file),
+             sizeof image);
     load();
     memcpy(g, image, sizeof g);
     heard = trieff_mend(ALL(image), ALL(work));
@@ -200,20 +202,23 @@ static void start(void)
    the bench stops, so the bench never goes on with an image that the file does not hold. */
 static void store(const char *label, uint32_t record)
 {
-    trieff_answer heard = trieff_store_text_writes(ALL(image), ALL(work), TEXT(label), record, writes);
+    trieff_answer heard =
+        trieff_store_text_writes(ALL(image), ALL(work), TEXT(label), record, writes);
     if (heard.number != TRIEFF_DONE) {
         printf("%s: refused %u at %u\n", label, (unsigned)heard.number, (unsigned)heard.place);
         return;
     }
     if (heard.length > TRIEFF_WRITES_MOST || heard.change < -1 || heard.change > 1)
-        stop("%u writes and a change of %d: no store answers so", (unsigned)heard.length, (int)heard.change);
+        stop("%u writes and a change of %d: no store answers so", (unsigned)heard.length,
+             (int)heard.change);
     for (uint32_t i = 0; i < heard.length; i++) {
         size_t place = writes[2 * i], length = writes[2 * i + 1];
         if (place > sizeof image || length > sizeof image - place)
             stop("a write of %zu bytes at %zu: no store writes there", length, place);
         put(file, image + place, length, place);
     }
-    printf("%s = %u: change %d, writes %u\n", label, (unsigned)record, (int)heard.change, (unsigned)heard.length);
+    printf("%s = %u: change %d, writes %u\n", label, (unsigned)record, (int)heard.change,
+           (unsigned)heard.length);
 }
 
 static void look_up(const char *label)
@@ -275,7 +280,8 @@ static bool record_of(const char *digits, uint32_t *record)
 static void obey(char *line)
 {
     const char *blank = " \t\r\n";
-    char *command = strtok(line, blank), *label = strtok(NULL, blank), *digits = strtok(NULL, blank);
+    char *command = strtok(line, blank), *label = strtok(NULL, blank),
+         *digits = strtok(NULL, blank);
     bool more = strtok(NULL, blank) != NULL;
     uint32_t record;
     if (command == NULL)

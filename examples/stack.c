@@ -26,17 +26,29 @@ static trieff_answer heard;
 #define COUNTS counts, NODES
 
 /* The calls, with one key of TRIEFF_KEY_MOST letters, so that each goes down as far as it can. */
-static void call_make(void) { heard = trieff_make(IMAGE, 2, 1, 1, (const uint8_t *)"AB", 2, 0, DEEP); }
+static void call_make(void)
+{
+    heard = trieff_make(IMAGE, 2, 1, 1, (const uint8_t *)"AB", 2, 0, DEEP);
+}
 static void call_store(void) { heard = trieff_store(IMAGE, WORK, letters, DEEP, 7); }
 static void call_store_text(void) { heard = trieff_store_text(IMAGE, WORK, text, DEEP, 7); }
-static void call_store_writes(void) { heard = trieff_store_writes(IMAGE, WORK, letters, DEEP, 7, writes); }
-static void call_store_text_writes(void) { heard = trieff_store_text_writes(IMAGE, WORK, text, DEEP, 7, writes); }
+static void call_store_writes(void)
+{
+    heard = trieff_store_writes(IMAGE, WORK, letters, DEEP, 7, writes);
+}
+static void call_store_text_writes(void)
+{
+    heard = trieff_store_text_writes(IMAGE, WORK, text, DEEP, 7, writes);
+}
 static void call_mend(void) { heard = trieff_mend(IMAGE, WORK); }
 static void call_check(void) { heard = trieff_check(IMAGE, WORK); }
 static void call_count(void) { heard = trieff_count(IMAGE, WORK); }
 static void call_look_up(void) { heard = trieff_look_up(IMAGE, letters, DEEP); }
 static void call_look_up_text(void) { heard = trieff_look_up_text(IMAGE, text, DEEP); }
-static void call_next_key(void) { heard = trieff_next_key(IMAGE, WORK, letters, 0, false, key, DEEP); }
+static void call_next_key(void)
+{
+    heard = trieff_next_key(IMAGE, WORK, letters, 0, false, key, DEEP);
+}
 static void call_counts(void) { heard = trieff_counts(IMAGE, WORK, COUNTS); }
 static void call_check_counts(void) { heard = trieff_check_counts(IMAGE, WORK, COUNTS); }
 static void call_store_counts(void)
@@ -95,7 +107,13 @@ static size_t taken_by(void (*call)(void))
 
 int main(void)
 {
-    static const struct { const char *name; void (*before)(void), (*call)(void); size_t most; uint32_t length; uint64_t value; } calls[] = {
+    static const struct {
+        const char *name;
+        void (*before)(void), (*call)(void);
+        size_t most;
+        uint32_t length;
+        uint64_t value;
+    } calls[] = {
         {"make", whole, call_make, MOST, 0, 0},
         {"store", call_make, call_store, MOST, 0, 0},
         {"store_text", call_make, call_store_text, MOST, 0, 0},
@@ -123,9 +141,11 @@ int main(void)
     for (size_t i = 0; i < sizeof calls / sizeof *calls; i++) {
         calls[i].before();
         size_t taken = taken_by(calls[i].call) - bare;
-        int good = heard.number == TRIEFF_DONE && heard.value == calls[i].value && taken <= calls[i].most;
+        int good = heard.number == TRIEFF_DONE && heard.value == calls[i].value &&
+                   taken <= calls[i].most;
         good = good && heard.length == calls[i].length;
-        printf("%-17s %5zu bytes of stack, at most %zu%s\n", calls[i].name, taken, calls[i].most, good ? "" : ": FAILED");
+        printf("%-17s %5zu bytes of stack, at most %zu%s\n", calls[i].name, taken, calls[i].most,
+               good ? "" : ": FAILED");
         failed |= !good;
     }
     return failed;

@@ -15,7 +15,8 @@ class Image:
     """An image as document 01 defines it. Nodes are added at the end, as a store does."""
 
     def __init__(self, room, n, a, d, alphabet, least, most):
-        self.n, self.a, self.d, self.alphabet, self.least, self.most = n, a, d, alphabet.encode(), least, most
+        self.n, self.a, self.d, self.alphabet, self.least, self.most = (
+            n, a, d, alphabet.encode(), least, most)
         self.width = n * a + d
         self.first = 28 + len(self.alphabet)
         self.last = (room - self.first) // self.width - 1
@@ -42,7 +43,8 @@ class Image:
         return True
 
     def whole(self):
-        head = struct.pack(">7I", self.g, self.n, self.a, self.d, len(self.alphabet), self.least, self.most)
+        head = struct.pack(">7I", self.g, self.n, self.a, self.d, len(self.alphabet), self.least,
+                           self.most)
         self.bytes[:self.first] = head + self.alphabet
         return bytes(self.bytes)
 
@@ -91,7 +93,8 @@ def numbered(room, most):
     digits."""
     image = Image(room, 16, 3, 4, "0123456789ABCDEF", 1, 12)
     stored = 0
-    while stored < most and image.store([(stored >> shift) & 15 for shift in range(32, -1, -4)], stored + 100000):
+    while stored < most and image.store(
+            [(stored >> shift) & 15 for shift in range(32, -1, -4)], stored + 100000):
         stored += 1
     return image
 

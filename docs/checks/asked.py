@@ -158,7 +158,8 @@ def proves(span):
 def tests(span):
     """Is it a file of the tests, the examples or the samples, a program, or the gate?"""
     programs = "|".join(crate_of(path) for path in files("crates/*/src/main.rt"))
-    return re.match(rf"(tests|examples|samples|\.ci)/|(target/bin/|crates/)?({programs})(/|$)", span)
+    return re.match(
+        rf"(tests|examples|samples|\.ci)/|(target/bin/|crates/)?({programs})(/|$)", span)
 
 
 def groups(page):

@@ -26,7 +26,8 @@ def homonyms():
             read += 1
             other, where = first.setdefault(name.lower(), (name, path))
             if where != path:  # in one file a type and what builds it may differ in case alone
-                how = "is declared twice" if other == name else f"differs in case alone from {other}"
+                how = ("is declared twice" if other == name
+                       else f"differs in case alone from {other}")
                 yield at(path, line, f"{name} {how}, in {where.relative_to(ROOT)}")
     return f"{len(found):,} names of files and {read:,} of definitions"
 

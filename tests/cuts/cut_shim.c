@@ -86,7 +86,8 @@ static uint64_t used(int fd)
     if (pread(fd, head, sizeof head, 0) != (ssize_t)sizeof head)
         return 0;
     for (int i = 0; i < 7; i++)
-        field[i] = (uint64_t)head[4 * i] << 24 | (uint64_t)head[4 * i + 1] << 16 | (uint64_t)head[4 * i + 2] << 8 | head[4 * i + 3];
+        field[i] = (uint64_t)head[4 * i] << 24 | (uint64_t)head[4 * i + 1] << 16 |
+                   (uint64_t)head[4 * i + 2] << 8 | head[4 * i + 3];
     return 28 + field[4] + (field[0] + 1) * (field[1] * field[2] + field[3]);
 }
 

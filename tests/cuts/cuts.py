@@ -83,7 +83,8 @@ class Labels:
             self.nodes[prefix] = len(self.nodes)
         if missing:
             parent, letter = missing[0][:-1], ALPHABET.index(missing[0][-1])
-            writes = [(self.place(p), WIDTH) for p in missing] + [(0, 4), (self.place(parent) + 2 * letter, 2)]
+            writes = [(self.place(p), WIDTH) for p in missing] + [
+                (0, 4), (self.place(parent) + 2 * letter, 2)]
         else:
             writes = [(self.place(label) + 16 * 2, 4)]
         change = (record != 0) - (label in self.records)
@@ -97,15 +98,18 @@ class Labels:
         nodes = [bytearray(WIDTH) for _ in self.nodes]
         for prefix, address in self.nodes.items():
             if prefix:
-                struct.pack_into(">H", nodes[self.nodes[prefix[:-1]]], 2 * ALPHABET.index(prefix[-1]), address)
+                struct.pack_into(">H", nodes[self.nodes[prefix[:-1]]],
+                                 2 * ALPHABET.index(prefix[-1]), address)
             struct.pack_into(">I", nodes[address], 16 * 2, self.records.get(prefix, 0))
         head = struct.pack(">7I", len(nodes) - 1, 16, 2, 4, len(ALPHABET), 1, LONGEST)
         return head + ALPHABET.encode() + b"".join(nodes)
 
     def answers(self, labels):
-        lines = [f"{a}: record {self.records[a]}" if a in self.records else f"{a}: absent" for a in labels]
+        lines = [f"{a}: record {self.records[a]}" if a in self.records else f"{a}: absent"
+                 for a in labels]
         ordered = sorted(self.records, key=lambda a: [ALPHABET.index(c) for c in a])
-        return lines + [f"labels: {len(ordered)}"] + [f"{a} {self.records[a]}" for a in ordered] + ["end of the list"]
+        return (lines + [f"labels: {len(ordered)}"]
+                + [f"{a} {self.records[a]}" for a in ordered] + ["end of the list"])
 
 
 ASKED = sorted({a for a, _ in SESSION + [ANOTHER] if len(a) <= LONGEST and "/" not in a}) + NEVER
@@ -149,7 +153,8 @@ class Bench:
         image, held = labels.image(), self.held()
         if held[: len(image)] != image:
             at = next(i for i in range(len(image)) if held[i : i + 1] != image[i : i + 1])
-            self.report(what, f"byte {at} of the file is {held[at : at + 1].hex()} instead of {image[at : at + 1].hex()}")
+            self.report(what, f"byte {at} of the file is {held[at : at + 1].hex()} "
+                              f"instead of {image[at : at + 1].hex()}")
 
     def run(self, lines, shim=True, **cut):
         self.starts += 1
@@ -160,7 +165,8 @@ class Bench:
             if self.mistake:
                 env["CUT_WRONG"] = self.mistake
         text = "".join(line + "\n" for line in lines)
-        return subprocess.run([self.bench, self.file], input=text, capture_output=True, text=True, env=env, timeout=60)
+        return subprocess.run([self.bench, self.file], input=text, capture_output=True, text=True,
+                              env=env, timeout=60)
 
     def report(self, what, why):
         self.wrong += 1
@@ -169,17 +175,21 @@ class Bench:
             self.end("and no more were tried")
 
     def end(self, words):
-        print(f"cuts.py: {self.stops} stops in {self.starts} starts tried, {self.wrong} wrong {words}".rstrip())
+        print(f"cuts.py: {self.stops} stops in {self.starts} starts tried, "
+              f"{self.wrong} wrong {words}".rstrip())
         sys.exit(1 if self.wrong else 0)
 
     def expect(self, what, ran, code, lines, mended=None):
         """Returns whether a run ended and answered as it must; reports it if not."""
         got = ran.stdout.splitlines()
         if ran.returncode != code:
-            self.report(what, f"ended with {ran.returncode} instead of {code}: {ran.stderr.strip()}")
+            self.report(what, f"ended with {ran.returncode} instead of {code}: "
+                              f"{ran.stderr.strip()}")
         elif got != lines:
-            at = next((i for i, (a, b) in enumerate(zip(got, lines)) if a != b), min(len(got), len(lines)))
-            self.report(what, f"line {at + 1} is {got[at : at + 1]} instead of {lines[at : at + 1]}")
+            at = next((i for i, (a, b) in enumerate(zip(got, lines)) if a != b),
+                      min(len(got), len(lines)))
+            self.report(what, f"line {at + 1} is {got[at : at + 1]} "
+                              f"instead of {lines[at : at + 1]}")
         elif mended is not None and mended != ("mended" in ran.stderr):
             self.report(what, f"mended: {not mended}, instead of {mended}")
         else:
@@ -227,7 +237,8 @@ def each_stop(bench, image, labels, stores, counted=0, then=()):
                     continue
                 # G landed and the link did not
                 mended = len(writes) > 1 and landed == len(writes) - 1
-                bench.goes_on(what, after if over else labels, stores[i + over :] + list(then), mended)
+                bench.goes_on(what, after if over else labels, stores[i + over :] + list(then),
+                              mended)
         counted += len(writes)
         lines.append(line)
         labels = after
@@ -236,7 +247,8 @@ def each_stop(bench, image, labels, stores, counted=0, then=()):
 def each_creation(bench, stores):
     """Stops the making of the file, where there was no file or an empty one."""
     for image in (None, b""):
-        written = [(1, how, 0) for how in ("before", "after", "full", "short", "sick")] + [(1, "torn", seed) for seed in SEEDS]
+        written = [(1, how, 0) for how in ("before", "after", "full", "short", "sick")] + [
+            (1, "torn", seed) for seed in SEEDS]
         for at, how, seed in written + [(2, "before", 0), (2, "after", 0)]:
             what = f"making the file, write {at}, {how} {seed}"
             bench.put(image)
@@ -259,10 +271,12 @@ def each_second_stop(bench, image, stores):
                 return
             hit = bench.held()
             bench.goes_on(what, labels, stores[i:], True)
-            for how, landed in (("before", False), ("after", True), ("full", False), ("sick", True)):
+            for how, landed in (("before", False), ("after", True), ("full", False),
+                                ("sick", True)):
                 bench.put(hit)
                 if bench.stop(f"{what}, then cut putting G back, {how}", [], [], 1, how):
-                    bench.goes_on(f"{what}, then cut putting G back, {how}", labels, stores[i:], not landed)
+                    bench.goes_on(f"{what}, then cut putting G back, {how}", labels, stores[i:],
+                                  not landed)
             each_stop(bench, hit, labels, [ANOTHER], 1, stores[i:])
         labels = after
 
@@ -271,13 +285,15 @@ def main():
     folder = sys.argv[3]
     shutil.rmtree(folder, ignore_errors=True)
     os.makedirs(folder)
-    bench = Bench(os.path.abspath(sys.argv[1]), os.path.abspath(sys.argv[2]), folder, (sys.argv[4:] or [""])[0])
+    bench = Bench(os.path.abspath(sys.argv[1]), os.path.abspath(sys.argv[2]), folder,
+                  (sys.argv[4:] or [""])[0])
 
     # the whole session with no cut, first without the shim, so with real flushes; then with the
     # shim, whose trace must have the writes that the labels give
     lines, end = told(Labels(), SESSION)
     bench.put(None)
-    bench.expect("the session", bench.run(commands(SESSION) + ASKING, shim=False), 0, lines + end.answers(ASKED), False)
+    bench.expect("the session", bench.run(commands(SESSION) + ASKING, shim=False), 0,
+                 lines + end.answers(ASKED), False)
     bench.holds("the session", end)
     bench.put(None)
     if not bench.expect("the session", bench.run(commands(SESSION), trace=bench.trace), 0, lines):
@@ -287,7 +303,8 @@ def main():
         listed += labels.store(*s)[0]
     with open(bench.trace) as f:
         seen = f.read().splitlines()
-    for i, (got, must) in enumerate(itertools.zip_longest(seen[2:], [f"{place} {length}" for place, length in listed])):
+    for i, (got, must) in enumerate(itertools.zip_longest(
+            seen[2:], [f"{place} {length}" for place, length in listed])):
         if got != must:
             bench.report("the session", f"write {i + 1} is {got} instead of {must}")
             break
@@ -297,7 +314,8 @@ def main():
     bench.put(None)
     bench.run([])
     image = bench.held()
-    image = image[: FIRST + WIDTH] + bytes(lot.choice((0, 0, 1, 2, lot.randrange(256), 255)) for _ in image[FIRST + WIDTH :])
+    image = image[: FIRST + WIDTH] + bytes(
+        lot.choice((0, 0, 1, 2, lot.randrange(256), 255)) for _ in image[FIRST + WIDTH :])
 
     each_creation(bench, SESSION)
     each_second_stop(bench, image, SESSION)
