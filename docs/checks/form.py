@@ -32,9 +32,21 @@ def homonyms():
     return f"{len(found):,} names of files and {read:,} of definitions"
 
 
+# where the code beside the crates is, and its endings
+BESIDE = (".ci", "bench", "docs", "examples", "rust", "samples", "tests")
+ENDINGS = {".c", ".h", ".py", ".rs", ".sh", ".toml"}
+
+
+def is_code(path):
+    """Is it a file with an ending of code, or a script without an ending?"""
+    return path.is_file() and (
+        path.suffix in ENDINGS or not path.suffix and path.read_bytes().startswith(b"#!"))
+
+
 def columns():
+    beside = files(*(f"{folder}/**/*" for folder in BESIDE))
     read = 0
-    for path in SOURCES:
+    for path in [*SOURCES, *filter(is_code, beside)]:
         for number, line in enumerate(text(path).splitlines(), 1):
             read += 1
             if len(line) > 99:
