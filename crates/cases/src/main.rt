@@ -27,10 +27,10 @@
 // Numbers are decimal. Bytes, letters and text are written alike: x and two hexadecimal digits
 // for each byte, or a text in quotation marks, or both in turn. There may be a `.` between two
 // bytes, and `*N` after a byte repeats it so that it is there N times. So `x00*65` is a key of
-// 65 letters, `"A"*64"D"` a text, and `x` or `""` nothing. The image is kept from line to line,
-// as the calls leave it. Before each call the working numbers and the list of writes hold 7, and
-// the key buffer AA. A line with nothing before its bar is a remark. Any other line is reported,
-// as in `line 17: not a case`, and the next one is run.
+// 65 letters, `"A"*64"D"` a text, and `x` or an empty text is nothing. The image is kept from
+// line to line, as the calls leave it. Before each call the working numbers and the list of
+// writes hold 7, and the key buffer AA. A line with nothing before its bar is a remark. Any
+// other line is reported, as in `line 17: not a case`, and the next one is run.
 //
 // For a new call, add a row at the end of FORMS, one to CALLS, and an arm with its number: in
 // `run` if the call is lent no working numbers, in `change` if it changes the image, otherwise

@@ -89,7 +89,7 @@ unfolding before
 before-extension [] x m = refl
 before-extension (y ∷ k) x m = before-cons y k (k ++ x ∷ m) ∙ before-extension k x m
 
--- "after" a key means "at or after" it, and not the key itself
+-- a key is after another exactly if it is at or after it, and is not the same key
 pub meets-after : (given k : List ℕ) → (meets true given k ≡ true)
     ↔ ((meets false given k ≡ true) × (k ≢ given))
 unfolding meets

@@ -46,7 +46,7 @@ before [] (y ∷ m) = true
 before (x ∷ k) [] = false
 before (x ∷ k) (y ∷ m) = cond (eqb x y) (before k m) (ltb x y)
 
--- the choice of next key: "after" the key given, otherwise "at or after" it
+-- the choice of next key: true is after the key given, false is at or after it
 unfoldable pub meets : Bool → List ℕ → List ℕ → Bool
 unfolding before
 meets true given k = before given k
