@@ -1,20 +1,19 @@
 -- Demand 1, for every call: a refusal "leaves the image and every answer buffer unchanged; the
 -- working numbers end as 01 states", and they end so where the call is done too.
 use Prim.Native.Nat.{ℕ}
-use mathlib.Core.Path.{_≡_, refl, sym, ap, _∙_}
+use mathlib.Core.Path.{_≡_, refl, ap}
 use mathlib.Core.Logic.{_≢_}
 use mathlib.Core.Bool.{Bool, true, false}
-use mathlib.Core.Option.{none, some}
 use mathlib.Core.List.{List, [], _∷_, _++_, map}
 use lib.Dec.{eqb}
 use lib.ListN.{length}
-use borrow.Author.Tests.{eqb-true, ne-eqb, eqb-false}
+use borrow.Author.Tests.{eqb-false}
 use Rattle.node.specs.Writes.{Write}
-use Rattle.paper.specs.Hearing.{Row, Outcome, first, heard, doneNumbers}
-use Rattle.paper.specs.Given.{Given, keyIn, alphabetIn}
-use Rattle.paper.specs.Orders.{openingRows, checkOrder, lookUpOrder, storeOrder, nextKeyOrder}
+use Rattle.paper.specs.Hearing.{Outcome, first, doneNumbers}
+use Rattle.paper.specs.Given.{keyIn}
+use Rattle.paper.specs.Orders.{openingRows, checkOrder, lookUpOrder, nextKeyOrder}
 use Rattle.paper.specs.Calls.{workAfter, freshHead, makeOf, checkOf, countOf, lookUpOf, storeOf}
-use Rattle.paper.specs.Calls.{writesIn, withWrites, storeWritesOf, canMend, mendBy, mendOf}
+use Rattle.paper.specs.Calls.{writesIn, withWrites, storeWritesOf, canMend, mendOf}
 use Rattle.paper.specs.Calls.{nextIn, foundIn, nextKeyOf}
 use Rattle.paper.proofs.Hearing.{kept-lent}
 use Rattle.paper.proofs.StoreCall.{refused-keeps}
@@ -25,7 +24,7 @@ use Rattle.position.specs.Calls.{workLeft, countsOf, checkCountsOf, storeCounts
 use Rattle.position.specs.Calls.{keyAtOf, positionOf}
 use Rattle.calls.specs.Call.{Call, make, check, count, lookUp, store, storeWrites, mend}
 use Rattle.calls.specs.Call.{nextKey, counts, checkCounts, storeCounts, keyAt, position}
-use Rattle.calls.specs.Call.{outcomeOf, lentTo, refusedLeaves, workIn}
+use Rattle.calls.specs.Call.{outcomeOf, lentTo, refusedLeaves}
 
 -- ---- a refusal
 

@@ -2,16 +2,14 @@
 -- depends on what they held": all outcomes have them by their length alone, but for what the rest
 -- of them keep.
 use Prim.Native.Nat.{ℕ, _+_, _-_, min}
-use mathlib.Core.Path.{_≡_, refl, sym, ap, ap₂, subst, _∙_}
-use mathlib.Core.Bool.{Bool, true, false, _&&_, cond}
-use mathlib.Core.Option.{Option, none, some}
+use mathlib.Core.Path.{_≡_, refl, sym, ap, subst, _∙_}
+use mathlib.Core.Bool.{Bool, true, false}
+use mathlib.Core.Option.{none, some}
 use mathlib.Core.List.{List, [], _∷_, _++_, map}
 use lib.Dec.{eqb}
-use lib.IntN.{ℤ, pos}
-use lib.ListN.{length, take, drop, length-take}
-use Rattle.head.specs.declared.Head.{Head}
+use lib.IntN.{ℤ}
+use lib.ListN.{length, length-take}
 use Rattle.head.specs.Fields.{headOf, putTotal}
-use Rattle.alphabet.specs.Letters.{orEmpty}
 use Rattle.trie.specs.Table.{answer}
 use Rattle.trie.specs.Storing.{changeOf}
 use Rattle.node.specs.Image.{tableOf}
@@ -21,17 +19,17 @@ use Rattle.paper.specs.Hearing.{Row, Numbers, Outcome, outcome, first, heard, d
 use Rattle.paper.specs.Hearing.{refusedNumbers}
 use Rattle.paper.specs.Given.{Given, keyIn}
 use Rattle.paper.specs.Rows.{row5, row14, row15}
-use Rattle.paper.specs.Orders.{openingRowsOf, linkRows, checkOrder, keyRows, nextRows, storeOrder}
-use Rattle.paper.specs.Orders.{newOf, nextKeyOrder}
-use Rattle.paper.specs.Calls.{workAfter, checkOf, countOf, storedKeys, storeOf, writesIn}
-use Rattle.paper.specs.Calls.{withWrites, storeWritesOf, canMend, mendBy, mendOf, nextIn, foundIn}
+use Rattle.paper.specs.Orders.{openingRows, openingRowsOf, linkRows, checkOrder, keyRows, nextRows}
+use Rattle.paper.specs.Orders.{newOf, storeOrder, nextKeyOrder}
+use Rattle.paper.specs.Calls.{workAfter, freshHead, makeOf, checkOf, countOf, storedKeys, storeOf}
+use Rattle.paper.specs.Calls.{writesIn, withWrites, storeWritesOf, canMend, mendOf, nextIn, foundIn}
 use Rattle.paper.specs.Calls.{nextKeyOf, tableIn, storedImage}
-use Rattle.paper.proofs.MendCall.{check-lent, mend-kept, mend-lowered}
+use Rattle.paper.proofs.MendCall.{mend-kept, mend-lowered}
 use Rattle.paper.proofs.StoreCall.{valued}
 use Rattle.position.specs.Counts.{row25, row5again}
 use Rattle.position.specs.Orders.{usable, countsOrder, checkCountsOrder, storeCountsOrder}
 use Rattle.position.specs.Orders.{keyAtOrder, ifStored, positionOrder}
-use Rattle.position.specs.Calls.{workLeft, countsOf, checkCountsOf, storeCountsOf, placedKey}
+use Rattle.position.specs.Calls.{countsOf, checkCountsOf, storeCountsOf, placedKey}
 use Rattle.position.specs.Calls.{keyAtOf, positionOf}
 use Rattle.calls.specs.Call.{Call, make, check, count, lookUp, store, storeWrites, mend}
 use Rattle.calls.specs.Call.{nextKey, counts, checkCounts, storeCounts, keyAt, position}
@@ -85,10 +83,11 @@ module _ (l : List ℕ) where
   -- first names it, or before that, all keep what they held."
   pub work-ends : (c : Call) → workIn (lentTo l c) (outcomeOf l c .lent)
       ≡ workIn (lentTo l c) (map (refusedLeaves l) (lentTo l c))
-  unfolding outcomeOf lentTo refusedLeaves workIn checkOf countOf storeWritesOf nextKeyOf foundIn
+  unfolding outcomeOf lentTo refusedLeaves workIn makeOf checkOf countOf storeWritesOf nextKeyOf foundIn
       countsOf checkCountsOf storeCountsOf keyAtOf placedKey positionOf
   work-ends (make n a d alphabet least most) =
-      either-left (workIn (answering l ∷ [])) (first _) _ _ refl refl
+      either-left (workIn (answering l ∷ []))
+      (first (openingRows (freshHead n a d alphabet least most) alphabet (length l))) _ _ refl refl
   work-ends (check work) =
       either-left (workIn (working work ∷ [])) (first (checkOrder l work)) _ _ refl refl
   work-ends (count work) =
