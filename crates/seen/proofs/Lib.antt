@@ -1,1 +1,3 @@
+pub mod SameCalls
+pub mod SameWrites
 pub mod Seen

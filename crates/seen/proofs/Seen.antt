@@ -2,15 +2,16 @@
 -- Bytes from U on are not seen. Of the first four bytes only G, the number in them, is seen.
 use Prim.Native.Nat.{ℕ, _+_, _≤_, _<_}
 use mathlib.Core.Path.{_≡_, sym, ap, ap₂, subst, _∙_}
-use mathlib.Core.Bool.{true, not, cond}
+use mathlib.Core.Bool.{Bool, true, not, cond}
 use mathlib.Core.Option.{Option, none, some}
 use mathlib.Core.List.{List, [], _∷_, _++_}
 use native.Mathlib.Omega.{arith}
 use lib.Dec.{eqb}
-use lib.ListN.{length, getD, take, drop}
+use lib.ListN.{length, getD, take, drop, replicate}
 use lib.Seq.{sets}
 use lib.IntN.{pos}
-use Rattle.trie.specs.Table.{answer}
+use Rattle.trie.specs.Table.{answer, descend, missing}
+use Rattle.trie.specs.Storing.{added, changeOf}
 use Rattle.trie.specs.Keys.{listing, meets, firstMeeting}
 use Rattle.trie.specs.Rules.{LinkRules}
 use Rattle.passing.specs.Passing.{countAt, oneForEach, keyAt, rankIn}
@@ -21,22 +22,25 @@ use Rattle.head.proofs.Fields.{head-same}
 use Rattle.head.proofs.Places.{used-le, place-least}
 use Rattle.alphabet.specs.Letters.{goodAlphabet, orEmpty}
 use Rattle.node.specs.Image.{tableOf}
+use Rattle.node.specs.Writes.{Write, storeWrites}
 use Rattle.node.proofs.Tables.{table-bytes}
-use Rattle.paper.specs.Hearing.{Row, Outcome, outcome, doneNumbers, first, heard}
+use Rattle.paper.specs.Hearing.{Row, Numbers, Outcome, outcome, doneNumbers, first, heard}
 use Rattle.paper.specs.Given.{Given, alphabetIn, meantBy, meantIn, keyIn}
 use Rattle.paper.specs.Rows.{row5, rowWhenLowest, row6path, row14, row15}
 use Rattle.paper.specs.Orders.{openingRows, openingRowsOf, linkRows, checkOrder, keyRowsBy}
-use Rattle.paper.specs.Orders.{keyRows, nextRows, lookUpOrder, nextKeyOrder}
+use Rattle.paper.specs.Orders.{keyRows, nextRows, lookUpOrder, addingRows, newOf, storeOrder}
+use Rattle.paper.specs.Orders.{nextKeyOrder}
 use Rattle.paper.specs.Calls.{tableIn, clearedBy, workAfter, checkOf, storedKeys, countOf, telling}
-use Rattle.paper.specs.Calls.{lookUpOf, nextIn, foundIn, nextKeyOf}
+use Rattle.paper.specs.Calls.{lookUpOf, writesIn, storedImage, storeOf, isAccepted, nextIn}
+use Rattle.paper.specs.Calls.{foundIn, nextKeyOf}
 use Rattle.paper.specs.Accepted.{Accepted}
 use Rattle.paper.proofs.Opening.{alphabet-same}
-use Rattle.position.specs.Counts.{countIn, countsIn, row25}
+use Rattle.position.specs.Counts.{countIn, countsIn, row25, row5again}
 use Rattle.position.specs.Orders.{usable, countsOrder, checkCountsOrder, keyAtOrder, ifStored}
-use Rattle.position.specs.Orders.{positionOrder}
+use Rattle.position.specs.Orders.{storeCountsOrder, positionOrder}
 use Rattle.position.specs.Calls.{workLeft, worked, countsOf, checkCountsOf, placedKey, keyAtOf}
-use Rattle.position.specs.Calls.{positionOf}
-use Rattle.seen.specs.Seen.{Seen, seenIn, SameAnswers}
+use Rattle.position.specs.Calls.{storeCountsOf, positionOf}
+use Rattle.seen.specs.Seen.{Seen, seenIn}
 
 seen-eq : (s t : Seen) → s .head ≡ t .head → s .table ≡ t .table → s .alphabet ≡ t .alphabet
     → s .len ≡ t .len → s ≡ t
@@ -94,7 +98,7 @@ opens s = openingRows (s .head) (s .alphabet) (s .len)
 abbrev checks : Seen → List ℕ → List Row
 checks s work = opens s ++ (row5 (s .head) (length work) ∷ linkRows (s .head) (s .table))
 
-abbrev clears : Seen → List ℕ → List ℕ
+abbrev pub clears : Seen → List ℕ → List ℕ
 clears s work =
     clearedBy (first (opens s ++ (row5 (s .head) (length work) ∷ []))) (s .head .g + 1) work
 
@@ -165,31 +169,156 @@ ranks s work counts given =
     (outcome (doneNumbers 0 (pos 0) (rankIn (lists s) (means s given)))
     (leaves s work counts ∷ []))
 
-module _ {a b : List ℕ} (e : seenIn a ≡ seenIn b) where
-  pub same-answers : SameAnswers a b
-  unfolding openingRowsOf checkOrder keyRows meantIn keyIn lookUpOrder nextKeyOrder tableIn
-      workAfter checkOf storedKeys countOf lookUpOf nextIn foundIn nextKeyOf countIn countsIn row25
-      usable countsOrder checkCountsOrder keyAtOrder ifStored positionOrder workLeft worked
-      countsOf checkCountsOf placedKey keyAtOf positionOf
-  same-answers =
-      record {
-        checks = λ work. ap (λ (s : Seen). heard (first (checks s work)) (clears s work ∷ [])
-            (outcome (doneNumbers 0 (pos 0) 0) (clears s work ∷ []))) e;
-        counts = λ work. ap (λ (s : Seen). heard (first (checks s work)) (clears s work ∷ [])
-            (outcome (doneNumbers 0 (pos 0) (length (lists s))) (clears s work ∷ []))) e;
-        looks = λ given. ap (λ (s : Seen). looks s given) e;
-        nexts = λ work key after buffer. ap
-            (λ (s : Seen). nexts s work key buffer (firstMeeting (meets after key) (lists s))) e;
-        lists = ap lists e;
-        workedOut = λ work counts. ap (λ (s : Seen). works s work counts) e;
-        checksCounts = λ work counts. ap (λ (s : Seen). holds s work counts) e;
-        keysAt = λ work counts position buffer. ap
-            (λ (s : Seen). places s work counts buffer (keyAt (lists s) position)) e;
-        positions = λ work counts given. ap (λ (s : Seen). ranks s work counts given) e;
-        weighed = ap weighs e;
-      }
+-- the same for the stores and for mending: `l` is the image as it was, `done` the image after a
+-- store that is done
+abbrev adds : Seen → List ℕ → ℕ → ℕ
+adds s key value = added (missing (descend (s .table) 0 key)) value
 
-  -- and one image is accepted where the other is
+abbrev last : Seen → List ℕ → ℕ → List Row
+last s key value = addingRows (s .head) value (adds s key value) (s .len)
+
+abbrev pub storeRows : Seen → List ℕ → Given → ℕ → List Row
+storeRows s work given value =
+    checks s work
+    ++ (keyRowsBy (s .head) (s .alphabet) given ++ last s (means s given) value)
+
+abbrev pub changes : Seen → Given → ℕ → Numbers
+changes s given value = doneNumbers 0 (changeOf (answer (s .table) (means s given)) value) 0
+
+abbrev pub stores : Seen → List ℕ → Given → ℕ → List ℕ → List ℕ → Outcome
+stores s work given value l done =
+    heard (first (storeRows s work given value)) (l ∷ clears s work ∷ [])
+    (outcome (changes s given value) (done ∷ clears s work ∷ []))
+
+abbrev writes : Seen → Given → ℕ → List Write
+writes s given value =
+    storeWrites (s .head) (descend (s .table) 0 (means s given)) value
+
+abbrev pub storeCountsRows : Seen → List ℕ → Given → ℕ → List ℕ → List Row
+storeCountsRows s work given value counts =
+    compares s work counts
+    ++ (keyRowsBy (s .head) (s .alphabet) given
+    ++ (last s (means s given) value
+    ++ (row5again (s .head) (adds s (means s given) value) (length counts) ∷ [])))
+
+abbrev pub storesCounts : Seen → List ℕ → Given → ℕ → List ℕ → List ℕ → List ℕ → List ℕ → Outcome
+storesCounts s work given value counts l done fresh =
+    heard (first (storeCountsRows s work given value counts))
+    (l ∷ leaves s work counts ∷ counts ∷ [])
+    (outcome (changes s given value)
+    (done ∷ leaves s work counts ∷ sets counts 0 fresh ∷ []))
+
+abbrev accepts : Seen → Bool
+accepts s =
+    eqb (heard (first (checks s (replicate (s .head .g + 1) 0)))
+    (clears s (replicate (s .head .g + 1) 0) ∷ [])
+    (outcome (doneNumbers 0 (pos 0) 0)
+    (clears s (replicate (s .head .g + 1) 0) ∷ [])) .numbers .number) 0
+
+module _ (a b : List ℕ) (e : seenIn a ≡ seenIn b) where
+  -- ---- the calls that do not write the image
+
+  pub check-seen : (work : List ℕ) → checkOf a work ≡ checkOf b work
+  unfolding checkOf checkOrder openingRowsOf workAfter tableIn
+  check-seen work = ap (λ (s : Seen). heard (first (checks s work)) (clears s work ∷ [])
+      (outcome (doneNumbers 0 (pos 0) 0) (clears s work ∷ []))) e
+
+  pub work-seen : (work : List ℕ) → workAfter a work ≡ workAfter b work
+  unfolding workAfter openingRowsOf
+  work-seen work = ap (λ (s : Seen). clears s work) e
+
+  pub count-seen : (work : List ℕ) → countOf a work ≡ countOf b work
+  unfolding countOf checkOrder openingRowsOf workAfter tableIn storedKeys
+  count-seen work = ap (λ (s : Seen). heard (first (checks s work)) (clears s work ∷ [])
+      (outcome (doneNumbers 0 (pos 0) (length (lists s))) (clears s work ∷ []))) e
+
+  pub look-seen : (given : Given) → lookUpOf a given ≡ lookUpOf b given
+  unfolding lookUpOf lookUpOrder openingRowsOf keyRows keyIn meantIn tableIn
+  look-seen given = ap (λ (s : Seen). looks s given) e
+
+  pub next-seen : (work key : List ℕ) (after : Bool) (buffer : List ℕ)
+      → nextKeyOf a work key after buffer ≡ nextKeyOf b work key after buffer
+  unfolding nextKeyOf nextKeyOrder checkOrder openingRowsOf workAfter tableIn storedKeys nextIn
+      foundIn
+  next-seen work key after buffer = ap
+      (λ (s : Seen). nexts s work key buffer (firstMeeting (meets after key) (lists s))) e
+
+  pub keys-seen : storedKeys a ≡ storedKeys b
+  unfolding storedKeys tableIn
+  keys-seen = ap lists e
+
+  pub counts-seen : (work counts : List ℕ) → countsOf a work counts ≡ countsOf b work counts
+  unfolding countsOf countsOrder usable checkOrder openingRowsOf workLeft workAfter worked countsIn
+      countIn tableIn
+  counts-seen work counts = ap (λ (s : Seen). works s work counts) e
+
+  pub check-counts-seen : (work counts : List ℕ) → checkCountsOf a work counts
+      ≡ checkCountsOf b work counts
+  unfolding checkCountsOf checkCountsOrder countsOrder usable checkOrder openingRowsOf workLeft
+      workAfter row25 countIn tableIn
+  check-counts-seen work counts = ap (λ (s : Seen). holds s work counts) e
+
+  pub key-at-seen : (work counts : List ℕ) (position : ℕ) (buffer : List ℕ)
+      → keyAtOf a work counts position buffer ≡ keyAtOf b work counts position buffer
+  unfolding keyAtOf keyAtOrder placedKey checkCountsOrder countsOrder usable checkOrder
+      openingRowsOf workLeft workAfter row25 countIn tableIn storedKeys
+  key-at-seen work counts position buffer = ap
+      (λ (s : Seen). places s work counts buffer (keyAt (lists s) position)) e
+
+  pub position-seen : (work counts : List ℕ) (given : Given) → positionOf a work counts given
+      ≡ positionOf b work counts given
+  unfolding positionOf positionOrder ifStored checkCountsOrder countsOrder usable checkOrder
+      openingRowsOf workLeft workAfter row25 countIn tableIn storedKeys keyRows keyIn meantIn
+  position-seen work counts given = ap (λ (s : Seen). ranks s work counts given) e
+
+  pub weights-seen : countsIn a ≡ countsIn b
+  unfolding countsIn countIn tableIn
+  weights-seen = ap weighs e
+
+  -- ---- what the calls that write the image see
+
+  pub key-seen : (given : Given) → keyIn a given ≡ keyIn b given
+  unfolding keyIn meantIn
+  key-seen given = ap (λ (s : Seen). means s given) e
+
+  pub new-seen : (key : List ℕ) (value : ℕ) → newOf (headOf a) a key value
+      ≡ newOf (headOf b) b key value
+  unfolding newOf tableIn
+  new-seen key value = ap (λ (s : Seen). adds s key value) e
+
+  pub writes-seen : (key : List ℕ) (value : ℕ) → writesIn a key value ≡ writesIn b key value
+  unfolding tableIn
+  writes-seen key value =
+      ap (λ (s : Seen). storeWrites (s .head) (descend (s .table) 0 key) value) e
+
+  pub store-order-seen : (work : List ℕ) (given : Given) (value : ℕ)
+      → storeOrder a work given value ≡ storeOrder b work given value
+  unfolding storeOrder checkOrder openingRowsOf keyRows keyIn meantIn newOf tableIn
+  store-order-seen work given value = ap (λ (s : Seen). storeRows s work given value) e
+
+  pub store-seen : (work : List ℕ) (given : Given) (value : ℕ) → storeOf a work given value
+      ≡ stores (seenIn b) work given value a (storedImage a (keyIn a given) value)
+  unfolding storeOf storeOrder checkOrder openingRowsOf workAfter keyRows keyIn meantIn newOf
+      tableIn
+  store-seen work given value =
+      ap (λ (s : Seen). stores s work given value a (storedImage a (keyIn a given) value)) e
+
+  pub store-counts-seen : (work : List ℕ) (given : Given) (value : ℕ) (counts : List ℕ)
+      → storeCountsOf a work given value counts
+      ≡ storesCounts (seenIn b) work given value counts a (storedImage a (keyIn a given) value)
+      (countsIn (storedImage a (keyIn a given) value))
+  unfolding storeCountsOf storeCountsOrder checkCountsOrder countsOrder usable checkOrder
+      openingRowsOf workLeft workAfter row25 countIn worked keyRows keyIn meantIn newOf tableIn
+  store-counts-seen work given value counts =
+      ap (λ (s : Seen). storesCounts s work given value counts a
+      (storedImage a (keyIn a given) value) (countsIn (storedImage a (keyIn a given) value))) e
+
+  pub is-accepted-seen : isAccepted a ≡ isAccepted b
+  unfolding isAccepted checkOf checkOrder openingRowsOf workAfter tableIn
+  is-accepted-seen = ap accepts e
+
+-- one image is accepted where the other is
+module _ {a b : List ℕ} (e : seenIn a ≡ seenIn b) where
   pub same-accepted : Accepted b → Accepted a
   same-accepted x =
       let back : seenIn b ≡ seenIn a = sym e in

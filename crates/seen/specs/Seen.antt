@@ -1,18 +1,17 @@
--- What the calls that do not write an image see of it (01: "bytes from U on are spare, may hold
--- anything, and are never judged"), and what it means that two images answer alike (02, Ask 1:
--- "the answers from before the store or after it").
-use Prim.Native.Nat.{ℕ}
+-- What the calls see of an image (01: "bytes from U on are spare, may hold anything, and are never
+-- judged"), and what it means that two images answer alike in every call (02, Ask 1: "the answers
+-- from before the store or after it").
+use Prim.Native.Nat.{ℕ, _≤_, _<_}
 use mathlib.Core.Path.{_≡_}
-use mathlib.Core.Bool.{Bool}
 use mathlib.Core.List.{List}
-use lib.ListN.{length}
+use lib.ListN.{length, getD}
 use Rattle.trie.specs.Table.{Table}
 use Rattle.head.specs.declared.Head.{Head}
-use Rattle.head.specs.Fields.{headOf}
-use Rattle.paper.specs.Given.{Given, alphabetIn}
-use Rattle.paper.specs.Calls.{tableIn, checkOf, storedKeys, countOf, lookUpOf, nextKeyOf}
+use Rattle.head.specs.Fields.{headOf, usedLen}
+use Rattle.paper.specs.Given.{alphabetIn}
+use Rattle.paper.specs.Calls.{tableIn, storedKeys}
 use Rattle.position.specs.Counts.{countsIn}
-use Rattle.position.specs.Calls.{countsOf, checkCountsOf, keyAtOf, positionOf}
+use Rattle.calls.specs.Call.{Call, outcomeOf, imageAfter, besidesImage, answersOf}
 
 -- what is seen of an image: its head, table, alphabet and length, and nothing else
 pub record Seen : Type 0 where
@@ -30,30 +29,25 @@ seenIn l = record {
   len = length l;
 }
 
--- two images answer alike in every call that does not write them, and have the same keys and
+-- two images of one length with equal heads and equal bytes from `from` up to U. From 0 on these
+-- are all used bytes. From 4 on they are all but the bytes of G; the heads say that G is equal.
+pub record Alike (from : ℕ) (a b : List ℕ) : Type 0 where
+  pub heads : headOf a ≡ headOf b
+  pub lengths : length a ≡ length b
+  pub bytes : (p : ℕ) → from ≤ p → p < usedLen (headOf b) → getD a p 0 ≡ getD b p 0
+
+-- a call on either image: equal numbers, equal content of every buffer besides the image, and the
+-- images that it leaves are alike again, up to the new U
+pub record SameOutcome (from : ℕ) (a b : List ℕ) (c : Call) : Type 0 where
+  pub numbers : outcomeOf a c .numbers ≡ outcomeOf b c .numbers
+  pub buffers : besidesImage a c ≡ besidesImage b c
+  pub images : Alike from (imageAfter a c) (imageAfter b c)
+
+-- two images answer alike in every call and in every run of calls, and have the same keys and
 -- counts
-pub record SameAnswers (l m : List ℕ) : Type 0 where
-  -- check
-  pub checks : (work : List ℕ) → checkOf l work ≡ checkOf m work
-  -- number of keys
-  pub counts : (work : List ℕ) → countOf l work ≡ countOf m work
-  -- look up
-  pub looks : (given : Given) → lookUpOf l given ≡ lookUpOf m given
-  -- next key
-  pub nexts : (work key : List ℕ) (after : Bool) (buffer : List ℕ)
-      → nextKeyOf l work key after buffer ≡ nextKeyOf m work key after buffer
-  -- the stored keys, in order
-  pub lists : storedKeys l ≡ storedKeys m
-  -- working out the counts
-  pub workedOut : (work counts : List ℕ) → countsOf l work counts ≡ countsOf m work counts
-  -- check with counts
-  pub checksCounts : (work counts : List ℕ)
-      → checkCountsOf l work counts ≡ checkCountsOf m work counts
-  -- key at a position
-  pub keysAt : (work counts : List ℕ) (position : ℕ) (buffer : List ℕ)
-      → keyAtOf l work counts position buffer ≡ keyAtOf m work counts position buffer
-  -- position of a key
-  pub positions : (work counts : List ℕ) (given : Given)
-      → positionOf l work counts given ≡ positionOf m work counts given
-  -- the counts of the nodes
-  pub weighed : countsIn l ≡ countsIn m
+pub record SameAnswers (from : ℕ) (a b : List ℕ) : Type 0 where
+  pub alike : Alike from a b
+  pub calls : (c : Call) → SameOutcome from a b c
+  pub runs : (cs : List Call) → answersOf a cs ≡ answersOf b cs
+  pub lists : storedKeys a ≡ storedKeys b
+  pub weighed : countsIn a ≡ countsIn b

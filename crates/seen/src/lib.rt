@@ -1,2 +1,2 @@
-// What the calls that only read an image see of it, as definitions and laws. The crate has no
-// code.
+// What the calls see of an image, and images that answer alike, as definitions and laws. The
+// crate has no code.
