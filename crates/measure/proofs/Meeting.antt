@@ -10,8 +10,7 @@ use lib.ListN.{length, take}
 use Rattle.trie.specs.Keys.{listing, meets, filter}
 use Rattle.trie.specs.Beyond.{firstOf}
 use Rattle.trie.proofs.Listing.{keysUnder-ascending}
-use Rattle.trie.proofs.Filter.{first-filter, filter-length}
-use Rattle.trie.proofs.InTurn.{filter-next}
+use Rattle.trie.proofs.Filter.{first-filter, filter-length, filter-next}
 use Rattle.head.specs.declared.Head.{Head}
 use Rattle.head.specs.Fields.{mostLetters, mostPath, headOf}
 use Rattle.node.specs.Image.{tableOf}
@@ -54,7 +53,7 @@ module _ (h : Head) (l : List ℕ) where
       go [] f g = absurd (Option·some-ne-none k (sym g))
       go (j ∷ ks) f g =
           let rest : filter (meets true j) keys ≡ ks =
-          filter-next keys m (keysUnder-ascending (tableOf h l) (h .n) (h .min) (h .max) 0) f
+          filter-next keys true m (keysUnder-ascending (tableOf h l) (h .n) (h .min) (h .max) 0) f
           in
           ap (λ (xs : List (List ℕ)). suc (length xs)) (sym rest)
           ∙ ap (λ (x : List ℕ). suc (toCome x)) (Option·some-injective j k g)

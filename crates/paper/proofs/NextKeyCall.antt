@@ -2,26 +2,25 @@
 -- that meets the request, 15 is given exactly where there is none, and repeated calls list the
 -- stored keys, each once and in order. Every key on the way is stored, so it passes 9 and 10;
 -- the rest are laws on keys in order.
-use Prim.Native.Nat.{ℕ, suc, _+_, _^_, _≤_, _<_}
+use Prim.Native.Nat.{ℕ, zero, suc, _+_, _^_, _≤_, _<_}
 use mathlib.Core.Path.{_≡_, refl, sym, _∙_, ap}
 use mathlib.Core.Logic.{_↔_, _≢_}
 use mathlib.Core.Bool.{Bool, true, false}
 use mathlib.Core.Option.{Option, none, some}
-use mathlib.Core.List.{List, [], _∷_, _++_, List·Memᴰ, List·Memᴰ·head}
+use mathlib.Core.List.{List, [], _∷_, _++_, List·Memᴰ}
 use native.Mathlib.Nat.{mul-le-mul-right}
 use native.Mathlib.Omega.{arith}
 use lib.Dec.{ltb}
-use lib.ListN.{length, take, drop}
-use lib.Seq.{sets, sets-eq, take-at}
+use lib.ListN.{length, take, drop, replicate, length-append, length-replicate, length-drop}
+use lib.ListN.{drop-of-length-le}
+use lib.Seq.{sets, length-sets, sets-eq, take-at}
 use borrow.Author.Tests.{le-ltb, ltb-false}
 use Rattle.trie.specs.Table.{LettersBelow, answer}
 use Rattle.trie.specs.Keys.{meets, filter, withKey, Ascending}
 use Rattle.trie.specs.Beyond.{firstOf}
-use Rattle.trie.proofs.Before.{before-irrefl}
 use Rattle.trie.proofs.Listing.{First, first-some, first-none, under-listed, listing-holds}
 use Rattle.trie.proofs.Listing.{keysUnder-ascending}
-use Rattle.trie.proofs.Filter.{first-filter, first-listed, filter-all, filter-out, filter-every}
-use Rattle.trie.proofs.InTurn.{same-turns, in-turn}
+use Rattle.trie.proofs.Filter.{first-filter, first-listed, filter-length, filter-all, filter-next}
 use Rattle.trie.proofs.Few.{listing-few}
 use Rattle.head.specs.Fields.{headOf}
 use Rattle.head.proofs.Permitted.{bounds}
@@ -30,10 +29,12 @@ use Rattle.alphabet.specs.Letters.{among, orEmpty}
 use Rattle.node.proofs.Tables.{framed}
 use Rattle.paper.specs.Hearing.{Row, Outcome, first, outcome, refusedNumbers, doneNumbers}
 use Rattle.paper.specs.Answers.{numberAt}
-use Rattle.paper.specs.Rows.{isNone, row14, row15}
-use Rattle.paper.specs.Orders.{checkOrder, nextRows, nextKeyOrder}
-use Rattle.paper.specs.Calls.{tableIn, workAfter, storedKeys, nextIn, foundIn, nextKeyOf}
-use Rattle.paper.specs.Repeated.{keyLeft, keyHeard, askedAfter, askedForAll}
+use Rattle.paper.specs.Rows.{isNone, row5, row14, row15}
+use Rattle.paper.specs.Orders.{openingRowsOf, checkOrder, nextRows, nextKeyOrder}
+use Rattle.paper.specs.Calls.{tableIn, clearedBy, workAfter, storedKeys, nextIn, foundIn}
+use Rattle.paper.specs.Calls.{nextKeyOf}
+use Rattle.paper.specs.Repeated.{numbersLeft, keyLeft, keyHeard, heardThen, askedFrom}
+use Rattle.paper.specs.Repeated.{askedAfter, askedForAll}
 use Rattle.paper.specs.Accepted.{Accepted}
 use Rattle.paper.proofs.Hearing.{was-false, first-nil, yes-row, no-row, second-part}
 use Rattle.paper.proofs.Hearing.{passed-row, passed-parts, heard-refused, heard-done}
@@ -201,47 +202,98 @@ module _ (l work key : List ℕ) (after : Bool) (buffer : List ℕ) where
 
 -- ---- calls one after the other
 
--- the first key of a list in order, then those after it, are the whole list
-first-and-after : (keys : List (List ℕ)) (rest : List ℕ → List (List ℕ)) → Ascending keys
-    → ((m : List ℕ) → List·Memᴰ m keys → rest m ≡ filter (meets true m) keys)
-    → withKey (firstOf keys) (λ m. m ∷ rest m) ≡ keys
-unfolding withKey firstOf meets
-first-and-after [] rest up e = refl
-first-and-after (m ∷ ms) rest up e =
-    ap (m ∷_)
-    (e m (List·Memᴰ·head refl) ∙ filter-out (meets true m) m ms (before-irrefl m) ∙ filter-every
-    (meets true m) ms (up .0))
+-- a call keeps how many working numbers there are
+pub work-length : (l work : List ℕ) → length (workAfter l work) ≡ length work
+unfolding workAfter clearedBy row5
+work-length l work =
+    let rows : List Row = openingRowsOf l ++ (row5 (headOf l) (length work) ∷ []) in
+    go (first rows) refl
+  where
+    go : (r : Row) → first (openingRowsOf l ++ (row5 (headOf l) (length work) ∷ [])) ≡ r
+        → length (clearedBy r (headOf l .g + 1) work) ≡ length work
+    go none e =
+        let parts = passed-parts (openingRowsOf l) (row5 (headOf l) (length work) ∷ []) e in
+        let row = passed-row (row5 (headOf l) (length work)) [] (parts .1) in
+        let lent = ltb-false (length work) (headOf l .g + 1) (was-false 5 0 _ (row .0)) in
+        let zeros : List ℕ = replicate (headOf l .g + 1) 0 in
+        omega (
+          arith,
+          length-append zeros (drop (headOf l .g + 1) work),
+          length-replicate {A = ℕ} (headOf l .g + 1) 0,
+          length-drop (headOf l .g + 1) work,
+        )
+    go (some s) e = refl
+
+module _ (l : List ℕ) (a : Accepted l) where
+  -- a call that is lent enough, with a key that passes 9 and 10
+  record Asking (work key buffer : List ℕ) : Type 0 where
+    lent : headOf l .g + 1 ≤ length work
+    room : headOf l .max ≤ length buffer
+    askable : Askable (headOf l) key
+
+  -- a call and those that follow it, if these list the stored keys after the key that it gives
+  asked-on : (times : ℕ) (work key : List ℕ) (after : Bool) (buffer : List ℕ)
+      → Asking work key buffer
+      → ((w k b : List ℕ) → Asking w k b
+      → length (filter (meets true k) (storedKeys l)) ≤ times
+      → askedFrom l times w k true b ≡ filter (meets true k) (storedKeys l))
+      → (found : List (List ℕ)) → filter (meets after key) (storedKeys l) ≡ found
+      → length found ≤ suc times
+      → askedFrom l (suc times) work key after buffer ≡ found
+  unfolding askedFrom heardThen withKey keyHeard keyLeft numbersLeft nextIn firstOf refusedNumbers
+      foundIn doneNumbers
+  asked-on times work key after buffer s rest [] e few =
+      ap (λ (o : Outcome). heardThen o (λ w k b. askedFrom l times w k true b))
+      (leaves-none l work key after buffer (accepted-checks l work a (s .lent))
+      (askable-passes (headOf l) key (s .askable)) (s .room)
+      (first-filter (meets after key) (storedKeys l) ∙ ap firstOf e))
+  asked-on times work key after buffer s rest (m ∷ ms) e few =
+      let found : nextIn l key after ≡ some m =
+      first-filter (meets after key) (storedKeys l) ∙ ap firstOf e in
+      let others : filter (meets true m) (storedKeys l) ≡ ms =
+      filter-next (storedKeys l) after key (stored-ascending l) e in
+      let on = stored-askable l m (first-listed (meets after key) (storedKeys l) found .0) in
+      let next : Asking (workAfter l work) m (sets buffer 0 m) =
+      record {
+        lent = omega (arith, s .lent, work-length l work);
+        room = omega (arith, s .room, length-sets buffer 0 m);
+        askable = on;
+      } in
+      ap (λ (o : Outcome). heardThen o (λ w k b. askedFrom l times w k true b))
+      (leaves-some l work key after buffer (accepted-checks l work a (s .lent))
+      (askable-passes (headOf l) key (s .askable)) (s .room) found)
+      ∙ ap (λ (k : List ℕ). k ∷ askedFrom l times (workAfter l work) k true (sets buffer 0 m))
+      (front buffer m (omega (arith, on .short, s .room)))
+      ∙ ap (m ∷_) (rest _ m _ next (rw others (omega arith)) ∙ others)
+
+  -- repeated calls, the first of them for any choice, give the stored keys that meet it
+  listed-from : (times : ℕ) (work key : List ℕ) (after : Bool) (buffer : List ℕ)
+      → Asking work key buffer
+      → length (filter (meets after key) (storedKeys l)) ≤ times
+      → askedFrom l times work key after buffer ≡ filter (meets after key) (storedKeys l)
+  unfolding askedFrom
+  listed-from zero work key after buffer s few =
+      sym (drop-of-length-le (filter (meets after key) (storedKeys l)) few)
+  listed-from (suc times) work key after buffer s few =
+      asked-on times work key after buffer s (λ w k b. listed-from times w k true b)
+      (filter (meets after key) (storedKeys l)) refl few
 
 module _ (l work buffer : List ℕ) (a : Accepted l) (lent : headOf l .g + 1 ≤ length work)
     (room : headOf l .max ≤ length buffer) where
-  asked : (key : List ℕ) (after : Bool) → Askable (headOf l) key
-      → keyHeard (nextKeyOf l work key after buffer) ≡ nextIn l key after
-  asked key after s =
-      hears l work key after buffer (accepted-checks l work a lent)
-      (askable-passes (headOf l) key s) room
-
   -- repeated calls from k on give the stored keys after k
   pub listed-after : (k : List ℕ) → LettersBelow (headOf l .n) k → length k ≤ headOf l .max
       → (times : ℕ) → length (storedKeys l) ≤ times
       → askedAfter l work buffer times k ≡ filter (meets true k) (storedKeys l)
-  unfolding askedAfter nextIn
   listed-after k below short times enough =
-      same-turns (λ j. keyHeard (nextKeyOf l work j true buffer)) (λ j. nextIn l j true)
-      (Askable (headOf l))
-      (λ j. asked j true)
-      (λ j m e. stored-askable l m (first-listed (meets true j) (storedKeys l) e .0))
-      times k (record { short = short; below = below })
-      ∙ in-turn (storedKeys l) (stored-ascending l) times enough k
+      listed-from l a times work k true buffer
+      (record { lent = lent; room = room; askable = record { short = short; below = below } })
+      (omega (arith, filter-length (meets true k) (storedKeys l)))
 
   -- demand 2: "the listing of an accepted image names each stored key once, in order"
   pub listed-all : (times : ℕ) → length (storedKeys l) ≤ times → askedForAll l work buffer times
       ≡ storedKeys l
-  unfolding askedForAll nextIn
   listed-all times enough =
-      let rest : List ℕ → List (List ℕ) = askedAfter l work buffer times in
-      let found : nextIn l [] false ≡ firstOf (storedKeys l) =
-      first-filter (meets false []) (storedKeys l) ∙ ap firstOf (filter-all (storedKeys l)) in
-      ap (λ (o : Option (List ℕ)). withKey o (λ k. k ∷ rest k))
-      (asked [] false (record { short = omega arith; below = tt }) ∙ found)
-      ∙ first-and-after (storedKeys l) rest (stored-ascending l)
-      (λ m h. let s = stored-askable l m h in listed-after m (s .below) (s .short) times enough)
+      listed-from l a times work [] false buffer
+      (record { lent = lent; room = room; askable = record { short = omega arith; below = tt } })
+      (omega (arith, filter-length (meets false []) (storedKeys l)))
+      ∙ filter-all (storedKeys l)

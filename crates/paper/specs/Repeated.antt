@@ -1,14 +1,20 @@
 -- Next key called repeatedly, so that a whole listing by calls can be stated (demand 2, "the
--- listing of an accepted image names each stored key once, in order").
-use Prim.Native.Nat.{ℕ}
-use mathlib.Core.Bool.{true, false, cond}
+-- listing of an accepted image names each stored key once, in order"). Each call is lent the
+-- working numbers and the key buffer as the call before it left them.
+use Prim.Native.Nat.{ℕ, zero, suc}
+use mathlib.Core.Bool.{Bool, true, false, cond}
 use mathlib.Core.Option.{Option, none, some}
 use mathlib.Core.List.{List, [], _∷_}
 use lib.ListN.{take}
 use lib.Dec.{eqb}
-use Rattle.trie.specs.Keys.{withKey, inTurn}
+use Rattle.trie.specs.Keys.{withKey}
 use Rattle.paper.specs.Hearing.{Outcome}
 use Rattle.paper.specs.Calls.{nextKeyOf}
+
+-- the first of the buffers that a call leaves: for next key, the working numbers
+unfoldable pub numbersLeft : List (List ℕ) → List ℕ
+numbersLeft [] = []
+numbersLeft (work ∷ rest) = work
 
 -- the second of the buffers that a call leaves: for next key and for key at a position, the key
 -- buffer
@@ -24,15 +30,25 @@ unfolding keyLeft
 keyHeard o =
     cond (eqb (o .numbers .number) 0) (some (take (o .numbers .length) (keyLeft (o .lent)))) none
 
--- the keys that next key gives: the key after k, then the key after that one, and so on, by at
--- most this many calls
-unfoldable pub askedAfter : List ℕ → List ℕ → List ℕ → ℕ → List ℕ → List (List ℕ)
-unfolding inTurn keyHeard nextKeyOf
-askedAfter l work buffer times k = inTurn (λ j. keyHeard (nextKeyOf l work j true buffer)) times k
+-- the key that a call gave, then the keys that `rest` gives for the working numbers that the
+-- call left, its key and the key buffer that it left; no keys if the call gave none
+unfoldable pub heardThen : Outcome → (List ℕ → List ℕ → List ℕ → List (List ℕ)) → List (List ℕ)
+unfolding withKey keyHeard numbersLeft keyLeft
+heardThen o rest =
+    withKey (keyHeard o) (λ k. k ∷ rest (numbersLeft (o .lent)) k (keyLeft (o .lent)))
+
+-- the keys that this many calls give: the first asks as it is said, each next one for the key
+-- after the last key given
+unfoldable pub askedFrom : List ℕ → ℕ → List ℕ → List ℕ → Bool → List ℕ → List (List ℕ)
+unfolding heardThen nextKeyOf
+askedFrom l zero work key after buffer = []
+askedFrom l (suc times) work key after buffer =
+    heardThen (nextKeyOf l work key after buffer) (λ w k b. askedFrom l times w k true b)
+
+-- the keys that next key gives: the key after k, then the key after that one, and so on
+abbrev pub askedAfter : List ℕ → List ℕ → List ℕ → ℕ → List ℕ → List (List ℕ)
+askedAfter l work buffer times k = askedFrom l times work k true buffer
 
 -- the keys that next key gives: the first key at or after the empty one, then those after it
-unfoldable pub askedForAll : List ℕ → List ℕ → List ℕ → ℕ → List (List ℕ)
-unfolding withKey keyHeard nextKeyOf askedAfter
-askedForAll l work buffer times =
-    withKey (keyHeard (nextKeyOf l work [] false buffer))
-    (λ k. k ∷ askedAfter l work buffer times k)
+abbrev pub askedForAll : List ℕ → List ℕ → List ℕ → ℕ → List (List ℕ)
+askedForAll l work buffer times = askedFrom l times work [] false buffer

@@ -144,3 +144,16 @@ meets-none = refl
 pub meets-letter : (x : ℕ) (k : List ℕ) → meets true [] (x ∷ k) ≡ true
 unfolding meets before
 meets-letter x k = refl
+
+-- a key after one that meets the request meets it too
+pub meets-on : (after : Bool) (given k m : List ℕ) → meets after given k ≡ true
+    → before k m ≡ true
+    → meets after given m ≡ true
+unfolding meets
+meets-on true given k m h g = before-trans given k m h g
+meets-on false given k m h g = go (before m given) refl
+  where
+    go : (b : Bool) → before m given ≡ b → not (before m given) ≡ true
+    go true e =
+        absurd (true≢false (sym (before-trans k m given g e) ∙ not-true (before k given) h))
+    go false e = ap not e

@@ -1,17 +1,19 @@
 -- The keys of a list that meet a request. Each law goes down the list and asks whether each key
--- meets. The first key that meets is the first of those that meet.
+-- meets. The first key that meets is the first of those that meet, and the keys after it are the
+-- others that meet.
 use Prim.Native.Nat.{ℕ, _≤_}
 use native.Mathlib.Omega.{arith}
 use mathlib.Core.Bool.{Bool, true, false, true≢false}
 use mathlib.Core.List.{List, [], _∷_, _++_, map, List·Memᴰ, List·Memᴰ·head, List·Memᴰ·tail}
-use mathlib.Core.List.{List·Memᴰ·not-nil, List·Memᴰ·cases-cons}
+use mathlib.Core.List.{List·Memᴰ·not-nil, List·Memᴰ·cases-cons, nil≢cons, head-eq-of-cons-eq}
+use mathlib.Core.List.{tail-eq-of-cons-eq}
 use mathlib.Core.Logic.{_↔_, ⊎-elim}
 use mathlib.Core.Option.{some, Option·some-injective, Option·some-ne-none}
-use mathlib.Core.Path.{_≡_, refl, sym, _∙_, ap}
+use mathlib.Core.Path.{_≡_, refl, sym, _∙_, ap, subst}
 use lib.ListN.{length}
 use Rattle.trie.specs.Keys.{firstMeeting, meets, filter, Ascending}
 use Rattle.trie.specs.Beyond.{firstOf}
-use Rattle.trie.proofs.Before.{meets-any}
+use Rattle.trie.proofs.Before.{before-irrefl, before-asym, meets-any, meets-on}
 
 pub filter-in : (p : List ℕ → Bool) (k : List ℕ) (l : List (List ℕ)) → p k ≡ true
     → filter p (k ∷ l) ≡ k ∷ filter p l
@@ -131,3 +133,36 @@ first-listed p (x ∷ l) {k} h =
 -- every key is at or after the empty key
 pub filter-all : (l : List (List ℕ)) → filter (meets false []) l ≡ l
 filter-all l = filter-every (meets false []) l (λ k a. meets-any k)
+
+-- if m is the first key that meets a request, the keys after m are the others that meet it
+pub filter-next : (keys : List (List ℕ)) (after : Bool) (k : List ℕ) {m : List ℕ}
+    {ms : List (List ℕ)}
+    → Ascending keys
+    → filter (meets after k) keys ≡ m ∷ ms
+    → filter (meets true m) keys ≡ ms
+unfolding filter meets
+filter-next [] after k up e = absurd (nil≢cons e)
+filter-next (x ∷ l) after k {m} {ms} up e =
+    by-test _ (meets after k) x met (unmet (filter-next l after k (up .1)))
+  where
+    met : meets after k x ≡ true → filter (meets true m) (x ∷ l) ≡ ms
+    met h =
+        let f : x ∷ filter (meets after k) l ≡ m ∷ ms =
+        sym (filter-in (meets after k) x l h) ∙ e in
+        subst
+        (λ (j : List ℕ). filter (meets true j) (x ∷ l) ≡ ms)
+        (head-eq-of-cons-eq f)
+        (filter-out (meets true x) x l (before-irrefl x)
+        ∙ filter-every (meets true x) l (up .0)
+        ∙ sym (filter-every (meets after k) l (λ j a. meets-on after k x j h (up .0 j a)))
+        ∙ tail-eq-of-cons-eq f)
+
+    unmet : (filter (meets after k) l ≡ m ∷ ms → filter (meets true m) l ≡ ms)
+        → meets after k x ≡ false
+        → filter (meets true m) (x ∷ l) ≡ ms
+    unmet rest h =
+        let f : filter (meets after k) l ≡ m ∷ ms =
+        sym (filter-out (meets after k) x l h) ∙ e in
+        let held : List·Memᴰ m l =
+        filter-holds (meets after k) l m .0 (rw f (List·Memᴰ·head refl)) .0 in
+        filter-out (meets true m) x l (before-asym x m (up .0 m held)) ∙ rest f

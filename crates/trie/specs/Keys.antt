@@ -67,13 +67,6 @@ unfoldable pub withKey : Option (List ℕ) → (List ℕ → List (List ℕ)) �
 withKey none keys = []
 withKey (some k) keys = keys k
 
--- The answers to repeated questions: the key after k, then the key after that one, and so on,
--- `times` times or until there is none. `next` answers one question.
-unfoldable pub inTurn : (List ℕ → Option (List ℕ)) → ℕ → List ℕ → List (List ℕ)
-unfolding withKey
-inTurn next zero k = []
-inTurn next (suc times) k = withKey (next k) (λ m. m ∷ inTurn next times m)
-
 -- in strict order: each key comes before every key that follows it in the list
 abbrev pub Ascending : List (List ℕ) → Type 0
 Ascending [] = Unit {0}
