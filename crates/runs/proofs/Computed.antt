@@ -12,8 +12,8 @@ use Rattle.paper.specs.Rows.{row11, row12, row13, row6path}
 use Rattle.paper.specs.Given.{asLetters, asText}
 use Rattle.paper.specs.Calls.{freshHead, freshImage, lookUpOf}
 use Rattle.paper.specs.Cases.{file}
-use Rattle.runs.specs.Runs.{Entry, lastOf, Call, lookUp, store, storeWrites, mend}
-use Rattle.runs.specs.Runs.{storeCounts, keyAt, Run, ran, startOf}
+use Rattle.calls.specs.Call.{Call, lookUp, store, storeWrites, mend, storeCounts, keyAt}
+use Rattle.runs.specs.Runs.{Entry, lastOf, plainKeys, Run, ran, startOf}
 
 abbrev alphabet : List ℕ
 alphabet = 0x41 ∷ 0x42 ∷ 0x43 ∷ []
@@ -84,6 +84,7 @@ pub computed : (end ≡ expected)
     × (map (λ (k : List ℕ). lookUpOf (end .image) (asLetters k) .numbers .value) keys ≡ 0 ∷ 6 ∷ 0
     ∷ 3 ∷ 0 ∷ [])
     × (map (lastOf (end .plain)) keys ≡ 0 ∷ 6 ∷ 0 ∷ 3 ∷ 0 ∷ [])
+    × (plainKeys (end .plain) ≡ (1 ∷ []) ∷ (2 ∷ 0 ∷ []) ∷ [])
 unfolding keysUnder row1 row2 row3 row4 row6 row7 row8 row9 row10 row10text row11 row12 row13
-    row6path freshHead freshImage lastOf ran startOf
-computed = (refl, refl, refl)
+    row6path freshHead freshImage lastOf ran startOf plainKeys
+computed = (refl, refl, refl, refl)

@@ -2,16 +2,20 @@
 -- last values"; 01, "The sum of these from a fresh image equals the number of keys stored now":
 -- runs of calls, and the plain list beside a run.
 use Prim.Native.Nat.{ℕ}
-use mathlib.Core.Bool.{Bool, true, false, _&&_, cond}
-use mathlib.Core.List.{List, [], _∷_}
+use mathlib.Core.Bool.{Bool, true, false, not, _&&_, cond}
+use mathlib.Core.List.{List, [], _∷_, List·Memᴰ}
 use lib.Dec.{eqb}
 use lib.IntN.{ℤ, pos, _+ℤ_}
+use lib.ListN.{length}
+use lib.Seq.{sets}
 use Rattle.head.specs.declared.Head.{Head}
-use Rattle.paper.specs.Hearing.{Outcome}
-use Rattle.paper.specs.Given.{Given, keyIn}
-use Rattle.paper.specs.Calls.{freshImage, checkOf, countOf, lookUpOf, storeOf, storeWritesOf}
-use Rattle.paper.specs.Calls.{mendOf, nextKeyOf}
-use Rattle.position.specs.Calls.{countsOf, checkCountsOf, storeCountsOf, keyAtOf, positionOf}
+use Rattle.trie.specs.Keys.{before, filter}
+use Rattle.paper.specs.Hearing.{Outcome, outcome, doneNumbers}
+use Rattle.paper.specs.Given.{keyIn}
+use Rattle.paper.specs.Calls.{freshImage}
+use Rattle.calls.specs.Call.{Call, make, check, count, lookUp, store, storeWrites, mend, nextKey}
+use Rattle.calls.specs.Call.{counts, checkCounts, storeCounts, keyAt, position, outcomeOf}
+use Rattle.calls.specs.Call.{imageAfter}
 
 -- ---- the plain list: a store that is done adds its key and value at the front, and no other
 -- call changes it
@@ -34,78 +38,49 @@ unfolding sameKey
 lastOf [] k = 0
 lastOf (e ∷ plain) k = cond (sameKey (e .key) k) (e .value) (lastOf plain k)
 
--- ---- the calls
+-- ---- the keys of the plain list
 
--- a call on an image, with what it is given and lent; stores with writes and mending (02, Ask 1)
--- and the calls with counts (Ask 7) too. `tally` is any list of counts, right or wrong.
-pub data Call : Type 0 where
-  check : (work : List ℕ) → Call
-  count : (work : List ℕ) → Call
-  lookUp : (given : Given) → Call
-  store : (work : List ℕ) (given : Given) (value : ℕ) → Call
-  storeWrites : (work : List ℕ) (given : Given) (value : ℕ) (list : List ℕ) → Call
-  mend : (work : List ℕ) → Call
-  nextKey : (work key : List ℕ) (after : Bool) (buffer : List ℕ) → Call
-  counts : (work tally : List ℕ) → Call
-  checkCounts : (work tally : List ℕ) → Call
-  storeCounts : (work : List ℕ) (given : Given) (value : ℕ) (tally : List ℕ) → Call
-  keyAt : (work tally : List ℕ) (at : ℕ) (buffer : List ℕ) → Call
-  position : (work tally : List ℕ) (given : Given) → Call
+-- a key put among keys in order; one that is there already stays as it is
+unfoldable pub putKey : List ℕ → List (List ℕ) → List (List ℕ)
+unfolding before
+putKey k [] = k ∷ []
+putKey k (m ∷ ms) = cond (before k m) (k ∷ m ∷ ms) (cond (before m k) (m ∷ putKey k ms) (m ∷ ms))
 
--- the outcome of a call on this image
-unfoldable pub heardOf : List ℕ → Call → Outcome
-unfolding checkOf countOf lookUpOf storeOf storeWritesOf mendOf nextKeyOf countsOf checkCountsOf
-    storeCountsOf keyAtOf positionOf
-heardOf l (check work) = checkOf l work
-heardOf l (count work) = countOf l work
-heardOf l (lookUp given) = lookUpOf l given
-heardOf l (store work given value) = storeOf l work given value
-heardOf l (storeWrites work given value list) = storeWritesOf l work given value list
-heardOf l (mend work) = mendOf l work
-heardOf l (nextKey work key after buffer) = nextKeyOf l work key after buffer
-heardOf l (counts work tally) = countsOf l work tally
-heardOf l (checkCounts work tally) = checkCountsOf l work tally
-heardOf l (storeCounts work given value tally) = storeCountsOf l work given value tally
-heardOf l (keyAt work tally at buffer) = keyAtOf l work tally at buffer
-heardOf l (position work tally given) = positionOf l work tally given
+-- every key of the plain list, once and in order
+unfoldable pub allKeys : List Entry → List (List ℕ)
+unfolding putKey
+allKeys [] = []
+allKeys (e ∷ plain) = putKey (e .key) (allKeys plain)
 
--- the first of the buffers that a call leaves: for stores and mending, the image
-unfoldable pub firstLeft : List (List ℕ) → List ℕ
-firstLeft [] = []
-firstLeft (l ∷ rest) = l
+-- the keys whose last value is not 0, in order
+unfoldable pub plainKeys : List Entry → List (List ℕ)
+unfolding filter lastOf allKeys
+plainKeys plain = filter (λ k. not (eqb (lastOf plain k) 0)) (allKeys plain)
 
--- the image after a call: only stores and mending may write it
-unfoldable pub imageAfter : List ℕ → Call → List ℕ
-unfolding firstLeft heardOf
-imageAfter l (store work given value) = firstLeft (heardOf l (store work given value) .lent)
-imageAfter l (storeWrites work given value list) =
-    firstLeft (heardOf l (storeWrites work given value list) .lent)
-imageAfter l (storeCounts work given value tally) =
-    firstLeft (heardOf l (storeCounts work given value tally) .lent)
-imageAfter l (mend work) = firstLeft (heardOf l (mend work) .lent)
-imageAfter l (check work) = l
-imageAfter l (count work) = l
-imageAfter l (lookUp given) = l
-imageAfter l (nextKey work key after buffer) = l
-imageAfter l (counts work tally) = l
-imageAfter l (checkCounts work tally) = l
-imageAfter l (keyAt work tally at buffer) = l
-imageAfter l (position work tally given) = l
+-- what next key answers and leaves where it gives this key: its length and its last value, these
+-- working numbers, and "its letters at the front of the key buffer (the rest unchanged)"
+unfoldable pub givesPlain : List Entry → List ℕ → List ℕ → List ℕ → Outcome
+unfolding lastOf doneNumbers
+givesPlain plain work buffer k =
+    outcome (doneNumbers (length k) (pos 0) (lastOf plain k)) (work ∷ sets buffer 0 k ∷ [])
+
+-- ---- the plain list after a call
 
 -- the plain list after a store with this outcome: a store that answers number 0 is added
 unfoldable pub plainBy : Outcome → List ℕ → ℕ → List Entry → List Entry
 plainBy o key value plain =
     cond (eqb (o .numbers .number) 0) (record { key = key; value = value } ∷ plain) plain
 
--- the plain list after any call on this image
+-- the plain list after any call on this image; a run has no make
 unfoldable pub plainAfter : List ℕ → Call → List Entry → List Entry
-unfolding plainBy heardOf keyIn
+unfolding plainBy outcomeOf keyIn
 plainAfter l (store work given value) plain =
-    plainBy (heardOf l (store work given value)) (keyIn l given) value plain
+    plainBy (outcomeOf l (store work given value)) (keyIn l given) value plain
 plainAfter l (storeWrites work given value list) plain =
-    plainBy (heardOf l (storeWrites work given value list)) (keyIn l given) value plain
+    plainBy (outcomeOf l (storeWrites work given value list)) (keyIn l given) value plain
 plainAfter l (storeCounts work given value tally) plain =
-    plainBy (heardOf l (storeCounts work given value tally)) (keyIn l given) value plain
+    plainBy (outcomeOf l (storeCounts work given value tally)) (keyIn l given) value plain
+plainAfter l (make n a d alphabet least most) plain = plain
 plainAfter l (mend work) plain = plain
 plainAfter l (check work) plain = plain
 plainAfter l (count work) plain = plain
@@ -118,6 +93,12 @@ plainAfter l (position work tally given) plain = plain
 
 -- ---- a run
 
+-- a run of calls on an image has no make, which begins another image
+abbrev pub NoMake : List Call → Type 0
+NoMake cs =
+    (n a d : ℕ) (alphabet : List ℕ) (least most : ℕ)
+    → ¬ (List·Memᴰ (make n a d alphabet least most) cs)
+
 -- the state of a run, in which each call is made on what the call before it left: the image, the
 -- plain list, and the sum of the changes answered so far
 pub record Run : Type 0 where
@@ -127,12 +108,12 @@ pub record Run : Type 0 where
 
 -- the state after one more call
 unfoldable pub after : Run → Call → Run
-unfolding imageAfter plainAfter heardOf
+unfolding imageAfter plainAfter outcomeOf
 after r c =
     record {
       image = imageAfter (r .image) c;
       plain = plainAfter (r .image) c (r .plain);
-      sum = r .sum +ℤ heardOf (r .image) c .numbers .change;
+      sum = r .sum +ℤ outcomeOf (r .image) c .numbers .change;
     }
 
 -- the state after more calls, made one after the other
