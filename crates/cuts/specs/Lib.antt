@@ -1,2 +1,3 @@
 pub mod Mended
 pub mod Cut
+pub mod Flushed
