@@ -4,5 +4,6 @@ pub mod Recounts
 pub mod Cuts
 pub mod Noted
 pub mod WriteLists
+pub mod WriteGroups
 pub mod AfterMending
 pub mod OneLinkShort

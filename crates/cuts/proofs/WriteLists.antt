@@ -24,7 +24,7 @@ length-landed : (b : Bool) (l : List ℕ) (at v : ℕ) → length (cond b (set l
 length-landed true l at v = length-set l at v
 length-landed false l at v = refl
 
-length-torn : (lands : ℕ → Bool) (l : List ℕ) (at : ℕ) (bs : List ℕ) → length (torn lands l at bs)
+pub length-torn : (lands : ℕ → Bool) (l : List ℕ) (at : ℕ) (bs : List ℕ) → length (torn lands l at bs)
     ≡ length l
 unfolding torn
 length-torn lands l at [] = refl
@@ -72,7 +72,7 @@ module _ (p : ℕ) where
   landed-before true l at v h = getD-set-other l at p v 0 (omega arith)
   landed-before false l at v h = refl
 
-  torn-before : (lands : ℕ → Bool) (l : List ℕ) (at : ℕ) (bs : List ℕ) → p < at
+  pub torn-before : (lands : ℕ → Bool) (l : List ℕ) (at : ℕ) (bs : List ℕ) → p < at
       → getD (torn lands l at bs) p 0 ≡ getD l p 0
   unfolding torn
   torn-before lands l at [] h = refl
