@@ -90,7 +90,7 @@ lowers l m n p e =
 -- ---- the cut hits a write that is not to spare bytes
 
 -- mending what the cut left answers 0 and leaves the answers from before the store
-abbrev Before : List ℕ → List ℕ → List ℕ → Type 0
+abbrev pub Before : List ℕ → List ℕ → List ℕ → Type 0
 Before l work r = headOf r .g + 1 ≤ length work → MendsTo r work l
 
 not-landed : {l : List ℕ} (lands : ℕ → Bool) (work r : List ℕ) (w : Write) → Accepted l
@@ -114,33 +114,33 @@ nodes-from h q (y ∷ ys) v = (
 
 module _ {l key : List ℕ} {v : ℕ} (s : Granted l key (suc v)) {q x : ℕ} {xs : List ℕ}
     (e : descend (tableIn l) 0 key ≡ stopped q x xs) where
-  abbrev h : Head
+  abbrev pub h : Head
   h = headOf l
 
-  abbrev g : ℕ
+  abbrev pub g : ℕ
   g = h .g
 
-  abbrev total : ℕ
+  abbrev pub total : ℕ
   total = g + suc (length xs)
 
-  abbrev nodes : List Write
+  abbrev pub nodes : List Write
   nodes = newNodes h (suc g) xs (suc v)
 
   -- the image with the new nodes
-  abbrev begun : List ℕ
+  abbrev pub begun : List ℕ
   begun = carriedOut l nodes
 
   -- the image with the new nodes and the new G
-  abbrev counted : List ℕ
+  abbrev pub counted : List ℕ
   counted = putTotal begun total
 
-  enough : Storable (headOf l) l q x xs (suc v)
+  pub enough : Storable (headOf l) l q x xs (suc v)
   enough = able s e
 
   fits : total < 2 ^ 32
   fits = omega (arith, enough .addresses, addresses-fit (bounds h (s .accepted .head-permitted)))
 
-  spare : (p : ℕ) → p < usedLen (headOf l) → From (suc p) nodes
+  pub spare : (p : ℕ) → p < usedLen (headOf l) → From (suc p) nodes
   unfolding usedLen
   spare p b = from-before (suc p) (nodePlace h (suc g)) nodes
       (omega (arith, ap (nodePlace h) (add-one g))) (nodes-from h (suc g) xs (suc v))
@@ -167,7 +167,7 @@ module _ {l key : List ℕ} {v : ℕ} (s : Granted l key (suc v)) {q x : ℕ} {x
 
   -- ---- the last write: the link
 
-  last : storedImage l key (suc v) ≡ putField counted (linkPlace h q x) (h .a) (suc g)
+  pub last : storedImage l key (suc v) ≡ putField counted (linkPlace h q x) (h .a) (suc g)
   unfolding storedImage storeWrites carriedOut totalWrite linkWrite
   last =
       ap (λ (d : Descent). carriedOut l (storeWrites h d (suc v))) e
@@ -229,7 +229,7 @@ module _ {l key : List ℕ} {v : ℕ} (s : Granted l key (suc v)) {q x : ℕ} {x
       ≡ refusedNumbers (numberAt 8 (suc g))
   eight work lent = check-unlinked counted work unlinked opened lent
 
-  mends-lowered : (work : List ℕ) → headOf counted .g + 1 ≤ length work → MendsTo counted work l
+  pub mends-lowered : (work : List ℕ) → headOf counted .g + 1 ≤ length work → MendsTo counted work l
   unfolding refusedNumbers
   mends-lowered work lent =
       let numbers : Numbers = checkOf counted work .numbers in
@@ -251,11 +251,11 @@ module _ {l key : List ℕ} {v : ℕ} (s : Granted l key (suc v)) {q x : ℕ} {x
 
   -- ---- a cut after the nodes
 
-  looks-begun : seenIn begun ≡ seenIn l
+  pub looks-begun : seenIn begun ≡ seenIn l
   looks-begun =
       seen-below begun l (length-carried l nodes) (λ p b. carried-before p l nodes (spare p b))
 
-  link-used : linkPlace h q x < usedLen (headOf counted)
+  pub link-used : linkPlace h q x < usedLen (headOf counted)
   link-used =
       let a = link-inside h q (enough .letters .0) in
       rw (heads, used-total h total)

@@ -2,6 +2,7 @@ pub mod Callers
 pub mod Computed
 pub mod Recounts
 pub mod Cuts
+pub mod Flushes
 pub mod Noted
 pub mod WriteLists
 pub mod WriteGroups
