@@ -114,33 +114,33 @@ nodes-from h q (y ∷ ys) v = (
 
 module _ {l key : List ℕ} {v : ℕ} (s : Granted l key (suc v)) {q x : ℕ} {xs : List ℕ}
     (e : descend (tableIn l) 0 key ≡ stopped q x xs) where
-  abbrev pub h : Head
+  abbrev h : Head
   h = headOf l
 
-  abbrev pub g : ℕ
+  abbrev g : ℕ
   g = h .g
 
-  abbrev pub total : ℕ
+  abbrev total : ℕ
   total = g + suc (length xs)
 
-  abbrev pub nodes : List Write
+  abbrev nodes : List Write
   nodes = newNodes h (suc g) xs (suc v)
 
   -- the image with the new nodes
-  abbrev pub begun : List ℕ
+  abbrev begun : List ℕ
   begun = carriedOut l nodes
 
   -- the image with the new nodes and the new G
-  abbrev pub counted : List ℕ
+  abbrev counted : List ℕ
   counted = putTotal begun total
 
-  pub enough : Storable (headOf l) l q x xs (suc v)
+  enough : Storable (headOf l) l q x xs (suc v)
   enough = able s e
 
   fits : total < 2 ^ 32
   fits = omega (arith, enough .addresses, addresses-fit (bounds h (s .accepted .head-permitted)))
 
-  pub spare : (p : ℕ) → p < usedLen (headOf l) → From (suc p) nodes
+  spare : (p : ℕ) → p < usedLen (headOf l) → From (suc p) nodes
   unfolding usedLen
   spare p b = from-before (suc p) (nodePlace h (suc g)) nodes
       (omega (arith, ap (nodePlace h) (add-one g))) (nodes-from h (suc g) xs (suc v))
@@ -229,7 +229,8 @@ module _ {l key : List ℕ} {v : ℕ} (s : Granted l key (suc v)) {q x : ℕ} {x
       ≡ refusedNumbers (numberAt 8 (suc g))
   eight work lent = check-unlinked counted work unlinked opened lent
 
-  pub mends-lowered : (work : List ℕ) → headOf counted .g + 1 ≤ length work → MendsTo counted work l
+  pub mends-lowered : (work : List ℕ) → headOf counted .g + 1 ≤ length work
+      → MendsTo counted work l
   unfolding refusedNumbers
   mends-lowered work lent =
       let numbers : Numbers = checkOf counted work .numbers in

@@ -11,7 +11,6 @@ use native.Mathlib.Numerals.{add-one}
 use native.Mathlib.Decide.{decLt}
 use native.Mathlib.Omega.{arith}
 use lib.ListN.{length, getD}
-use lib.Seq.{sets}
 use Rattle.trie.specs.Table.{Descent, complete, stopped, descend}
 use Rattle.trie.proofs.Walk.{complete-within}
 use Rattle.head.specs.declared.Head.{Head}
@@ -24,15 +23,15 @@ use Rattle.node.proofs.FieldPlaces.{link-inside, data-inside, inside-used}
 use Rattle.paper.specs.Given.{Given, keyIn}
 use Rattle.paper.specs.Calls.{tableIn, writesIn, storedImage, storeOf}
 use Rattle.paper.specs.Granted.{Granted}
-use Rattle.paper.proofs.StoreCall.{accepted-again, store-granted}
+use Rattle.paper.proofs.StoreCall.{able, accepted-again, store-granted}
 use Rattle.cuts.specs.Cut.{cutAfter}
 use Rattle.cuts.specs.Flushed.{closed, flushed, groupsIn, landed, cutSince}
 use Rattle.cuts.specs.Mended.{MendsTo}
-use Rattle.cuts.proofs.WriteLists.{From, from-before, cut-append, cut-whole, hit-none}
+use Rattle.cuts.proofs.WriteLists.{From, from-before, cut-append, hit-none}
 use Rattle.cuts.proofs.WriteGroups.{flushed-spare, flushed-other, since-whole, length-since}
 use Rattle.cuts.proofs.WriteGroups.{since-before, since-other, since-none, upTo, cut-since}
-use Rattle.cuts.proofs.Cuts.{Before, mends-kept, nodes-from, enough, spare, last}
-use Rattle.cuts.proofs.Cuts.{mends-lowered, looks-begun, link-used}
+use Rattle.cuts.proofs.Cuts.{Before, mends-kept, nodes-from, last, mends-lowered}
+use Rattle.cuts.proofs.Cuts.{looks-begun, link-used}
 use Rattle.seen.specs.Seen.{seenIn}
 use Rattle.seen.proofs.Seen.{before-used, seen-below}
 
@@ -40,6 +39,14 @@ use Rattle.seen.proofs.Seen.{before-used, seen-below}
 -- from after it
 abbrev Halves : List ℕ → List ℕ → List ℕ → List ℕ → Type 0
 Halves l after work r = Before l work r ⊎ (r ≡ after)
+
+-- the cut left what one after some flushes can leave
+abbrev Case : List ℕ → List (List Write) → List ℕ → Type 0
+Case l groups r = (j : ℕ) × (lands : ℕ → ℕ → Bool) × (r ≡ cutSince j lands l groups)
+
+-- nothing of a group landed
+abbrev nothing : ℕ → ℕ → Bool
+nothing i p = false
 
 -- ---- a complete path
 
@@ -88,6 +95,18 @@ module _ {l key : List ℕ} {value : ℕ} (s : Granted l key value) {q : ℕ}
       go false = inl (mends-kept l work l refl (s .accepted))
   halves-data lands work (suc k) = inr stored-data
 
+  -- a cut that hits one write is one of these
+  case-data : (lands : ℕ → Bool) (k : ℕ)
+      → Case l ((field ∷ []) ∷ []) (cutAfter k lands l (field ∷ []))
+  unfolding cutAfter cutSince carriedOut dataWrite
+  case-data lands zero = (
+    0,
+    nothing,
+    hit-none lands l field data-below
+        ∙ sym (since-none (usedLen (headOf l)) l (field ∷ [])),
+  )
+  case-data lands (suc k) = (1, nothing, refl)
+
 -- ---- new nodes
 
 -- they are one at least, so they are a group
@@ -121,14 +140,14 @@ module _ {l key : List ℕ} {v : ℕ} (s : Granted l key (suc v)) {q x : ℕ} {x
   all-spare : From u nodes
   unfolding usedLen
   all-spare =
-      from-before u (nodePlace h (suc (h .g))) nodes (omega (arith, ap (nodePlace h) (add-one (h .g))))
-      (nodes-from h (suc (h .g)) xs (suc v))
+      from-before u (nodePlace h (suc (h .g))) nodes
+      (omega (arith, ap (nodePlace h) (add-one (h .g)))) (nodes-from h (suc (h .g)) xs (suc v))
 
   link-below : linkPlace h q x < u
   link-below =
       omega (
         arith,
-        inside-used (link-inside h q (enough s e .letters .0)) (enough s e .node),
+        inside-used (link-inside h q (able s e .letters .0)) (able s e .node),
         bounds h (s .accepted .head-permitted) .a-least,
       )
 
@@ -151,7 +170,8 @@ module _ {l key : List ℕ} {v : ℕ} (s : Granted l key (suc v)) {q x : ℕ} {x
 
   -- whatever of the nodes landed, the bytes up to U are as before the store
   pub among-below : (lands : ℕ → ℕ → Bool) (p : ℕ) → p < u → getD (among lands) p 0 ≡ getD l p 0
-  among-below lands p b = since-before p u lands l nodes (spare s e p b)
+  among-below lands p b = since-before p u lands l nodes
+      (from-before (suc p) u nodes b all-spare)
 
   pub among-length : (lands : ℕ → ℕ → Bool) → length (among lands) ≡ length l
   among-length lands = length-since u lands l nodes
@@ -212,6 +232,47 @@ module _ {l key : List ℕ} {v : ℕ} (s : Granted l key (suc v)) {q x : ℕ} {x
   halves-new lands work (suc (suc zero)) = at-link lands work
   halves-new lands work (suc (suc (suc k))) = inr (sym (last s e))
 
+  -- ---- a cut that hits one write is one of these
+
+  -- G, the link, or none
+  case-later : (lands : ℕ → Bool) (j : ℕ)
+      → Case l groups (cutAfter j lands begun (total ∷ link ∷ []))
+  unfolding cutAfter cutSince carriedOut totalWrite linkWrite
+  case-later lands zero = (
+    1,
+    nothing,
+    hit-none lands begun total (omega (arith, before-used (headOf begun)))
+        ∙ sym (since-none (usedLen (headOf begun)) begun (total ∷ [])),
+  )
+  case-later lands (suc zero) = (
+    2,
+    nothing,
+    hit-none lands counted link (link-used s e)
+        ∙ sym (since-none (usedLen (headOf counted)) counted (link ∷ [])),
+  )
+  case-later lands (suc (suc j)) = (3, nothing, refl)
+
+  -- a new node, or a later write
+  case-new : (lands : ℕ → Bool) (k : ℕ)
+      → Case l groups (cutAfter k lands l (nodes ++ (total ∷ link ∷ [])))
+  unfolding cutSince
+  case-new lands k = go (decLt k (length nodes))
+    where
+      two : List Write
+      two = total ∷ link ∷ []
+
+      go : Dec (k < length nodes) → Case l groups (cutAfter k lands l (nodes ++ two))
+      go (yes c) = (
+        0,
+        upTo k lands,
+        cut-since k lands u l nodes two refl (omega (arith, before-used h)) all-spare c,
+      )
+      go (no c) =
+          let j : ℕ = k - length nodes in
+          let at : k ≡ length nodes + j = omega arith in
+          subst (Case l groups) (sym (ap (λ (i : ℕ). cutAfter i lands l (nodes ++ two)) at
+          ∙ cut-append j lands l nodes two)) (case-later lands j)
+
 -- ---- how many flushes
 
 -- "Path incomplete and value 0: nothing changes"
@@ -235,10 +296,10 @@ three-flushes {l} {key} {value} s = go (descend (tableIn l) 0 key) value refl s
 
 -- what mending leaves after a cut after k flushes, which left the image `cut`
 pub record MendedSince (l key : List ℕ) (value k : ℕ) (cut work : List ℕ) : Type 0 where
-  -- "the answers from before the store or after it"; those from after it only where all landed
-  pub either : MendsTo cut work l ⊎ ((cut ≡ storedImage l key value) × MendsTo cut work
-      (storedImage l key value))
-  -- those from before it until the writes before the last flush were issued
+  -- "the answers from before the store or after it"; those from after it where all writes landed
+  pub either : MendsTo cut work l
+      ⊎ ((cut ≡ storedImage l key value) × MendsTo cut work (storedImage l key value))
+  -- those from before it where no write of the last group was issued
   pub early : k + 1 < length (groupsIn l key value) → MendsTo cut work l
   -- after the last flush all landed
   pub late : length (groupsIn l key value) ≤ k → cut ≡ storedImage l key value
@@ -265,13 +326,12 @@ module _ (l : List ℕ) (k : ℕ) (lands : ℕ → ℕ → Bool) (work : List �
       go : (d : Descent) (v : ℕ) → descend (tableIn l) 0 key ≡ d → Granted l key v
           → Parts (storedImage l key v) (groupsIn l key v)
       go (complete q) v e t =
-          subst (Parts (storedImage l key v)) (sym (groups-data t e))
-          (halves-data t e lands work k, λ b. absurd (omega arith))
+          rw (groups-data t e) (halves-data t e lands work k, λ b. absurd (omega arith))
       go (stopped q x xs) zero e t =
-          subst (Parts (storedImage l key 0)) (sym (groups-none l key e))
+          rw (groups-none l key e)
           (inl (mends-kept l work l refl (t .accepted)), λ b. absurd (omega arith))
       go (stopped q x xs) (suc v) e t =
-          subst (Parts (storedImage l key (suc v))) (sym (groups-new t e))
+          rw (groups-new t e)
           (halves-new t e lands work k, λ b. before-last t e lands work k (omega arith))
 
 -- after the last flush, granted or not
@@ -306,3 +366,19 @@ flushed-cut {l} {key} {value} s k lands work lent =
 pub flushed-store : (l work : List ℕ) (given : Given) (value : ℕ)
     → storeOf l work given value .numbers .number ≡ 0 → MendedFlushed l (keyIn l given) value
 flushed-store l work given value z = flushed-cut (store-granted l work given value z)
+
+-- ---- flushing after every write
+
+-- every cut that hits one write, with a flush after each write, is a cut with three flushes
+pub cut-is-flushed : {l key : List ℕ} {value : ℕ} → Granted l key value → (k : ℕ)
+    (lands : ℕ → Bool)
+    → (j : ℕ) × (some : ℕ → ℕ → Bool)
+    × (cutAfter k lands l (writesIn l key value) ≡ cutSince j some l (groupsIn l key value))
+unfolding storeWrites cutAfter cutSince
+cut-is-flushed {l} {key} {value} s k lands = go (descend (tableIn l) 0 key) value refl s
+  where
+    go : (d : Descent) (v : ℕ) → descend (tableIn l) 0 key ≡ d → Granted l key v
+        → Case l (groupsIn l key v) (cutAfter k lands l (storeWrites (headOf l) d v))
+    go (complete q) v e t = rw (groups-data t e) (case-data t e lands k)
+    go (stopped q x xs) zero e t = rw (groups-none l key e) (0, nothing, refl)
+    go (stopped q x xs) (suc v) e t = rw (groups-new t e) (case-new t e lands k)

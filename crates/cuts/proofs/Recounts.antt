@@ -5,6 +5,7 @@
 use Prim.Native.Nat.{ℕ, _+_, _≤_, _<_}
 use mathlib.Core.Path.{_≡_, ap}
 use mathlib.Core.Bool.{Bool}
+use mathlib.Core.Logic.{⊎-elim}
 use mathlib.Core.List.{List, [], _∷_}
 use native.Mathlib.Decide.{decLt}
 use native.Mathlib.Omega.{arith}
@@ -20,8 +21,10 @@ use Rattle.position.specs.Calls.{worked, countsOf, checkCountsOf, storeCountsOf
 use Rattle.position.proofs.Plain.{store-counts-plain}
 use Rattle.position.proofs.Right.{worked-right, counts-exactly, counts-leaves, counts-then-check}
 use Rattle.cuts.specs.Cut.{cutAfter}
+use Rattle.cuts.specs.Flushed.{groupsIn, cutSince}
 use Rattle.cuts.specs.Mended.{MendsTo, mendedImage}
 use Rattle.cuts.proofs.Cuts.{Mended, cut-store}
+use Rattle.cuts.proofs.Flushes.{MendedFlushed, flushed-store}
 use Rattle.cuts.proofs.AfterMending.{mend-zero}
 
 -- ---- right again
@@ -98,3 +101,37 @@ module _ (l work : List ℕ) (given : Given) (value : ℕ) where
       → RecountsAfter l (keyIn l given) value
   cut-counts-recounts counts z =
       mended-recounts l (keyIn l given) value (cut-store-counts counts z)
+
+-- ---- with three flushes in a store
+
+-- with enough working numbers for the image that the cut left
+abbrev pub RecountsFlushed : List ℕ → List ℕ → ℕ → Type 0
+RecountsFlushed l key value =
+    (k : ℕ) (lands : ℕ → ℕ → Bool) (work : List ℕ)
+    → headOf (cutSince k lands l (groupsIn l key value)) .g + 1 ≤ length work
+    → Recounts (mendedImage (cutSince k lands l (groupsIn l key value)) work)
+
+flushed-again : (l key : List ℕ) (value : ℕ) → MendedFlushed l key value
+    → RecountsFlushed l key value
+flushed-again l key value mended k lands work lent =
+    mend-recounts (cutSince k lands l (groupsIn l key value)) work
+    (⊎-elim (λ t. mends-zero t) (λ t. mends-zero (t .1)) (mended k lands work lent .either))
+
+module _ (l work : List ℕ) (given : Given) (value : ℕ) where
+  pub flushed-recounts : storeOf l work given value .numbers .number ≡ 0
+      → RecountsFlushed l (keyIn l given) value
+  flushed-recounts z =
+      flushed-again l (keyIn l given) value (flushed-store l work given value z)
+
+  -- a store with counts is cut and mended as the plain store is
+  pub flushed-store-counts : (counts : List ℕ)
+      → storeCountsOf l work given value counts .numbers .number ≡ 0
+      → MendedFlushed l (keyIn l given) value
+  flushed-store-counts counts z =
+      flushed-store l work given value (store-counts-plain l work given value counts z .0)
+
+  pub flushed-counts-recounts : (counts : List ℕ)
+      → storeCountsOf l work given value counts .numbers .number ≡ 0
+      → RecountsFlushed l (keyIn l given) value
+  flushed-counts-recounts counts z =
+      flushed-again l (keyIn l given) value (flushed-store-counts counts z)

@@ -24,8 +24,8 @@ length-landed : (b : Bool) (l : List ℕ) (at v : ℕ) → length (cond b (set l
 length-landed true l at v = length-set l at v
 length-landed false l at v = refl
 
-pub length-torn : (lands : ℕ → Bool) (l : List ℕ) (at : ℕ) (bs : List ℕ) → length (torn lands l at bs)
-    ≡ length l
+pub length-torn : (lands : ℕ → Bool) (l : List ℕ) (at : ℕ) (bs : List ℕ)
+    → length (torn lands l at bs) ≡ length l
 unfolding torn
 length-torn lands l at [] = refl
 length-torn lands l at (b ∷ bs) = length-torn lands (cond (lands at) (set l at b) l) (suc at) bs
