@@ -1,21 +1,27 @@
 -- P7's store, CCC = 1 in 55 bytes after P3, cut before, between and after its five writes,
 -- computed: what the cut leaves, and what mending leaves then. Of a write to spare bytes that is
 -- hit, the bytes at odd places land; G and the link have such bytes too, but land whole or not
--- at all. Then mending where no store was cut: P10's image, P8's, and one whose 8 is not mended,
--- since with the lower G the link to node 2 is above G.
+-- at all. Then the same store with three flushes, and with fewer, which are too few. Then mending
+-- where no store was cut: P10's image, P8's, and one whose 8 is not mended, since with the lower
+-- G the link to node 2 is above G.
 use Prim.Native.Nat.{ℕ, _%_}
 use mathlib.Core.Path.{_≡_, refl}
-use mathlib.Core.Bool.{Bool, cond}
+use mathlib.Core.Bool.{Bool, true, false, not, cond}
 use mathlib.Core.List.{List, [], _∷_, map}
 use lib.Dec.{eqb}
+use lib.ListN.{replicate}
 use lib.IntN.{pos}
+use Rattle.trie.specs.Table.{descend}
+use Rattle.trie.specs.Keys.{keysUnder}
+use Rattle.head.specs.Fields.{headOf, usedLen}
 use Rattle.node.specs.Writes.{storeWrites, noted}
 use Rattle.paper.specs.Hearing.{Outcome, outcome, doneNumbers, refusedNumbers}
 use Rattle.paper.specs.Answers.{numberAt}
 use Rattle.paper.specs.Rows.{row1, row2, row3, row4, row6, row7, row8}
-use Rattle.paper.specs.Calls.{tableIn, writesIn, storedImage, mendOf}
+use Rattle.paper.specs.Calls.{tableIn, storedKeys, writesIn, storedImage, mendOf}
 use Rattle.paper.specs.Cases.{file}
 use Rattle.cuts.specs.Cut.{cutAfter}
+use Rattle.cuts.specs.Flushed.{flushed, groupsIn, landed, cutSince}
 use Rattle.cuts.specs.Mended.{mendedImage, readBack}
 
 abbrev odd : ℕ → Bool
@@ -66,6 +72,72 @@ pub computed : (map left cuts ≡ expected)
 unfolding row1 row2 row3 row4 row6 row7 row8 cutAfter mendedImage mendOf storedImage readBack noted
     storeWrites tableIn
 computed = (refl, refl, refl, refl, refl)
+
+-- ---- with three flushes
+
+-- the same store, cut after k flushes
+abbrev leftSince : ℕ → (ℕ → ℕ → Bool) → List ℕ
+leftSince k lands = cutSince k lands before (groupsIn before (2 ∷ 2 ∷ 2 ∷ []) 1)
+
+-- what landed since the last flush: nothing, all, the second write alone, and of each write the
+-- bytes at odd places
+abbrev nothing : ℕ → ℕ → Bool
+nothing i p = false
+
+abbrev all : ℕ → ℕ → Bool
+all i p = true
+
+abbrev second : ℕ → ℕ → Bool
+second i p = eqb i 1
+
+abbrev odds : ℕ → ℕ → Bool
+odds i p = odd p
+
+-- the image with the second of three new nodes
+abbrev sparse : List ℕ
+sparse =
+    after (0xAA ∷ 0xAA ∷ 0xAA ∷ 0xAA ∷ 0 ∷ 0 ∷ 5 ∷ 0 ∷ 0xAA ∷ 0xAA ∷ 0xAA ∷ 0xAA ∷ [])
+
+-- the image with the bytes of the new nodes that are at odd places
+abbrev striped : List ℕ
+striped = after (0 ∷ 0xAA ∷ 4 ∷ 0xAA ∷ 0 ∷ 0xAA ∷ 5 ∷ 0xAA ∷ 0 ∷ 0xAA ∷ 0 ∷ 0xAA ∷ [])
+
+-- the places and lengths in each group; what a cut leaves; and what mending leaves then
+pub computed-flushes : (map noted (groupsIn before (2 ∷ 2 ∷ 2 ∷ []) 1)
+    ≡ (43 ∷ 4 ∷ 47 ∷ 4 ∷ 51 ∷ 4 ∷ []) ∷ (0 ∷ 4 ∷ []) ∷ (33 ∷ 1 ∷ []) ∷ [])
+    × (map noted (groupsIn before (1 ∷ []) 7) ≡ (38 ∷ 1 ∷ []) ∷ [])
+    × (groupsIn before (2 ∷ 2 ∷ 2 ∷ []) 0 ≡ [])
+    × (map (leftSince 0) (nothing ∷ second ∷ odds ∷ all ∷ [])
+    ≡ before ∷ sparse ∷ striped ∷ grown 2 0 ∷ [])
+    × (map (leftSince 1) (nothing ∷ odds ∷ all ∷ []) ≡ grown 2 0 ∷ grown 2 0 ∷ grown 5 0 ∷ [])
+    × (map (leftSince 2) (nothing ∷ all ∷ []) ≡ grown 5 0 ∷ grown 5 3 ∷ [])
+    × (leftSince 3 nothing ≡ grown 5 3)
+    × (map (λ (l : List ℕ). mendedImage l work)
+    (before ∷ sparse ∷ striped ∷ grown 2 0 ∷ grown 5 0 ∷ grown 5 3 ∷ [])
+    ≡ before ∷ sparse ∷ striped ∷ grown 2 0 ∷ grown 2 0 ∷ grown 5 3 ∷ [])
+    × (mendOf sparse work ≡ done sparse (0 ∷ 0 ∷ 0 ∷ 7 ∷ 7 ∷ 7 ∷ 7 ∷ []))
+    × (map storedKeys (before ∷ sparse ∷ striped ∷ grown 2 0 ∷ [])
+    ≡ replicate 4 ((1 ∷ []) ∷ (1 ∷ 0 ∷ []) ∷ []))
+unfolding row1 row2 row3 row4 row6 row7 row8 flushed cutSince mendedImage mendOf noted storeWrites
+    tableIn descend storedKeys keysUnder
+computed-flushes = (refl, refl, refl, refl, refl, refl, refl, refl, refl, refl)
+
+-- the store with no flush until all writes were issued: of write i all or nothing landed
+abbrev unflushed : (ℕ → Bool) → List ℕ
+unflushed lands =
+    landed (usedLen (headOf before)) (λ i p. lands i) before (writesIn before (2 ∷ 2 ∷ 2 ∷ []) 1)
+
+-- The first two flushes are needed. Without the one before G, G may land and no node: the check
+-- answers 6 at the first new node. Without the one before the link, the link may land and G not:
+-- the check answers 6 at the root. Mending refuses both.
+pub computed-needed :
+    (mendOf (unflushed (λ i. eqb i 3)) work .numbers ≡ refusedNumbers (numberAt 6 3))
+    × (mendOf (unflushed (λ i. not (eqb i 3))) work .numbers ≡ refusedNumbers (numberAt 6 0))
+unfolding row1 row2 row3 row4 row6 row7 row8 landed mendOf storeWrites tableIn descend headOf
+    usedLen
+computed-needed = (refl, refl)
+
+-- ---- where no store was cut
 
 -- three working numbers
 abbrev three : List ℕ

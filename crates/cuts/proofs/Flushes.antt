@@ -22,6 +22,7 @@ use Rattle.node.specs.Writes.{storeWrites}
 use Rattle.node.proofs.FieldPlaces.{link-inside, data-inside, inside-used}
 use Rattle.paper.specs.Given.{Given, keyIn}
 use Rattle.paper.specs.Calls.{tableIn, writesIn, storedImage, storeOf}
+use Rattle.paper.specs.Accepted.{Accepted}
 use Rattle.paper.specs.Granted.{Granted}
 use Rattle.paper.proofs.StoreCall.{able, accepted-again, store-granted}
 use Rattle.cuts.specs.Cut.{cutAfter}
@@ -35,6 +36,10 @@ use Rattle.cuts.proofs.Cuts.{looks-begun, link-used}
 use Rattle.seen.specs.Seen.{seenIn}
 use Rattle.seen.proofs.Seen.{before-used, seen-below}
 
+-- mending leaves an accepted image as it is
+kept : (l work : List ℕ) → Accepted l → Before l work l
+kept l work a = mends-kept l work l refl a
+
 -- the cut left an image that mending gives the answers from before the store, or the very image
 -- from after it
 abbrev Halves : List ℕ → List ℕ → List ℕ → List ℕ → Type 0
@@ -47,65 +52,6 @@ Case l groups r = (j : ℕ) × (lands : ℕ → ℕ → Bool) × (r ≡ cutSince
 -- nothing of a group landed
 abbrev nothing : ℕ → ℕ → Bool
 nothing i p = false
-
--- ---- a complete path
-
-module _ {l key : List ℕ} {value : ℕ} (s : Granted l key value) {q : ℕ}
-    (e : descend (tableIn l) 0 key ≡ complete q) where
-  abbrev field : Write
-  field = dataWrite (headOf l) q value
-
-  data-below : dataPlace (headOf l) q < usedLen (headOf l)
-  data-below =
-      let h : Head = headOf l in
-      let within = complete-within (tableIn l) (h .g) key (s .accepted .links .within) e in
-      omega (
-        arith,
-        inside-used (data-inside h q) within,
-        bounds h (s .accepted .head-permitted) .d-least,
-      )
-
-  -- "the data field alone"
-  pub groups-data : groupsIn l key value ≡ (field ∷ []) ∷ []
-  unfolding storeWrites dataWrite closed flushed
-  groups-data =
-      ap (λ (d : Descent). flushed (usedLen (headOf l)) [] (storeWrites (headOf l) d value)) e
-      ∙ flushed-other (usedLen (headOf l)) [] field [] data-below
-
-  -- so it takes one flush
-  pub one-flush : length (groupsIn l key value) ≡ 1
-  one-flush = ap length groups-data
-
-  stored-data : carriedOut l (field ∷ []) ≡ storedImage l key value
-  unfolding storedImage storeWrites
-  stored-data = sym (ap (λ (d : Descent). carriedOut l (storeWrites (headOf l) d value)) e)
-
-  -- it has landed or not
-  halves-data : (lands : ℕ → ℕ → Bool) (work : List ℕ) (k : ℕ)
-      → Halves l (storedImage l key value) work (cutSince k lands l ((field ∷ []) ∷ []))
-  unfolding cutSince dataWrite carriedOut
-  halves-data lands work zero =
-      subst (Halves l (storedImage l key value) work)
-      (sym (since-other (usedLen (headOf l)) lands l field data-below))
-      (go (lands 0 (dataPlace (headOf l) q)))
-    where
-      go : (b : Bool) → Halves l (storedImage l key value) work
-          (cond b (carriedOut l (field ∷ [])) l)
-      go true = inr stored-data
-      go false = inl (mends-kept l work l refl (s .accepted))
-  halves-data lands work (suc k) = inr stored-data
-
-  -- a cut that hits one write is one of these
-  case-data : (lands : ℕ → Bool) (k : ℕ)
-      → Case l ((field ∷ []) ∷ []) (cutAfter k lands l (field ∷ []))
-  unfolding cutAfter cutSince carriedOut dataWrite
-  case-data lands zero = (
-    0,
-    nothing,
-    hit-none lands l field data-below
-        ∙ sym (since-none (usedLen (headOf l)) l (field ∷ [])),
-  )
-  case-data lands (suc k) = (1, nothing, refl)
 
 -- ---- new nodes
 
@@ -273,6 +219,64 @@ module _ {l key : List ℕ} {v : ℕ} (s : Granted l key (suc v)) {q x : ℕ} {x
           subst (Case l groups) (sym (ap (λ (i : ℕ). cutAfter i lands l (nodes ++ two)) at
           ∙ cut-append j lands l nodes two)) (case-later lands j)
 
+-- ---- a complete path
+
+module _ {l key : List ℕ} {value : ℕ} (s : Granted l key value) {q : ℕ}
+    (e : descend (tableIn l) 0 key ≡ complete q) where
+  abbrev field : Write
+  field = dataWrite (headOf l) q value
+
+  data-below : dataPlace (headOf l) q < usedLen (headOf l)
+  data-below =
+      let h : Head = headOf l in
+      let within = complete-within (tableIn l) (h .g) key (s .accepted .links .within) e in
+      omega (
+        arith,
+        inside-used (data-inside h q) within,
+        bounds h (s .accepted .head-permitted) .d-least,
+      )
+
+  -- "the data field alone"
+  pub groups-data : groupsIn l key value ≡ (field ∷ []) ∷ []
+  unfolding storeWrites dataWrite closed flushed
+  groups-data =
+      ap (λ (d : Descent). flushed (usedLen (headOf l)) [] (storeWrites (headOf l) d value)) e
+      ∙ flushed-other (usedLen (headOf l)) [] field [] data-below
+
+  -- so it takes one flush
+  pub one-flush : length (groupsIn l key value) ≡ 1
+  one-flush = ap length groups-data
+
+  stored-data : carriedOut l (field ∷ []) ≡ storedImage l key value
+  unfolding storedImage storeWrites
+  stored-data = sym (ap (λ (d : Descent). carriedOut l (storeWrites (headOf l) d value)) e)
+
+  -- it has landed or not
+  halves-data : (lands : ℕ → ℕ → Bool) (work : List ℕ) (k : ℕ)
+      → Halves l (storedImage l key value) work (cutSince k lands l ((field ∷ []) ∷ []))
+  unfolding cutSince dataWrite carriedOut
+  halves-data lands work zero =
+      subst (Halves l (storedImage l key value) work)
+      (sym (since-other (usedLen (headOf l)) lands l field data-below))
+      (go (lands 0 (dataPlace (headOf l) q)))
+    where
+      go : (b : Bool) → Halves l (storedImage l key value) work
+          (cond b (carriedOut l (field ∷ [])) l)
+      go true = inr stored-data
+      go false = inl (kept l work (s .accepted))
+  halves-data lands work (suc k) = inr stored-data
+
+  -- a cut that hits one write is one of these
+  case-data : (lands : ℕ → Bool) (k : ℕ)
+      → Case l ((field ∷ []) ∷ []) (cutAfter k lands l (field ∷ []))
+  unfolding cutAfter cutSince carriedOut dataWrite
+  case-data lands zero = (
+    0,
+    nothing,
+    hit-none lands l field data-below ∙ sym (since-none (usedLen (headOf l)) l (field ∷ [])),
+  )
+  case-data lands (suc k) = (1, nothing, refl)
+
 -- ---- how many flushes
 
 -- "Path incomplete and value 0: nothing changes"
@@ -329,7 +333,7 @@ module _ (l : List ℕ) (k : ℕ) (lands : ℕ → ℕ → Bool) (work : List �
           rw (groups-data t e) (halves-data t e lands work k, λ b. absurd (omega arith))
       go (stopped q x xs) zero e t =
           rw (groups-none l key e)
-          (inl (mends-kept l work l refl (t .accepted)), λ b. absurd (omega arith))
+          (inl (kept l work (t .accepted)), λ b. absurd (omega arith))
       go (stopped q x xs) (suc v) e t =
           rw (groups-new t e)
           (halves-new t e lands work k, λ b. before-last t e lands work k (omega arith))
@@ -359,7 +363,8 @@ flushed-cut {l} {key} {value} s k lands work lent =
 
     go : Halves l after work cut → MendsTo cut work l ⊎ ((cut ≡ after) × MendsTo cut work after)
     go (inl before) = inl (before lent)
-    go (inr same) = inr (same, mends-kept cut work after (ap seenIn same) (accepted-again s) lent)
+    go (inr same) =
+        inr (same, subst (Before after work) (sym same) (kept after work (accepted-again s)) lent)
 
 -- ---- for a store whose answer is done
 
