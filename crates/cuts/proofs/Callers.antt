@@ -3,13 +3,10 @@
 -- call, they are the writes of the store.
 use Prim.Native.Nat.{ℕ, zero, suc, _+_, _*_, _≤_}
 use mathlib.Core.Path.{_≡_, refl, sym, ap, _∙_}
-use mathlib.Core.Bool.{Bool, true, false, cond}
-use mathlib.Core.List.{List, [], _∷_, _++_}
+use mathlib.Core.List.{List, [], _∷_}
 use native.Mathlib.Omega.{arith}
-use lib.Dec.{eqb}
 use lib.ListN.{length, take, drop, length-append}
 use lib.Seq.{sets, sets-eq, take-append-seam}
-use borrow.Author.Tests.{eqb-true}
 use Rattle.field.proofs.Range.{between-true}
 use Rattle.trie.specs.Table.{Descent, complete, stopped, descend, answer}
 use Rattle.trie.specs.Storing.{changeOf}
@@ -19,12 +16,13 @@ use Rattle.head.specs.Fields.{mostWrites, mostNoted, headOf}
 use Rattle.head.proofs.Permitted.{bounds}
 use Rattle.node.specs.Writes.{Write, noted, totalWrite, linkWrite, storeWrites}
 use Rattle.node.proofs.Nodes.{nodes-count}
-use Rattle.paper.specs.Hearing.{Outcome, outcome, doneNumbers}
+use Rattle.paper.specs.Hearing.{outcome, doneNumbers}
 use Rattle.paper.specs.Given.{Given, keyIn}
 use Rattle.paper.specs.Calls.{tableIn, workAfter, writesIn, storedImage, storeOf, withWrites}
 use Rattle.paper.specs.Calls.{storeWritesOf}
 use Rattle.paper.specs.Granted.{Granted}
 use Rattle.paper.proofs.StoreCall.{store-granted, store-leaves}
+use Rattle.paper.proofs.Reasons.{writes-number}
 use Rattle.cuts.specs.Mended.{readBack}
 use Rattle.cuts.proofs.Noted.{read-back}
 
@@ -82,28 +80,15 @@ had-writes {l} {key} {value} s list b =
 
 -- ---- the calls
 
--- the number of the answer is the store's
-same-number : (ws : List Write) (list : List ℕ) (o : Outcome)
-    → withWrites ws list o .numbers .number ≡ o .numbers .number
-unfolding withWrites doneNumbers
-same-number ws list o = go (eqb (o .numbers .number) 0) refl
-  where
-    go : (b : Bool) → eqb (o .numbers .number) 0 ≡ b
-        → cond b (outcome (doneNumbers (length ws) (o .numbers .change) 0)
-        (o .lent ++ (sets list 0 (noted ws) ∷ [])))
-        (outcome (o .numbers) (o .lent ++ (list ∷ []))) .numbers .number
-        ≡ o .numbers .number
-    go true e = sym (eqb-true (o .numbers .number) 0 e)
-    go false e = refl
-
 module _ (l work : List ℕ) (given : Given) (value : ℕ) (list : List ℕ) where
   abbrev key : List ℕ
   key = keyIn l given
 
+  -- the number of the answer is the store's
   pub store-writes-number : storeWritesOf l work given value list .numbers .number
       ≡ storeOf l work given value .numbers .number
   unfolding storeWritesOf
-  store-writes-number = same-number (writesIn l key value) list (storeOf l work given value)
+  store-writes-number = writes-number (writesIn l key value) list (storeOf l work given value)
 
   -- what a store with writes answers and leaves where the store is done
   pub store-writes-leaves : storeOf l work given value .numbers .number ≡ 0

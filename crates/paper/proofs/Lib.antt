@@ -1,6 +1,8 @@
 pub mod CheckCall
+pub mod FirstReason
 pub mod MakeCall
 pub mod Hearing
+pub mod KeyReasons
 pub mod Keying
 pub mod Known
 pub mod Linking
@@ -10,6 +12,7 @@ pub mod Named
 pub mod NextKeyCall
 pub mod Numbers
 pub mod Opening
+pub mod Reasons
 pub mod StoreCall
 pub mod Tabulated
 pub mod Unique

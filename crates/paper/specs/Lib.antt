@@ -8,5 +8,6 @@ pub mod Hearing
 pub mod Repeated
 pub mod Orders
 pub mod Promises
+pub mod Reasons
 pub mod Rows
 pub mod Walk002
