@@ -1,3 +1,4 @@
+pub mod CountsReasons
 pub mod Plain
 pub mod Positions
 pub mod Right

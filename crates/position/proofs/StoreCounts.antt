@@ -263,7 +263,7 @@ module _ (l work : List ℕ) (given : Given) (value : ℕ) (counts : List ℕ) w
   five = row5 (headOf l) (length (usable work counts))
 
   -- in an accepted image the order is 5, then 25, then 9 to 13 and the second 5
-  accepted-order : Accepted l → first (storeCountsOrder l work given value counts)
+  pub accepted-order : Accepted l → first (storeCountsOrder l work given value counts)
       ≡ first (five ∷ row25 l counts ∷ rest)
   unfolding storeCountsOrder checkCountsOrder countsOrder checkOrder row5
   accepted-order a = go (decLe (headOf l .g + 1) (length (usable work counts)))
