@@ -1,11 +1,10 @@
 -- Mending, for every image: what it leaves, and that it changes no lookup's answer. Where G is
 -- lowered, the image with the lower G is accepted, so a walk in it stays among the nodes that
 -- are left. These are as they were, so the walk is the same before and after.
-use Prim.Native.Nat.{ℕ, _+_, _-_, _*_, _^_, _≤_, _<_}
+use Prim.Native.Nat.{ℕ, _+_, _-_, _^_, _≤_, _<_}
 use mathlib.Core.Path.{_≡_, refl, sym, ap, ap₂, subst, _∙_}
 use mathlib.Core.Bool.{Bool, true, false, cond}
 use mathlib.Core.List.{List, [], _∷_}
-use native.Mathlib.Nat.{mul-le-mul, le-refl}
 use native.Mathlib.Omega.{arith}
 use lib.Dec.{eqb}
 use lib.ListN.{length, getD}
@@ -15,11 +14,9 @@ use Rattle.trie.specs.Table.{Table, answer}
 use Rattle.trie.specs.Rules.{Within}
 use Rattle.trie.proofs.Lowered.{Agree, answer-alike, fault-alike}
 use Rattle.head.specs.declared.Head.{Head}
-use Rattle.head.specs.Fields.{shortestImage, longestImage, headOf, nodeWidth, putTotal, totalAt}
+use Rattle.head.specs.Fields.{shortestImage, longestImage, headOf, putTotal, totalAt}
 use Rattle.head.specs.Fields.{totalLen}
 use Rattle.head.proofs.Fields.{length-total, total-outside, head-total}
-use Rattle.head.proofs.Permitted.{bounds}
-use Rattle.head.proofs.Places.{width-least, used}
 use Rattle.alphabet.specs.Letters.{among}
 use Rattle.node.specs.Image.{tableOf}
 use Rattle.node.proofs.Heads.{withTotal, child-kept, value-kept}
@@ -39,6 +36,7 @@ use Rattle.paper.proofs.StoreCall.{unfaulted, looks-up-open, looks-up-accepted,
 use Rattle.paper.proofs.StoreCall.{same-key}
 use Rattle.paper.proofs.MendCall.{accepted-exactly, mend-kept, mend-lowered, Eight, eight}
 use Rattle.seen.proofs.Seen.{same-alphabet}
+use Rattle.seen.proofs.SameCalls.{eight-fits}
 use Rattle.cuts.specs.Mended.{mendedImage}
 
 -- ---- G is lowered or the image is kept
@@ -127,14 +125,8 @@ module _ (l work : List ℕ) (e : canMend l (checkOf l work .numbers) ≡ true) 
   below : low < h .g + 1
   below = omega (arith, told .least, told .most)
 
-  -- every node takes at least one byte, so G is below the image's length and fits 32 bits
   fits : low < 2 ^ 32
-  fits =
-      let long = between-true (length l) shortestImage longestImage (opened .allowed) in
-      let each : (h .g + 1) * 1 ≤ (h .g + 1) * nodeWidth h =
-      mul-le-mul (le-refl (h .g + 1))
-      (omega (arith, width-least (bounds h (opened .head-permitted)))) in
-      omega (arith, below, used h, opened .room)
+  fits = omega (arith, below, eight-fits l work (lowers-tell l (checkOf l work .numbers) e .0))
 
   heads : headOf m ≡ withTotal h low
   heads = let long = between-true (length l) shortestImage longestImage (opened .allowed) in

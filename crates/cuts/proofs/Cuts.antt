@@ -15,14 +15,15 @@ use lib.ListN.{length, getD, length-append}
 use lib.Seq.{length-sets}
 use lib.IntN.{pos}
 use borrow.Author.Tests.{eq-eqb}
-use Rattle.field.specs.Field.{digits, putField}
+use Rattle.field.specs.Field.{Bytes, digits, putField}
+use Rattle.field.proofs.Field.{length-digits}
 use Rattle.field.proofs.Sets.{getD-outside}
 use Rattle.trie.specs.Table.{Table, Descent, complete, stopped, descend}
 use Rattle.trie.specs.Storing.{grow}
 use Rattle.trie.proofs.Walk.{complete-within, where-stopped}
 use Rattle.head.specs.declared.Head.{Head}
 use Rattle.head.specs.Fields.{fieldsLen, headOf, nodePlace, usedLen, putTotal, totalAt, totalLen}
-use Rattle.head.proofs.Fields.{head-outside, length-total, total-outside, head-total}
+use Rattle.head.proofs.Fields.{head-outside, length-total, total-outside, head-total, total-back}
 use Rattle.head.proofs.Permitted.{bounds, addresses-fit}
 use Rattle.head.proofs.Places.{place-le, place-least}
 use Rattle.node.specs.Image.{linkPlace, dataPlace, tableOf}
@@ -50,21 +51,23 @@ use Rattle.cuts.specs.Cut.{hit, cutAfter}
 use Rattle.cuts.specs.Mended.{MendsTo}
 use Rattle.cuts.proofs.WriteLists.{From, from-before, length-cut, carried-before}
 use Rattle.cuts.proofs.WriteLists.{cut-before-all, cut-append, cut-whole, hit-none}
-use Rattle.seen.specs.Seen.{seenIn}
-use Rattle.seen.proofs.Seen.{before-used, opens-same, seen-same, seen-below, same-answers}
-use Rattle.seen.proofs.Seen.{same-accepted}
+use Rattle.seen.specs.Seen.{Alike}
+use Rattle.seen.proofs.Seen.{before-used, opens-same}
+use Rattle.seen.proofs.SameWrites.{sets-cover}
+use Rattle.seen.proofs.SameCalls.{alike-itself, alike-from, agree-alike, alike-accepted}
+use Rattle.seen.proofs.SameCalls.{same-answers}
 use Rattle.cuts.proofs.OneLinkShort.{check-unlinked}
 
 -- ---- an image that looks as an accepted one does is kept
 
-module _ (a work m : List ℕ) (same : seenIn a ≡ seenIn m) (accepted : Accepted m)
+module _ (a work m : List ℕ) (same : Alike 0 a m) (accepted : Accepted m)
     (lent : headOf a .g + 1 ≤ length work) where
   check-done : checkOf a work .numbers ≡ doneNumbers 0 (pos 0) 0
   unfolding checkOf
   check-done =
       ap (λ (o : Outcome). o .numbers)
       (heard-done (first (checkOrder a work)) _ _
-      (accepted-checks a work (same-accepted same accepted) lent))
+      (accepted-checks a work (alike-accepted (omega arith) same accepted) lent))
 
   -- mending leaves it as it is
   pub mends-kept : MendsTo a work m
@@ -75,8 +78,9 @@ module _ (a work m : List ℕ) (same : seenIn a ≡ seenIn m) (accepted : Accept
         image = a;
         heard = mend-kept a work still
             ∙ ap (λ (n : Numbers). outcome n (a ∷ workAfter a work ∷ [])) check-done;
-        accepted = same-accepted same accepted;
-        answers = same-answers same;
+        accepted = alike-accepted (omega arith) same accepted;
+        answers = same-answers (omega arith) (alike-from (totalAt + totalLen) same);
+        used-bytes = λ _. same;
       }
 
 -- ---- where G is lowered
@@ -94,10 +98,11 @@ abbrev pub Before : List ℕ → List ℕ → List ℕ → Type 0
 Before l work r = headOf r .g + 1 ≤ length work → MendsTo r work l
 
 not-landed : {l : List ℕ} (lands : ℕ → Bool) (work r : List ℕ) (w : Write) → Accepted l
-    → seenIn r ≡ seenIn l → w .place < usedLen (headOf r)
+    → Alike 0 r l → w .place < usedLen (headOf r)
     → Before l work (hit lands r w)
 not-landed {l} lands work r w a same b lent =
-    mends-kept (hit lands r w) work l (ap seenIn (hit-none lands r w b) ∙ same) a lent
+    mends-kept (hit lands r w) work l
+    (subst (λ (c : List ℕ). Alike 0 c l) (sym (hit-none lands r w b)) same) a lent
 
 -- ---- new nodes to which no link leads yet
 
@@ -156,14 +161,37 @@ module _ {l key : List ℕ} {v : ℕ} (s : Granted l key (suc v)) {q x : ℕ} {x
   after-g : (p : ℕ) → totalAt + totalLen ≤ p → p < usedLen h → getD counted p 0 ≡ getD l p 0
   after-g p a b = total-outside begun total p a ∙ carried-before p l nodes (spare p b)
 
-  -- with G lowered again the image looks as before the store
-  lowered : seenIn (putTotal counted g) ≡ seenIn l
+  -- with G lowered again the image is as before the store
+  lowered : Alike (totalAt + totalLen) (putTotal counted g) l
   lowered =
-      seen-same (putTotal counted g) l
-      (head-total counted g (omega (arith, long, s .accepted .long-enough)) (omega (arith, fits))
-      ∙ ap (λ (k : Head). withTotal k g) heads)
-      (length-total counted g ∙ long)
-      (λ p a b. total-outside counted g p a ∙ after-g p a b)
+      record {
+        heads = head-total counted g (omega (arith, long, s .accepted .long-enough))
+            (omega (arith, fits)) ∙ ap (λ (k : Head). withTotal k g) heads;
+        lengths = length-total counted g ∙ long;
+        bytes = λ p a b. total-outside counted g p a ∙ after-g p a b;
+      }
+
+  -- and the bytes of G are those from before
+  lowered-bytes : Bytes l → Alike 0 (putTotal counted g) l
+  lowered-bytes all =
+      record {
+        heads = lowered .heads;
+        lengths = lowered .lengths;
+        bytes = λ p _ b. go p b (decLt p (totalAt + totalLen));
+      }
+    where
+      four : length (digits totalLen g) ≡ totalLen
+      four = length-digits totalLen g
+
+      go : (p : ℕ) → p < usedLen h → Dec (p < totalAt + totalLen)
+          → getD (putTotal counted g) p 0 ≡ getD l p 0
+      go p b (no c) = lowered .bytes p (omega arith) b
+      go p b (yes c) =
+          sets-cover p counted (putTotal l g) totalAt (digits totalLen g)
+          (long ∙ sym (length-total l g)) (omega arith, omega (arith, four))
+          (omega (arith, four, long, s .accepted .long-enough))
+          ∙ ap (λ (r : List ℕ). getD r p 0)
+          (total-back l g all (omega (arith, s .accepted .long-enough)))
 
   -- ---- the last write: the link
 
@@ -234,7 +262,8 @@ module _ {l key : List ℕ} {v : ℕ} (s : Granted l key (suc v)) {q x : ℕ} {x
   unfolding refusedNumbers
   mends-lowered work lent =
       let numbers : Numbers = checkOf counted work .numbers in
-      let again : Accepted (putTotal counted g) = same-accepted lowered (s .accepted) in
+      let again : Accepted (putTotal counted g) =
+      alike-accepted (omega arith) lowered (s .accepted) in
       let number : numbers .number ≡ 8 = ap (λ (n : Numbers). n .number) (eight work lent) in
       let place : numbers .place - 1 ≡ g =
       ap (λ (n : Numbers). n .place - 1) (eight work lent) ∙ omega arith in
@@ -247,14 +276,15 @@ module _ {l key : List ℕ} {v : ℕ} (s : Granted l key (suc v)) {q x : ℕ} {x
             ∙ ap (λ (p : ℕ). outcome (doneNumbers 0 (pos 0) 0)
             (putTotal counted p ∷ workAfter counted work ∷ [])) place;
         accepted = again;
-        answers = same-answers lowered;
+        answers = same-answers (omega arith) lowered;
+        used-bytes = lowered-bytes;
       }
 
   -- ---- a cut after the nodes
 
-  pub looks-begun : seenIn begun ≡ seenIn l
+  pub looks-begun : Alike 0 begun l
   looks-begun =
-      seen-below begun l (length-carried l nodes) (λ p b. carried-before p l nodes (spare p b))
+      agree-alike begun l (length-carried l nodes) (λ p b. carried-before p l nodes (spare p b))
 
   pub link-used : linkPlace h q x < usedLen (headOf counted)
   link-used =
@@ -292,7 +322,7 @@ module _ {l key : List ℕ} {v : ℕ} (s : Granted l key (suc v)) {q x : ℕ} {x
       go : Dec (k < length nodes) → Before l work (cutAfter k lands l (nodes ++ two))
       go (yes c) =
           mends-kept (cutAfter k lands l (nodes ++ two)) work l
-          (seen-below (cutAfter k lands l (nodes ++ two)) l (length-cut k lands l (nodes ++ two))
+          (agree-alike (cutAfter k lands l (nodes ++ two)) l (length-cut k lands l (nodes ++ two))
           (λ p d. cut-before-all p k lands l nodes two (spare p d) c))
           (s .accepted)
       go (no c) =
@@ -320,7 +350,7 @@ cut-data {l} {key} {value} {q} s e lands work zero b =
       inside-used (data-inside h q) within,
       bounds h (s .accepted .head-permitted) .d-least,
     ) in
-    not-landed lands work l (dataWrite h q value) (s .accepted) refl used
+    not-landed lands work l (dataWrite h q value) (s .accepted) (alike-itself 0 l) used
 cut-data s e lands work (suc k) b = absurd (omega arith)
 
 -- "Path incomplete and value 0: nothing changes"
@@ -349,7 +379,10 @@ module _ {l key : List ℕ} {value : ℕ} (s : Granted l key value) (k : ℕ) (l
       → headOf (cutAfter k lands l (writesIn l key value)) .g + 1 ≤ length work
       → MendsTo (cutAfter k lands l (writesIn l key value)) work (storedImage l key value)
   unfolding storedImage
-  cut-after b = mends-kept _ work _ (ap seenIn (cut-whole k lands l (writesIn l key value) b))
+  cut-after b =
+      let cut : List ℕ = cutAfter k lands l (writesIn l key value) in
+      mends-kept cut work (storedImage l key value)
+      (subst (Alike 0 cut) (cut-whole k lands l (writesIn l key value) b) (alike-itself 0 cut))
       (accepted-again s)
 
 -- ---- for a store whose answer is done

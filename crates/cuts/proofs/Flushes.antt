@@ -33,12 +33,13 @@ use Rattle.cuts.proofs.WriteGroups.{flushed-spare, flushed-other, since
 use Rattle.cuts.proofs.WriteGroups.{since-before, since-other, since-none, upTo, cut-since}
 use Rattle.cuts.proofs.Cuts.{Before, mends-kept, nodes-from, last, mends-lowered}
 use Rattle.cuts.proofs.Cuts.{looks-begun, link-used}
-use Rattle.seen.specs.Seen.{seenIn}
-use Rattle.seen.proofs.Seen.{before-used, seen-below}
+use Rattle.seen.specs.Seen.{Alike}
+use Rattle.seen.proofs.Seen.{before-used}
+use Rattle.seen.proofs.SameCalls.{alike-itself, agree-alike}
 
 -- mending leaves an accepted image as it is
 kept : (l work : List ℕ) → Accepted l → Before l work l
-kept l work a = mends-kept l work l refl a
+kept l work a = mends-kept l work l (alike-itself 0 l) a
 
 -- the cut left an image that mending gives the answers from before the store, or the very image
 -- from after it
@@ -122,8 +123,8 @@ module _ {l key : List ℕ} {v : ℕ} (s : Granted l key (suc v)) {q x : ℕ} {x
   pub among-length : (lands : ℕ → ℕ → Bool) → length (among lands) ≡ length l
   among-length lands = length-since u lands l nodes
 
-  looks-among : (lands : ℕ → ℕ → Bool) → seenIn (among lands) ≡ seenIn l
-  looks-among lands = seen-below (among lands) l (among-length lands) (among-below lands)
+  looks-among : (lands : ℕ → ℕ → Bool) → Alike 0 (among lands) l
+  looks-among lands = agree-alike (among lands) l (among-length lands) (among-below lands)
 
   -- ---- a cut after the nodes
 

@@ -10,7 +10,7 @@ use mathlib.Core.List.{List·Memᴰ·not-nil, List·Memᴰ·cases-cons}
 use lib.Dec.{eqb}
 use borrow.Author.Tests.{eqb-true, eq-eqb, ne-eqb}
 use Rattle.field.proofs.Range.{both}
-use Rattle.trie.specs.Keys.{before, filter, Ascending}
+use Rattle.trie.specs.Keys.{before, Ascending}
 use Rattle.trie.proofs.Before.{before-irrefl, before-trans, before-asym, before-total}
 use Rattle.trie.proofs.Filter.{filter-holds, filter-ascending}
 use Rattle.runs.specs.Runs.{sameKey, Entry, lastOf, putKey, allKeys, plainKeys}

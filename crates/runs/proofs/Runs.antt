@@ -14,7 +14,7 @@ use lib.Dec.{eqb}
 use lib.IntN.{ℤ, pos, _+ℤ_, +ℤ-idr}
 use lib.ListN.{length}
 use lib.Seq.{sets}
-use borrow.Author.Tests.{eq-eqb, ne-eqb, eqb-true}
+use borrow.Author.Tests.{ne-eqb, eqb-true}
 use Rattle.field.proofs.Range.{between-true, true-between}
 use Rattle.trie.specs.Table.{Table, answer}
 use Rattle.trie.specs.Storing.{stored, changeOf}
@@ -54,7 +54,7 @@ use Rattle.position.specs.Calls.{worked, storeCountsOf}
 use Rattle.position.specs.Orders.{countsOrder, checkCountsOrder, keyAtOrder, positionOrder}
 use Rattle.position.proofs.Plain.{store-counts-plain, store-counts-kept}
 use Rattle.calls.specs.Call.{Call, make, check, count, lookUp, store, storeWrites, mend, nextKey}
-use Rattle.calls.specs.Call.{counts, checkCounts, storeCounts, keyAt, position, outcomeOf}
+use Rattle.calls.specs.Call.{counts, checkCounts, storeCounts, keyAt, position}
 use Rattle.calls.specs.Call.{writesImage, firstLeft, imageAfter}
 use Rattle.runs.specs.Runs.{sameKey, lastOf, plainKeys, givesPlain, plainBy, NoMake, Run, after, ran}
 use Rattle.runs.specs.Runs.{startOf, ranFrom}

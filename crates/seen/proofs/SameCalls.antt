@@ -36,6 +36,7 @@ use Rattle.paper.specs.Orders.{openingRows, openingRowsOf, newOf, storeOrder}
 use Rattle.paper.specs.Calls.{tableIn, freshHead, freshImage, makeOf, checkOf, writesIn}
 use Rattle.paper.specs.Calls.{storedImage, storeOf, withWrites, isAccepted, canMend}
 use Rattle.paper.specs.Calls.{workAfter, storeWritesOf}
+use Rattle.paper.specs.Accepted.{Accepted}
 use Rattle.paper.specs.Granted.{Granted}
 use Rattle.paper.proofs.Hearing.{heard-refused, heard-done}
 use Rattle.paper.proofs.Opening.{Passed, passed}
@@ -50,7 +51,7 @@ use Rattle.calls.specs.Call.{outcomeOf, writesImage, firstLeft, restLeft, image
 use Rattle.calls.specs.Call.{answersOf}
 use Rattle.seen.specs.Seen.{seenIn, Alike, SameOutcome, SameAnswers}
 use Rattle.seen.proofs.SameWrites.{AgreeAt, carried-agree, sets-agree, sets-cover, nodes-cover}
-use Rattle.seen.proofs.Seen.{before-used, seen-same, check-seen, count-seen, look-seen}
+use Rattle.seen.proofs.Seen.{before-used, seen-same, same-accepted, check-seen, count-seen, look-seen}
 use Rattle.seen.proofs.Seen.{next-seen, keys-seen, counts-seen, check-counts-seen}
 use Rattle.seen.proofs.Seen.{key-at-seen, position-seen, weights-seen, key-seen, new-seen}
 use Rattle.seen.proofs.Seen.{writes-seen, store-seen, store-counts-seen, is-accepted-seen}
@@ -63,8 +64,27 @@ alike-seen : {from : ℕ} {a b : List ℕ} → from ≤ totalAt + totalLen → A
 alike-seen {a = a} {b} low s =
     seen-same a b (s .heads) (s .lengths) (λ p c d. s .bytes p (omega arith) d)
 
-alike-itself : (from : ℕ) (l : List ℕ) → Alike from l l
+pub alike-itself : (from : ℕ) (l : List ℕ) → Alike from l l
 alike-itself from l = record { heads = refl; lengths = refl; bytes = λ p _ _. refl }
+
+-- images that agree below U are alike
+pub agree-alike : (a b : List ℕ) → length a ≡ length b
+    → ((p : ℕ) → p < usedLen (headOf b) → getD a p 0 ≡ getD b p 0) → Alike 0 a b
+agree-alike a b n e =
+    record {
+      heads = head-same a b (λ k c. e k (omega (arith, before-used (headOf b))));
+      lengths = n;
+      bytes = λ p _ c. e p c;
+    }
+
+pub alike-from : (from : ℕ) {a b : List ℕ} → Alike 0 a b → Alike from a b
+alike-from from s =
+    record { heads = s .heads; lengths = s .lengths; bytes = λ p _ c. s .bytes p (omega arith) c }
+
+-- one is accepted where the other is
+pub alike-accepted : {from : ℕ} {a b : List ℕ} → from ≤ totalAt + totalLen → Alike from a b
+    → Accepted b → Accepted a
+alike-accepted low s x = same-accepted (alike-seen low s) x
 
 -- ---- after a store
 
@@ -519,10 +539,4 @@ same-answers {a = a} {b} low s =
 pub spare-unjudged : (a b : List ℕ) → length a ≡ length b
     → ((p : ℕ) → p < usedLen (headOf b) → getD a p 0 ≡ getD b p 0)
     → SameAnswers 0 a b
-spare-unjudged a b n e =
-    same-answers (omega arith)
-    (record {
-      heads = head-same a b (λ k c. e k (omega (arith, before-used (headOf b))));
-      lengths = n;
-      bytes = λ p _ c. e p c;
-    })
+spare-unjudged a b n e = same-answers (omega arith) (agree-alike a b n e)

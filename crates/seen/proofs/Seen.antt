@@ -18,7 +18,6 @@ use Rattle.passing.specs.Passing.{countAt, oneForEach, keyAt, rankIn}
 use Rattle.head.specs.declared.Head.{Head}
 use Rattle.head.specs.Fields.{shortestImage, longestImage, fieldsLen, totalAt, totalLen, headOf}
 use Rattle.head.specs.Fields.{permitted, usedLen}
-use Rattle.head.proofs.Fields.{head-same}
 use Rattle.head.proofs.Places.{used-le, place-least}
 use Rattle.alphabet.specs.Letters.{goodAlphabet, orEmpty}
 use Rattle.node.specs.Image.{tableOf}
@@ -80,14 +79,6 @@ seen-same a b heads n e =
     (ap (λ (k : Head). alphabetIn k a) heads ∙ same-alphabet h a b n
     (λ p c d. e p c (omega (arith, before-used h))))
     n
-
--- so do images with equal bytes up to U
-pub seen-below : (a b : List ℕ) → length a ≡ length b
-    → ((p : ℕ) → p < usedLen (headOf b) → getD a p 0 ≡ getD b p 0)
-    → seenIn a ≡ seenIn b
-seen-below a b n e =
-    seen-same a b (head-same a b (λ k c. e k (omega (arith, before-used (headOf b))))) n
-    (λ p _ c. e p c)
 
 -- ---- what looks the same answers alike
 
