@@ -10,6 +10,11 @@ from checks.house import (
 ELSEWHERE = {
     "A UTF-8 character": "002",
     "Address can't refer to an ancestor or its own node": "002",
+    "It has no parent": "002",
+    "No two adresses in the same document can be equal": "002",
+    "No two nodes can have the same child": "002",
+    "Node can't be its own ancestor": "002",
+    "Root node is the first node in the document. It has no parent": "002",
     "every node except the root node has exactly one parent": "002",
     "doesn't check whether [G] may overflow": "002",
 }

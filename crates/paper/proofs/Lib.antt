@@ -15,4 +15,5 @@ pub mod Opening
 pub mod Reasons
 pub mod StoreCall
 pub mod Tabulated
+pub mod TreeOfNodes
 pub mod Unique

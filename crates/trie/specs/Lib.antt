@@ -4,3 +4,4 @@ pub mod Lowest
 pub mod Rules
 pub mod Storing
 pub mod Table
+pub mod Tree

@@ -37,9 +37,9 @@ pub record LinkRules (t : Table) (g : ℕ) : Type 0 where
   pub once : Once t
 
 -- What the laws on a store's answers and links require of a table, and what a store keeps. It
--- leaves out `Rising`. Of the public laws of trie and passing only two use that rule, each to
--- show it for another table: `trie/proofs/Rules.antt: stored-rules` and
--- `trie/proofs/Unlinked.antt: unlinked-rising`.
+-- leaves out `Rising`. Few public laws of trie and passing use that rule: two show it for another
+-- table, `trie/proofs/Rules.antt: stored-rules` and `trie/proofs/Unlinked.antt: unlinked-rising`,
+-- and by it every node is reached, `trie/proofs/Tree.antt: all-reached`.
 pub record Linked (t : Table) (g n : ℕ) : Type 0 where
   pub framed : Framed t g n
   pub within : Within t g
