@@ -11,6 +11,9 @@ ELSEWHERE = {
     "A UTF-8 character": "002",
     "Address can't refer to an ancestor or its own node": "002",
     "It has no parent": "002",
+    "first traverses the document as when querying it": "002",
+    "it starts creating the needed nodes by appending them at the end of the document, provided "
+    "that the value to be written is different from 0": "002",
     "No two adresses in the same document can be equal": "002",
     "No two nodes can have the same child": "002",
     "Node can't be its own ancestor": "002",

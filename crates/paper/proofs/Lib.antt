@@ -1,3 +1,4 @@
+pub mod Adding002
 pub mod CheckCall
 pub mod FirstReason
 pub mod MakeCall

@@ -32,7 +32,7 @@ use Rattle.paper.specs.Given.{Given, asLetters, asText, alphabetIn, mean
 use Rattle.paper.specs.Orders.{openingRowsOf, keyRowsBy, keyRows, lookUpOrder}
 use Rattle.paper.specs.Calls.{tableIn, lookUpOf}
 use Rattle.paper.specs.Walk002.{dataRead, linkRead, unlessEmpty, queryFrom, query002}
-use Rattle.paper.specs.Walk002.{indexOf, queryChars, queryOf002}
+use Rattle.paper.specs.Walk002.{indexOf, charsQuery, queryGiven, queryMade, queryOf002}
 use Rattle.paper.specs.Granted.{Fit}
 use Rattle.paper.proofs.Hearing.{passed-row, passed-parts, heard-done}
 use Rattle.paper.proofs.Numbers.{Says, end, _then_, at-says, parts-say, first-says, one-of}
@@ -59,7 +59,7 @@ module _ (h : Head) (l : List ℕ) where
       omega arith in
       ap (λ (at : ℕ). fieldAt l at (h .d)) same ∙ sym (value-in h l q b)
 
-  link-read : (q x : ℕ) → q ≤ h .g → x < h .n → linkRead h l q x ≡ tableOf h l .child q x
+  pub link-read : (q x : ℕ) → q ≤ h .g → x < h .n → linkRead h l q x ≡ tableOf h l .child q x
   unfolding linkRead linkPlace nodePlace nodeWidth
   link-read q x b c =
       let same : q * (h .n * h .a + h .d) + h .f + 28 + x * h .a ≡ linkPlace h q x = omega arith in
@@ -160,19 +160,19 @@ alphabet-most l e = go (ℕ-discrete (headOf l .f) 0)
               (omega arith) whole),
         )
 
--- where a text names a key, 002 looks up the same key
+-- where a text names a key, 002 makes the same key of it
 named-002 : (l : List ℕ) (cs : Option (List ℕ)) → isNone (keyOfChars (allowedIn l) cs) ≡ false
-    → queryChars l cs ≡ query002 l (orEmpty (keyOfChars (allowedIn l) cs))
-unfolding keyOfChars queryChars isNone orEmpty
+    → charsQuery l cs ≡ some (orEmpty (keyOfChars (allowedIn l) cs))
+unfolding keyOfChars charsQuery isNone orEmpty
 named-002 l none e = let z : _≡_ {A = ℕ} 0 1 = cc in absurd (omega arith)
 named-002 l (some cs) e =
     go (lettersOfChars (allowedIn l) cs) (spells (headOf l) (allowedIn l) cs) e
   where
     go : (named : Option (List ℕ)) → Spells (headOf l) (allowedIn l) cs named → isNone named
         ≡ false
-        → queryChars l (some cs) ≡ query002 l (orEmpty named)
+        → charsQuery l (some cs) ≡ some (orEmpty named)
     go none s f = let z : _≡_ {A = ℕ} 0 1 = cc in absurd (omega arith)
-    go (some k) s f = ap (query002 l) s
+    go (some k) s f = ap (λ (j : List ℕ). some j) s
 
 -- where 1 to 4, 9 and 10 pass, the key that is meant is fit
 pub given-fit : (l : List ℕ) (given : Given) → first (openingRowsOf l) ≡ none
@@ -206,10 +206,10 @@ unfolding row6At
 no-fault none e = refl
 no-fault (some q) e = let z : _≡_ {A = ℕ} 0 1 = cc in absurd (omega arith)
 
--- where 9 and 10 pass, 002 looks up the key that is meant
-meant-002 : (l : List ℕ) (given : Given) → first (keyRows l given) ≡ none → queryOf002 l given
-    ≡ query002 l (keyIn l given)
-unfolding keyRows keyRowsBy keyIn meantIn meantBy orEmpty queryOf002 keyOfText
+-- where 9 and 10 pass, 002's query is the key that is meant
+pub meant-002 : (l : List ℕ) (given : Given) → first (keyRows l given) ≡ none → queryGiven l given
+    ≡ some (keyIn l given)
+unfolding keyRows keyRowsBy keyIn meantIn meantBy orEmpty queryGiven keyOfText
 meant-002 l (asLetters key) e = refl
 meant-002 l (asText text) e =
     named-002 l (chars text) (text-fit (headOf l) (keyOfText (allowedIn l) text) e .0)
@@ -263,4 +263,7 @@ module _ (l : List ℕ) (given : Given) where
   -- a lookup whose number is 0 answers the value that 002's walk answers
   pub looks-up-002 : lookUpOf l given .numbers .number ≡ 0 → lookUpOf l given .numbers .value
       ≡ queryOf002 l given
-  looks-up-002 e = let o = unrefused e in answered o ∙ sym (meant-002 l given (o .key-passed))
+  unfolding queryOf002 queryMade
+  looks-up-002 e =
+      let o = unrefused e in
+      answered o ∙ sym (ap (queryMade l) (meant-002 l given (o .key-passed)))

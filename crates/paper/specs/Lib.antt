@@ -1,4 +1,5 @@
 pub mod Accepted
+pub mod Adding002
 pub mod Answers
 pub mod Calls
 pub mod Cases

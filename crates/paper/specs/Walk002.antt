@@ -51,15 +51,26 @@ unfolding letterOf
 indexOf h allowedChars c =
     cond (ltb (letterOf allowedChars c) (length allowedChars)) (letterOf allowedChars c) (h .n)
 
--- for (int f = 0; f < s.length; f++) { query[f] = s.indexOf(qTemp.charAt(f)); }; bytes that are
--- not well-formed text answer 0
-unfoldable pub queryChars : List ℕ → Option (List ℕ) → ℕ
-unfolding query002 indexOf letters alphabetIn
-queryChars l none = 0
-queryChars l (some s) = query002 l (map (indexOf (headOf l) (letters (alphabetIn (headOf l) l))) s)
+-- for (int f = 0; f < s.length; f++) { query[f] = s.indexOf(qTemp.charAt(f)); }; none for bytes
+-- that are not well-formed text, of which 002 does not speak
+unfoldable pub charsQuery : List ℕ → Option (List ℕ) → Option (List ℕ)
+unfolding indexOf letters alphabetIn
+charsQuery l none = none
+charsQuery l (some s) = some (map (indexOf (headOf l) (letters (alphabetIn (headOf l) l))) s)
+
+-- if (qTemp instanceof String) { .. } else { query = (int[]) qTemp; }
+unfoldable pub queryGiven : List ℕ → Given → Option (List ℕ)
+unfolding charsQuery chars
+queryGiven l (asLetters query) = some query
+queryGiven l (asText text) = charsQuery l (chars text)
+
+-- what the query answers; where there is none, 0
+unfoldable pub queryMade : List ℕ → Option (List ℕ) → ℕ
+unfolding query002
+queryMade l none = 0
+queryMade l (some query) = query002 l query
 
 -- the query for a key by its letters or by its text
 unfoldable pub queryOf002 : List ℕ → Given → ℕ
-unfolding query002 queryChars chars
-queryOf002 l (asLetters query) = query002 l query
-queryOf002 l (asText text) = queryChars l (chars text)
+unfolding queryGiven queryMade
+queryOf002 l given = queryMade l (queryGiven l given)
