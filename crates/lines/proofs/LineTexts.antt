@@ -71,6 +71,29 @@ entry-long path len v b =
       decimal-long v,
     )
 
+-- whatever the letters are: a number has at most twenty digits
+letters-any : (k : List ℕ) → length (dotted k) ≤ length k * 21
+unfolding dotted
+letters-any [] = omega arith
+letters-any (x ∷ k) =
+    omega (arith, length-append (decimal x) (dotted k), decimal-long x, letters-any k)
+
+key-any : (k : List ℕ) → length (keyText k) ≤ length k * 21 + 1
+unfolding keyText dotted
+key-any [] = omega arith
+key-any (x ∷ k) = omega (arith, letters-any (x ∷ k))
+
+pub entry-any : (k : List ℕ) (v : ℕ) → length (entryLine k v) ≤ length k * 21 + 23
+unfolding entryLine
+entry-any k v =
+    omega (
+      arith,
+      length-append (keyText k) (32 ∷ (decimal v ++ (10 ∷ []))),
+      length-append (decimal v) (10 ∷ []),
+      key-any k,
+      decimal-long v,
+    )
+
 pub entries-long : (n : ℕ) → length (entriesLine n) ≤ entriesRoom
 unfolding entriesLine
 entries-long n = omega (arith, length-append (decimal n) (10 ∷ []), decimal-long n)
