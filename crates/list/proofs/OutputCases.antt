@@ -1,0 +1,21 @@
+-- 01's two examples of the whole output, P3 and P8. The checker computes them.
+use mathlib.Core.Path.{_≡_, refl}
+use mathlib.Core.List.{List, [], _∷_}
+use Rattle.trie.specs.Keys.{keysUnder}
+use Rattle.paper.specs.Rows.{row1, row2, row3, row4, row6, row7, row8}
+use Rattle.paper.specs.Cases.{file, file3}
+use Rattle.list.specs.Output.{outputOf}
+
+-- "For P3 it writes exactly": `entries 2`, `1 5`, `1.0 9`
+pub writes-3 : outputOf file3
+    ≡ 101 ∷ 110 ∷ 116 ∷ 114 ∷ 105 ∷ 101 ∷ 115 ∷ 32 ∷ 50 ∷ 10
+    ∷ 49 ∷ 32 ∷ 53 ∷ 10
+    ∷ 49 ∷ 46 ∷ 48 ∷ 32 ∷ 57 ∷ 10 ∷ []
+unfolding outputOf row1 row2 row3 row4 row6 row7 row8 keysUnder
+writes-3 = refl
+
+-- "for P8 `refused 7 at 1`"
+pub writes-8 : outputOf (file 1 (0 ∷ 1 ∷ 1 ∷ 0 ∷ 0 ∷ 0 ∷ 0 ∷ 0 ∷ []) 0)
+    ≡ 114 ∷ 101 ∷ 102 ∷ 117 ∷ 115 ∷ 101 ∷ 100 ∷ 32 ∷ 55 ∷ 32 ∷ 97 ∷ 116 ∷ 32 ∷ 49 ∷ 10 ∷ []
+unfolding outputOf row1 row2 row3 row4 row6 row7
+writes-8 = refl

@@ -1,0 +1,88 @@
+-- A text that is handed over piece by piece. What is still to be handed over is the buffer's
+-- front and the rest of the text. A line goes from the rest to the buffer, and a piece that is
+-- handed over leaves the buffer empty.
+use Prim.Native.Nat.{ℕ, _+_, _≤_}
+use native.Mathlib.Omega.{arith}
+use mathlib.Core.List.{List, [], _++_, append-assoc}
+use mathlib.Core.Path.{_≡_, refl, sym, _∙_, ap}
+use lib.ListN.{length, take, drop, length-append, length-drop}
+use lib.Seq.{sets, sets-eq, length-take-le, take-at, drop-at, drop-drop}
+use Rattle.lines.specs.Lines.{TextAt}
+use Rattle.lines.proofs.TextsAt.{laid-long}
+use Rattle.list.specs.Output.{NextPart}
+
+-- after `done` bytes of the text come the first `end` bytes of the buffer, then the rest
+pub record Waiting (text : List ℕ) (done : ℕ) (out : List ℕ) (end : ℕ) (rest : List ℕ)
+    : Type 0 where
+  pub begun : done ≤ length text
+  pub inside : end ≤ length out
+  pub parts : drop done text ≡ take end out ++ rest
+
+pub waiting-none : (text out : List ℕ) → Waiting text 0 out 0 text
+waiting-none text out = record { begun = omega arith; inside = omega arith; parts = refl }
+
+module _ {text : List ℕ} {done : ℕ} {out : List ℕ} {end : ℕ} {rest : List ℕ}
+    (w : Waiting text done out end rest) where
+  front-long : length (take end out) ≡ end
+  front-long = length-take-le end out (w .inside)
+
+  pub waiting-long : length text ≡ done + end + length rest
+  waiting-long =
+      omega (
+        arith,
+        w .begun,
+        length-drop done text,
+        ap length (w .parts),
+        length-append (take end out) rest,
+        front-long,
+      )
+
+  -- the buffer's front is the next piece
+  pub waiting-part : NextPart text done out end
+  waiting-part =
+      record {
+        inside = w .inside;
+        within = omega (arith, waiting-long);
+        same = sym (ap (take end) (w .parts) ∙ take-at (take end out) rest end front-long);
+      }
+
+  -- once it is handed over, the rest comes next
+  pub waiting-handed : {r : ℕ} → r ≡ done + end → Waiting text r out 0 rest
+  waiting-handed e =
+      record {
+        begun = omega (arith, waiting-long);
+        inside = omega arith;
+        parts =
+            ap (λ (k : ℕ). drop k text) e
+            ∙ sym (drop-drop end done text)
+            ∙ ap (drop end) (w .parts)
+            ∙ drop-at (take end out) rest end front-long;
+      }
+
+  -- where nothing is left after it, it ends the text
+  pub waiting-all : rest ≡ [] → done + end ≡ length text
+  waiting-all e = omega (arith, waiting-long, ap length e)
+
+  -- a line is put into the buffer
+  pub waiting-more : {line rest′ : List ℕ} {end′ : ℕ} {out′ : List ℕ} → rest ≡ line ++ rest′
+      → TextAt out end line end′ out′
+      → end′ ≤ length out
+      → Waiting text done out′ end′ rest′
+  waiting-more {line} {rest′} {end′} {out′} e laid fits =
+      record {
+        begun = w .begun;
+        inside = omega (arith, laid-long laid);
+        parts =
+            w .parts
+            ∙ ap (take end out ++_) e
+            ∙ sym (append-assoc (take end out) line rest′)
+            ∙ ap (_++ rest′) (sym front);
+      }
+    where
+      whole : length (take end out ++ line) ≡ end′
+      whole = omega (arith, length-append (take end out) line, front-long, laid .ends)
+
+      front : take end′ out′ ≡ take end out ++ line
+      front =
+          ap (take end′) (laid .bytes ∙ sets-eq line out end (omega (arith, laid .ends)))
+          ∙ take-at (take end out ++ line) (drop (end + length line) out) end′ whole
