@@ -21,6 +21,12 @@ pub record Waiting (text : List ℕ) (done : ℕ) (out : List ℕ) (end : ℕ) (
 pub waiting-none : (text out : List ℕ) → Waiting text 0 out 0 text
 waiting-none text out = record { begun = omega arith; inside = omega arith; parts = refl }
 
+-- the same by equal numbers
+pub waiting-same : {text : List ℕ} {done : ℕ} {out : List ℕ} {end : ℕ} {rest : List ℕ}
+    {done′ end′ : ℕ} → end′ ≡ end → done′ ≡ done → Waiting text done out end rest
+    → Waiting text done′ out end′ rest
+waiting-same p q w = rw (p, q) w
+
 module _ {text : List ℕ} {done : ℕ} {out : List ℕ} {end : ℕ} {rest : List ℕ}
     (w : Waiting text done out end rest) where
   front-long : length (take end out) ≡ end

@@ -1,12 +1,14 @@
 // 01's listing program: reads an image of at most 65,536 bytes from standard input and writes
 // its stored keys in order, a line for each, or the one line of a refusal. It checks the image
-// once and then walks through it, and it writes many lines at a time.
+// once and then walks through it, and it writes many lines at a time. What it hands over to be
+// written, put together, is proved to be the whole output. That it is then written is assumed.
 ghost use mathlib.Core.Path.{_≡_};
 ghost use Prim.Native.Nat.{_+_, _≤_};
 ghost use lib.ListN.{length};
-ghost use Rattle.head.specs.Fields.{mostLetters, headOf};
+ghost use Rattle.head.specs.Fields.{headOf};
 ghost use Rattle.paper.specs.Accepted.{Accepted};
-ghost use Rattle.lines.specs.Lines.{entryRoom};
+ghost use Rattle.lines.specs.Lines.{TextAt, refusedLine, entryRoom};
+ghost use Rattle.list.specs.Output.{outputOf, listingText, NextPart, rootLine};
 use head::Head;
 use libc::STDIN_FILENO;
 use libc::STDOUT_FILENO;
@@ -29,58 +31,73 @@ const LAST: usize = OUT - (Head::MAX_MOST as usize) * lines::LETTER_ROOM - lines
 fn main() {
     let mut space = [0u8; IMAGE + 1];
     let len = io::read_full(STDIN_FILENO, &mut space);
-    if IMAGE < len {
-        refuse(1, 0);
-        return;
+    tell(&space[..len]);
+}
+
+// Hands over the whole output for an input. Answers how many bytes that is: the first piece
+// begins at 0, each next piece where the one before it ended, and the last ends at the end.
+fn tell(input: &[u8]) -> usize
+    ensures { λ r. ⌜ r ≡ length (outputOf (now (input .entry))) ⌝ }
+{
+    if IMAGE < input.len() {
+        return refuse(input, 1, 0);
     }
-    let image = &space[..len];
     let mut work = [0u32; WORK];
     let mut codes = [0u32; Head::N_MOST as usize];
-    let checked = audit::check(image, &mut work, &mut codes);
+    let checked = audit::check(input, &mut work, &mut codes);
     let verdict = checked.verdict;
     match verdict {
-        Verdict::Refused(why) => refuse(why.number(), why.place()),
-        Verdict::Passed => list(image, checked.head),
+        Verdict::Refused(why) => refuse(input, why.number(), why.place()),
+        Verdict::Passed => list(input, checked.head),
     }
 }
 
-// Writes the one line of a refusal.
-fn refuse(number: u32, place: u32) {
+// Hands over the one line of a refusal.
+fn refuse(input: &[u8], number: u32, place: u32) -> usize
+    requires { ⌜ outputOf (now input) ≡ refusedLine number place ⌝ }
+    ensures { λ r. ⌜ r ≡ length (outputOf (now (input .entry))) ⌝ }
+{
     let mut out = [0u8; lines::REFUSED_ROOM];
     let end = lines::refused(&mut out, 0, number, place);
-    io::write_all(STDOUT_FILENO, &out[..end]);
+    hand_over(input, 0, &out, end)
 }
 
-// Writes the number of stored keys, then a line for each: first the root's own key, if it is
-// stored.
-fn list(image: &[u8], h: Head)
-    requires { ⌜ Accepted (now image) ⌝ }
-    requires { ⌜ h ≡ headOf (now image) ⌝ }
+// Hands over the number of stored keys, then a line for each: first the root's own key, if it is
+// stored. The lines so far are handed over once the longest line may not fit after them.
+fn list(input: &[u8], h: Head) -> usize
+    requires { ⌜ Accepted (now input) ⌝ }
+    requires { ⌜ h ≡ headOf (now input) ⌝ }
+    requires { ⌜ outputOf (now input) ≡ listingText (now input) ⌝ }
+    ensures { λ r. ⌜ r ≡ length (outputOf (now (input .entry))) ⌝ }
 {
     let mut out = [0u8; OUT];
     let mut path = [0u8; Head::MAX_MOST as usize];
     let mut nodes = [0u32; Head::PATH_MOST as usize];
-    let mut left = counting::count(image, h);
-    let head = lines::entries(&mut out, 0, left);
-    let root = traversal::start(image, h, &mut nodes);
+    let count = counting::count(input, h);
+    let head = lines::entries(&mut out, 0, count);
+    let root = traversal::start(input, h, &mut nodes);
     let mut end = root_line(&mut out, head, root);
+    let mut done: usize = 0;
     let mut len: usize = 0;
-    while 0 < left {
-        let found = traversal::onward(image, h, len, &mut path, &mut nodes);
+    loop {
+        let found = traversal::onward(input, h, len, &mut path, &mut nodes);
         let Search::Found { length, value } = found else {
-            break;
+            return hand_over(input, done, &out, end);
         };
-        let at = room(&out, end);
-        end = lines::entry(&mut out, at, &path, length, value);
+        if LAST < end {
+            done = hand_over(input, done, &out, end);
+            end = 0;
+        }
+        end = lines::entry(&mut out, end, &path, length, value);
         len = length;
-        left -= 1;
     }
-    io::write_all(STDOUT_FILENO, &out[..end]);
 }
 
-// Writes the line of the root's own key, if it is stored. Answers where the line ends.
+// Writes the line of the root's own key into the buffer, if it is stored. Answers where the line
+// ends.
 fn root_line(out: &mut [u8], at: usize, value: u64) -> usize
     requires { ⌜ at + entryRoom 0 ≤ length (now out) ⌝ }
+    ensures { λ r. ⌜ TextAt (now (out .entry)) at (rootLine value) r (now (out .exit)) ⌝ }
     ensures { λ r. ⌜ r ≤ at + entryRoom 0 ⌝ }
 {
     if value == 0 {
@@ -89,15 +106,13 @@ fn root_line(out: &mut [u8], at: usize, value: u64) -> usize
     lines::entry(out, at, b"", 0, value)
 }
 
-// Where the next line begins: after the last one or, if the longest line does not fit there, at
-// the front, once the lines so far are written.
-fn room(out: &[u8], end: usize) -> usize
-    requires { ⌜ end ≤ length (now out) ⌝ }
-    ensures { λ r. ⌜ r + entryRoom mostLetters ≤ 65536 ⌝ }
+// Hands over the next piece of the output for an input, the first `end` bytes of the buffer, to
+// be written; `done` bytes were handed over before. Answers how many have been now. No other
+// function writes.
+fn hand_over(input: &[u8], done: usize, out: &[u8], end: usize) -> usize
+    requires { ⌜ NextPart (outputOf (now input)) done (now out) end ⌝ }
+    ensures { λ r. ⌜ r ≡ done + end ⌝ }
 {
-    if end <= LAST {
-        return end;
-    }
     io::write_all(STDOUT_FILENO, &out[..end]);
-    0
+    done + end
 }

@@ -1,40 +1,77 @@
--- `list::list` meets its contract. Each key that is found leaves its path, and the search for
--- the next key starts from there. A line begins where the longest line fits. The measure is how
--- many keys are left. Assumes nothing.
-use mathlib.Core.Path.{_≡_, sym}
+-- `list::list` meets its contract. After what was handed over come the lines in the buffer, then
+-- those of the keys after the path's key (`Telling`). The measure is how many these keys are; the
+-- loop ends where the search finds none. A line begins where the longest line fits. Assumes
+-- nothing.
+use mathlib.Core.Path.{_≡_, refl, _∙_}
+use mathlib.Core.Logic.{⊎-elim}
 use Prim.Native.Nat.{_≤_}
 use native.Mathlib.Omega.{arith}
 use borrow.Author.Needs.{needs}
-use lib.ListN.{length}
-use lib.Seq.{length-take-le}
+use lib.ListN.{length, take}
 use Rattle.lines.proofs.TextsAt.{laid-long}
 use Rattle.lines.proofs.LineTexts.{entries-long}
 use Rattle.depths.proofs.Walkable.{Walkable, walkable, short}
-use Rattle.traversal.proofs.Walking.{met, Walking, walks-on}
+use Rattle.traversal.proofs.Walking.{met, walks-on, keysAfter}
+use Rattle.list.specs.Output.{outputOf}
+use Rattle.list.proofs.Pieces.{Waiting, waiting-part, waiting-handed, waiting-same}
+use Rattle.list.proofs.Telling.{lined, Telling, telling-start, telling-end, telling-less}
+use Rattle.list.proofs.Telling.{telling-on}
 use Rattle.list.proofs.list.Statement.{statement}
 use Rattle.list.proofs.list.Tie as tie
 
 abbrev Inv-loop : tie.InvT-loop
-Inv-loop image h out₀ path₀ nodes₀ left₀ head root end₀ len₀ out path nodes left end len =
-    (length out ≡ 65536) × (end ≤ 65536) × Walking h image path nodes len
+Inv-loop input h out₀ path₀ nodes₀ count head root end₀ done₀ len₀ out path nodes end done len =
+    Telling h input out path nodes done end len
 
 abbrev μ-loop : tie.MeasureT-loop
-μ-loop image h out₀ path₀ nodes₀ left₀ head root end₀ len₀ out path nodes left end len = left
+μ-loop input h out₀ path₀ nodes₀ count head root end₀ done₀ len₀ out path nodes end done len =
+    length (keysAfter h input (take len path))
+
+-- the function's start, from its loop
+abbrev started : tie.At-loop Inv-loop μ-loop → tie.Start Inv-loop μ-loop
+started c =
+    c .before .before .before .before .before .before .before .before .before .before .before
+    .before
 
 -- the image, as it was when the loop began
 ready : (c : tie.At-loop Inv-loop μ-loop)
-    → Walkable
-    (c .before .before .before .before .before .before .before .before .before .before .before
-    .before .args .h)
-    (c .before .before .before .before .before .before .before .before .before .before .before
-    .before .args .image .now)
-ready c = let s =
-    c .before .before .before .before .before .before .before .before .before .before .before
-    .before in walkable (s .pre .0) (s .pre .1)
+    → Walkable (started c .args .h) (started c .args .input .now)
+ready c = walkable (started c .pre .0) (started c .pre .1 .0)
+
+-- the turn's search, and the loop's head, from where the ways meet
+abbrev searched : tie.Joined1 Inv-loop μ-loop → tie.After-onward Inv-loop μ-loop
+searched c = c .before .before .before .before .before .before
+
+abbrev turn : tie.Joined1 Inv-loop μ-loop → tie.At-loop Inv-loop μ-loop
+turn c = searched c .before .before .before
+
+-- there, what waits is as before, and the longest line fits
+record Roomy (c : tie.Joined1 Inv-loop μ-loop) : Type 0 where
+  waiting : Waiting (outputOf (started (turn c) .args .input .now)) (c .if1 .done)
+      (turn c .loop .out) (c .if1 .end)
+      (lined (started (turn c) .args .h) (started (turn c) .args .input .now)
+      (keysAfter (started (turn c) .args .h) (started (turn c) .args .input .now)
+      (take (turn c .loop .len) (turn c .loop .path))))
+  fits : c .if1 .end ≤ 65248
+
+roomy : (c : tie.Joined1 Inv-loop μ-loop) → Roomy c
+roomy c =
+    let w = turn c .loop .inv .waiting in
+    ⊎-elim
+    (λ h. record {
+      waiting = waiting-same (h .3) (h .4) (waiting-handed w (h .2 .ensures));
+      fits = omega (arith, h .3);
+    })
+    (λ h. record {
+      waiting = waiting-same (h .1) (h .2) w;
+      fits = omega (arith, h .0 .left, h .1);
+    })
+    (c .if1 .came)
 
 count-requires : tie.Need-count-requires Inv-loop μ-loop
 count-requires c κs =
-    let w = walkable (c .before .pre .0) (c .before .pre .1) in (w .opened, (w .within, w .few))
+    let w = walkable (c .before .pre .0) (c .before .pre .1 .0) in
+    (w .opened, (w .within, w .few))
 
 slice-aggregate-entries : tie.Need-slice-aggregate-entries Inv-loop μ-loop
 slice-aggregate-entries c = search needs
@@ -46,8 +83,10 @@ slice-aggregate-start : tie.Need-slice-aggregate-start Inv-loop μ-loop
 slice-aggregate-start c = search needs
 
 start-requires : tie.Need-start-requires Inv-loop μ-loop
-start-requires c κs = let s = c .before .before .before .before .before .before in let w =
-    walkable (s .pre .0) (s .pre .1) in (w .opened, search needs)
+start-requires c κs =
+    let s = c .before .before .before .before .before .before in
+    let w = walkable (s .pre .0) (s .pre .1 .0) in
+    (w .opened, search needs)
 
 slice-aggregate-root-line : tie.Need-slice-aggregate-root-line Inv-loop μ-loop
 slice-aggregate-root-line c = search needs
@@ -65,21 +104,20 @@ root-line-requires c κs =
 loop-holds : tie.Need-loop-holds Inv-loop μ-loop
 loop-holds c =
     let rooted = c .before in
-    let started = rooted .before .before .before in
-    let titled = started .before .before .before in (
-      search needs,
-      omega (
-        arith,
-        rooted .root-line .ensures,
-        titled .entries .ensures .ends,
-        entries-long (titled .before .before .count .result),
-      ),
-      record {
-        letters = search needs;
-        ends = search needs;
-        key = record { deep = omega arith; along = started .start .ensures .1 _ };
-      },
-    )
+    let begun = rooted .before .before .before in
+    let titled = begun .before .before .before in
+    let counted = titled .before .before in
+    let s = counted .before .before in
+    let short-title = entries-long (counted .count .result) in
+    telling-start (s .pre .1 .0) (s .pre .1 .1) (counted .count .ensures) (begun .start .ensures .0)
+    (search needs) (titled .entries .ensures) (rooted .root-line .ensures .0)
+    (omega (arith, titled .entries .ensures .ends))
+    (omega (arith, titled .entries .ensures .ends, rooted .root-line .ensures .1))
+    (record {
+      letters = search needs;
+      ends = search needs;
+      key = record { deep = omega arith; along = begun .start .ensures .1 _ };
+    })
 
 slice-aggregate-onward : tie.Need-slice-aggregate-onward Inv-loop μ-loop
 slice-aggregate-onward c = search needs
@@ -89,7 +127,7 @@ slice-aggregate-onward-2 c = search needs
 
 onward-requires : tie.Need-onward-requires Inv-loop μ-loop
 onward-requires c κs =
-    let loop = c .before .before .before in walks-on (ready loop) (loop .loop .inv .2)
+    let loop = c .before .before in walks-on (ready loop) (loop .loop .inv .walking)
 
 enum-known-found : tie.Need-enum-known-found Inv-loop μ-loop
 enum-known-found c = search needs
@@ -97,11 +135,30 @@ enum-known-found c = search needs
 enum-told : tie.Need-enum-told Inv-loop μ-loop
 enum-told c = search needs
 
-slice-aggregate-room : tie.Need-slice-aggregate-room Inv-loop μ-loop
-slice-aggregate-room c = search needs
+slice-aggregate-hand-over : tie.Need-slice-aggregate-hand-over Inv-loop μ-loop
+slice-aggregate-hand-over c = search needs
 
-room-requires : tie.Need-room-requires Inv-loop μ-loop
-room-requires c κs = search needs
+hand-over-requires : tie.Need-hand-over-requires Inv-loop μ-loop
+hand-over-requires c κs =
+    waiting-part (c .before .before .before .before .before .before .before .before .loop .inv
+    .waiting)
+
+returns : tie.Need-returns Inv-loop μ-loop
+returns c =
+    let told = c .before .before in
+    let onward = told .before .before .before .before in
+    let loop = onward .before .before .before in
+    c .hand-over .ensures
+    ∙ telling-end (take (loop .loop .len) (loop .loop .path)) (loop .loop .inv .waiting)
+    (onward .onward .ensures .0) (told .enum-told .given .1)
+
+slice-aggregate-hand-over-2 : tie.Need-slice-aggregate-hand-over-2 Inv-loop μ-loop
+slice-aggregate-hand-over-2 c = search needs
+
+hand-over-requires-2 : tie.Need-hand-over-requires-2 Inv-loop μ-loop
+hand-over-requires-2 c κs =
+    waiting-part (c .before .before .before .before .before .before .before .before .before
+    .before .loop .inv .waiting)
 
 slice-aggregate-entry : tie.Need-slice-aggregate-entry Inv-loop μ-loop
 slice-aggregate-entry c = search needs
@@ -111,55 +168,40 @@ slice-aggregate-entry-2 c = search needs
 
 entry-requires : tie.Need-entry-requires Inv-loop μ-loop
 entry-requires c κs =
-    let told = c .before .before .before .before in
-    let onward = told .before .before .before .before .before in
-    let m = met (onward .onward .ensures .0) (told .before .found .given .1) in
-    let loop = onward .before .before .before .before in
-    let p = loop .loop .inv in
+    let joined = c .before .before in
+    let found = joined .before .before .found .given .1 in
+    let m = met (searched joined .onward .ensures .0) found in
     omega (
       arith,
       m .deep,
-      short (ready loop),
-      c .before .before .room .ensures,
-      p .0,
-      p .2 .letters,
+      short (ready (turn joined)),
+      roomy joined .fits,
+      turn joined .loop .inv .long,
+      turn joined .loop .inv .walking .letters,
     )
 
-sub-left : tie.Need-sub-left Inv-loop μ-loop
-sub-left c = search needs
-
 loop-less : tie.Need-loop-less Inv-loop μ-loop
-loop-less c = search needs
+loop-less c =
+    let joined = c .before .before .before .before in
+    let at = turn joined .loop in
+    telling-less (take (at .len) (at .path)) (at .inv .waiting) (searched joined .onward .ensures .0)
+    (joined .before .before .found .given .1)
 
 loop-again : tie.Need-loop-again Inv-loop μ-loop
 loop-again c =
-    let told = c .before .before .before .before .before .before in
-    let onward = told .before .before .before .before .before in
-    let m = met (onward .onward .ensures .0) (told .before .found .given .1) in
-    let most = short (ready (onward .before .before .before .before)) in (
-      search needs,
-      omega (
-        arith,
-        m .deep,
-        most,
-        c .before .entry .ensures .1,
-        c .before .before .before .before .room .ensures,
-      ),
-      record { letters = search needs; ends = search needs; key = m },
-    )
-
-array-share-prefix-out : tie.Need-array-share-prefix-out Inv-loop μ-loop
-array-share-prefix-out c = search needs
-
-slice-aggregate-write-all : tie.Need-slice-aggregate-write-all Inv-loop μ-loop
-slice-aggregate-write-all c =
-    sym (length-take-le _ _ (let p = c .before .before .loop .inv in omega (arith, p .0, p .1)))
-
-write-all-requires : tie.Need-write-all-requires Inv-loop μ-loop
-write-all-requires c κs = search needs
-
-returns : tie.Need-returns Inv-loop μ-loop
-returns c = search needs
+    let joined = c .before .before .before .before in
+    let at = turn joined .loop in
+    let told = searched joined .onward .ensures .0 in
+    let found = joined .before .before .found .given .1 in
+    telling-on (take (at .len) (at .path)) (roomy joined .waiting) told found (search needs)
+    (search needs) (at .inv .long) (c .before .entry .ensures .0)
+    (omega (
+      arith,
+      met told found .deep,
+      short (ready (turn joined)),
+      roomy joined .fits,
+      c .before .entry .ensures .1,
+    ))
 
 pub list-spec : {M : Type 1} → statement M
 list-spec =
@@ -180,15 +222,13 @@ list-spec =
     onward-requires
     enum-known-found
     enum-told
-    slice-aggregate-room
-    room-requires
+    slice-aggregate-hand-over
+    hand-over-requires
+    returns
+    slice-aggregate-hand-over-2
+    hand-over-requires-2
     slice-aggregate-entry
     slice-aggregate-entry-2
     entry-requires
-    sub-left
     loop-less
-    loop-again
-    array-share-prefix-out
-    slice-aggregate-write-all
-    write-all-requires
-    returns)
+    loop-again)

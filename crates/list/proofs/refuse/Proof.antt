@@ -1,12 +1,14 @@
--- `list::refuse` meets its contract: the line of a refusal fits the buffer. Assumes nothing.
-use mathlib.Core.Path.{sym}
-use Prim.Native.Nat.{_≤_}
+-- `list::refuse` meets its contract: the line of the refusal is the whole output, in one piece.
+-- Assumes nothing.
+use mathlib.Core.Path.{refl, sym, _∙_}
+use mathlib.Core.List.{[], append-nil}
 use native.Mathlib.Omega.{arith}
 use borrow.Author.Needs.{needs}
-use lib.ListN.{length}
-use lib.Seq.{length-take-le}
-use Rattle.lines.proofs.TextsAt.{laid-long}
+use Rattle.lines.specs.Lines.{refusedLine}
 use Rattle.lines.proofs.LineTexts.{refused-long}
+use Rattle.list.specs.Output.{outputOf}
+use Rattle.list.proofs.Pieces.{Waiting, waiting-none, waiting-more, waiting-part}
+use Rattle.list.proofs.Pieces.{waiting-all}
 use Rattle.list.proofs.refuse.Statement.{statement}
 use Rattle.list.proofs.refuse.Tie as tie
 
@@ -16,28 +18,25 @@ slice-aggregate-refused c = search needs
 refused-requires : tie.Need-refused-requires
 refused-requires c κs = search needs
 
--- the line ends inside the buffer
-inside : (c : tie.After-refused) → c .refused .result ≤ length (c .refused .last .0)
-inside c =
-    omega (
-      arith,
-      c .refused .ensures .ends,
-      refused-long (c .before .before .args .number)
-          (c .before .before .args .place),
-      laid-long (c .refused .ensures),
-    )
+-- the line is in the buffer, and nothing follows it
+waits : (c : tie.After-refused)
+    → Waiting (outputOf (c .before .before .before .args .input .now)) 0 (c .refused .last .0)
+    (c .refused .result) []
+waits c =
+    let s = c .before .before .before in
+    let line = refusedLine (s .args .number) (s .args .place) in
+    waiting-more (waiting-none (outputOf (s .args .input .now)) _) (s .pre ∙ sym (append-nil line))
+    (c .refused .ensures)
+    (omega (arith, c .refused .ensures .ends, refused-long (s .args .number) (s .args .place)))
 
-array-share-prefix-out : tie.Need-array-share-prefix-out
-array-share-prefix-out c = inside (c .before)
+slice-aggregate-hand-over : tie.Need-slice-aggregate-hand-over
+slice-aggregate-hand-over c = search needs
 
-slice-aggregate-write-all : tie.Need-slice-aggregate-write-all
-slice-aggregate-write-all c = sym (length-take-le _ _ (inside (c .before .before)))
-
-write-all-requires : tie.Need-write-all-requires
-write-all-requires c κs = search needs
+hand-over-requires : tie.Need-hand-over-requires
+hand-over-requires c κs = waiting-part (waits (c .before .before))
 
 returns : tie.Need-returns
-returns c = search needs
+returns c = c .hand-over .ensures ∙ waiting-all (waits (c .before .before .before)) refl
 
 pub refuse-spec : {M : Type 1} → statement M
 refuse-spec =
@@ -45,7 +44,6 @@ refuse-spec =
     (tie.spec
     slice-aggregate-refused
     refused-requires
-    array-share-prefix-out
-    slice-aggregate-write-all
-    write-all-requires
+    slice-aggregate-hand-over
+    hand-over-requires
     returns)
