@@ -1,2 +1,3 @@
+pub mod AnswerBuffers
 pub mod Refused
 pub mod WorkingNumbers

@@ -44,7 +44,7 @@ use Rattle.calls.specs.Call.{refusedLeaves, workIn, othersIn, workLent, 
 -- ---- what is the same whichever way a call ends
 
 -- what holds of both of the contents that a call may leave holds of the one that it leaves
-either-left : {X : Type 0} (f : List (List ℕ) → X) {x : X} (row : Row) (kept : List (List ℕ))
+pub either-left : {X : Type 0} (f : List (List ℕ) → X) {x : X} (row : Row) (kept : List (List ℕ))
     (done : Outcome) → f kept ≡ x → f (done .lent) ≡ x → f (heard row kept done .lent) ≡ x
 unfolding heard
 either-left f none kept done e d = d

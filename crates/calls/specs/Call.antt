@@ -1,9 +1,10 @@
 -- Every call at once, so that a sentence of the demands on all calls is one law: a call with what
 -- it is given and lent, its outcome, the buffers that it may write, and what a refusal leaves in
 -- them. Stores with writes and mending are 02's Ask 1, the calls with counts its Ask 7.
-use Prim.Native.Nat.{ℕ}
+use Prim.Native.Nat.{ℕ, _+_, _*_}
 use mathlib.Core.Bool.{Bool, true, false, cond}
-use mathlib.Core.List.{List, [], _∷_}
+use mathlib.Core.List.{List, [], _∷_, map}
+use Rattle.head.specs.Fields.{headOf}
 use Rattle.paper.specs.Hearing.{Numbers, Outcome}
 use Rattle.paper.specs.Given.{Given}
 use Rattle.paper.specs.Calls.{workAfter, makeOf, checkOf, countOf, lookUpOf, storeOf}
@@ -168,3 +169,42 @@ withWork w (checkCounts work tally) = checkCounts w tally
 withWork w (storeCounts work given value tally) = storeCounts w given value tally
 withWork w (keyAt work tally at buffer) = keyAt w tally at buffer
 withWork w (position work tally given) = position w tally given
+
+-- ---- the buffer for an answer
+
+-- of the contents that are not working numbers and not the image, the first: a key buffer, a list
+-- of writes or a list of counts. No call has two of them.
+unfoldable pub answerIn : Call → List (List ℕ) → List ℕ
+unfolding writesImage firstLeft restLeft
+answerIn c others = firstLeft (cond (writesImage c) (restLeft others) others)
+
+-- the content of that buffer when the call returns
+unfoldable pub answerAfter : List ℕ → Call → List ℕ
+unfolding answerIn othersIn lentTo outcomeOf
+answerAfter l c = answerIn c (othersIn (lentTo l c) (outcomeOf l c .lent))
+
+-- and as it was lent
+unfoldable pub answerLent : List ℕ → Call → List ℕ
+unfolding answerIn othersIn lentTo refusedLeaves
+answerLent l c = answerIn c (othersIn (lentTo l c) (map (refusedLeaves l) (lentTo l c)))
+
+-- how many numbers at its front a call is said to write: the letters of the key that it gives, two
+-- for each write that it notes, a count for each node of the image that it leaves
+unfoldable pub frontOf : List ℕ → Call → ℕ
+unfolding outcomeOf imageAfter headOf
+frontOf l (make n a d alphabet least most) = 0
+frontOf l (check work) = 0
+frontOf l (count work) = 0
+frontOf l (lookUp given) = 0
+frontOf l (store work given value) = 0
+frontOf l (storeWrites work given value list) =
+    2 * outcomeOf l (storeWrites work given value list) .numbers .length
+frontOf l (mend work) = 0
+frontOf l (nextKey work key after buffer) =
+    outcomeOf l (nextKey work key after buffer) .numbers .length
+frontOf l (counts work tally) = headOf l .g + 1
+frontOf l (checkCounts work tally) = 0
+frontOf l (storeCounts work given value tally) =
+    headOf (imageAfter l (storeCounts work given value tally)) .g + 1
+frontOf l (keyAt work tally at buffer) = outcomeOf l (keyAt work tally at buffer) .numbers .length
+frontOf l (position work tally given) = 0
