@@ -22,12 +22,15 @@ use Rattle.paper.specs.Hearing.{Said, Row, Outcome, first, heard, outcome, done
 use Rattle.paper.specs.Hearing.{refusedNumbers}
 use Rattle.paper.specs.Given.{Given, keyIn}
 use Rattle.paper.specs.Orders.{openingRows, checkOrder, storeOrder, nextKeyOrder}
-use Rattle.paper.specs.Calls.{tableIn, freshHead, makeOf, checkOf, countOf, lookUpOf, canMend, mendOf}
+use Rattle.paper.specs.Calls.{tableIn, freshHead, makeOf, checkOf, countOf, lookUpOf, canMend}
+use Rattle.paper.specs.Calls.{mendOf}
 use Rattle.paper.specs.Calls.{workAfter, storedKeys, storedImage, storeOf, writesIn, withWrites}
 use Rattle.paper.specs.Calls.{storeWritesOf, nextIn, foundIn, nextKeyOf}
 use Rattle.position.specs.Counts.{countIn, countsIn}
-use Rattle.position.specs.Orders.{countsOrder, checkCountsOrder, storeCountsOrder, keyAtOrder, positionOrder}
-use Rattle.position.specs.Calls.{workLeft, worked, countsOf, checkCountsOf, storeCountsOf, placedKey, keyAtOf, positionOf}
+use Rattle.position.specs.Orders.{countsOrder, checkCountsOrder, storeCountsOrder, keyAtOrder}
+use Rattle.position.specs.Orders.{positionOrder}
+use Rattle.position.specs.Calls.{workLeft, worked, countsOf, checkCountsOf, storeCountsOf}
+use Rattle.position.specs.Calls.{placedKey, keyAtOf, positionOf}
 use Rattle.paper.proofs.MendCall.{mend-kept, mend-lowered}
 use Rattle.trie.specs.Table.{answer}
 use Rattle.trie.specs.Storing.{changeOf}
@@ -181,7 +184,8 @@ no-answer l c p e f = rw (e, f)
 pub answer-rest : (l : List ℕ) (c : Call) (p : ℕ) → frontOf l c ≤ p
     → getD (answerAfter l c) p 0 ≡ getD (answerLent l c) p 0
 unfolding answerAfter answerLent answerIn writesImage firstLeft restLeft othersIn lentTo
-    refusedLeaves outcomeOf frontOf makeOf checkOf countOf lookUpOf storeOf checkCountsOf positionOf
+    refusedLeaves outcomeOf frontOf makeOf checkOf countOf lookUpOf storeOf checkCountsOf
+    positionOf
 answer-rest l (make n a d alphabet least most) p b =
     no-answer l (make n a d alphabet least most) p
     (either-left (λ ls. answerIn (make n a d alphabet least most) (othersIn (answering l ∷ []) ls))
@@ -202,7 +206,8 @@ answer-rest l (store work given value) p b =
     (othersIn (answering l ∷ working work ∷ []) ls))
     (first (storeOrder l work given value)) _ _ refl refl) refl
 answer-rest l (storeWrites work given value list) p b = writes-rest l p work given value list b
-answer-rest l (mend work) p b = no-answer l (mend work) p (go (canMend l (checkOf l work .numbers)) refl) refl
+answer-rest l (mend work) p b =
+    no-answer l (mend work) p (go (canMend l (checkOf l work .numbers)) refl) refl
   where
     left : List (List ℕ) → List ℕ
     left ls = answerIn (mend work) (othersIn (answering l ∷ working work ∷ []) ls)

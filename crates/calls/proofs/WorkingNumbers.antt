@@ -25,8 +25,10 @@ use Rattle.paper.specs.Given.{Given, keyIn}
 use Rattle.paper.specs.Rows.{row5, row14, row15}
 use Rattle.paper.specs.Orders.{openingRows, openingRowsOf, linkRows, checkOrder, keyRows, nextRows}
 use Rattle.paper.specs.Orders.{newOf, storeOrder, nextKeyOrder}
-use Rattle.paper.specs.Calls.{clearedBy, workAfter, freshHead, makeOf, checkOf, countOf, storedKeys, storeOf}
-use Rattle.paper.specs.Calls.{writesIn, withWrites, storeWritesOf, canMend, mendOf, nextIn, foundIn}
+use Rattle.paper.specs.Calls.{clearedBy, workAfter, freshHead, makeOf, checkOf, countOf}
+use Rattle.paper.specs.Calls.{storedKeys, storeOf}
+use Rattle.paper.specs.Calls.{writesIn, withWrites, storeWritesOf, canMend, mendOf, nextIn}
+use Rattle.paper.specs.Calls.{foundIn}
 use Rattle.paper.specs.Calls.{nextKeyOf, tableIn, storedImage}
 use Rattle.paper.proofs.Hearing.{first-nil, yes-row, no-row, first-part, second-part}
 use Rattle.paper.proofs.MendCall.{mend-kept, mend-lowered}
@@ -88,8 +90,8 @@ module _ (l : List ℕ) where
   -- first names it, or before that, all keep what they held."
   pub work-ends : (c : Call) → workIn (lentTo l c) (outcomeOf l c .lent)
       ≡ workIn (lentTo l c) (map (refusedLeaves l) (lentTo l c))
-  unfolding outcomeOf lentTo refusedLeaves workIn makeOf checkOf countOf storeWritesOf nextKeyOf foundIn
-      countsOf checkCountsOf storeCountsOf keyAtOf placedKey positionOf
+  unfolding outcomeOf lentTo refusedLeaves workIn makeOf checkOf countOf storeWritesOf nextKeyOf
+      foundIn countsOf checkCountsOf storeCountsOf keyAtOf placedKey positionOf
   work-ends (make n a d alphabet least most) =
       either-left (workIn (answering l ∷ []))
       (first (openingRows (freshHead n a d alphabet least most) alphabet (length l))) _ _ refl refl

@@ -51,7 +51,7 @@ use Rattle.cuts.specs.Cut.{hit, cutAfter}
 use Rattle.cuts.specs.Mended.{MendsTo}
 use Rattle.cuts.proofs.WriteLists.{From, from-before, length-cut, carried-before}
 use Rattle.cuts.proofs.WriteLists.{cut-before-all, cut-append, cut-whole, hit-none}
-use Rattle.seen.specs.Seen.{Alike}
+use Rattle.seen.specs.Seen.{SameUsed}
 use Rattle.seen.proofs.Seen.{before-used, opens-same}
 use Rattle.seen.proofs.SameWrites.{sets-cover}
 use Rattle.seen.proofs.SameCalls.{alike-itself, alike-from, agree-alike, alike-accepted}
@@ -60,7 +60,7 @@ use Rattle.cuts.proofs.OneLinkShort.{check-unlinked}
 
 -- ---- an image that looks as an accepted one does is kept
 
-module _ (a work m : List ℕ) (same : Alike 0 a m) (accepted : Accepted m)
+module _ (a work m : List ℕ) (same : SameUsed 0 a m) (accepted : Accepted m)
     (lent : headOf a .g + 1 ≤ length work) where
   check-done : checkOf a work .numbers ≡ doneNumbers 0 (pos 0) 0
   unfolding checkOf
@@ -98,11 +98,11 @@ abbrev pub Before : List ℕ → List ℕ → List ℕ → Type 0
 Before l work r = headOf r .g + 1 ≤ length work → MendsTo r work l
 
 not-landed : {l : List ℕ} (lands : ℕ → Bool) (work r : List ℕ) (w : Write) → Accepted l
-    → Alike 0 r l → w .place < usedLen (headOf r)
+    → SameUsed 0 r l → w .place < usedLen (headOf r)
     → Before l work (hit lands r w)
 not-landed {l} lands work r w a same b lent =
     mends-kept (hit lands r w) work l
-    (subst (λ (c : List ℕ). Alike 0 c l) (sym (hit-none lands r w b)) same) a lent
+    (subst (λ (c : List ℕ). SameUsed 0 c l) (sym (hit-none lands r w b)) same) a lent
 
 -- ---- new nodes to which no link leads yet
 
@@ -162,7 +162,7 @@ module _ {l key : List ℕ} {v : ℕ} (s : Granted l key (suc v)) {q x : ℕ} {x
   after-g p a b = total-outside begun total p a ∙ carried-before p l nodes (spare p b)
 
   -- with G lowered again the image is as before the store
-  lowered : Alike (totalAt + totalLen) (putTotal counted g) l
+  lowered : SameUsed (totalAt + totalLen) (putTotal counted g) l
   lowered =
       record {
         heads = head-total counted g (omega (arith, long, s .accepted .long-enough))
@@ -172,7 +172,7 @@ module _ {l key : List ℕ} {v : ℕ} (s : Granted l key (suc v)) {q x : ℕ} {x
       }
 
   -- and the bytes of G are those from before
-  lowered-bytes : Bytes l → Alike 0 (putTotal counted g) l
+  lowered-bytes : Bytes l → SameUsed 0 (putTotal counted g) l
   lowered-bytes all =
       record {
         heads = lowered .heads;
@@ -282,7 +282,7 @@ module _ {l key : List ℕ} {v : ℕ} (s : Granted l key (suc v)) {q x : ℕ} {x
 
   -- ---- a cut after the nodes
 
-  pub looks-begun : Alike 0 begun l
+  pub looks-begun : SameUsed 0 begun l
   looks-begun =
       agree-alike begun l (length-carried l nodes) (λ p b. carried-before p l nodes (spare p b))
 
@@ -382,7 +382,7 @@ module _ {l key : List ℕ} {value : ℕ} (s : Granted l key value) (k : ℕ) (l
   cut-after b =
       let cut : List ℕ = cutAfter k lands l (writesIn l key value) in
       mends-kept cut work (storedImage l key value)
-      (subst (Alike 0 cut) (cut-whole k lands l (writesIn l key value) b) (alike-itself 0 cut))
+      (subst (SameUsed 0 cut) (cut-whole k lands l (writesIn l key value) b) (alike-itself 0 cut))
       (accepted-again s)
 
 -- ---- for a store whose answer is done

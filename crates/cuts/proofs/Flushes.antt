@@ -33,7 +33,7 @@ use Rattle.cuts.proofs.WriteGroups.{flushed-spare, flushed-other, since
 use Rattle.cuts.proofs.WriteGroups.{since-before, since-other, since-none, upTo, cut-since}
 use Rattle.cuts.proofs.Cuts.{Before, mends-kept, nodes-from, last, mends-lowered}
 use Rattle.cuts.proofs.Cuts.{looks-begun, link-used}
-use Rattle.seen.specs.Seen.{Alike}
+use Rattle.seen.specs.Seen.{SameUsed}
 use Rattle.seen.proofs.Seen.{before-used}
 use Rattle.seen.proofs.SameCalls.{alike-itself, agree-alike}
 
@@ -123,7 +123,7 @@ module _ {l key : List ℕ} {v : ℕ} (s : Granted l key (suc v)) {q x : ℕ} {x
   pub among-length : (lands : ℕ → ℕ → Bool) → length (among lands) ≡ length l
   among-length lands = length-since u lands l nodes
 
-  looks-among : (lands : ℕ → ℕ → Bool) → Alike 0 (among lands) l
+  looks-among : (lands : ℕ → ℕ → Bool) → SameUsed 0 (among lands) l
   looks-among lands = agree-alike (among lands) l (among-length lands) (among-below lands)
 
   -- ---- a cut after the nodes

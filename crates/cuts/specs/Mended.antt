@@ -12,7 +12,7 @@ use Rattle.head.specs.Fields.{putTotal, totalAt, totalLen}
 use Rattle.paper.specs.Hearing.{outcome, doneNumbers}
 use Rattle.paper.specs.Accepted.{Accepted}
 use Rattle.paper.specs.Calls.{workAfter, checkOf, canMend, mendOf}
-use Rattle.seen.specs.Seen.{Alike, SameAnswers}
+use Rattle.seen.specs.Seen.{SameUsed, SameAnswers}
 
 -- mending the image l answers 0 and leaves an accepted image that answers as m does: in every
 -- call, stores and mending too, and in every run of calls. G and the bytes from its end up to U
@@ -23,7 +23,7 @@ pub record MendsTo (l work m : List ℕ) : Type 0 where
   pub accepted : Accepted image
   pub answers : SameAnswers (totalAt + totalLen) image m
   -- the bytes of G too, where m consists of bytes, as every lent image does
-  pub used-bytes : Bytes m → Alike 0 image m
+  pub used-bytes : Bytes m → SameUsed 0 image m
 
 -- the image that mending leaves, done or refused
 unfoldable pub mendedImage : List ℕ → List ℕ → List ℕ

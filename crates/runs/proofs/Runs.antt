@@ -56,7 +56,8 @@ use Rattle.position.proofs.Plain.{store-counts-plain, store-counts-kept}
 use Rattle.calls.specs.Call.{Call, make, check, count, lookUp, store, storeWrites, mend, nextKey}
 use Rattle.calls.specs.Call.{counts, checkCounts, storeCounts, keyAt, position}
 use Rattle.calls.specs.Call.{writesImage, firstLeft, imageAfter}
-use Rattle.runs.specs.Runs.{sameKey, lastOf, plainKeys, givesPlain, plainBy, NoMake, Run, after, ran}
+use Rattle.runs.specs.Runs.{sameKey, lastOf, plainKeys, givesPlain, plainBy, NoMake, Run}
+use Rattle.runs.specs.Runs.{after, ran}
 use Rattle.runs.specs.Runs.{startOf, ranFrom}
 use Rattle.runs.proofs.PlainKeys.{same-itself, same-key, same-keys, plain-ascending}
 use Rattle.runs.proofs.PlainKeys.{plain-holds}
@@ -258,9 +259,12 @@ module _ {h : Head} {alphabet : List ℕ} where
   unfolding after imageAfter writesImage doneNumbers
   step r (make n a d letters least most) cs unmade i =
       absurd (unmade n a d letters least most (List·Memᴰ·head refl))
-  step r (check work) cs unmade i = unchanged i (no-change (first (checkOrder (r .image) work)) _ _ refl)
-  step r (count work) cs unmade i = unchanged i (no-change (first (checkOrder (r .image) work)) _ _ refl)
-  step r (lookUp given) cs unmade i = unchanged i (no-change (first (lookUpOrder (r .image) given)) _ _ refl)
+  step r (check work) cs unmade i =
+      unchanged i (no-change (first (checkOrder (r .image) work)) _ _ refl)
+  step r (count work) cs unmade i =
+      unchanged i (no-change (first (checkOrder (r .image) work)) _ _ refl)
+  step r (lookUp given) cs unmade i =
+      unchanged i (no-change (first (lookUpOrder (r .image) given)) _ _ refl)
   step r (store work given value) cs unmade i = step-store i (ended (r .image) work given value)
   step r (storeWrites work given value list) cs unmade i =
       step-store i (ended-listed (writesIn (r .image) (keyIn (r .image) given) value) list

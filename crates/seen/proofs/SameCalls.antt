@@ -26,7 +26,8 @@ use Rattle.head.specs.Fields.{headBytes, nodeWidth, nodePlace, usedLen, putTota
 use Rattle.head.proofs.Fields.{head-same, length-head, length-total, head-total}
 use Rattle.head.proofs.Permitted.{bounds}
 use Rattle.head.proofs.Places.{width-least, used, place-le}
-use Rattle.node.specs.Writes.{Write, carriedOut, noted, newNodes, totalWrite, linkWrite, storeWrites}
+use Rattle.node.specs.Writes.{Write, carriedOut, noted, newNodes, totalWrite, linkWrite}
+use Rattle.node.specs.Writes.{storeWrites}
 use Rattle.node.proofs.Heads.{withTotal, used-total, used-more}
 use Rattle.node.proofs.StoreOnTable.{length-carried, carried-append}
 use Rattle.paper.specs.Hearing.{Row, Numbers, Outcome, outcome, first, heard, doneNumbers}
@@ -49,9 +50,11 @@ use Rattle.calls.specs.Call.{Call, make, check, count, lookUp, store, storeWrit
 use Rattle.calls.specs.Call.{mend, nextKey, counts, checkCounts, storeCounts, keyAt, position}
 use Rattle.calls.specs.Call.{outcomeOf, writesImage, firstLeft, restLeft, imageAfter, besidesImage}
 use Rattle.calls.specs.Call.{answersOf}
-use Rattle.seen.specs.Seen.{seenIn, Alike, SameOutcome, SameAnswers}
-use Rattle.seen.proofs.SameWrites.{AgreeAt, carried-agree, sets-agree, sets-cover, nodes-cover}
-use Rattle.seen.proofs.Seen.{before-used, seen-same, same-accepted, check-seen, count-seen, look-seen}
+use Rattle.seen.specs.Seen.{seenIn, SameUsed, SameOutcome, SameAnswers}
+use Rattle.seen.proofs.SameWrites.{AgreeAt, carried-agree, sets-agree, sets-cover}
+use Rattle.seen.proofs.SameWrites.{nodes-cover}
+use Rattle.seen.proofs.Seen.{before-used, seen-same, same-accepted, check-seen, count-seen}
+use Rattle.seen.proofs.Seen.{look-seen}
 use Rattle.seen.proofs.Seen.{next-seen, keys-seen, counts-seen, check-counts-seen}
 use Rattle.seen.proofs.Seen.{key-at-seen, position-seen, weights-seen, key-seen, new-seen}
 use Rattle.seen.proofs.Seen.{writes-seen, store-seen, store-counts-seen, is-accepted-seen}
@@ -59,17 +62,17 @@ use Rattle.seen.proofs.Seen.{store-order-seen, storesCounts, changes, c
 
 -- ---- images that are alike
 
-alike-seen : {from : ℕ} {a b : List ℕ} → from ≤ totalAt + totalLen → Alike from a b
+alike-seen : {from : ℕ} {a b : List ℕ} → from ≤ totalAt + totalLen → SameUsed from a b
     → seenIn a ≡ seenIn b
 alike-seen {a = a} {b} low s =
     seen-same a b (s .heads) (s .lengths) (λ p c d. s .bytes p (omega arith) d)
 
-pub alike-itself : (from : ℕ) (l : List ℕ) → Alike from l l
+pub alike-itself : (from : ℕ) (l : List ℕ) → SameUsed from l l
 alike-itself from l = record { heads = refl; lengths = refl; bytes = λ p _ _. refl }
 
 -- images that agree below U are alike
 pub agree-alike : (a b : List ℕ) → length a ≡ length b
-    → ((p : ℕ) → p < usedLen (headOf b) → getD a p 0 ≡ getD b p 0) → Alike 0 a b
+    → ((p : ℕ) → p < usedLen (headOf b) → getD a p 0 ≡ getD b p 0) → SameUsed 0 a b
 agree-alike a b n e =
     record {
       heads = head-same a b (λ k c. e k (omega (arith, before-used (headOf b))));
@@ -77,12 +80,12 @@ agree-alike a b n e =
       bytes = λ p _ c. e p c;
     }
 
-pub alike-from : (from : ℕ) {a b : List ℕ} → Alike 0 a b → Alike from a b
+pub alike-from : (from : ℕ) {a b : List ℕ} → SameUsed 0 a b → SameUsed from a b
 alike-from from s =
     record { heads = s .heads; lengths = s .lengths; bytes = λ p _ c. s .bytes p (omega arith) c }
 
 -- one is accepted where the other is
-pub alike-accepted : {from : ℕ} {a b : List ℕ} → from ≤ totalAt + totalLen → Alike from a b
+pub alike-accepted : {from : ℕ} {a b : List ℕ} → from ≤ totalAt + totalLen → SameUsed from a b
     → Accepted b → Accepted a
 alike-accepted low s x = same-accepted (alike-seen low s) x
 
@@ -140,11 +143,11 @@ written-same h (stopped q x xs) (suc v) p a b n same fits high =
         (omega (arith, first-new), omega (arith, first-new, used-more h (suc (length xs))))
         (omega (arith, first-new, used-more h (suc (length xs)), fits .1)))
 
-module _ {from : ℕ} {a b : List ℕ} (low : from ≤ totalAt + totalLen) (s : Alike from a b) where
+module _ {from : ℕ} {a b : List ℕ} (low : from ≤ totalAt + totalLen) (s : SameUsed from a b) where
   -- a store that is granted for both makes the same writes on both: a byte that was used is as
   -- before or written over, and a byte of a new node is written over
   alike-stored : {key : List ℕ} {value : ℕ} → Granted a key value → Granted b key value
-      → Alike from (storedImage a key value) (storedImage b key value)
+      → SameUsed from (storedImage a key value) (storedImage b key value)
   unfolding storedImage newOf tableIn
   alike-stored {key} {value} ga gb =
       record {
@@ -163,7 +166,8 @@ module _ {from : ℕ} {a b : List ℕ} (low : from ≤ totalAt + totalLen) (s : 
       heads-after : headOf (storedImage a key value) ≡ headOf (storedImage b key value)
       heads-after =
           stored-head ga
-          ∙ ap₂ (λ (h : Head) (n : ℕ). withTotal h (h .g + n)) (s .heads) (new-seen a b seen key value)
+          ∙ ap₂ (λ (h : Head) (n : ℕ). withTotal h (h .g + n)) (s .heads)
+          (new-seen a b seen key value)
           ∙ sym (stored-head gb)
 
       fits : (d : Descent) (v : ℕ) → descend (tableIn b) 0 key ≡ d → Granted b key v
@@ -186,7 +190,7 @@ module _ {from : ℕ} {a b : List ℕ} (low : from ≤ totalAt + totalLen) (s : 
 -- equal numbers, equal other buffers, and images that are alike
 same-writing : (from : ℕ) (a b : List ℕ) (c : Call) {n : Numbers} {x y : List ℕ}
     {xs : List (List ℕ)} → writesImage c ≡ true → outcomeOf a c ≡ outcome n (x ∷ xs)
-    → outcomeOf b c ≡ outcome n (y ∷ xs) → Alike from x y → SameOutcome from a b c
+    → outcomeOf b c ≡ outcome n (y ∷ xs) → SameUsed from x y → SameOutcome from a b c
 unfolding imageAfter besidesImage firstLeft restLeft
 same-writing from a b c {n} {x} {y} w p q s =
     record {
@@ -197,7 +201,7 @@ same-writing from a b c {n} {x} {y} w p q s =
 
 -- one that may not
 same-reading : {from : ℕ} {a b : List ℕ} (c : Call) → writesImage c ≡ false
-    → outcomeOf a c ≡ outcomeOf b c → Alike from a b → SameOutcome from a b c
+    → outcomeOf a c ≡ outcomeOf b c → SameUsed from a b → SameOutcome from a b c
 unfolding imageAfter besidesImage
 same-reading {a = a} {b} c w p s =
     record {
@@ -220,7 +224,7 @@ made l n a d alphabet least most e =
 
 fresh-alike : (from : ℕ) {h : Head} {alphabet a b : List ℕ} → Made h alphabet a
     → Made h alphabet b → length a ≡ length b
-    → Alike from (freshImage h alphabet a) (freshImage h alphabet b)
+    → SameUsed from (freshImage h alphabet a) (freshImage h alphabet b)
 unfolding freshImage
 fresh-alike from {h} {alphabet} {a} {b} ma mb n =
     record {
@@ -242,7 +246,9 @@ fresh-alike from {h} {alphabet} {a} {b} ma mb n =
         ∙ ap (length alphabet +_) (length-replicate (nodeWidth h) 0))
 
     used-here : usedLen h ≡ fieldsLen + length alphabet + nodeWidth h
-    used-here = used h ∙ rw (ma .root-alone, ma .all-letters) (omega (arith, suc-mul 0 (nodeWidth h)))
+    used-here =
+        used h
+        ∙ rw (ma .root-alone, ma .all-letters) (omega (arith, suc-mul 0 (nodeWidth h)))
 
 -- ---- mending lowers G
 
@@ -264,10 +270,10 @@ eight-fits l work e =
     mul-le-mul (le-refl (h .g + 1)) (omega (arith, width-least (bounds h (o .head-permitted)))) in
     omega (arith, used h, o .room)
 
-module _ {from : ℕ} {a b : List ℕ} (s : Alike from a b) (work : List ℕ) where
+module _ {from : ℕ} {a b : List ℕ} (s : SameUsed from a b) (work : List ℕ) where
   -- the same lower G
   alike-lowered : checkOf b work .numbers .number ≡ 8
-      → Alike from (putTotal a (checkOf b work .numbers .place - 1))
+      → SameUsed from (putTotal a (checkOf b work .numbers .place - 1))
       (putTotal b (checkOf b work .numbers .place - 1))
   unfolding usedLen
   alike-lowered e =
@@ -328,7 +334,7 @@ with-other ws list t x xs = go (eqb (t .number) 0)
     go true = refl
     go false = refl
 
-module _ {from : ℕ} {a b : List ℕ} (low : from ≤ totalAt + totalLen) (s : Alike from a b) where
+module _ {from : ℕ} {a b : List ℕ} (low : from ≤ totalAt + totalLen) (s : SameUsed from a b) where
   abbrev seen : seenIn a ≡ seenIn b
   seen = alike-seen low s
 
@@ -337,12 +343,12 @@ module _ {from : ℕ} {a b : List ℕ} (low : from ≤ totalAt + totalLen) (s : 
   -- where the order passes on one image it passes on the other, and both stores are granted
   stored-alike : (work : List ℕ) (given : Given) (value : ℕ)
       → first (storeOrder b work given value) ≡ none
-      → Alike from (storedImage a (keyIn a given) value) (storedImage b (keyIn b given) value)
+      → SameUsed from (storedImage a (keyIn a given) value) (storedImage b (keyIn b given) value)
   stored-alike work given value e =
       let key : keyIn a given ≡ keyIn b given = key-seen a b seen given in
       let passes : first (storeOrder a work given value) ≡ none =
       ap first (store-order-seen a b seen work given value) ∙ e in
-      subst (λ (k : List ℕ). Alike from (storedImage a k value)
+      subst (λ (k : List ℕ). SameUsed from (storedImage a k value)
       (storedImage b (keyIn b given) value)) (sym key)
       (alike-stored low s
       (subst (λ (k : List ℕ). Granted a k value) key (granted a work given value passes))
@@ -514,7 +520,7 @@ module _ {from : ℕ} {a b : List ℕ} (low : from ≤ totalAt + totalLen) (s : 
       same-reading (position work tally given) refl (position-seen a b seen work tally given) s
 
 -- and any run of calls
-same-runs : {from : ℕ} (a b : List ℕ) → from ≤ totalAt + totalLen → Alike from a b
+same-runs : {from : ℕ} (a b : List ℕ) → from ≤ totalAt + totalLen → SameUsed from a b
     → (cs : List Call) → answersOf a cs ≡ answersOf b cs
 unfolding answersOf
 same-runs a b low s [] = refl
@@ -523,7 +529,7 @@ same-runs a b low s (c ∷ cs) =
     (same-runs (imageAfter a c) (imageAfter b c) low (same-call low s c .images) cs)
 
 -- images that are alike answer alike
-pub same-answers : {from : ℕ} {a b : List ℕ} → from ≤ totalAt + totalLen → Alike from a b
+pub same-answers : {from : ℕ} {a b : List ℕ} → from ≤ totalAt + totalLen → SameUsed from a b
     → SameAnswers from a b
 same-answers {a = a} {b} low s =
     record {

@@ -53,7 +53,8 @@ module _ (p : ℕ) where
 
   -- bytes that a write goes over
   pub sets-cover : (a b : List ℕ) (at : ℕ) (vs : List ℕ) → length a ≡ length b
-      → InBytes at (length vs) p → at + length vs ≤ length a → AgreeAt (sets a at vs) (sets b at vs)
+      → InBytes at (length vs) p → at + length vs ≤ length a
+      → AgreeAt (sets a at vs) (sets b at vs)
   sets-cover a b at vs n i inside =
       let k : ℕ = p - at in
       let here : at + k ≡ p = omega arith in

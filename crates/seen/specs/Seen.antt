@@ -31,7 +31,7 @@ seenIn l = record {
 
 -- two images of one length with equal heads and equal bytes from `from` up to U. From 0 on these
 -- are all used bytes. From 4 on they are all but the bytes of G; the heads say that G is equal.
-pub record Alike (from : ℕ) (a b : List ℕ) : Type 0 where
+pub record SameUsed (from : ℕ) (a b : List ℕ) : Type 0 where
   pub heads : headOf a ≡ headOf b
   pub lengths : length a ≡ length b
   pub bytes : (p : ℕ) → from ≤ p → p < usedLen (headOf b) → getD a p 0 ≡ getD b p 0
@@ -41,12 +41,12 @@ pub record Alike (from : ℕ) (a b : List ℕ) : Type 0 where
 pub record SameOutcome (from : ℕ) (a b : List ℕ) (c : Call) : Type 0 where
   pub numbers : outcomeOf a c .numbers ≡ outcomeOf b c .numbers
   pub buffers : besidesImage a c ≡ besidesImage b c
-  pub images : Alike from (imageAfter a c) (imageAfter b c)
+  pub images : SameUsed from (imageAfter a c) (imageAfter b c)
 
 -- two images answer alike in every call and in every run of calls, and have the same keys and
 -- counts
 pub record SameAnswers (from : ℕ) (a b : List ℕ) : Type 0 where
-  pub alike : Alike from a b
+  pub alike : SameUsed from a b
   pub calls : (c : Call) → SameOutcome from a b c
   pub runs : (cs : List Call) → answersOf a cs ≡ answersOf b cs
   pub lists : storedKeys a ≡ storedKeys b
