@@ -25,7 +25,8 @@
    does. A disk that leaves a sector unreadable after a cut does not promise it either.
 
    After a cut the next start mends the file. The store that was hit is then done as a whole or not
-   at all. A store is answered after its last flush, so no store that was answered is lost. */
+   at all. A store is answered after its last flush, so no store that was answered is lost. This
+   bench flushes after every write; before G, before the link and after it would be enough. */
 #define _POSIX_C_SOURCE 200809L
 #include "trieff.h"
 

@@ -1,5 +1,5 @@
 /* TRIEFF 0.6.0 images over lent memory: make, check, count, look up, store, mend, list, jump by
-   position. Link with libtrieff.a, which `rt staticlib trieff` builds.
+   position. Link with libtrieff.a, which `rt staticlib trieff` builds, for x86-64 alone.
 
    What is lent
    ------------
@@ -55,22 +55,27 @@
    - At the start, read the kept image into memory and mend it. If mend changed its first four
      bytes, write them back to the kept image.
    - Store by trieff_store_writes or trieff_store_text_writes. Then carry out the list of writes on
-     the kept image: one write after the other, in the order of the list. Flush each write before
-     the next one begins.
+     the kept image, in the order of the list. Three flushes are enough: one before the write of G,
+     one before the write of the link and one after it. A list of one write, a data field, needs
+     one flush, after it.
 
-   examples/bench_file.c does all of this. The device must promise:
-   - The writes before the cut landed whole. No write after the one that was hit was begun.
+   examples/bench_file.c does all of this; it flushes after every write, which is allowed too. The
+   device must promise:
+   - What was written before a flush has landed whole once the flush has returned. Nothing is
+     written after a flush before it has returned.
    - A write of G, of a link or of a data field lands whole or not at all. These fields are 1 to 4
      bytes long. The head decides where they stand, so one may lie across the end of a sector. None
      does if the image begins at the start of a sector, A and D are 1, 2 or 4, and both divide
      28 + F, N*A and W.
-   - A write of a node goes to spare bytes. Any of its bytes may have landed, and the others not.
+   - A write of a node goes to spare bytes. Of all nodes written since the last flush any bytes may
+     have landed, in any order, and the others not.
    - No byte changes that was not written.
 
    Then, wherever the cut was, mending with enough working numbers answers TRIEFF_DONE. After that,
    all answers are those from before the store, or all answers are those from after it. They are
-   those from after it exactly if the last write of the list landed. A key is never half stored,
-   and no other key is touched.
+   those from after it exactly if the last write of the list landed. That holds of every call and
+   of every later run of calls. A key is never half stored, no other key is touched, and what a cut
+   store wrote after the old used length is spare again.
 
    Positions and counts
    --------------------
