@@ -17,7 +17,6 @@ use Rattle.alphabet.specs.Letters.{orEmpty}
 use Rattle.head.specs.Fields.{headOf}
 use Rattle.node.specs.Writes.{Write, noted}
 use Rattle.passing.specs.Passing.{keyAt as keyAtPlace}
-use Rattle.passing.proofs.Reached.{each-length}
 use Rattle.paper.specs.Hearing.{Said, Row, Outcome, first, heard, outcome, doneNumbers}
 use Rattle.paper.specs.Hearing.{refusedNumbers}
 use Rattle.paper.specs.Given.{Given, keyIn}
@@ -26,11 +25,12 @@ use Rattle.paper.specs.Calls.{tableIn, freshHead, makeOf, checkOf, countOf, loo
 use Rattle.paper.specs.Calls.{mendOf}
 use Rattle.paper.specs.Calls.{workAfter, storedKeys, storedImage, storeOf, writesIn, withWrites}
 use Rattle.paper.specs.Calls.{storeWritesOf, nextIn, foundIn, nextKeyOf}
-use Rattle.position.specs.Counts.{countIn, countsIn}
+use Rattle.position.specs.Counts.{countsIn}
 use Rattle.position.specs.Orders.{countsOrder, checkCountsOrder, storeCountsOrder, keyAtOrder}
 use Rattle.position.specs.Orders.{positionOrder}
 use Rattle.position.specs.Calls.{workLeft, worked, countsOf, checkCountsOf, storeCountsOf}
 use Rattle.position.specs.Calls.{placedKey, keyAtOf, positionOf}
+use Rattle.position.proofs.Right.{counts-length}
 use Rattle.paper.proofs.MendCall.{mend-kept, mend-lowered}
 use Rattle.trie.specs.Table.{answer}
 use Rattle.trie.specs.Storing.{changeOf}
@@ -49,10 +49,6 @@ noted-long : (ws : List Write) → length (noted ws) ≡ 2 * length ws
 unfolding noted
 noted-long [] = refl
 noted-long (w ∷ ws) = omega (arith, noted-long ws)
-
-counts-long : (l : List ℕ) → length (countsIn l) ≡ headOf l .g + 1
-unfolding countsIn
-counts-long l = each-length (countIn l) 0 (headOf l .g + 1)
 
 -- ---- each call that has such a buffer
 
@@ -112,7 +108,7 @@ module _ (l : List ℕ) (p : ℕ) where
       go : (row : Row)
           → getD (answerIn (counts work tally) (othersIn (workingWith tally work ∷ answering tally
           ∷ []) (heard row (workLeft l work tally ∷ tally ∷ []) done .lent))) p 0 ≡ getD tally p 0
-      go none = rest tally (countsIn l) p (omega (arith, counts-long l))
+      go none = rest tally (countsIn l) p (omega (arith, counts-length l))
       go (some s) = refl
 
   store-counts-rest : (work : List ℕ) (given : Given) (value : ℕ) (tally : List ℕ)
@@ -138,7 +134,7 @@ module _ (l : List ℕ) (p : ℕ) where
           → getD (answerIn (storeCounts work given value tally)
           (othersIn (answering l ∷ workingWith tally work ∷ answering tally ∷ [])
           (heard row kept done .lent))) p 0 ≡ getD tally p 0
-      go none b = rest tally (countsIn image) p (omega (arith, counts-long image))
+      go none b = rest tally (countsIn image) p (omega (arith, counts-length image))
       go (some s) b = refl
 
   writes-rest : (work : List ℕ) (given : Given) (value : ℕ) (list : List ℕ)

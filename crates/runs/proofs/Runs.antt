@@ -34,7 +34,8 @@ use Rattle.paper.specs.Orders.{nextRows, nextKeyOrder}
 use Rattle.paper.specs.Calls.{tableIn, workAfter, freshHead, freshImage, makeOf, storedKeys}
 use Rattle.paper.specs.Calls.{countOf, telling, lookUpOf, writesIn, storedImage, storeOf}
 use Rattle.paper.specs.Calls.{withWrites, checkOf, isAccepted, canMend, nextIn, foundIn, nextKeyOf}
-use Rattle.paper.specs.Repeated.{askedForAll}
+use Rattle.passing.specs.Passing.{keyAt as keyAtPlace, rankIn}
+use Rattle.paper.specs.Repeated.{keyHeard, askedForAll}
 use Rattle.paper.specs.Rows.{isNone, row9next, row10, row14, row15}
 use Rattle.paper.specs.Accepted.{Accepted}
 use Rattle.paper.specs.Granted.{Fit, Granted}
@@ -50,7 +51,9 @@ use Rattle.paper.proofs.StoreCall.{store-granted, store-leaves, store-passed}
 use Rattle.paper.proofs.MendCall.{mend-kept, eight}
 use Rattle.paper.proofs.MakeCall.{Made, make-done, fresh-head, fresh-alphabet, fresh-accepted}
 use Rattle.paper.proofs.MakeCall.{fresh-answers, fresh-keys}
-use Rattle.position.specs.Calls.{worked, storeCountsOf}
+use Rattle.position.specs.Counts.{RightCounts}
+use Rattle.position.specs.Calls.{worked, storeCountsOf, keyAtOf, positionOf}
+use Rattle.position.proofs.Positions.{heard-at, position-of}
 use Rattle.position.specs.Orders.{countsOrder, checkCountsOrder, keyAtOrder, positionOrder}
 use Rattle.position.proofs.Plain.{store-counts-plain, store-counts-kept}
 use Rattle.calls.specs.Call.{Call, make, check, count, lookUp, store, storeWrites, mend, nextKey}
@@ -494,3 +497,31 @@ module _ (image : List ℕ) (n a d : ℕ) (alphabet : List ℕ) (least most : �
           at-end .answers (orEmpty met)
           (run-stored (orEmpty met) .0 (met-stored (r .image) key onward
           (last-passed (nextRows h key) (row14 h (length buffer)) met e)) .0)
+
+  -- ---- with right counts
+
+  -- the key at a position is the plain list's
+  pub run-key-at : (work tally : List ℕ) (at : ℕ) (buffer : List ℕ)
+      → headOf (r .image) .g + 1 ≤ length work → RightCounts (r .image) tally
+      → most ≤ length buffer
+      → keyHeard (keyAtOf (r .image) work tally at buffer)
+      ≡ keyAtPlace (plainKeys (r .plain)) at
+  unfolding freshHead
+  run-key-at work tally at buffer lent right room =
+      heard-at (r .image) work tally run-accepted lent right buffer
+      (rw (at-end .same-head) room) at
+      ∙ ap (λ (ks : List (List ℕ)). keyAtPlace ks at) run-keys
+
+  -- and so is the position of a key whose last value is not 0
+  pub run-position : (work tally : List ℕ) (given : Given) {k : List ℕ}
+      → headOf (r .image) .g + 1 ≤ length work → RightCounts (r .image) tally
+      → meantBy alphabet given ≡ some k → lastOf (r .plain) k ≢ 0
+      → positionOf (r .image) work tally given .numbers
+      ≡ doneNumbers 0 (pos 0) (rankIn (plainKeys (r .plain)) k)
+  unfolding meantIn
+  run-position work tally given {k} lent right e z =
+      ap (λ (o : Outcome). o .numbers)
+      (position-of (r .image) work tally run-accepted lent right given
+      (ap (λ (b : List ℕ). meantBy b given) (at-end .same-alphabet) ∙ e)
+      (run-stored k .1 (at-end .fits k z, z)))
+      ∙ ap (λ (ks : List (List ℕ)). doneNumbers 0 (pos 0) (rankIn ks k)) run-keys
