@@ -59,7 +59,8 @@ roomy c =
     let w = turn c .loop .inv .waiting in
     ⊎-elim
     (λ h. record {
-      waiting = waiting-same (h .3) (h .4) (waiting-handed w (h .2 .ensures));
+      waiting = waiting-same (omega (arith, h .3)) (h .4)
+          (waiting-handed w (h .2 .ensures));
       fits = omega (arith, h .3);
     })
     (λ h. record {

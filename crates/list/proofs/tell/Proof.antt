@@ -11,7 +11,7 @@ use Rattle.list.proofs.tell.Statement.{statement}
 use Rattle.list.proofs.tell.Tie as tie
 
 refuse-requires : tie.Need-refuse-requires
-refuse-requires c κs = output-longer (c .before .before .args .input .now) (c .if1 .taken)
+refuse-requires c κs = output-longer (c .before .before .args .input .now) (omega (arith, c .if1 .taken))
 
 returns : tie.Need-returns
 returns c = search needs
