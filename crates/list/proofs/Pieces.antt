@@ -18,8 +18,13 @@ pub record Waiting (text : List ℕ) (done : ℕ) (out : List ℕ) (end : ℕ) (
   pub inside : end ≤ length out
   pub parts : drop done text ≡ take end out ++ rest
 
-pub waiting-none : (text out : List ℕ) → Waiting text 0 out 0 text
-waiting-none text out = record { begun = omega arith; inside = omega arith; parts = refl }
+pub waiting-none : (text out : List ℕ) {done : ℕ} → done ≡ 0 → Waiting text done out 0 text
+waiting-none text out e =
+    record {
+      begun = omega arith;
+      inside = omega arith;
+      parts = ap (λ (k : ℕ). drop k text) e;
+    }
 
 -- the same by equal numbers
 pub waiting-same : {text : List ℕ} {done : ℕ} {out : List ℕ} {end : ℕ} {rest : List ℕ}

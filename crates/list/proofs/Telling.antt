@@ -84,7 +84,7 @@ pub record Telling (h : Head) (l out path nodes : List ℕ) (done end n : ℕ) :
   pub long : length out ≡ bufferLen
   pub waiting : Waiting (outputOf l) done out end (lined h l (keysAfter h l (take n path)))
 
-pub telling-start : {h : Head} {l out₀ out₁ out path nodes : List ℕ} {count root head end : ℕ}
+pub telling-start : {h : Head} {l out₀ out₁ out path nodes : List ℕ} {count root head end done : ℕ}
     → h ≡ headOf l
     → outputOf l ≡ listingText l
     → count ≡ length (allKeys h l)
@@ -95,14 +95,15 @@ pub telling-start : {h : Head} {l out₀ out₁ out path nodes : List ℕ} {coun
     → head ≤ bufferLen
     → end ≤ bufferLen
     → Walking h l path nodes 0
-    → Telling h l out path nodes 0 end 0
-telling-start {h} {l} {out₀} same listed counted value long first second fits fits₁ w =
+    → done ≡ 0
+    → Telling h l out path nodes done end 0
+telling-start {h} {l} {out₀} same listed counted value long first second fits fits₁ w none =
     record {
       walking = w;
       long = laid-long second ∙ laid-long first ∙ long;
       waiting =
           waiting-more
-          (waiting-more (waiting-none (outputOf l) out₀) (listed ∙ listing-lines h l same counted)
+          (waiting-more (waiting-none (outputOf l) out₀ none) (listed ∙ listing-lines h l same counted)
           first (omega arith)) (root-lines h l value) second (omega (arith, laid-long first));
     }
 

@@ -31,44 +31,49 @@ const LAST: usize = OUT - (Head::MAX_MOST as usize) * lines::LETTER_ROOM - lines
 fn main() {
     let mut space = [0u8; IMAGE + 1];
     let len = io::read_full(STDIN_FILENO, &mut space);
-    tell(&space[..len]);
+    let mut done: usize = 0;
+    tell(&space[..len], &mut done);
 }
 
-// Hands over the whole output for an input. Answers how many bytes that is: the first piece
-// begins at 0, each next piece where the one before it ended, and the last ends at the end.
-fn tell(input: &[u8]) -> usize
-    ensures { λ r. ⌜ r ≡ length (outputOf (now (input .entry))) ⌝ }
+// Hands over the whole output for an input. `done` counts the bytes that were handed over: at the
+// start none, at the end all.
+fn tell(input: &[u8], done: &mut usize)
+    requires { ⌜ now done ≡ 0 ⌝ }
+    ensures { λ _. ⌜ now (done .exit) ≡ length (outputOf (now (input .entry))) ⌝ }
 {
     if IMAGE < input.len() {
-        return refuse(input, 1, 0);
+        refuse(input, 1, 0, done);
+        return;
     }
     let mut work = [0u32; WORK];
     let mut codes = [0u32; Head::N_MOST as usize];
     let checked = audit::check(input, &mut work, &mut codes);
     let verdict = checked.verdict;
     match verdict {
-        Verdict::Refused(why) => refuse(input, why.number(), why.place()),
-        Verdict::Passed => list(input, checked.head),
+        Verdict::Refused(why) => refuse(input, why.number(), why.place(), done),
+        Verdict::Passed => list(input, checked.head, done),
     }
 }
 
 // Hands over the one line of a refusal.
-fn refuse(input: &[u8], number: u32, place: u32) -> usize
+fn refuse(input: &[u8], number: u32, place: u32, done: &mut usize)
     requires { ⌜ outputOf (now input) ≡ refusedLine number place ⌝ }
-    ensures { λ r. ⌜ r ≡ length (outputOf (now (input .entry))) ⌝ }
+    requires { ⌜ now done ≡ 0 ⌝ }
+    ensures { λ _. ⌜ now (done .exit) ≡ length (outputOf (now (input .entry))) ⌝ }
 {
     let mut out = [0u8; lines::REFUSED_ROOM];
     let end = lines::refused(&mut out, 0, number, place);
-    hand_over(input, 0, &out, end)
+    hand_over(input, &out, end, done);
 }
 
 // Hands over the number of stored keys, then a line for each: first the root's own key, if it is
 // stored. The lines so far are handed over once the longest line may not fit after them.
-fn list(input: &[u8], h: Head) -> usize
+fn list(input: &[u8], h: Head, done: &mut usize)
     requires { ⌜ Accepted (now input) ⌝ }
     requires { ⌜ h ≡ headOf (now input) ⌝ }
     requires { ⌜ outputOf (now input) ≡ listingText (now input) ⌝ }
-    ensures { λ r. ⌜ r ≡ length (outputOf (now (input .entry))) ⌝ }
+    requires { ⌜ now done ≡ 0 ⌝ }
+    ensures { λ _. ⌜ now (done .exit) ≡ length (outputOf (now (input .entry))) ⌝ }
 {
     let mut out = [0u8; OUT];
     let mut path = [0u8; Head::MAX_MOST as usize];
@@ -77,20 +82,20 @@ fn list(input: &[u8], h: Head) -> usize
     let head = lines::entries(&mut out, 0, count);
     let root = traversal::start(input, h, &mut nodes);
     let mut end = root_line(&mut out, head, root);
-    let mut done: usize = 0;
     let mut len: usize = 0;
     loop {
         let found = traversal::onward(input, h, len, &mut path, &mut nodes);
         let Search::Found { length, value } = found else {
-            return hand_over(input, done, &out, end);
+            break;
         };
         if LAST < end {
-            done = hand_over(input, done, &out, end);
+            hand_over(input, &out, end, done);
             end = 0;
         }
         end = lines::entry(&mut out, end, &path, length, value);
         len = length;
     }
+    hand_over(input, &out, end, done);
 }
 
 // Writes the line of the root's own key into the buffer, if it is stored. Answers where the line
@@ -106,13 +111,13 @@ fn root_line(out: &mut [u8], at: usize, value: u64) -> usize
     lines::entry(out, at, b"", 0, value)
 }
 
-// Hands over the next piece of the output for an input, the first `end` bytes of the buffer, to
-// be written; `done` bytes were handed over before. Answers how many have been now. No other
-// function writes.
-fn hand_over(input: &[u8], done: usize, out: &[u8], end: usize) -> usize
-    requires { ⌜ NextPart (outputOf (now input)) done (now out) end ⌝ }
-    ensures { λ r. ⌜ r ≡ done + end ⌝ }
+// Hands over the first `end` bytes of the buffer, to be written, and counts them. They are the
+// next part of the output for an input, after the bytes that were counted before. No other
+// function writes, and no other changes the count.
+fn hand_over(input: &[u8], out: &[u8], end: usize, done: &mut usize)
+    requires { ⌜ NextPart (outputOf (now input)) (now done) (now out) end ⌝ }
+    ensures { λ _. ⌜ now (done .exit) ≡ now (done .entry) + end ⌝ }
 {
     io::write_all(STDOUT_FILENO, &out[..end]);
-    done + end
+    *done += end;
 }

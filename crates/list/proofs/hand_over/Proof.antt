@@ -14,9 +14,9 @@ slice-aggregate-write-all c = sym (length-take-le _ _ (c .before .before .before
 write-all-requires : tie.Need-write-all-requires
 write-all-requires c κs = search needs
 
-add-result : tie.Need-add-result
-add-result c =
-    let s = c .before .before .before .before in
+add-done : tie.Need-add-done
+add-done c =
+    let s = c .before .before .before .before .before in
     omega (arith, s .pre .within, output-fits (s .args .input .now))
 
 returns : tie.Need-returns
@@ -24,4 +24,4 @@ returns c = search needs
 
 pub hand-over-spec : {M : Type 1} → statement M
 hand-over-spec =
-    tie.close (tie.spec slice-aggregate-write-all write-all-requires add-result returns)
+    tie.close (tie.spec slice-aggregate-write-all write-all-requires add-done returns)

@@ -20,11 +20,11 @@ use Rattle.list.proofs.list.Statement.{statement}
 use Rattle.list.proofs.list.Tie as tie
 
 abbrev Inv-loop : tie.InvT-loop
-Inv-loop input h out₀ path₀ nodes₀ count head root end₀ done₀ len₀ out path nodes end done len =
+Inv-loop input h done₀ out₀ path₀ nodes₀ count head root end₀ len₀ done out path nodes end len =
     Telling h input out path nodes done end len
 
 abbrev μ-loop : tie.MeasureT-loop
-μ-loop input h out₀ path₀ nodes₀ count head root end₀ done₀ len₀ out path nodes end done len =
+μ-loop input h done₀ out₀ path₀ nodes₀ count head root end₀ len₀ done out path nodes end len =
     length (keysAfter h input (take len path))
 
 -- the function's start, from its loop
@@ -59,13 +59,12 @@ roomy c =
     let w = turn c .loop .inv .waiting in
     ⊎-elim
     (λ h. record {
-      waiting = waiting-same (omega (arith, h .3)) (h .4)
-          (waiting-handed w (h .2 .ensures));
-      fits = omega (arith, h .3);
+      waiting = waiting-same (omega (arith, h .5)) (h .4) (waiting-handed w (h .3 .ensures));
+      fits = omega (arith, h .5);
     })
     (λ h. record {
-      waiting = waiting-same (h .1) (h .2) w;
-      fits = omega (arith, h .0 .left, h .1);
+      waiting = waiting-same (h .2) (h .1) w;
+      fits = omega (arith, h .0 .left, h .2);
     })
     (c .if1 .came)
 
@@ -110,7 +109,7 @@ loop-holds c =
     let counted = titled .before .before in
     let s = counted .before .before in
     let short-title = entries-long (counted .count .result) in
-    telling-start (s .pre .1 .0) (s .pre .1 .1) (counted .count .ensures) (begun .start .ensures .0)
+    telling-start (s .pre .1 .0) (s .pre .1 .1 .0) (counted .count .ensures) (begun .start .ensures .0)
     (search needs) (titled .entries .ensures) (rooted .root-line .ensures .0)
     (omega (arith, titled .entries .ensures .ends))
     (omega (arith, titled .entries .ensures .ends, rooted .root-line .ensures .1))
@@ -119,6 +118,7 @@ loop-holds c =
       ends = search needs;
       key = record { deep = omega arith; along = begun .start .ensures .1 _ };
     })
+    (s .pre .1 .1 .1)
 
 slice-aggregate-onward : tie.Need-slice-aggregate-onward Inv-loop μ-loop
 slice-aggregate-onward c = search needs
@@ -141,25 +141,8 @@ slice-aggregate-hand-over c = search needs
 
 hand-over-requires : tie.Need-hand-over-requires Inv-loop μ-loop
 hand-over-requires c κs =
-    waiting-part (c .before .before .before .before .before .before .before .before .loop .inv
-    .waiting)
-
-returns : tie.Need-returns Inv-loop μ-loop
-returns c =
-    let told = c .before .before in
-    let onward = told .before .before .before .before in
-    let loop = onward .before .before .before in
-    c .hand-over .ensures
-    ∙ telling-end (take (loop .loop .len) (loop .loop .path)) (loop .loop .inv .waiting)
-    (onward .onward .ensures .0) (told .enum-told .given .1)
-
-slice-aggregate-hand-over-2 : tie.Need-slice-aggregate-hand-over-2 Inv-loop μ-loop
-slice-aggregate-hand-over-2 c = search needs
-
-hand-over-requires-2 : tie.Need-hand-over-requires-2 Inv-loop μ-loop
-hand-over-requires-2 c κs =
     waiting-part (c .before .before .before .before .before .before .before .before .before
-    .before .loop .inv .waiting)
+    .before .before .loop .inv .waiting)
 
 slice-aggregate-entry : tie.Need-slice-aggregate-entry Inv-loop μ-loop
 slice-aggregate-entry c = search needs
@@ -204,6 +187,23 @@ loop-again c =
       c .before .entry .ensures .1,
     ))
 
+slice-aggregate-hand-over-2 : tie.Need-slice-aggregate-hand-over-2 Inv-loop μ-loop
+slice-aggregate-hand-over-2 c = search needs
+
+hand-over-requires-2 : tie.Need-hand-over-requires-2 Inv-loop μ-loop
+hand-over-requires-2 c κs =
+    waiting-part (c .before .before .before .before .before .before .before .before .before .loop
+    .inv .waiting)
+
+returns : tie.Need-returns Inv-loop μ-loop
+returns c =
+    let told = c .before .before .before in
+    let onward = told .before .before .before .before in
+    let loop = onward .before .before .before in
+    c .hand-over2 .ensures
+    ∙ telling-end (take (loop .loop .len) (loop .loop .path)) (loop .loop .inv .waiting)
+    (onward .onward .ensures .0) (told .enum-told .given .1)
+
 pub list-spec : {M : Type 1} → statement M
 list-spec =
     tie.close
@@ -225,11 +225,11 @@ list-spec =
     enum-told
     slice-aggregate-hand-over
     hand-over-requires
-    returns
-    slice-aggregate-hand-over-2
-    hand-over-requires-2
     slice-aggregate-entry
     slice-aggregate-entry-2
     entry-requires
     loop-less
-    loop-again)
+    loop-again
+    slice-aggregate-hand-over-2
+    hand-over-requires-2
+    returns)

@@ -20,12 +20,13 @@ refused-requires c κs = search needs
 
 -- the line is in the buffer, and nothing follows it
 waits : (c : tie.After-refused)
-    → Waiting (outputOf (c .before .before .before .args .input .now)) 0 (c .refused .last .0)
-    (c .refused .result) []
+    → Waiting (outputOf (c .before .before .before .args .input .now))
+    (c .before .before .before .args .done .now) (c .refused .last .0) (c .refused .result) []
 waits c =
     let s = c .before .before .before in
     let line = refusedLine (s .args .number) (s .args .place) in
-    waiting-more (waiting-none (outputOf (s .args .input .now)) _) (s .pre ∙ sym (append-nil line))
+    waiting-more (waiting-none (outputOf (s .args .input .now)) _ (s .pre .1))
+    (s .pre .0 ∙ sym (append-nil line))
     (c .refused .ensures)
     (omega (arith, c .refused .ensures .ends, refused-long (s .args .number) (s .args .place)))
 
@@ -33,10 +34,10 @@ slice-aggregate-hand-over : tie.Need-slice-aggregate-hand-over
 slice-aggregate-hand-over c = search needs
 
 hand-over-requires : tie.Need-hand-over-requires
-hand-over-requires c κs = waiting-part (waits (c .before .before))
+hand-over-requires c κs = waiting-part (waits (c .before .before .before))
 
 returns : tie.Need-returns
-returns c = c .hand-over .ensures ∙ waiting-all (waits (c .before .before .before)) refl
+returns c = c .hand-over .ensures ∙ waiting-all (waits (c .before .before .before .before)) refl
 
 pub refuse-spec : {M : Type 1} → statement M
 refuse-spec =

@@ -11,7 +11,10 @@ use Rattle.list.proofs.tell.Statement.{statement}
 use Rattle.list.proofs.tell.Tie as tie
 
 refuse-requires : tie.Need-refuse-requires
-refuse-requires c κs = output-longer (c .before .before .args .input .now) (omega (arith, c .if1 .taken))
+refuse-requires c κs =
+    let longer = c .before in
+    let s = longer .before .before in
+    (output-longer (s .args .input .now) (omega (arith, longer .if1 .taken)), s .pre)
 
 returns : tie.Need-returns
 returns c = search needs
@@ -33,27 +36,35 @@ place-requires c κs = search needs
 
 refuse-requires-2 : tie.Need-refuse-requires-2
 refuse-requires-2 c κs =
-    let verdict = c .before .before .before in
-    let checked = verdict .before .before .before in
-    let left = checked .before .before .before in
-    output-refused (left .before .before .args .input .now) (omega (arith, left .if1 .left))
-    (told-refused (checked .check .ensures .verdict) (verdict .verdict .given .1))
-    ∙ ap₂ refusedLine (sym (c .before .number .ensures)) (sym (c .place .ensures))
+    let placed = c .before in
+    let judged = placed .before .before .before in
+    let checked = judged .before .before .before in
+    let fits = checked .before .before .before in
+    let s = fits .before .before in (
+      output-refused (s .args .input .now) (omega (arith, fits .if1 .left))
+          (told-refused (checked .check .ensures .verdict) (judged .verdict .given .1))
+          ∙ ap₂ refusedLine (sym (placed .before .number .ensures)) (sym (placed .place .ensures)),
+      s .pre,
+    )
 
 enum-told : tie.Need-enum-told
 enum-told c = search needs
 
 list-requires : tie.Need-list-requires
 list-requires c κs =
-    let checked = c .before .before .before in
-    let left = checked .before .before .before in
+    let passed = c .before .enum-told .given .1 in
+    let checked = c .before .before .before .before in
     let o = checked .check .ensures in
-    let passed = c .enum-told .given .1 in (
+    let fits = checked .before .before .before in
+    let s = fits .before .before in (
       checked-accepted o passed,
       (
         checked-head o passed,
-        output-listing (left .before .before .args .input .now) (omega (arith, left .if1 .left))
-            (told-passed (o .verdict) passed),
+        (
+          output-listing (s .args .input .now) (omega (arith, fits .if1 .left))
+              (told-passed (o .verdict) passed),
+          s .pre,
+        ),
       ),
     )
 
