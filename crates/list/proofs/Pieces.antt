@@ -34,8 +34,8 @@ waiting-same p q w = rw (p, q) w
 
 module _ {text : List ℕ} {done : ℕ} {out : List ℕ} {end : ℕ} {rest : List ℕ}
     (w : Waiting text done out end rest) where
-  front-long : length (take end out) ≡ end
-  front-long = length-take-le end out (w .inside)
+  pub waiting-front : length (take end out) ≡ end
+  waiting-front = length-take-le end out (w .inside)
 
   pub waiting-long : length text ≡ done + end + length rest
   waiting-long =
@@ -45,34 +45,36 @@ module _ {text : List ℕ} {done : ℕ} {out : List ℕ} {end : ℕ} {rest : Lis
         length-drop done text,
         ap length (w .parts),
         length-append (take end out) rest,
-        front-long,
+        waiting-front,
       )
 
   -- the buffer's front is the next piece
-  pub waiting-part : NextPart text done out end
+  pub waiting-part : NextPart text done (take end out)
   waiting-part =
       record {
-        inside = w .inside;
-        within = omega (arith, waiting-long);
-        same = sym (ap (take end) (w .parts) ∙ take-at (take end out) rest end front-long);
+        within = omega (arith, waiting-long, waiting-front);
+        same =
+            sym (ap (take (length (take end out))) (w .parts)
+            ∙ take-at (take end out) rest (length (take end out)) refl);
       }
 
   -- once it is handed over, the rest comes next
-  pub waiting-handed : {r : ℕ} → r ≡ done + end → Waiting text r out 0 rest
-  waiting-handed e =
+  pub waiting-handed : {r : ℕ} → r ≡ done + length (take end out) → Waiting text r out 0 rest
+  waiting-handed {r} e =
+      let moved : r ≡ done + end = omega (arith, waiting-front) in
       record {
         begun = omega (arith, waiting-long);
         inside = omega arith;
         parts =
-            ap (λ (k : ℕ). drop k text) e
+            ap (λ (k : ℕ). drop k text) moved
             ∙ sym (drop-drop end done text)
             ∙ ap (drop end) (w .parts)
-            ∙ drop-at (take end out) rest end front-long;
+            ∙ drop-at (take end out) rest end waiting-front;
       }
 
   -- where nothing is left after it, it ends the text
-  pub waiting-all : rest ≡ [] → done + end ≡ length text
-  waiting-all e = omega (arith, waiting-long, ap length e)
+  pub waiting-all : rest ≡ [] → done + length (take end out) ≡ length text
+  waiting-all e = omega (arith, waiting-long, waiting-front, ap length e)
 
   -- a line is put into the buffer
   pub waiting-more : {line rest′ : List ℕ} {end′ : ℕ} {out′ : List ℕ} → rest ≡ line ++ rest′
@@ -91,7 +93,7 @@ module _ {text : List ℕ} {done : ℕ} {out : List ℕ} {end : ℕ} {rest : Lis
       }
     where
       whole : length (take end out ++ line) ≡ end′
-      whole = omega (arith, length-append (take end out) line, front-long, laid .ends)
+      whole = omega (arith, length-append (take end out) line, waiting-front, laid .ends)
 
       front : take end′ out′ ≡ take end out ++ line
       front =

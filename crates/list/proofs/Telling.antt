@@ -113,7 +113,7 @@ module _ {h : Head} {l out : List ℕ} {done end : ℕ} (m : List ℕ)
     {path nodes : List ℕ}
     (told : SearchTells h l (nextStored h l true m) r path nodes) where
   -- it finds none: the buffer's front ends the output
-  pub telling-end : r ≡ Search.Missing → done + end ≡ length (outputOf l)
+  pub telling-end : r ≡ Search.Missing → done + length (take end out) ≡ length (outputOf l)
   unfolding linesOf
   telling-end e = waiting-all w (ap (lined h l) (none-after h l m told e))
 

@@ -45,11 +45,10 @@ outputOf input =
 
 -- The definitions by which the program's functions are stated.
 
--- the first `end` bytes of the buffer are the next part of the text, after `done` bytes of it
-pub record NextPart (text : List ℕ) (done : ℕ) (out : List ℕ) (end : ℕ) : Type 0 where
-  pub inside : end ≤ length out
-  pub within : done + end ≤ length text
-  pub same : take end out ≡ take end (drop done text)
+-- the piece is the next part of a text, after `done` bytes of it
+pub record NextPart (text : List ℕ) (done : ℕ) (piece : List ℕ) : Type 0 where
+  pub within : done + length piece ≤ length text
+  pub same : piece ≡ take (length piece) (drop done text)
 
 -- the line of the root's own key, by its value; no line if it is not stored
 unfoldable pub rootLine : ℕ → List ℕ

@@ -63,7 +63,7 @@ fn refuse(input: &[u8], number: u32, place: u32, done: &mut usize)
 {
     let mut out = [0u8; lines::REFUSED_ROOM];
     let end = lines::refused(&mut out, 0, number, place);
-    hand_over(input, &out, end, done);
+    hand_over(input, &out[..end], done);
 }
 
 // Hands over the number of stored keys, then a line for each: first the root's own key, if it is
@@ -89,13 +89,13 @@ fn list(input: &[u8], h: Head, done: &mut usize)
             break;
         };
         if LAST < end {
-            hand_over(input, &out, end, done);
+            hand_over(input, &out[..end], done);
             end = 0;
         }
         end = lines::entry(&mut out, end, &path, length, value);
         len = length;
     }
-    hand_over(input, &out, end, done);
+    hand_over(input, &out[..end], done);
 }
 
 // Writes the line of the root's own key into the buffer, if it is stored. Answers where the line
@@ -111,13 +111,13 @@ fn root_line(out: &mut [u8], at: usize, value: u64) -> usize
     lines::entry(out, at, b"", 0, value)
 }
 
-// Hands over the first `end` bytes of the buffer, to be written, and counts them. They are the
-// next part of the output for an input, after the bytes that were counted before. No other
-// function writes, and no other changes the count.
-fn hand_over(input: &[u8], out: &[u8], end: usize, done: &mut usize)
-    requires { ⌜ NextPart (outputOf (now input)) (now done) (now out) end ⌝ }
-    ensures { λ _. ⌜ now (done .exit) ≡ now (done .entry) + end ⌝ }
+// Hands over a piece of the output for an input, to be written, and counts its bytes. It is the
+// next part of the output, after the bytes that were counted before. No other function writes, and
+// no other changes the count.
+fn hand_over(input: &[u8], piece: &[u8], done: &mut usize)
+    requires { ⌜ NextPart (outputOf (now input)) (now done) (now piece) ⌝ }
+    ensures { λ _. ⌜ now (done .exit) ≡ now (done .entry) + length (now (piece .entry)) ⌝ }
 {
-    io::write_all(STDOUT_FILENO, &out[..end]);
-    *done += end;
+    io::write_all(STDOUT_FILENO, piece);
+    *done += piece.len();
 }

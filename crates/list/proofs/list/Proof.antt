@@ -2,7 +2,7 @@
 -- those of the keys after the path's key (`Telling`). The measure is how many these keys are; the
 -- loop ends where the search finds none. A line begins where the longest line fits. Assumes
 -- nothing.
-use mathlib.Core.Path.{_≡_, refl, _∙_}
+use mathlib.Core.Path.{_≡_, sym, _∙_}
 use mathlib.Core.Logic.{⊎-elim}
 use Prim.Native.Nat.{_≤_}
 use native.Mathlib.Omega.{arith}
@@ -13,7 +13,8 @@ use Rattle.lines.proofs.LineTexts.{entries-long}
 use Rattle.depths.proofs.Walkable.{Walkable, walkable, short}
 use Rattle.traversal.proofs.Walking.{met, walks-on, keysAfter}
 use Rattle.list.specs.Output.{outputOf}
-use Rattle.list.proofs.Pieces.{Waiting, waiting-part, waiting-handed, waiting-same}
+use Rattle.list.proofs.Pieces.{Waiting, waiting-front, waiting-part, waiting-handed}
+use Rattle.list.proofs.Pieces.{waiting-same}
 use Rattle.list.proofs.Telling.{lined, Telling, telling-start, telling-end, telling-less}
 use Rattle.list.proofs.Telling.{telling-on}
 use Rattle.list.proofs.list.Statement.{statement}
@@ -136,13 +137,19 @@ enum-known-found c = search needs
 enum-told : tie.Need-enum-told Inv-loop μ-loop
 enum-told c = search needs
 
+-- the loop's head, from where a piece is handed over
+abbrev full : tie.Then1 Inv-loop μ-loop → tie.At-loop Inv-loop μ-loop
+full c = c .before .before .before .before .before .before .before .before .before
+
+array-share-prefix-out : tie.Need-array-share-prefix-out Inv-loop μ-loop
+array-share-prefix-out c =
+    omega (arith, full c .loop .inv .waiting .inside, full c .loop .inv .long)
+
 slice-aggregate-hand-over : tie.Need-slice-aggregate-hand-over Inv-loop μ-loop
-slice-aggregate-hand-over c = search needs
+slice-aggregate-hand-over c = sym (waiting-front (full (c .before) .loop .inv .waiting))
 
 hand-over-requires : tie.Need-hand-over-requires Inv-loop μ-loop
-hand-over-requires c κs =
-    waiting-part (c .before .before .before .before .before .before .before .before .before
-    .before .before .loop .inv .waiting)
+hand-over-requires c κs = waiting-part (full (c .before .before) .loop .inv .waiting)
 
 slice-aggregate-entry : tie.Need-slice-aggregate-entry Inv-loop μ-loop
 slice-aggregate-entry c = search needs
@@ -187,22 +194,30 @@ loop-again c =
       c .before .entry .ensures .1,
     ))
 
+-- the last search, and the loop's head, from where it found no key
+abbrev last : tie.After-enum-told Inv-loop μ-loop → tie.After-onward Inv-loop μ-loop
+last c = c .before .before .before .before
+
+abbrev over : tie.After-enum-told Inv-loop μ-loop → tie.At-loop Inv-loop μ-loop
+over c = last c .before .before .before
+
+array-share-prefix-out-2 : tie.Need-array-share-prefix-out-2 Inv-loop μ-loop
+array-share-prefix-out-2 c =
+    omega (arith, over c .loop .inv .waiting .inside, over c .loop .inv .long)
+
 slice-aggregate-hand-over-2 : tie.Need-slice-aggregate-hand-over-2 Inv-loop μ-loop
-slice-aggregate-hand-over-2 c = search needs
+slice-aggregate-hand-over-2 c = sym (waiting-front (over (c .before) .loop .inv .waiting))
 
 hand-over-requires-2 : tie.Need-hand-over-requires-2 Inv-loop μ-loop
-hand-over-requires-2 c κs =
-    waiting-part (c .before .before .before .before .before .before .before .before .before .loop
-    .inv .waiting)
+hand-over-requires-2 c κs = waiting-part (over (c .before .before) .loop .inv .waiting)
 
 returns : tie.Need-returns Inv-loop μ-loop
 returns c =
     let told = c .before .before .before in
-    let onward = told .before .before .before .before in
-    let loop = onward .before .before .before in
+    let at = over told .loop in
     c .hand-over2 .ensures
-    ∙ telling-end (take (loop .loop .len) (loop .loop .path)) (loop .loop .inv .waiting)
-    (onward .onward .ensures .0) (told .enum-told .given .1)
+    ∙ telling-end (take (at .len) (at .path)) (at .inv .waiting) (last told .onward .ensures .0)
+    (told .enum-told .given .1)
 
 pub list-spec : {M : Type 1} → statement M
 list-spec =
@@ -223,6 +238,7 @@ list-spec =
     onward-requires
     enum-known-found
     enum-told
+    array-share-prefix-out
     slice-aggregate-hand-over
     hand-over-requires
     slice-aggregate-entry
@@ -230,6 +246,7 @@ list-spec =
     entry-requires
     loop-less
     loop-again
+    array-share-prefix-out-2
     slice-aggregate-hand-over-2
     hand-over-requires-2
     returns)

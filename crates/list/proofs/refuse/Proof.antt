@@ -8,7 +8,7 @@ use Rattle.lines.specs.Lines.{refusedLine}
 use Rattle.lines.proofs.LineTexts.{refused-long}
 use Rattle.list.specs.Output.{outputOf}
 use Rattle.list.proofs.Pieces.{Waiting, waiting-none, waiting-more, waiting-part}
-use Rattle.list.proofs.Pieces.{waiting-all}
+use Rattle.list.proofs.Pieces.{waiting-front, waiting-all}
 use Rattle.list.proofs.refuse.Statement.{statement}
 use Rattle.list.proofs.refuse.Tie as tie
 
@@ -30,8 +30,11 @@ waits c =
     (c .refused .ensures)
     (omega (arith, c .refused .ensures .ends, refused-long (s .args .number) (s .args .place)))
 
+array-share-prefix-out : tie.Need-array-share-prefix-out
+array-share-prefix-out c = waits (c .before) .inside
+
 slice-aggregate-hand-over : tie.Need-slice-aggregate-hand-over
-slice-aggregate-hand-over c = search needs
+slice-aggregate-hand-over c = sym (waiting-front (waits (c .before .before)))
 
 hand-over-requires : tie.Need-hand-over-requires
 hand-over-requires c κs = waiting-part (waits (c .before .before .before))
@@ -45,6 +48,7 @@ refuse-spec =
     (tie.spec
     slice-aggregate-refused
     refused-requires
+    array-share-prefix-out
     slice-aggregate-hand-over
     hand-over-requires
     returns)
