@@ -1,15 +1,48 @@
--- A text that is handed over piece by piece. What is still to be handed over is the buffer's
--- front and the rest of the text. A line goes from the rest to the buffer, and a piece that is
--- handed over leaves the buffer empty.
+-- A text that is handed over piece by piece. Where the count of its bytes goes from 0 to the
+-- text's length, the pieces put together are the text. What is still to be handed over is the
+-- buffer's front and the rest of the text. A line goes from the rest to the buffer, and a piece
+-- that is handed over leaves the buffer empty.
 use Prim.Native.Nat.{ℕ, _+_, _≤_}
 use native.Mathlib.Omega.{arith}
-use mathlib.Core.List.{List, [], _++_, append-assoc}
+use mathlib.Core.List.{List, [], _∷_, _++_, append-nil, append-assoc, flatten}
 use mathlib.Core.Path.{_≡_, refl, sym, _∙_, ap}
 use lib.ListN.{length, take, drop, length-append, length-drop}
-use lib.Seq.{sets, sets-eq, length-take-le, take-at, drop-at, drop-drop}
+use lib.Seq.{sets-eq, length-take-le, take-length, take-at, take-add, drop-at, drop-drop}
 use Rattle.lines.specs.Lines.{TextAt}
 use Rattle.lines.proofs.TextsAt.{laid-long}
 use Rattle.list.specs.Output.{NextPart}
+
+-- ---- the pieces, put together
+
+-- Pieces handed over one after the other, each as the contract of `hand_over` has it. The count
+-- goes from `done` to `all`.
+pub data Handed (text : List ℕ) : ℕ → List (List ℕ) → ℕ → Type 0 where
+  nothing : {done : ℕ} → Handed text done [] done
+  one : {done after all : ℕ} {piece : List ℕ} {pieces : List (List ℕ)}
+      → NextPart text done piece
+      → after ≡ done + length piece
+      → Handed text after pieces all
+      → Handed text done (piece ∷ pieces) all
+
+handed-front : {text : List ℕ} {done all : ℕ} {pieces : List (List ℕ)}
+    → Handed text done pieces all
+    → take done text ++ flatten pieces ≡ take all text
+unfolding flatten
+handed-front {text} (nothing {done}) = append-nil (take done text)
+handed-front {text} (one {done} {after} {piece = piece} {pieces} part e rest) =
+    sym (append-assoc (take done text) piece (flatten pieces))
+    ∙ ap (_++ flatten pieces)
+    (ap (take done text ++_) (part .same)
+    ∙ sym (take-add done (length piece) text)
+    ∙ ap (λ (k : ℕ). take k text) (sym e))
+    ∙ handed-front rest
+
+-- if the count goes from 0 to the text's length, the pieces are the text
+pub handed-all : {text : List ℕ} {pieces : List (List ℕ)} → Handed text 0 pieces (length text)
+    → flatten pieces ≡ text
+handed-all {text} p = handed-front p ∙ take-length text
+
+-- ---- the buffer, and the rest of the text
 
 -- after `done` bytes of the text come the first `end` bytes of the buffer, then the rest
 pub record Waiting (text : List ℕ) (done : ℕ) (out : List ℕ) (end : ℕ) (rest : List ℕ)

@@ -98,13 +98,14 @@ pub telling-start : {h : Head} {l out₀ out₁ out path nodes : List ℕ} {coun
     → done ≡ 0
     → Telling h l out path nodes done end 0
 telling-start {h} {l} {out₀} same listed counted value long first second fits fits₁ w none =
+    let titled =
+    waiting-more (waiting-none (outputOf l) out₀ none) (listed ∙ listing-lines h l same counted)
+    first (omega arith) in
     record {
       walking = w;
       long = laid-long second ∙ laid-long first ∙ long;
       waiting =
-          waiting-more
-          (waiting-more (waiting-none (outputOf l) out₀ none) (listed ∙ listing-lines h l same counted)
-          first (omega arith)) (root-lines h l value) second (omega (arith, laid-long first));
+          waiting-more titled (root-lines h l value) second (omega (arith, laid-long first));
     }
 
 -- the search for the key after m

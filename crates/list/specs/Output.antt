@@ -1,6 +1,5 @@
--- 01, "The listing program": all that it writes, as one text, for any input. What a call of
--- `hand_over` hands to the file is a part of this text. That the bytes reach the file is not
--- said here.
+-- 01, "The listing program": all that it writes, as one text, for any input. The program hands
+-- it over piece by piece; that the pieces then reach standard output is not said here.
 use Prim.Native.Nat.{ℕ, zero, suc, _+_, _≤_}
 use mathlib.Core.Path.{_≡_}
 use mathlib.Core.Bool.{cond}

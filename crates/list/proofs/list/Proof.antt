@@ -110,8 +110,9 @@ loop-holds c =
     let counted = titled .before .before in
     let s = counted .before .before in
     let short-title = entries-long (counted .count .result) in
-    telling-start (s .pre .1 .0) (s .pre .1 .1 .0) (counted .count .ensures) (begun .start .ensures .0)
-    (search needs) (titled .entries .ensures) (rooted .root-line .ensures .0)
+    telling-start (s .pre .1 .0) (s .pre .1 .1 .0) (counted .count .ensures)
+    (begun .start .ensures .0) (search needs) (titled .entries .ensures)
+    (rooted .root-line .ensures .0)
     (omega (arith, titled .entries .ensures .ends))
     (omega (arith, titled .entries .ensures .ends, rooted .root-line .ensures .1))
     (record {
@@ -175,8 +176,8 @@ loop-less : tie.Need-loop-less Inv-loop μ-loop
 loop-less c =
     let joined = c .before .before .before .before in
     let at = turn joined .loop in
-    telling-less (take (at .len) (at .path)) (at .inv .waiting) (searched joined .onward .ensures .0)
-    (joined .before .before .found .given .1)
+    telling-less (take (at .len) (at .path)) (at .inv .waiting)
+    (searched joined .onward .ensures .0) (joined .before .before .found .given .1)
 
 loop-again : tie.Need-loop-again Inv-loop μ-loop
 loop-again c =
