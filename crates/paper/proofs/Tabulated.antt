@@ -1,5 +1,6 @@
 -- 01: "Prove those marked P, together, as a single tabulated fact about the written rules". Each
--- call of the table leaves what the table says; the checker computes it.
+-- call of the table leaves what the table says, and each image that is left has the G, W and U
+-- that the table says; the checker computes both.
 use mathlib.Core.Path.{_≡_, refl}
 use mathlib.Core.List.{map}
 use Rattle.field.specs.Field.{fieldAt, digits}
@@ -27,9 +28,11 @@ use Rattle.paper.specs.Orders.{addingRows, newOf, storeOrder, nextKeyOrd
 use Rattle.paper.specs.Calls.{tableIn, clearedBy, workAfter, freshHead, freshImage, makeOf}
 use Rattle.paper.specs.Calls.{checkOf, storedKeys, countOf, lookUpOf, storedImage, storeOf}
 use Rattle.paper.specs.Calls.{nextIn, foundIn, nextKeyOf}
-use Rattle.paper.specs.Cases.{Case, cases}
+use Rattle.paper.specs.Cases.{Case, cases, Sized, sizes, figuresOf}
 
-pub tabulated : map (λ (c : Case). c .call) cases ≡ map (λ (c : Case). c .leaves) cases
+pub tabulated :
+    (map (λ (c : Case). c .call) cases ≡ map (λ (c : Case). c .leaves) cases)
+    × (map (λ (s : Sized). figuresOf (s .image)) sizes ≡ map (λ (s : Sized). s .figures) sizes)
 unfolding fieldAt digits inRange inRanges fitsRow lengthBy charLen charAt inFront charsFrom chars
     follow descend valueAt answer missing fault present ownKey byLetter keysUnder before meets
     firstMeeting added changeOf lowest headOf permitted nodeWidth nodePlace usedLen among
@@ -42,4 +45,4 @@ unfolding fieldAt digits inRange inRanges fitsRow lengthBy charLen charAt inFron
     keyRowsBy keyRows nextRows lookUpOrder addingRows newOf storeOrder nextKeyOrder tableIn
     clearedBy workAfter freshHead headBytes freshImage makeOf checkOf storedKeys countOf lookUpOf
     storedImage storeOf nextIn foundIn nextKeyOf
-tabulated = refl
+tabulated = (refl, refl)

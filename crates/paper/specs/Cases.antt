@@ -1,12 +1,13 @@
--- 01, "Cases from one small file": those marked P, as one table of calls and of what each must
--- leave. N = 3, A = 1, D = 1, letters ABC, min 1, max 3. The lent buffers hold rubbish (AA in
--- images and key buffers, 7 in working numbers), so that the table shows what a call keeps and
--- what it changes.
+-- 01, "Cases from one small file": those marked P, as one table: of calls and of what each must
+-- leave, and of the images that are left and of their G, W and U. N = 3, A = 1, D = 1, letters
+-- ABC, min 1, max 3. The lent buffers hold rubbish (AA in images and key buffers, 7 in working
+-- numbers), so that the table shows what a call keeps and what it changes.
 use Prim.Native.Nat.{ℕ}
 use mathlib.Core.Bool.{true, false}
 use mathlib.Core.List.{List, [], _∷_, _++_}
 use lib.ListN.{replicate}
 use lib.IntN.{ℤ, pos}
+use Rattle.head.specs.Fields.{headOf, nodeWidth, usedLen}
 use Rattle.paper.specs.Hearing.{Outcome, outcome, refusedNumbers, doneNumbers}
 use Rattle.paper.specs.Given.{Given, asLetters, asText}
 use Rattle.paper.specs.Calls.{makeOf, checkOf, countOf, lookUpOf, storeOf, nextKeyOf}
@@ -15,6 +16,17 @@ use Rattle.paper.specs.Calls.{makeOf, checkOf, countOf, lookUpOf, storeO
 pub record Case : Type 0 where
   pub call : Outcome
   pub leaves : Outcome
+
+-- the figures of an image that 01 names
+pub record Figures : Type 0 where
+  pub g : ℕ
+  pub w : ℕ
+  pub u : ℕ
+
+-- an image that a case leaves, and the figures that it must have
+pub record Sized : Type 0 where
+  pub image : List ℕ
+  pub figures : Figures
 
 -- n bytes AA
 abbrev rubbish : ℕ → List ℕ
@@ -45,9 +57,25 @@ body7 =
     0 ∷ 1 ∷ 3 ∷ 0 ∷ 2 ∷ 0 ∷ 0 ∷ 5 ∷ 0 ∷ 0 ∷ 0 ∷ 9
     ∷ 0 ∷ 0 ∷ 4 ∷ 0 ∷ 0 ∷ 0 ∷ 5 ∷ 0 ∷ 0 ∷ 0 ∷ 0 ∷ 1 ∷ []
 
+-- the file after P1, with no spare bytes
+abbrev file1 : List ℕ
+file1 = file 0 body1 0
+
+-- the file after P2, with 17 spare bytes
+abbrev file2 : List ℕ
+file2 = file 2 body2 17
+
 -- the file after P3, with 17 spare bytes
 abbrev pub file3 : List ℕ
 file3 = file 2 body3 17
+
+-- the file after P7, with no spare bytes
+abbrev file7 : List ℕ
+file7 = file 5 body7 0
+
+-- G, W and U of an image, by the written rules
+abbrev pub figuresOf : List ℕ → Figures
+figuresOf l = record { g = headOf l .g; w = nodeWidth (headOf l); u = usedLen (headOf l) }
 
 -- refused with this number and place
 abbrev pub refused : ℕ → ℕ → List (List ℕ) → Outcome
@@ -93,20 +121,20 @@ checks body number place =
 abbrev pub cases : List Case
 cases =
     -- P1: "fresh in 35 bytes .. With 34 bytes, 4"
-    record { call = make 35; leaves = done 0 (pos 0) 0 (file 0 body1 0 ∷ []) }
+    record { call = make 35; leaves = done 0 (pos 0) 0 (file1 ∷ []) }
     ∷ record { call = make 34; leaves = refused 4 0 (rubbish 34 ∷ []) }
     -- P2: "then, with room, store BA = 9: change 1, G = 2, U = 43"
     ∷ record {
       call = storeOf (file 0 body1 25) work (asLetters (1 ∷ 0 ∷ [])) 9;
-      leaves = done 0 (pos 1) 0 (file 2 body2 17 ∷ (0 ∷ 7 ∷ 7 ∷ []) ∷ []);
+      leaves = done 0 (pos 1) 0 (file2 ∷ (0 ∷ 7 ∷ 7 ∷ []) ∷ []);
     }
     -- P3: "then store B = 5: change 1", by letters and by text; then number of keys is 2
     ∷ record {
-      call = storeOf (file 2 body2 17) work (asLetters (1 ∷ [])) 5;
+      call = storeOf file2 work (asLetters (1 ∷ [])) 5;
       leaves = done 0 (pos 1) 0 (file3 ∷ cleared ∷ []);
     }
     ∷ record {
-      call = storeOf (file 2 body2 17) work (asText (0x42 ∷ [])) 5;
+      call = storeOf file2 work (asText (0x42 ∷ [])) 5;
       leaves = done 0 (pos 1) 0 (file3 ∷ cleared ∷ []);
     }
     ∷ record { call = countOf file3 work; leaves = done 0 (pos 0) 2 (cleared ∷ []) }
@@ -144,7 +172,7 @@ cases =
     }
     ∷ record {
       call = storeOf (file 2 body3 12) work (asLetters (2 ∷ 2 ∷ 2 ∷ [])) 1;
-      leaves = done 0 (pos 1) 0 (file 5 body7 0 ∷ cleared ∷ []);
+      leaves = done 0 (pos 1) 0 (file7 ∷ cleared ∷ []);
     }
     -- P8 to P11: "7 at 1", "6 at 0", "8 at 1", "6 at 1"
     ∷ checks (0 ∷ 1 ∷ 1 ∷ 0 ∷ 0 ∷ 0 ∷ 0 ∷ 0 ∷ []) 7 1
@@ -164,4 +192,14 @@ cases =
       call = nextKeyOf file3 work (1 ∷ 0 ∷ []) true buffer;
       leaves = refused 15 0 (cleared ∷ buffer ∷ []);
     }
+    ∷ []
+
+-- "W is 4" in every image that is left; P1's 35 bytes, P2's "G = 2, U = 43", which P3 keeps, and
+-- P7's "in 55 bytes it is done with G = 5"
+abbrev pub sizes : List Sized
+sizes =
+    record { image = file1; figures = record { g = 0; w = 4; u = 35 } }
+    ∷ record { image = file2; figures = record { g = 2; w = 4; u = 43 } }
+    ∷ record { image = file3; figures = record { g = 2; w = 4; u = 43 } }
+    ∷ record { image = file7; figures = record { g = 5; w = 4; u = 55 } }
     ∷ []
