@@ -72,7 +72,7 @@ fn note_all(
             }
             note_path(writes, h, key, at)
         }
-        Walked::Bad(_) => 0,
+        Walked::Refused(_) => 0,
     }
 }
 

@@ -16,6 +16,7 @@ use Rattle.head.specs.declared.Head.{Head}
 use Rattle.head.specs.Fields.{mostLetters, headOf}
 use Rattle.node.specs.Image.{tableOf}
 use Rattle.node.specs.Writes.{carriedOut, dataWrite, storeWrites}
+use Rattle.paper.specs.declared.Refusal.{Refusal}
 use Rattle.paper.specs.declared.Stored.{Stored}
 use Rattle.paper.specs.Calls.{tableIn}
 use Rattle.paper.specs.Accepted.{Accepted}
@@ -97,11 +98,12 @@ stops-before key whole short {p = p} s =
     )
 
 module _ {l : List ℕ} {h : Head} (a : Accepted l) (same : h ≡ headOf l) where
-  never-bad : (k : List ℕ) {o : Walked} → o ≡ walkedFrom (h .g) (tableOf h l) atRoot k → {q : ℕ}
-      → o ≡ Walked.Bad q → ⊥
+  never-bad : (k : List ℕ) {o : Walked} → o ≡ walkedFrom (h .g) (tableOf h l) atRoot k
+      → {why : Refusal} → o ≡ Walked.Refused why → ⊥
   unfolding tableIn
-  never-bad k walked {q} e =
-      let f : none ≡ some q = sym (unfaulted a 0 k) ∙ rw same at (walked-bad _ _ k walked e) in
+  never-bad k walked e =
+      let w = walked-bad _ _ k walked e in
+      let f : none ≡ some (w .node) = sym (unfaulted a 0 k) ∙ rw same at w .faulty in
       let z : _≡_ {A = ℕ} 0 1 = cc in
       omega arith
 
@@ -112,7 +114,7 @@ module _ {l : List ℕ} {h : Head} (a : Accepted l) (same : h ≡ headOf l) wher
   ends key whole short (Walked.Stopped p) walked =
       let s = walked-stopped _ _ (lettersOf key) walked refl in
       record { node = s .within; depth = stops-before key whole short s }
-  ends key whole short (Walked.Bad q) walked = never-bad (lettersOf key) walked refl
+  ends key whole short (Walked.Refused why) walked = never-bad (lettersOf key) walked refl
 
   end-descends : (k : List ℕ) (o : Walked) → o ≡ walkedFrom (h .g) (tableOf h l) atRoot k
       → endOf k o ≡ descend (tableOf h l) 0 k
@@ -120,7 +122,7 @@ module _ {l : List ℕ} {h : Head} (a : Accepted l) (same : h ≡ headOf l) wher
   end-descends k (Walked.Complete q) walked = sym (walked-complete _ _ k walked refl .descent)
   end-descends k (Walked.Stopped p) walked =
       let s = walked-stopped _ _ k walked refl in rw (s .left) (sym (s .descent))
-  end-descends k (Walked.Bad q) walked = absurd (never-bad k walked refl)
+  end-descends k (Walked.Refused why) walked = absurd (never-bad k walked refl)
 
   module _ (k : List ℕ) {o : Walked} (walked : o ≡ walkedFrom (h .g) (tableOf h l) atRoot k) where
     pub in-hand : endOf k o ≡ descend (tableIn l) 0 k

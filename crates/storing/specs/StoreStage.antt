@@ -48,18 +48,18 @@ unfoldable pub stoppedAt : ℕ → List ℕ → Descent
 stoppedAt q [] = complete q
 stoppedAt q (x ∷ xs) = stopped q x xs
 
--- how a key's walk ended, as a descent; `Ends` excludes the bad link
+-- how a key's walk ended, as a descent; `Ends` excludes a refusal
 unfoldable pub endOf : List ℕ → Walked → Descent
 unfolding stoppedAt
 endOf k (Walked.Complete q) = complete q
 endOf k (Walked.Stopped p) = stoppedAt (p .node) (drop (p .depth) k)
-endOf k (Walked.Bad q) = complete q
+endOf k (Walked.Refused why) = complete 0
 
--- how a walk may end: at a node of the image, and never at a bad link
+-- how a walk may end: at a node of the image, and never refused at a bad link
 abbrev pub Ends : Head → Key → Walked → Type 0
 Ends h key (Walked.Complete q) = q ≤ h .g
 Ends h key (Walked.Stopped p) = Stop h key p
-Ends h key (Walked.Bad q) = ⊥
+Ends h key (Walked.Refused why) = ⊥
 
 -- none of 11, 12 and 13 is given in an image of this length, given how the key's walk ended
 abbrev pub Unrefused : Head → ℕ → Descent → ℕ → Type 0

@@ -27,7 +27,7 @@ use walk::Position;
 use walk::Walked;
 
 // Stores a value under a key; 0 deletes the key. Refusals: 11, 12, 13. An accepted image has no
-// bad link, so the walk meets none.
+// bad link, so the walk is not refused.
 pub fn store(image: &mut [u8], h: Head, key: Key, value: u64) -> Stored
     requires { ⌜ Accepted (now image) ⌝ ∗ ⌜ h ≡ headOf (now image) ⌝ ∗ ⌜ Ready h key ⌝ }
     ensures { λ r. ⌜ StoresIn (now (image .entry)) (lettersOf key) value r (now (image .exit)) ⌝ }
@@ -37,12 +37,15 @@ pub fn store(image: &mut [u8], h: Head, key: Key, value: u64) -> Stored
 }
 
 // Judges 11, 12 and 13 and carries out the writes, given how the key's walk ended. Refusals: 11,
-// 12, 13.
+// 12, 13. The walk's own refusal, which cannot be met here, would be handed on.
 pub fn store_at(image: &mut [u8], h: Head, key: Key, walked: Walked, value: u64) -> Stored
     requires { ⌜ Open h (now image) ⌝ ∗ ⌜ Ready h key ⌝ ∗ ⌜ Ends h key walked ⌝ }
     ensures { λ r. ⌜ outcome (storedOf r) (now (image .exit) ∷ []) ≡ storeAt h (now (image .entry))
         (endOf (lettersOf key) walked) value ⌝ }
 {
+    if let Walked::Refused(why) = walked {
+        return Stored::Refused(why);
+    }
     let verdict = judge(h, image.len(), new_count(h, key, walked, value), value);
     match verdict {
         Verdict::Refused(why) => Stored::Refused(why),
@@ -63,7 +66,7 @@ pub fn new_count(h: Head, key: Key, walked: Walked, value: u64) -> usize
     match walked {
         Walked::Complete(_) => 0,
         Walked::Stopped(at) => key.len - at.depth,
-        Walked::Bad(_) => 0,
+        Walked::Refused(_) => 0,
     }
 }
 
@@ -111,7 +114,7 @@ pub fn write_at(image: &mut [u8], h: Head, key: Key, walked: Walked, value: u64)
     match walked {
         Walked::Complete(node) => replace(image, h, node, value),
         Walked::Stopped(at) => extend(image, h, key, at, value),
-        Walked::Bad(_) => 0,
+        Walked::Refused(_) => 0,
     }
 }
 

@@ -16,6 +16,7 @@ use Rattle.trie.proofs.Faults.{fault-nil, fault-empty, fault-bad, fault-on}
 use Rattle.trie.proofs.Walk.{follow-empty, follow-on, descend-nil, descend-empty, descend-on}
 use Rattle.trie.proofs.Walk.{answer-complete, answer-stopped}
 use Rattle.paper.specs.declared.Looked.{Looked}
+use Rattle.paper.specs.declared.Refusal.{Refusal}
 use Rattle.paper.specs.declared.Refusal.the-variants.{Link}
 use Rattle.paper.specs.Rows.{badLink}
 use Rattle.paper.proofs.Linking.{good-link}
@@ -103,6 +104,12 @@ pub record Halted (g : ℕ) (t : Table) (k : List ℕ) (p : Position) : Type 0 w
   pub left : drop (p .depth) k ≡ letter ∷ rest
   pub within : p .node ≤ g
 
+-- the walk was refused: 6, at the node that holds the first bad link on the path
+pub record Faulted (g : ℕ) (t : Table) (k : List ℕ) (why : Refusal) : Type 0 where
+  pub node : ℕ
+  pub given : why ≡ Link node
+  pub faulty : fault (badLink g) t 0 k ≡ some node
+
 pub walking-start : (g : ℕ) (t : Table) (k : List ℕ) → Walking g t k atRoot
 walking-start g t k = record {
   same = refl;
@@ -172,9 +179,19 @@ module _ {g : ℕ} {t : Table} {k : List ℕ} {here : Position} (w : Walking g t
 
   -- a bad one
   pub walking-bad : {s : Step} {q : ℕ} → s ≡ stepOf g t here x → s ≡ Step.Bad q
-      → walkedFrom g t atRoot k ≡ Walked.Bad q
+      → walkedFrom g t atRoot k ≡ Walked.Refused (Link q)
   unfolding stepTaken
   walking-bad o e = walk-left (sym o ∙ e)
+
+  faulted : t .child (here .node) x ≢ 0
+      → badLink g (here .node) (t .child (here .node) x) ≡ true
+      → Faulted g t k (Link (here .node))
+  faulted h b =
+      record {
+        node = here .node;
+        given = refl;
+        faulty = fault-left ∙ fault-bad (badLink g) t (here .node) x xs refl h b;
+      }
 
   -- one to follow
   onward : {next : Position} → stepOf g t here x ≡ Step.At next
@@ -205,7 +222,7 @@ module _ {g : ℕ} {t : Table} {k : List ℕ} {here : Position} (w : Walking g t
 abbrev Told : ℕ → Table → List ℕ → Walked → Type 0
 Told g t k (Walked.Complete q) = Arrived g t k q
 Told g t k (Walked.Stopped p) = Halted g t k p
-Told g t k (Walked.Bad q) = fault (badLink g) t 0 k ≡ some q
+Told g t k (Walked.Refused why) = Faulted g t k why
 
 module _ (g : ℕ) (t : Table) (k : List ℕ) where
   -- where letters are left, by what the next one meets
@@ -216,9 +233,7 @@ module _ (g : ℕ) (t : Table) (k : List ℕ) where
       → {s : Step} → stepOf g t here x ≡ s → Met g here (t .child (here .node) x) s
       → Told g t k (walkedFrom g t atRoot k)
   told-more w l go e (empty z) = rw (walking-stopped w l refl e) (halted w l z)
-  told-more {here} {x} {xs} w l go e (bad h b) =
-      rw (walking-bad w l refl e)
-      (fault-left w l ∙ fault-bad (badLink g) t (here .node) x xs refl h b)
+  told-more w l go e (bad h b) = rw (walking-bad w l refl e) (faulted w l h b)
   told-more w l go e (on h b) = go _ (walking-on w l refl e .0) (rest w l)
 
   told-from : (xs : List ℕ) (here : Position) → Walking g t k here → drop (here .depth) k ≡ xs
@@ -239,7 +254,7 @@ module _ (g : ℕ) (t : Table) (k : List ℕ) where
     pub walked-stopped : {p : Position} → o ≡ Walked.Stopped p → Halted g t k p
     walked-stopped e = subst (Told g t k) e told
 
-    pub walked-bad : {q : ℕ} → o ≡ Walked.Bad q → fault (badLink g) t 0 k ≡ some q
+    pub walked-bad : {why : Refusal} → o ≡ Walked.Refused why → Faulted g t k why
     walked-bad e = subst (Told g t k) e told
 
     -- what a lookup answers there
@@ -253,6 +268,8 @@ module _ (g : ℕ) (t : Table) (k : List ℕ) where
     unfolding lookedIn lookedBy
     looked-stopped e = let a = walked-stopped e in rw (a .sound, answer-stopped t k (a .descent))
 
-    pub looked-bad : {q : ℕ} → o ≡ Walked.Bad q → lookedIn g t k ≡ Looked.Refused (Link q)
+    pub looked-bad : {why : Refusal} → o ≡ Walked.Refused why → lookedIn g t k ≡ Looked.Refused
+        why
     unfolding lookedIn lookedBy
-    looked-bad e = rw (walked-bad e)
+    looked-bad e =
+        let a = walked-bad e in rw (a .faulty) (ap Looked.Refused (sym (a .given)))

@@ -29,12 +29,12 @@ stepOf g t p x =
     follow (t .child (p .node) x) Step.Empty
     (λ c. cond (badLink g (p .node) c) (Step.Bad (p .node)) (Step.At (onTo p c)))
 
--- the walk after a step: it goes on from the next position, it stops at this one, or it ends
--- with the node that holds the bad link
+-- the walk after a step: it goes on from the next position, it stops at this one, or it is
+-- refused: 6, with the node that holds the bad link
 unfoldable pub stepTaken : Position → Step → (Position → Walked) → Walked
 stepTaken p (Step.At q) on = on q
 stepTaken p Step.Empty on = Walked.Stopped p
-stepTaken p (Step.Bad q) on = Walked.Bad q
+stepTaken p (Step.Bad q) on = Walked.Refused (Link q)
 
 -- where the letters of a key lead, one after the other
 unfoldable pub walkedFrom : ℕ → Table → Position → List ℕ → Walked

@@ -1,6 +1,6 @@
 // 01: "The descent stands at a node and a depth; each letter gives the next position." The image
 // is opened, but need not have been checked, so each link is judged where it is met: the first
-// bad one ends the walk, with the node that holds it.
+// bad one ends the walk, with its refusal: 6 at the node that holds it.
 ghost use mathlib.Core.Path.{_≡_};
 ghost use Prim.Native.Nat.{_≤_, _<_};
 ghost use Rattle.head.specs.Fields.{mostLetters};
@@ -34,8 +34,8 @@ pub enum Walked {
     Complete(u32),
     // To this position, whose link for the next letter is empty.
     Stopped(Position),
-    // To a bad link, which this node holds.
-    Bad(u32),
+    // To a bad link: the refusal that is given for it.
+    Refused(Refusal),
 }
 
 impl Position {
@@ -60,7 +60,8 @@ impl Position {
     }
 }
 
-// Walks from the root along a key that has passed 9 and 10.
+// Walks from the root along a key that has passed 9 and 10. Refusals: 6, at the node that holds
+// the first bad link on the key's path.
 pub fn walk(image: &[u8], h: Head, key: Key) -> Walked
     requires { ⌜ Open h (now image) ⌝ ∗ ⌜ Ready h key ⌝ }
     ensures { λ r. ⌜ r ≡ walkedFrom (h .g) (tableOf h (now (image .entry))) atRoot
@@ -76,15 +77,14 @@ pub fn walk(image: &[u8], h: Head, key: Key) -> Walked
             let Step::Bad(node) = next else {
                 return Walked::Stopped(here);
             };
-            return Walked::Bad(node);
+            return Walked::Refused(Refusal::Link(node));
         };
         here = position;
     }
     Walked::Complete(here.node)
 }
 
-// The value of a key, 0 for absent. Refusals: 6, at the node that holds the first bad link on
-// the key's path.
+// The value of a key, 0 for absent. Refusals: 6, the walk's.
 pub fn look(image: &[u8], h: Head, key: Key) -> Looked
     requires { ⌜ Open h (now image) ⌝ ∗ ⌜ Ready h key ⌝ }
     ensures { λ r. ⌜ r ≡ lookedIn (h .g) (tableOf h (now (image .entry))) (lettersOf key) ⌝ }
@@ -93,6 +93,6 @@ pub fn look(image: &[u8], h: Head, key: Key) -> Looked
     match walked {
         Walked::Complete(node) => Looked::Value(node::data(image, h, node)),
         Walked::Stopped(_) => Looked::Value(0),
-        Walked::Bad(node) => Looked::Refused(Refusal::Link(node)),
+        Walked::Refused(why) => Looked::Refused(why),
     }
 }

@@ -1,5 +1,5 @@
 -- `walk::look` meets its contract: a complete walk ends at a node up to G, whose data is the
--- value; a walk that stopped answers 0, and a bad link is 6. Assumes nothing.
+-- value; a walk that stopped answers 0, and the walk's refusal is the answer. Assumes nothing.
 use mathlib.Core.Path.{sym, _∙_, ap}
 use borrow.Author.Needs.{needs}
 use Rattle.paper.specs.declared.Looked.{Looked}
