@@ -136,6 +136,7 @@ module _ {h : Head} {l : List ℕ} {o : Option (List ℕ)} {r : Search} {path no
 
 -- what is known once 9 and 10 have passed
 pub record AfterCheck (l : List ℕ) (h : Head) (key : List ℕ) (hand : Key) : Type 0 where
+  pub accepted : Accepted l
   pub same : h ≡ headOf l
   pub walk : Walkable h l
   pub unheard : first (nextRows (headOf l) key) ≡ none
@@ -163,6 +164,7 @@ module _ {l : List ℕ} {h : Head} (a : Accepted l) (same : h ≡ headOf l) wher
     after-check e =
         let r = next-ready h head-permitted holds (told-passed (told key holds) e) in
         record {
+          accepted = a;
           same = same;
           walk = walkable a same;
           unheard = told-passed judged e;

@@ -1,6 +1,6 @@
 -- A walk from key to key through an accepted image, for the crates above. A search that found a
 -- key leaves the key's path, and the next search starts from it.
-use mathlib.Core.Path.{_≡_, refl, sym, _∙_, ap}
+use mathlib.Core.Path.{_≡_, refl, sym, _∙_, ap, subst}
 use Prim.Native.Nat.{ℕ, _≤_}
 use native.Mathlib.Omega.{arith}
 use mathlib.Core.Bool.{true}
@@ -12,16 +12,26 @@ use Rattle.trie.specs.Keys.{ownKey, listing, meets, filter}
 use Rattle.trie.specs.Beyond.{firstOf}
 use Rattle.trie.specs.Rules.{Within}
 use Rattle.trie.proofs.Listing.{keysUnder-ascending}
-use Rattle.trie.proofs.Filter.{first-filter}
-use Rattle.trie.proofs.InTurn.{filter-next}
+use Rattle.trie.proofs.Filter.{first-filter, filter-next}
 use Rattle.trie.proofs.Beyond.{under-split, filter-after, beyond-nil}
-use Rattle.head.specs.Fields.{mostLetters, mostPath}
+use Rattle.head.specs.Fields.{mostLetters, mostPath, headOf}
 use Rattle.head.specs.declared.Head.{Head}
 use Rattle.node.specs.Image.{Open, tableOf}
+use Rattle.paper.specs.Calls.{tableIn}
+use Rattle.paper.specs.Accepted.{Accepted}
+use Rattle.paper.proofs.Linking.{ruled-link}
+use Rattle.walk.specs.Descent.{GoodLinks}
 use Rattle.depths.proofs.Walkable.{Walkable, short}
 use Rattle.traversal.specs.declared.Search.{Search}
 use Rattle.traversal.specs.Search.{PathRoom, Along, nextStored, searchOf, SearchTells}
 use Rattle.traversal.proofs.Searching.{was-missing, was-found}
+
+-- no link of an accepted image is bad
+pub accepted-good : {h : Head} {l : List ℕ} → Accepted l → h ≡ headOf l
+    → GoodLinks (h .g) (tableOf h l)
+unfolding tableIn
+accepted-good {l = l} a e =
+    subst (λ (k : Head). GoodLinks (k .g) (tableOf k l)) (sym e) (ruled-link (a .links))
 
 -- the path is that of a key of n letters, which was found
 pub record Met (h : Head) (l path nodes : List ℕ) (n : ℕ) : Type 0 where
@@ -84,7 +94,8 @@ module _ (h : Head) (l : List ℕ) where
       go [] f g = absurd (Option·some-ne-none k (sym g))
       go (j ∷ ks) f g =
           let rest : keysAfter j ≡ ks =
-          filter-next allKeys m (keysUnder-ascending (tableOf h l) (h .n) (h .min) (h .max) 0) f
+          filter-next allKeys true m (keysUnder-ascending (tableOf h l) (h .n) (h .min) (h .max) 0)
+          f
           in
           ap (j ∷_) (sym rest)
           ∙ ap (λ (x : List ℕ). x ∷ keysAfter x) (Option·some-injective j k g)

@@ -10,11 +10,14 @@ ghost use Rattle.trie.specs.Rules.{Within};
 ghost use Rattle.trie.specs.Beyond.{firstOf};
 ghost use Rattle.node.specs.Image.{Open, Masks, tableOf};
 ghost use Rattle.key.specs.Hand.{Ready, lettersOf};
+ghost use Rattle.walk.specs.Descent.{GoodLinks};
 ghost use Rattle.depths.specs.Depths.{ownValue};
 ghost use Rattle.traversal.specs.Search.{ahead, coming, PathRoom, Along, PathKept, Followed};
 ghost use Rattle.traversal.specs.Search.{nextStored, SearchTells};
 use head::Head;
 use key::Key;
+use walk::Position;
+use walk::Step;
 
 // The answer of a search.
 pub enum Search {
@@ -34,7 +37,7 @@ pub fn next(
     path: &mut [u8],
     nodes: &mut [u32],
 ) -> Search
-    requires { ⌜ Open h (now image) ⌝ ∗ ⌜ Within (tableOf h (now image)) (h .g) ⌝ }
+    requires { ⌜ Open h (now image) ⌝ ∗ ⌜ GoodLinks (h .g) (tableOf h (now image)) ⌝ }
     requires { ⌜ Ready h key ⌝ ∗ ⌜ key .len ≤ h .max ⌝ ∗ ⌜ PathRoom h (now path) (now nodes) ⌝ }
     ensures { λ r. ⌜ SearchTells h (now (image .entry))
         (nextStored h (now (image .entry)) after (lettersOf key)) r (now (path .exit))
@@ -93,10 +96,11 @@ pub fn start(image: &[u8], h: Head, nodes: &mut [u32]) -> u64
     depths::own_value(image, h, 0, 0)
 }
 
-// Follows a key from the root until it ends or a link is empty, and answers how many letters it
-// followed.
+// Follows a key from the root, position by position, until it ends or a link is empty, and answers
+// how many letters it followed. No link is bad, so a step that leads to no position met an empty
+// link.
 fn along(image: &[u8], h: Head, mask: u32, key: Key, path: &mut [u8], nodes: &mut [u32]) -> usize
-    requires { ⌜ Open h (now image) ⌝ ∗ ⌜ Within (tableOf h (now image)) (h .g) ⌝
+    requires { ⌜ Open h (now image) ⌝ ∗ ⌜ GoodLinks (h .g) (tableOf h (now image)) ⌝
         ∗ ⌜ Masks h mask ⌝ }
     requires { ⌜ Ready h key ⌝ ∗ ⌜ key .len ≤ h .max ⌝ ∗ ⌜ PathRoom h (now path) (now nodes) ⌝ }
     ensures { λ r. ⌜ Followed h (now (image .entry)) (lettersOf key) (now (path .exit))
@@ -105,20 +109,18 @@ fn along(image: &[u8], h: Head, mask: u32, key: Key, path: &mut [u8], nodes: &mu
     let letters = key.letters;
     let len = key.len;
     nodes[0] = 0;
-    let mut node: u32 = 0;
-    let mut depth: usize = 0;
-    while depth < len {
+    let mut here = Position { node: 0, depth: 0 };
+    while here.depth < len {
+        let depth = here.depth;
         let letter = letters[depth];
-        let c = node::link(image, h, mask, node, letter as u32);
-        if c == 0 {
+        let Step::At(next) = here.step(image, h, mask, letter) else {
             return depth;
-        }
+        };
         path[depth] = letter;
-        nodes[depth + 1] = c;
-        node = c;
-        depth += 1;
+        nodes[depth + 1] = next.node;
+        here = next;
     }
-    depth
+    here.depth
 }
 
 // The first stored key below the path's end from a letter on. If there is none, the search goes

@@ -4,7 +4,7 @@
 use Prim.Native.Nat.{ℕ, _+_, _≤_, _<_}
 use mathlib.Core.Path.{_≡_, refl, sym, _∙_, ap, subst}
 use mathlib.Core.Logic.{_≢_}
-use mathlib.Core.Bool.{Bool, true, false, cond}
+use mathlib.Core.Bool.{Bool, true, false, cond, true≢false}
 use mathlib.Core.Option.{none, some}
 use mathlib.Core.List.{List, [], _∷_}
 use native.Mathlib.Decide.{ℕ-discrete}
@@ -12,6 +12,7 @@ use native.Mathlib.Omega.{arith}
 use lib.ListN.{length, drop, length-drop}
 use lib.Seq.{drop-length, drop-drop}
 use Rattle.trie.specs.Table.{Table, complete, stopped, descend, fault}
+use Rattle.trie.specs.Rules.{Within}
 use Rattle.trie.proofs.Faults.{fault-nil, fault-empty, fault-bad, fault-on}
 use Rattle.trie.proofs.Walk.{follow-empty, follow-on, descend-nil, descend-empty, descend-on}
 use Rattle.trie.proofs.Walk.{answer-complete, answer-stopped}
@@ -23,8 +24,8 @@ use Rattle.paper.proofs.Linking.{good-link}
 use Rattle.walk.specs.declared.Position.{Position}
 use Rattle.walk.specs.declared.Step.{Step}
 use Rattle.walk.specs.declared.Walked.{Walked}
-use Rattle.walk.specs.Descent.{atRoot, onTo, stepOf, stepTaken, walkedFrom, lookedBy}
-use Rattle.walk.specs.Descent.{lookedIn}
+use Rattle.walk.specs.Descent.{atRoot, onTo, GoodLinks, stepOf, stepTaken, walkedFrom}
+use Rattle.walk.specs.Descent.{lookedBy, lookedIn}
 
 -- ---- one letter
 
@@ -66,6 +67,36 @@ met g t p x e =
     go (yes e) b f = rw (step-empty g t p x refl e) (empty e)
     go (no h) true f = rw (step-bad g t p x refl h f) (bad h f)
     go (no h) false f = rw (step-on g t p x refl h f) (on h f)
+
+-- s is where one letter led
+module _ (g : ℕ) (t : Table) (p : Position) (x : ℕ) {s : Step} (is : s ≡ stepOf g t p x) where
+  -- to a position: the link is followed
+  pub step-led : {next : Position} → s ≡ Step.At next
+      → (t .child (p .node) x ≢ 0) × (next ≡ onTo p (t .child (p .node) x))
+  step-led e = go (met g t p x (sym is ∙ e))
+    where
+      go : {next : Position} → Met g p (t .child (p .node) x) (Step.At next)
+          → (t .child (p .node) x ≢ 0) × (next ≡ onTo p (t .child (p .node) x))
+      go (on h b) = (h, refl)
+
+  -- to no position, in a table without a bad link: the link is empty
+  pub step-stayed : GoodLinks g t → ((next : Position) → s ≢ Step.At next)
+      → t .child (p .node) x ≡ 0
+  step-stayed good stays = go (met g t p x (sym is)) stays
+    where
+      go : {s : Step} → Met g p (t .child (p .node) x) s → ((next : Position) → s ≢ Step.At next)
+          → t .child (p .node) x ≡ 0
+      go (empty z) stays = z
+      go (bad h b) stays = absurd (true≢false (sym b ∙ good (p .node) x h))
+      go (on h b) stays = absurd (stays _ refl)
+
+-- in a table without a bad link every link is at most the greatest address
+pub good-within : (g : ℕ) (t : Table) → GoodLinks g t → Within t g
+good-within g t good q i = go (ℕ-discrete (t .child q i) 0)
+  where
+    go : Dec (t .child q i ≡ 0) → t .child q i ≤ g
+    go (yes z) = omega arith
+    go (no h) = good-link g q (t .child q i) h (good q i h) .0
 
 pub walked-nil : (g : ℕ) (t : Table) (p : Position) → walkedFrom g t p [] ≡ Walked.Complete
     (p .node)

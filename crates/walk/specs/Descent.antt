@@ -3,7 +3,9 @@
 -- "the first refusal met on the way down is the answer, and its place is the node that holds that
 -- link".
 use Prim.Native.Nat.{ℕ, _+_}
-use mathlib.Core.Bool.{cond}
+use mathlib.Core.Path.{_≡_}
+use mathlib.Core.Logic.{_≢_}
+use mathlib.Core.Bool.{false, cond}
 use mathlib.Core.Option.{Option, none, some}
 use mathlib.Core.List.{List, [], _∷_}
 use Rattle.trie.specs.Table.{Table, follow, answer, fault}
@@ -21,6 +23,11 @@ atRoot = record { node = 0; depth = 0 }
 -- the position after a letter whose link is c
 abbrev pub onTo : Position → ℕ → Position
 onTo p c = record { node = c; depth = p .depth + 1 }
+
+-- no link breaks the first link rule, so no letter leads to a bad link: a table whose links have
+-- been checked
+abbrev pub GoodLinks : ℕ → Table → Type 0
+GoodLinks g t = (q i : ℕ) → t .child q i ≢ 0 → badLink g q (t .child q i) ≡ false
 
 -- where one letter leads, in a table whose greatest address is g
 unfoldable pub stepOf : ℕ → Table → Position → ℕ → Step

@@ -10,11 +10,14 @@ use lib.ListN.{length, getD}
 use lib.Seq.{getD-take}
 use borrow.Author.Tests.{not-true, not-false}
 use borrow.Author.Needs.{needs}
+use Rattle.trie.specs.Rules.{Within}
 use Rattle.trie.specs.Beyond.{firstOf}
 use Rattle.head.specs.Fields.{mostLetters}
 use Rattle.head.proofs.Permitted.{bounds}
+use Rattle.node.specs.Image.{tableOf}
 use Rattle.key.specs.Hand.{lettersOf}
 use Rattle.key.proofs.Hand.{letters-count, letter-below}
+use Rattle.walk.proofs.Descents.{good-within}
 use Rattle.traversal.specs.Search.{coming, PathRoom, nextStored}
 use Rattle.traversal.proofs.Paths.{room-kept, along-within}
 use Rattle.traversal.proofs.Searching.{told-same}
@@ -29,6 +32,10 @@ whole c = search needs
 -- the number of the key's letters
 count : (c : tie.Start) → length (lettersOf (c .args .key)) ≡ c .args .key .len
 count c = letters-count (c .args .key) (whole c) (c .pre .1 .1 .0 .short)
+
+-- no link is above G
+within : (c : tie.Start) → Within (tableOf (c .args .h) (c .args .image .now)) (c .args .h .g)
+within c = good-within (c .args .h .g) (tableOf (c .args .h) (c .args .image .now)) (c .pre .1 .0)
 
 -- the lists are still long enough, and the path is no deeper than max
 room : (c : tie.After-along)
@@ -99,11 +106,12 @@ add-climb c =
 climb-requires : tie.Need-climb-requires
 climb-requires c κs =
     let on = c .before .before .before .before .before .before .before .before .before in
-    let p = on .before .before .before .before .before .before .before .pre in
+    let start = on .before .before .before .before .before .before .before in
+    let p = start .pre in
     let stops = c .before .before .before .if1 .taken in (
       p .0,
       (
-        p .1 .0,
+        within start,
         (
           on .before .before .before .mask .ensures,
           (
@@ -162,7 +170,7 @@ own-value-requires c κs =
     let on = c .before .before .before .before .before .before .before .before in
     let start = on .before .before .before .before .before .before .before in (
       start .pre .0,
-      along-within (start .args .h) (start .args .image .now) (start .pre .1 .0)
+      along-within (start .args .h) (start .args .image .now) (within start)
           (on .along .ensures .along),
     )
 
@@ -215,10 +223,10 @@ from-here c =
 climb-requires-2 : tie.Need-climb-requires-2
 climb-requires-2 c κs =
     let on = c .before .before .before .before .before .before .before .before .before in
-    let p = on .before .before .before .before .before .before .before .pre in (
-      p .0,
+    let start = on .before .before .before .before .before .before .before in (
+      start .pre .0,
       (
-        p .1 .0,
+        within start,
         (
           on .before .before .before .mask .ensures,
           (deep on, ((λ b. omega arith), (room on, on .along .ensures .along))),
