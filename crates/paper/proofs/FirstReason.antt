@@ -119,3 +119,43 @@ pub heard-no-place : (row : Row) (kept : List (List ℕ)) (done : Outcome) → N
 unfolding heard refusedNumbers
 heard-no-place row kept done none-given z = z
 heard-no-place row kept done (at-0 e) z = e
+
+-- ---- places by number
+
+-- a row that is given has a number and a place of which `right` is so
+abbrev pub Tells : (ℕ → ℕ → Type 0) → Row → Type 0
+Tells right none = Unit {0}
+Tells right (some s) = right (s .number) (s .place)
+
+-- what follows from it is so too
+pub tell-alike : {right other : ℕ → ℕ → Type 0} (r : Row)
+    → ((n place : ℕ) → right n place → other n place) → Tells right r
+    → Tells other r
+tell-alike none to f = tt
+tell-alike (some s) to f = to (s .number) (s .place) f
+
+abbrev pub AllTell : (ℕ → ℕ → Type 0) → List Row → Type 0
+AllTell right [] = Unit {0}
+AllTell right (x ∷ xs) = Tells right x × AllTell right xs
+
+module _ (right : ℕ → ℕ → Type 0) where
+  pub parts-tell : (xs ys : List Row) → AllTell right xs → AllTell right ys
+      → AllTell right (xs ++ ys)
+  parts-tell [] ys f g = g
+  parts-tell (x ∷ xs) ys f g = (f .0, parts-tell xs ys (f .1) g)
+
+  pub when-tells : (number place : ℕ) (test : Bool) → right number place
+      → Tells right (rowWhen number place test)
+  unfolding rowWhen
+  when-tells number place true r = r
+  when-tells number place false r = tt
+
+  -- so it is of the answer, where an order is heard whose rows tell it
+  pub heard-tells : (rows : List Row) (kept : List (List ℕ)) (done : Outcome)
+      → AllTell right rows → right (done .numbers .number) (done .numbers .place)
+      → right (heard (first rows) kept done .numbers .number)
+      (heard (first rows) kept done .numbers .place)
+  unfolding first heard refusedNumbers
+  heard-tells [] kept done f z = z
+  heard-tells (none ∷ xs) kept done f z = heard-tells xs kept done (f .1) z
+  heard-tells (some s ∷ xs) kept done f z = f .0

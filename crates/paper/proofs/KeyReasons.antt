@@ -35,7 +35,7 @@ use Rattle.paper.proofs.FirstReason.{when-no-place}
 
 -- ---- 9
 
-outside : (x low high : ℕ) → (not (between x low high) ≡ true) ↔ ((x < low) ⊎ (high < x))
+pub outside : (x low high : ℕ) → (not (between x low high) ≡ true) ↔ ((x < low) ⊎ (high < x))
 outside x low high = (λ e. to e (decLt x low) (decLt high x), from)
   where
     to : not (between x low high) ≡ true → Dec (x < low) → Dec (high < x)
@@ -81,7 +81,7 @@ no-letter n (y ∷ key) m b =
     ⊎-elim (λ e. rw (le-ltb y n (omega arith)))
     (λ t. rw (no-letter n key t b) (and-false (ltb y n))) (List·Memᴰ·cases-cons m)
 
-ten-fits : (h : Head) (key : List ℕ) → Fits (row10 h key) (10 when LetterOutside h key)
+pub ten-fits : (h : Head) (key : List ℕ) → Fits (row10 h key) (10 when LetterOutside h key)
 unfolding row10
 ten-fits h key =
     when-fits 10 0 (not (allBelow (h .n) key)) (λ e. some-letter (h .n) key (not-true _ e))
@@ -90,7 +90,7 @@ ten-fits h key =
 -- ---- 10 for text
 
 -- the test for a character of an alphabet, as a statement
-among-member : (c : ℕ) (cs : List ℕ) → (among c cs ≡ true) ↔ List·Memᴰ c cs
+pub among-member : (c : ℕ) (cs : List ℕ) → (among c cs ≡ true) ↔ List·Memᴰ c cs
 unfolding among
 among-member c [] = (λ e. absurd (false≢true e), λ m. absurd (List·Memᴰ·not-nil m))
 among-member c (d ∷ cs) = (to (among-member c cs .0), from (among-member c cs .1))

@@ -1,11 +1,13 @@
 pub mod Adding002
 pub mod CheckCall
+pub mod CheckReasons
 pub mod FirstReason
 pub mod MakeCall
 pub mod Hearing
 pub mod KeyReasons
 pub mod Keying
 pub mod Known
+pub mod LinkReasons
 pub mod Linking
 pub mod LookUpCall
 pub mod MendCall
@@ -13,6 +15,7 @@ pub mod Named
 pub mod NextKeyCall
 pub mod Numbers
 pub mod Opening
+pub mod OpeningReasons
 pub mod Reasons
 pub mod StoreCall
 pub mod Tabulated

@@ -34,7 +34,7 @@ use Rattle.paper.proofs.Numbers.{AllSay, end, _then_, lowest-says, pass
 
 -- ---- a bad link, and a node that holds one
 
-not-bad : (g q c : ℕ) → (badLink g q c ≡ false) ↔ ((c ≡ 0) ⊎ ((c ≤ g) × (q < c)))
+pub not-bad : (g q c : ℕ) → (badLink g q c ≡ false) ↔ ((c ≡ 0) ⊎ ((c ≤ g) × (q < c)))
 unfolding badLink
 not-bad g q zero = (λ _. inl refl, λ _. refl)
 not-bad g q (suc c) = (to, from)
@@ -87,14 +87,14 @@ module _ (g : ℕ) (t : Table) (q : ℕ) where
 
 -- ---- in how many links an address stands
 
-hit : ℕ → ℕ → ℕ
+pub hit : ℕ → ℕ → ℕ
 hit x c = cond (eqb c x) 1 0
 
 hit-one : {x c : ℕ} → c ≡ x → 1 ≤ hit x c
 unfolding hit
 hit-one {x} {c} e = rw (eq-eqb c x e) (omega arith)
 
-one-hit : (x c : ℕ) → 1 ≤ hit x c → c ≡ x
+pub one-hit : (x c : ℕ) → 1 ≤ hit x c → c ≡ x
 unfolding hit
 one-hit x c h = go (eqb c x) refl h
   where
@@ -102,7 +102,7 @@ one-hit x c h = go (eqb c x) refl h
     go true e h = eqb-true c x e
     go false e h = absurd (omega arith)
 
-hit-most : (x c : ℕ) → hit x c ≤ 1
+pub hit-most : (x c : ℕ) → hit x c ≤ 1
 unfolding hit
 hit-most x c = go (eqb c x)
   where
@@ -111,11 +111,11 @@ hit-most x c = go (eqb c x)
     go false = omega arith
 
 module _ (t : Table) (x : ℕ) where
-  in-node : (q : ℕ) → Sums (timesIn t x q) (λ i. hit x (t .child q i))
+  pub in-node : (q : ℕ) → Sums (timesIn t x q) (λ i. hit x (t .child q i))
   unfolding timesIn hit
   in-node q = record { start = refl; more = λ m. refl }
 
-  in-nodes : (n : ℕ) → Sums (times t n x) (λ q. timesIn t x q n)
+  pub in-nodes : (n : ℕ) → Sums (times t n x) (λ q. timesIn t x q n)
   unfolding times
   in-nodes n = record { start = refl; more = λ k. refl }
 
@@ -124,7 +124,7 @@ module _ (t : Table) (x : ℕ) where
   counted n {q} a b e = omega (arith, one-part (in-node q) b, hit-one e, one-part (in-nodes n) a)
 
   -- where x is counted less than twice, two links that hold it are one link
-  counted-once : (n : ℕ) {q i p j k : ℕ} → q < k → i < n → p < k → j < n → t .child q i ≡ x
+  pub counted-once : (n : ℕ) {q i p j k : ℕ} → q < k → i < n → p < k → j < n → t .child q i ≡ x
       → t .child p j ≡ x → times t n x k < 2
       → (q ≡ p) × (i ≡ j)
   counted-once n {q} {i} {p} {j} {k} a b c d e f few = go (ℕ-discrete q p) (ℕ-discrete i j)
@@ -202,7 +202,7 @@ module _ (h : Head) (t : Table) where
   count x = times t (h .n) x (h .g + 1)
 
   -- row 7: does an address stand in two links or more?
-  abbrev twice : ℕ → Bool
+  abbrev pub twice : ℕ → Bool
   twice x = leb 2 (count x)
 
   -- row 8: does an address stand in no link?

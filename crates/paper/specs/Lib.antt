@@ -3,6 +3,7 @@ pub mod Adding002
 pub mod Answers
 pub mod Calls
 pub mod Cases
+pub mod CheckReasons
 pub mod Given
 pub mod Granted
 pub mod Hearing

@@ -1,0 +1,366 @@
+-- 6 to 8: each row is given exactly where its reason applies, and its place is the lowest node or
+-- address that the reason speaks of. An address that is counted twice stands in two links: in two
+-- of one node, or in one of each of two nodes.
+use Prim.Native.Nat.{ℕ, zero, suc, _+_, _≤_, _<_}
+use mathlib.Core.Path.{_≡_, refl, sym, _∙_, ap}
+use mathlib.Core.Logic.{_↔_, _≢_, _⊎_, inl, inr, ⊎-elim}
+use mathlib.Core.Bool.{Bool, true, false, true≢false, false≢true}
+use mathlib.Core.List.{List}
+use native.Mathlib.Decide.{decLe, decLt}
+use native.Mathlib.Omega.{arith}
+use lib.Dec.{ltb}
+use borrow.Author.Tests.{ltb-true, ltb-false, leb-true, le-leb, eqb-true, eq-eqb}
+use Rattle.trie.specs.Table.{Table}
+use Rattle.trie.specs.Lowest.{lowest}
+use Rattle.trie.proofs.Lowest.{lowest-least, none-lowest}
+use Rattle.trie.proofs.Counted.{Sums, some-part}
+use Rattle.head.specs.declared.Head.{Head}
+use Rattle.head.specs.Fields.{headOf}
+use Rattle.node.specs.Image.{tableOf}
+use Rattle.paper.specs.Hearing.{Row, rowWhen}
+use Rattle.paper.specs.Rows.{badLink, holdsBad, rowWhenLowest, row6, timesIn, times, row7}
+use Rattle.paper.specs.Rows.{row8}
+use Rattle.paper.specs.Calls.{tableIn}
+use Rattle.paper.specs.Reasons.{_when_}
+use Rattle.paper.specs.CheckReasons.{Breaks, HoldsBreaking, StandsIn, InTwo, InNone, LowestOf}
+use Rattle.paper.specs.CheckReasons.{RightPlace}
+use Rattle.paper.proofs.FirstReason.{Fits, Tells, tell-alike}
+use Rattle.paper.proofs.Linking.{not-bad, holds-bad, one-hit, hit-most, in-node, in-nodes}
+use Rattle.paper.proofs.Linking.{counted, counted-once, holds, count, twice, nowhere}
+
+-- ---- rows with a place
+
+-- where one of the numbers passes, the lowest passes and no number before it does
+pub lowest-found : (p : ℕ → Bool) (a k : ℕ) → lowest p a k < a + k
+    → (p (lowest p a k) ≡ true) × ((y : ℕ) → a ≤ y → y < lowest p a k → p y ≡ false)
+unfolding lowest
+lowest-found p a zero h = absurd (omega arith)
+lowest-found p a (suc k) h = go (p a) refl (lowest-found p (suc a) k)
+  where
+    go : (b : Bool) → p a ≡ b
+        → (lowest p (suc a) k < suc a + k
+        → (p (lowest p (suc a) k) ≡ true)
+        × ((y : ℕ) → suc a ≤ y → y < lowest p (suc a) k → p y ≡ false))
+        → (p (lowest p a (suc k)) ≡ true)
+        × ((y : ℕ) → a ≤ y → y < lowest p a (suc k) → p y ≡ false)
+    go true e below =
+        let here : lowest p a (suc k) ≡ a = rw e in
+        (ap p here ∙ e, λ y low high. absurd (omega arith))
+    go false e below =
+        let on : lowest p a (suc k) ≡ lowest p (suc a) k = rw e in
+        let f = below (omega arith) in
+        (ap p on ∙ f .0, λ y low high. before y (decLe (suc a) y) low (omega arith) (f .1 y))
+      where
+        before : (y : ℕ) → Dec (suc a ≤ y) → a ≤ y → y < lowest p (suc a) k
+            → (suc a ≤ y → y < lowest p (suc a) k → p y ≡ false) → p y ≡ false
+        before y (yes b) low high rest = rest b high
+        before y (no b) low high rest = let same : y ≡ a = omega arith in ap p same ∙ e
+
+-- a row for the lowest number that passes a test, where the test says of the numbers from a on
+-- whether `one` is so, and `one` is so of no other number
+module _ (number : ℕ) (test : ℕ → Bool) (a k : ℕ) {one : ℕ → Type 0}
+    (to : (y : ℕ) → a ≤ y → y < a + k → test y ≡ true → one y)
+    (from : (y : ℕ) → one y → (a ≤ y) × (y < a + k) × (test y ≡ true)) where
+  -- a row that is given fits the reason, and its place is the lowest
+  abbrev Both : Row → Type 0
+  Both r =
+      Fits r (number when ((y : ℕ) × one y))
+      × Tells (λ n place. (n ≡ number) × LowestOf one place) r
+
+  both-fit : Both (rowWhenLowest number test a k)
+  unfolding rowWhenLowest rowWhen
+  both-fit = go (ltb (lowest test a k) (a + k)) refl
+    where
+      go : (b : Bool) → ltb (lowest test a k) (a + k) ≡ b
+          → Both (rowWhen number (lowest test a k) b)
+      go true e =
+          let low : ℕ = lowest test a k in
+          let high : low < a + k = ltb-true low (a + k) e in
+          let found = lowest-found test a k high in
+          let here : one low = to low (lowest-least test a k) high (found .0) in (
+            ((low, here), refl),
+            (
+              refl,
+              (
+                here,
+                λ y b o. let (c, d, f) = from y o in
+                    true≢false (sym f ∙ found .1 y c b),
+              ),
+            ),
+          )
+      go false e = (
+        λ s. let (y, o) = s in
+            let (c, d, f) = from y o in
+            true≢false (sym f ∙ none-lowest test a k (ltb-false (lowest test a k) (a + k) e) y c d),
+        tt,
+      )
+
+  pub lowest-fits : Fits (rowWhenLowest number test a k) (number when ((y : ℕ) × one y))
+  lowest-fits = both-fit .0
+
+  pub lowest-tells : Tells (λ n place. (n ≡ number) × LowestOf one place)
+      (rowWhenLowest number test a k)
+  lowest-tells = both-fit .1
+
+-- ---- 6
+
+-- the test for a bad link, as a statement
+pub bad-breaks : (g q c : ℕ) → (badLink g q c ≡ true) ↔ Breaks g q c
+bad-breaks g q c = (λ e. (full e, over e (decLt g c) (decLe c q)), from)
+  where
+    full : badLink g q c ≡ true → c ≢ 0
+    full e z = true≢false (sym e ∙ not-bad g q c .1 (inl z))
+
+    over : badLink g q c ≡ true → Dec (g < c) → Dec (c ≤ q) → (g < c) ⊎ (c ≤ q)
+    over e (yes b) _ = inl b
+    over e (no _) (yes d) = inr d
+    over e (no b) (no d) =
+        absurd (true≢false (sym e ∙ not-bad g q c .1 (inr (omega arith, omega arith))))
+
+    from : Breaks g q c → badLink g q c ≡ true
+    from s = go (badLink g q c) refl
+      where
+        go : (b : Bool) → badLink g q c ≡ b → b ≡ true
+        go true e = refl
+        go false e =
+            absurd (⊎-elim (s .0) (λ f. ⊎-elim (λ b. omega (arith, f .0)) (λ b. omega (arith, f .1))
+            (s .1)) (not-bad g q c .0 e))
+
+-- a node that holds a bad link, and the link
+bad-held : (g : ℕ) (t : Table) (q m : ℕ) → holdsBad g t q m ≡ true
+    → (i : ℕ) × (i < m) × (badLink g q (t .child q i) ≡ true)
+unfolding holdsBad
+bad-held g t q zero e = absurd (false≢true e)
+bad-held g t q (suc m) e = go (holdsBad g t q m) refl (bad-held g t q m)
+  where
+    go : (b : Bool) → holdsBad g t q m ≡ b
+        → (holdsBad g t q m ≡ true → (i : ℕ) × (i < m) × (badLink g q (t .child q i) ≡ true))
+        → (i : ℕ) × (i < suc m) × (badLink g q (t .child q i) ≡ true)
+    go true f rest = let (i, b, s) = rest f in (i, omega arith, s)
+    go false f rest = (m, omega arith, rw f at e)
+
+-- ---- 7 and 8
+
+-- of the first k parts of a sum one is above 1, or two are above 0
+abbrev AboveOne : (ℕ → ℕ) → ℕ → Type 0
+AboveOne part k =
+    ((i : ℕ) × (i < k) × (2 ≤ part i))
+    ⊎ ((i : ℕ) × (j : ℕ) × (i < k) × (j < k) × (1 ≤ part i) × (1 ≤ part j) × (i ≢ j))
+
+-- so it is where the sum is above 1
+some-two : {s part : ℕ → ℕ} → Sums s part → (k : ℕ) → 2 ≤ s k → AboveOne part k
+some-two sums zero h = absurd (omega (arith, sums .start))
+some-two {s} {part} sums (suc k) h = go (decLe 2 (part k)) (decLe 1 (part k)) (some-two sums k)
+  where
+    go : Dec (2 ≤ part k) → Dec (1 ≤ part k) → (2 ≤ s k → AboveOne part k)
+        → AboveOne part (suc k)
+    go (yes b) _ rest = inl (k, omega arith, b)
+    go (no b) (yes c) rest =
+        let (i, d, e) = some-part sums k (omega (arith, sums .more k)) in
+        inr (i, k, omega arith, omega arith, e, c, λ f. omega arith)
+    go (no b) (no c) rest =
+        ⊎-elim (λ f. let (i, d, e) = f in inl (i, omega arith, e))
+        (λ f. let (i, j, d, e, u, v, apart) = f in
+        inr (i, j, omega arith, omega arith, u, v, apart))
+        (rest (omega (arith, sums .more k)))
+
+module _ (t : Table) (x n k : ℕ) where
+  -- x stands in link i of node q, one of the first k nodes with n links each
+  record Inside (q i : ℕ) : Type 0 where
+    node : q < k
+    letter : i < n
+    holding : t .child q i ≡ x
+
+  -- an address that is counted stands in a link
+  one-link : 1 ≤ times t n x k → (q : ℕ) × (i : ℕ) × Inside q i
+  one-link h =
+      let (q, a, u) = some-part (in-nodes t x n) k h in
+      let (i, b, v) = some-part (in-node t x q) n u in
+      (q, i, record { node = a; letter = b; holding = one-hit x (t .child q i) v })
+
+  -- one that is counted twice stands in two
+  abbrev Two : Type 0
+  Two =
+      (q : ℕ) × (i : ℕ) × (p : ℕ) × (j : ℕ)
+      × Inside q i × Inside p j × (¬ ((q ≡ p) × (i ≡ j)))
+
+  two-links : 2 ≤ times t n x k → Two
+  two-links h = ⊎-elim in-one in-two (some-two (in-nodes t x n) k h)
+    where
+      in-one : (q : ℕ) × (q < k) × (2 ≤ timesIn t x q n) → Two
+      in-one s =
+          let (q, a, u) = s in
+          ⊎-elim (λ f. absurd (omega (arith, f .2, hit-most x (t .child q (f .0)))))
+          (λ f.
+          let (i, j, b, c, v, w, apart) = f in (
+            q,
+            i,
+            q,
+            j,
+            record { node = a; letter = b; holding = one-hit x (t .child q i) v },
+            record { node = a; letter = c; holding = one-hit x (t .child q j) w },
+            λ same. apart (same .1),
+          ))
+          (some-two (in-node t x q) n u)
+
+      in-two : (q : ℕ) × (p : ℕ) × (q < k) × (p < k) × (1 ≤ timesIn t x q n)
+          × (1 ≤ timesIn t x p n) × (q ≢ p)
+          → Two
+      in-two s =
+          let (q, p, a, b, u, v, apart) = s in
+          let (i, c, e) = some-part (in-node t x q) n u in
+          let (j, d, f) = some-part (in-node t x p) n v in (
+            q,
+            i,
+            p,
+            j,
+            record { node = a; letter = c; holding = one-hit x (t .child q i) e },
+            record { node = b; letter = d; holding = one-hit x (t .child p j) f },
+            λ same. apart (same .0),
+          )
+
+-- ---- 6 to 8 of an image
+
+module _ (l : List ℕ) where
+  abbrev head : Head
+  head = headOf l
+
+  abbrev table : Table
+  table = tableOf (headOf l) l
+
+  six-to : (q : ℕ) → 0 ≤ q → q < 0 + (head .g + 1) → holds head table q ≡ true → HoldsBreaking l q
+  unfolding tableIn
+  six-to q low high e =
+      let (i, b, s) = bad-held (head .g) table q (head .n) e in
+      (omega arith, i, b, bad-breaks (head .g) q (table .child q i) .0 s)
+
+  six-from : (q : ℕ) → HoldsBreaking l q
+      → (0 ≤ q) × (q < 0 + (head .g + 1)) × (holds head table q ≡ true)
+  unfolding tableIn
+  six-from q s =
+      let (a, i, b, breaks) = s in (
+        omega arith,
+        omega arith,
+        holds-bad (head .g) table q (head .n) b
+            (bad-breaks (head .g) q (table .child q i) .1 breaks),
+      )
+
+  stands-in : {x q i : ℕ} → Inside table x (head .n) (head .g + 1) q i → StandsIn l x q i
+  unfolding tableIn
+  stands-in s = record { node = omega (arith, s .node); letter = s .letter; holds = s .holding }
+
+  seven-to : (x : ℕ) → 1 ≤ x → x < 1 + head .g → twice head table x ≡ true → InTwo l x
+  seven-to x low high e =
+      let (q, i, p, j, one, other, apart) =
+      two-links table x (head .n) (head .g + 1) (leb-true 2 (count head table x) e) in
+      ((low, omega arith), q, i, p, j, stands-in one, stands-in other, apart)
+
+  seven-from : (x : ℕ) → InTwo l x → (1 ≤ x) × (x < 1 + head .g) × (twice head table x ≡ true)
+  unfolding tableIn
+  seven-from x s =
+      let (address, q, i, p, j, one, other, apart) = s in (
+        address .0,
+        omega (arith, address .1),
+        le-leb 2 (count head table x) (enough q i p j one other apart
+            (decLe 2 (count head table x))),
+      )
+    where
+      enough : (q i p j : ℕ) → StandsIn l x q i → StandsIn l x p j → ¬ ((q ≡ p) × (i ≡ j))
+          → Dec (2 ≤ count head table x)
+          → 2 ≤ count head table x
+      enough q i p j one other apart (yes b) = b
+      enough q i p j one other apart (no b) =
+          absurd (apart (counted-once table x (head .n) {k = head .g + 1}
+          (omega (arith, one .node)) (one .letter) (omega (arith, other .node)) (other .letter)
+          (one .holds) (other .holds) (omega arith)))
+
+  eight-to : (x : ℕ) → 1 ≤ x → x < 1 + head .g → nowhere head table x ≡ true → InNone l x
+  unfolding tableIn
+  eight-to x low high e = (
+    (low, omega arith),
+    λ q i s. omega (
+      arith,
+      eqb-true (count head table x) 0 e,
+      counted table x (head .n) {q = q} {i = i} {k = head .g + 1} (omega (arith, s .node))
+          (s .letter) (s .holds),
+    ),
+  )
+
+  eight-from : (x : ℕ) → InNone l x → (1 ≤ x) × (x < 1 + head .g) × (nowhere head table x ≡ true)
+  eight-from x s = (
+    s .0 .0,
+    omega (arith, s .0 .1),
+    eq-eqb (count head table x) 0 (zero-times (decLe 1 (count head table x))),
+  )
+    where
+      zero-times : Dec (1 ≤ count head table x) → count head table x ≡ 0
+      zero-times (no b) = omega arith
+      zero-times (yes b) =
+          let (q, i, there) = one-link table x (head .n) (head .g + 1) b in
+          absurd (s .1 q i (stands-in there))
+
+  pub six-fits : Fits (row6 head table) (6 when ((q : ℕ) × HoldsBreaking l q))
+  unfolding row6
+  six-fits = lowest-fits 6 (holds head table) 0 (head .g + 1) six-to six-from
+
+  pub seven-fits : Fits (row7 head table) (7 when ((x : ℕ) × InTwo l x))
+  unfolding row7
+  seven-fits = lowest-fits 7 (twice head table) 1 (head .g) seven-to seven-from
+
+  pub eight-fits : Fits (row8 head table) (8 when ((x : ℕ) × InNone l x))
+  unfolding row8
+  eight-fits = lowest-fits 8 (nowhere head table) 1 (head .g) eight-to eight-from
+
+  -- ---- their places
+
+  -- a number without a place
+  pub placeless : (n : ℕ) → (n ≤ 5) ⊎ (9 ≤ n) → RightPlace l n 0
+  placeless n far =
+      record {
+        six = λ e. absurd (⊎-elim (λ b. omega arith) (λ b. omega arith) far);
+        seven = λ e. absurd (⊎-elim (λ b. omega arith) (λ b. omega arith) far);
+        eight = λ e. absurd (⊎-elim (λ b. omega arith) (λ b. omega arith) far);
+        others = λ _ _ _. refl;
+      }
+
+  six-right : (n place : ℕ) → (n ≡ 6) × LowestOf (HoldsBreaking l) place → RightPlace l n place
+  six-right n place s =
+      record {
+        six = λ _. s .1;
+        seven = λ e. absurd (omega (arith, s .0));
+        eight = λ e. absurd (omega (arith, s .0));
+        others = λ d _ _. absurd (d (s .0));
+      }
+
+  seven-right : (n place : ℕ) → (n ≡ 7) × LowestOf (InTwo l) place → RightPlace l n place
+  seven-right n place s =
+      record {
+        six = λ e. absurd (omega (arith, s .0));
+        seven = λ _. s .1;
+        eight = λ e. absurd (omega (arith, s .0));
+        others = λ _ d _. absurd (d (s .0));
+      }
+
+  eight-right : (n place : ℕ) → (n ≡ 8) × LowestOf (InNone l) place → RightPlace l n place
+  eight-right n place s =
+      record {
+        six = λ e. absurd (omega (arith, s .0));
+        seven = λ e. absurd (omega (arith, s .0));
+        eight = λ _. s .1;
+        others = λ _ _ d. absurd (d (s .0));
+      }
+
+  pub six-tells : Tells (RightPlace l) (row6 head table)
+  unfolding row6
+  six-tells = tell-alike (row6 head table) six-right
+      (lowest-tells 6 (holds head table) 0 (head .g + 1) six-to six-from)
+
+  pub seven-tells : Tells (RightPlace l) (row7 head table)
+  unfolding row7
+  seven-tells = tell-alike (row7 head table) seven-right
+      (lowest-tells 7 (twice head table) 1 (head .g) seven-to seven-from)
+
+  pub eight-tells : Tells (RightPlace l) (row8 head table)
+  unfolding row8
+  eight-tells = tell-alike (row8 head table) eight-right
+      (lowest-tells 8 (nowhere head table) 1 (head .g) eight-to eight-from)
