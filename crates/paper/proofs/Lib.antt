@@ -16,6 +16,7 @@ pub mod NextKeyCall
 pub mod Numbers
 pub mod Opening
 pub mod OpeningReasons
+pub mod PathReasons
 pub mod Reasons
 pub mod StoreCall
 pub mod Tabulated

@@ -169,6 +169,11 @@ pub record FirstOnPath (l key : List ℕ) (place : ℕ) : Type 0 where
   pub earliest : (earlier : List ℕ) (q : ℕ) → length earlier < length before
       → ¬ BreaksAfter l key earlier q
 
+-- the column "Place" for the answers of a lookup; "A place not named is 0"
+pub record PathPlace (l key : List ℕ) (number place : ℕ) : Type 0 where
+  pub six : number ≡ 6 → FirstOnPath l key place
+  pub others : number ≢ 6 → place ≡ 0
+
 -- ---- store and next key
 
 -- "store: 1 to 8, 9, 10, 11, 12, 13"
@@ -184,14 +189,17 @@ pub record StoredKey (l key : List ℕ) : Type 0 where
   pub most : length key ≤ headOf l .max
   pub data-there : answer (tableIn l) key ≢ 0
 
--- "next key: 1 to 8, 9, 10, 14, 15"; "For next key, 9 means only a key longer than max"; 14: "key
+-- 9, 10, 14 and 15 for next key: "For next key, 9 means only a key longer than max"; 14: "key
 -- buffer shorter than max"; 15: "no stored key meets the request"
-unfoldable pub nextKeyReasons : List ℕ → List ℕ → List ℕ → Bool → List ℕ → List Reason
-unfolding checkReasons
-nextKeyReasons l work key after buffer =
-    checkReasons l work
-    ++ (9 when (headOf l .max < length key)
+unfoldable pub askedReasons : List ℕ → List ℕ → Bool → List ℕ → List Reason
+askedReasons l key after buffer =
+    9 when (headOf l .max < length key)
     ∷ 10 when LetterOutside (headOf l) key
     ∷ 14 when (length buffer < headOf l .max)
     ∷ 15 when ((k : List ℕ) → StoredKey l k → ¬ (meets after key k ≡ true))
-    ∷ [])
+    ∷ []
+
+-- "next key: 1 to 8, 9, 10, 14, 15"
+unfoldable pub nextKeyReasons : List ℕ → List ℕ → List ℕ → Bool → List ℕ → List Reason
+unfolding checkReasons askedReasons
+nextKeyReasons l work key after buffer = checkReasons l work ++ askedReasons l key after buffer
