@@ -1,6 +1,6 @@
 -- 01's two examples of the whole output, P3 and P8. The checker computes them.
 use mathlib.Core.Path.{_≡_, refl}
-use mathlib.Core.List.{List, [], _∷_}
+use mathlib.Core.List.{[], _∷_}
 use Rattle.trie.specs.Keys.{keysUnder}
 use Rattle.paper.specs.Rows.{row1, row2, row3, row4, row6, row7, row8}
 use Rattle.paper.specs.Cases.{file, file3}

@@ -4,17 +4,17 @@ use Prim.Native.Nat.{ℕ, _+_, _*_, _^_, _≤_, _<_}
 use native.Mathlib.Omega.{arith}
 use native.Mathlib.Decide.{decLt}
 use mathlib.Core.Bool.{Bool, true, false, true≢false, cond}
-use mathlib.Core.List.{List, [], _∷_, _++_, List·Memᴰ, List·Memᴰ·head, List·Memᴰ·tail}
+use mathlib.Core.List.{List, [], _∷_, List·Memᴰ, List·Memᴰ·head, List·Memᴰ·tail}
 use mathlib.Core.Logic.{_≢_}
 use mathlib.Core.Option.{none, some}
 use mathlib.Core.Path.{_≡_, refl, sym, _∙_, ap}
 use lib.ListN.{length, take, replicate, length-append, length-take}
 use lib.Seq.{take-all}
-use borrow.Author.Tests.{lt-ltb, le-ltb, eq-eqb, ne-eqb}
+use borrow.Author.Tests.{lt-ltb, le-ltb, ne-eqb}
 use Rattle.trie.specs.Table.{answer}
-use Rattle.head.specs.Fields.{mostLetters, headOf}
+use Rattle.head.specs.Fields.{mostLetters}
 use Rattle.alphabet.specs.Letters.{among}
-use Rattle.paper.specs.Hearing.{Said, Row, Numbers, Outcome, first, refusedNumbers, doneNumbers}
+use Rattle.paper.specs.Hearing.{Said, Row, Outcome, first, refusedNumbers, doneNumbers}
 use Rattle.paper.specs.Orders.{checkOrder}
 use Rattle.paper.specs.Calls.{tableIn, storedKeys, checkOf}
 use Rattle.paper.specs.Accepted.{Accepted}

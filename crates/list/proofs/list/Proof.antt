@@ -2,7 +2,7 @@
 -- those of the keys after the path's key (`Telling`). The measure is how many these keys are; the
 -- loop ends where the search finds none. A line begins where the longest line fits. Assumes
 -- nothing.
-use mathlib.Core.Path.{_≡_, sym, _∙_}
+use mathlib.Core.Path.{sym, _∙_}
 use mathlib.Core.Logic.{⊎-elim}
 use Prim.Native.Nat.{_≤_}
 use native.Mathlib.Omega.{arith}
