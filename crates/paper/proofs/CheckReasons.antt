@@ -4,12 +4,13 @@
 use Prim.Native.Nat.{ℕ, _+_, _-_, _*_, _^_, _≤_, _<_}
 use mathlib.Core.Path.{_≡_, refl, sym, _∙_}
 use mathlib.Core.Logic.{_↔_, _≢_, inl, inr}
-use mathlib.Core.Bool.{Bool, true, false, not, _&&_, true≢false, false≢true}
+use mathlib.Core.Bool.{Bool, true, false, not, _&&_, cond, true≢false, false≢true}
 use mathlib.Core.Option.{Option, none, some}
 use mathlib.Core.List.{List, [], _∷_, _++_, List·Memᴰ}
 use native.Mathlib.Omega.{arith}
-use lib.Dec.{ltb}
+use lib.Dec.{ltb, eqb}
 use lib.ListN.{length}
+use lib.Seq.{sets}
 use borrow.Author.Tests.{ltb-true, lt-ltb}
 use Rattle.field.specs.Range.{between}
 use Rattle.trie.specs.Keys.{meets}
@@ -18,15 +19,18 @@ use Rattle.head.specs.declared.Head.{Head}
 use Rattle.head.specs.Fields.{shortestImage, longestImage, headOf, permitted, nodeWidth, usedLen}
 use Rattle.alphabet.specs.Letters.{orEmpty}
 use Rattle.node.specs.Image.{tableOf}
-use Rattle.paper.specs.Hearing.{Row, doneNumbers}
-use Rattle.paper.specs.Rows.{row1, row2, row3, row4, row5, row6path, row9, row9next, allBelow}
+use Rattle.node.specs.Writes.{Write, noted}
+use Rattle.paper.specs.Hearing.{Row, Outcome, outcome, doneNumbers}
+use Rattle.paper.specs.Rows.{row1, row2, row3, row4, row5, row6path, row9, row9next}
+use Rattle.paper.specs.Rows.{allBelow}
 use Rattle.paper.specs.Rows.{row10, isNone, row10text, row11, row12, row13, row14, row15}
 use Rattle.paper.specs.Given.{Given, asLetters, asText, alphabetIn, meantBy, keyIn}
 use Rattle.paper.specs.Orders.{openingRows, openingRowsOf, linkRows, checkOrder, lettersRows}
 use Rattle.paper.specs.Orders.{textRows, keyRowsBy, keyRows, nextRows, lookUpOrder}
 use Rattle.paper.specs.Orders.{addingRows, newOf, storeOrder, nextKeyOrder}
 use Rattle.paper.specs.Calls.{freshHead, makeOf, checkOf, countOf, lookUpOf, storeOf}
-use Rattle.paper.specs.Calls.{storedKeys, nextIn, foundIn, nextKeyOf}
+use Rattle.paper.specs.Calls.{writesIn, withWrites, storeWritesOf, storedKeys, nextIn}
+use Rattle.paper.specs.Calls.{foundIn, nextKeyOf}
 use Rattle.paper.specs.Reasons.{_when_, FirstApplies, keyReasons, valueReasons}
 use Rattle.paper.specs.CheckReasons.{openingReasons, makeReasons, linkReasons, checkReasons}
 use Rattle.paper.specs.CheckReasons.{RightPlace, BreaksOnPath, lookUpReasons, PathPlace}
@@ -42,7 +46,7 @@ use Rattle.paper.proofs.LinkReasons.{seven-tells, eight-tells}
 use Rattle.paper.proofs.PathReasons.{path-fits, path-tells}
 use Rattle.paper.proofs.StoreCall.{valued}
 use Rattle.paper.proofs.NextKeyCall.{stored-exactly}
-use Rattle.paper.proofs.Reasons.{five-fits, value-fits}
+use Rattle.paper.proofs.Reasons.{five-fits, value-fits, writes-number}
 
 -- ---- 1 to 4 name no place
 
@@ -270,6 +274,44 @@ module _ (l work : List ℕ) (given : Given) (value : ℕ) where
   store-any-place =
       heard-tells (RightPlace l) (storeOrder l work given value) _ _ store-any-tells
       (placeless l 0 (inl (omega arith)))
+
+-- ---- store with writes
+
+-- its number and place are the store's
+writes-right : (right : ℕ → ℕ → Type 0) (ws : List Write) (list : List ℕ) (o : Outcome)
+    → right 0 0 → right (o .numbers .number) (o .numbers .place)
+    → right (withWrites ws list o .numbers .number) (withWrites ws list o .numbers .place)
+unfolding withWrites doneNumbers
+writes-right right ws list o z r = go (eqb (o .numbers .number) 0)
+  where
+    by-test : Bool → Outcome
+    by-test b =
+        cond b
+        (outcome (doneNumbers (length ws) (o .numbers .change) 0)
+        (o .lent ++ (sets list 0 (noted ws) ∷ [])))
+        (outcome (o .numbers) (o .lent ++ (list ∷ [])))
+
+    go : (b : Bool) → right (by-test b .numbers .number) (by-test b .numbers .place)
+    go true = z
+    go false = r
+
+module _ (l work : List ℕ) (given : Given) (value : ℕ) (list : List ℕ) where
+  pub store-writes-any-number-exactly : (n : ℕ)
+      → (storeWritesOf l work given value list .numbers .number ≡ n)
+      ↔ FirstApplies (storeAnyReasons l work given value) n
+  unfolding storeWritesOf
+  store-writes-any-number-exactly n =
+      rw (writes-number (writesIn l (keyIn l given) value) list (storeOf l work given value))
+      (store-any-number-exactly l work given value n)
+
+  pub store-writes-any-place :
+      RightPlace l (storeWritesOf l work given value list .numbers .number)
+      (storeWritesOf l work given value list .numbers .place)
+  unfolding storeWritesOf
+  store-writes-any-place =
+      writes-right (RightPlace l) (writesIn l (keyIn l given) value) list
+      (storeOf l work given value) (placeless l 0 (inl (omega arith)))
+      (store-any-place l work given value)
 
 -- ---- next key
 

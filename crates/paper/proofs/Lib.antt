@@ -1,4 +1,5 @@
 pub mod Adding002
+pub mod CaseLaws
 pub mod CheckCall
 pub mod CheckReasons
 pub mod FirstReason

@@ -102,6 +102,14 @@ some-field h e =
         } in
         absurd (true≢false (sym (all-within h b) ∙ e))
 
+-- where no field is outside, every field is within its limits
+pub fields-within : (h : Head) → ¬ FieldOutside h → Bounds h
+fields-within h inside = go (permitted h) refl
+  where
+    go : (b : Bool) → permitted h ≡ b → Bounds h
+    go true e = bounds h e
+    go false e = absurd (inside (some-field h e))
+
 two-fits : (h : Head) → Fits (row2 h) (2 when FieldOutside h)
 unfolding row2
 two-fits h =

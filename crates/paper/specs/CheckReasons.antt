@@ -69,6 +69,11 @@ openingReasons l =
     ∷ 4 when (length l < usedLen (headOf l))
     ∷ []
 
+-- the greatest G that 32 bits hold, for 01's case "G = FFFFFFFF, with nothing earlier wrong, gives
+-- 4 at any permitted length"
+abbrev pub greatest : ℕ
+greatest = 4294967295
+
 -- "make: 1, 2, 3, 4 (for G = 0; F is the length of the alphabet given; here 1 concerns the lent
 -- slice)"; 3 "for make: the alphabet given"
 unfoldable pub makeReasons : List ℕ → ℕ → ℕ → ℕ → List ℕ → ℕ → ℕ → List Reason
