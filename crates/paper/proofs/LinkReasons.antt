@@ -84,7 +84,7 @@ module _ (number : ℕ) (test : ℕ → Bool) (a k : ℕ) {one : ℕ → Type 0}
               (
                 here,
                 λ y b o. let (c, d, f) = from y o in
-                    true≢false (sym f ∙ found .1 y c b),
+                    true≢false (sym f ∙ found .1 y c (omega arith)),
               ),
             ),
           )

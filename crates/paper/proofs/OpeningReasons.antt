@@ -217,8 +217,9 @@ opening-fits l = (
   (
     two-fits (headOf l),
     (
-      three-fits (headOf l) (alphabetIn (headOf l) l) (λ b. all-inside l (headOf l .f) b .0)
-          (λ b. all-inside l (headOf l .f) b .1),
+      three-fits (headOf l) (alphabetIn (headOf l) l)
+          (λ b e. omega (arith, all-inside l (headOf l .f) b .0 e))
+          (λ b c. all-inside l (headOf l .f) b .1 (omega arith)),
       (four-fits (headOf l) (length l), tt),
     ),
   ),

@@ -191,7 +191,7 @@ module _ (l key : List ℕ) where
       six = λ _. record {
         before = j .before;
         here = after (j .here);
-        earliest = λ earlier p b s. j .first earlier p b (from s);
+        earliest = λ earlier p b s. j .first earlier p (omega arith) (from s);
       };
       others = λ d. absurd (d refl);
     },
