@@ -22,8 +22,8 @@ use Rattle.paper.specs.Rows.{badLink, holdsBad, rowWhenLowest, row6, tim
 use Rattle.paper.specs.Rows.{row8}
 use Rattle.paper.specs.Calls.{tableIn}
 use Rattle.paper.specs.Reasons.{_when_}
-use Rattle.paper.specs.CheckReasons.{Breaks, HoldsBreaking, StandsIn, InTwo, InNone, LowestOf}
-use Rattle.paper.specs.CheckReasons.{RightPlace}
+use Rattle.paper.specs.CheckReasons.{Breaks, HoldsBreaking, StandsIn, InTwo, InNone}
+use Rattle.paper.specs.CheckReasons.{LowestOf, RightPlace}
 use Rattle.paper.proofs.FirstReason.{Fits, Tells, tell-alike}
 use Rattle.paper.proofs.Linking.{not-bad, holds-bad, one-hit, hit-most, in-node, in-nodes}
 use Rattle.paper.proofs.Linking.{counted, counted-once, holds, count, twice, nowhere}
@@ -91,7 +91,8 @@ module _ (number : ℕ) (test : ℕ → Bool) (a k : ℕ) {one : ℕ → Type 0}
       go false e = (
         λ s. let (y, o) = s in
             let (c, d, f) = from y o in
-            true≢false (sym f ∙ none-lowest test a k (ltb-false (lowest test a k) (a + k) e) y c d),
+            let over = ltb-false (lowest test a k) (a + k) e in
+            true≢false (sym f ∙ none-lowest test a k over y c d),
         tt,
       )
 
@@ -123,8 +124,9 @@ bad-breaks g q c = (λ e. (full e, over e (decLt g c) (decLe c q)), from)
         go : (b : Bool) → badLink g q c ≡ b → b ≡ true
         go true e = refl
         go false e =
-            absurd (⊎-elim (s .0) (λ f. ⊎-elim (λ b. omega (arith, f .0)) (λ b. omega (arith, f .1))
-            (s .1)) (not-bad g q c .0 e))
+            absurd (⊎-elim (s .0)
+            (λ f. ⊎-elim (λ b. omega (arith, f .0)) (λ b. omega (arith, f .1)) (s .1))
+            (not-bad g q c .0 e))
 
 -- a node that holds a bad link, and the link
 bad-held : (g : ℕ) (t : Table) (q m : ℕ) → holdsBad g t q m ≡ true

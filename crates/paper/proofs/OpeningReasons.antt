@@ -28,8 +28,8 @@ use Rattle.paper.specs.Orders.{openingRows, openingRowsOf}
 use Rattle.paper.specs.Calls.{freshHead}
 use Rattle.paper.specs.Reasons.{_when_}
 use Rattle.paper.specs.CheckReasons.{WrongLength, FieldOutside, n-below, n-above, a-below}
-use Rattle.paper.specs.CheckReasons.{a-above, d-below, d-above, f-above, min-above, max-above}
-use Rattle.paper.specs.CheckReasons.{Different, Characters, openingReasons}
+use Rattle.paper.specs.CheckReasons.{a-above, d-below, d-above, f-above, min-above}
+use Rattle.paper.specs.CheckReasons.{max-above, Different, Characters, openingReasons}
 use Rattle.paper.specs.CheckReasons.{makeReasons}
 use Rattle.paper.proofs.FirstReason.{Fits, AllFit, when-fits}
 use Rattle.paper.proofs.KeyReasons.{outside, among-member}

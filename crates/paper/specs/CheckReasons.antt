@@ -137,8 +137,8 @@ checkReasons l work =
 abbrev pub LowestOf : (ℕ → Type 0) → ℕ → Type 0
 LowestOf one x = one x × ((y : ℕ) → y < x → ¬ one y)
 
--- the column "Place" for the answers of the calls that check: 6 "lowest node that holds one", 7 and
--- 8 "lowest such address", and "A place not named is 0"
+-- the column "Place" for the answers of the calls that check: 6 "lowest node that holds one", 7
+-- and 8 "lowest such address", and "A place not named is 0"
 pub record RightPlace (l : List ℕ) (number place : ℕ) : Type 0 where
   pub six : number ≡ 6 → LowestOf (HoldsBreaking l) place
   pub seven : number ≡ 7 → LowestOf (InTwo l) place
