@@ -22,7 +22,7 @@ use Rattle.paper.specs.Calls.{tableIn, workAfter, writesIn, storedImage, storeO
 use Rattle.paper.specs.Calls.{storeWritesOf}
 use Rattle.paper.specs.Granted.{Granted}
 use Rattle.paper.proofs.StoreCall.{store-granted, store-leaves}
-use Rattle.paper.proofs.Reasons.{writes-number}
+use Rattle.paper.proofs.StoreCall.{writes-number}
 use Rattle.cuts.specs.Mended.{readBack}
 use Rattle.cuts.proofs.Noted.{read-back}
 

@@ -1,14 +1,9 @@
 pub mod Adding002
-pub mod CaseLaws
 pub mod CheckCall
-pub mod CheckReasons
-pub mod FirstReason
 pub mod MakeCall
 pub mod Hearing
-pub mod KeyReasons
 pub mod Keying
 pub mod Known
-pub mod LinkReasons
 pub mod Linking
 pub mod LookUpCall
 pub mod MendCall
@@ -16,9 +11,6 @@ pub mod Named
 pub mod NextKeyCall
 pub mod Numbers
 pub mod Opening
-pub mod OpeningReasons
-pub mod PathReasons
-pub mod Reasons
 pub mod StoreCall
 pub mod Tabulated
 pub mod TreeOfNodes

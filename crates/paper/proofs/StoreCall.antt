@@ -3,17 +3,18 @@
 -- table (`stored-table`), so the laws on tables are laws on images.
 use Prim.Native.Nat.{ℕ, zero, suc, _+_, _-_, _*_, _^_, _≤_, _<_}
 use mathlib.Core.Path.{_≡_, refl, sym, ap, ap₂, subst, _∙_}
-use mathlib.Core.Bool.{Bool, true, false, _&&_, and-false}
+use mathlib.Core.Bool.{Bool, true, false, _&&_, and-false, cond}
 use mathlib.Core.Logic.{_↔_, _≢_}
 use mathlib.Core.Option.{Option, none, some}
 use mathlib.Core.List.{List, [], _∷_, _++_}
 use native.Mathlib.Nat.{add-zero, one-le-pow}
 use native.Mathlib.Decide.{ℕ-discrete, decLe, decLt}
 use native.Mathlib.Omega.{arith}
-use lib.Dec.{ltb}
+use lib.Dec.{ltb, eqb}
 use lib.ListN.{length, getD}
 use lib.IntN.{pos, _+ℤ_}
-use borrow.Author.Tests.{ltb-false, lt-ltb, le-ltb}
+use lib.Seq.{sets}
+use borrow.Author.Tests.{ltb-false, lt-ltb, le-ltb, eqb-true}
 use Rattle.field.specs.Field.{digits}
 use Rattle.field.proofs.Range.{between-true}
 use Rattle.trie.specs.Table.{Table, Descent, complete, stopped, descend, answer, missing, fault}
@@ -33,7 +34,7 @@ use Rattle.head.proofs.Permitted.{bounds, addresses-fit}
 use Rattle.head.proofs.Places.{place-least}
 use Rattle.alphabet.specs.Letters.{among, orEmpty}
 use Rattle.node.specs.Image.{dataPlace, tableOf}
-use Rattle.node.specs.Writes.{carriedOut, dataWrite, storeWrites}
+use Rattle.node.specs.Writes.{Write, carriedOut, noted, dataWrite, storeWrites}
 use Rattle.node.specs.Frame.{Touched}
 use Rattle.node.proofs.FieldPlaces.{data-from}
 use Rattle.node.proofs.Heads.{withTotal, used-more}
@@ -47,7 +48,7 @@ use Rattle.paper.specs.Given.{Given, asLetters, asText, alphabetIn, mean
 use Rattle.paper.specs.Orders.{openingRowsOf, checkOrder, lettersRows, textRows, keyRowsBy}
 use Rattle.paper.specs.Orders.{keyRows, lookUpOrder, addingRows, newOf, storeOrder}
 use Rattle.paper.specs.Calls.{tableIn, workAfter, storedKeys, telling, lookUpOf, storedImage}
-use Rattle.paper.specs.Calls.{storeOf}
+use Rattle.paper.specs.Calls.{storeOf, withWrites}
 use Rattle.paper.specs.Accepted.{Accepted}
 use Rattle.paper.specs.Granted.{Granted}
 use Rattle.paper.proofs.Hearing.{not-given, was-false, first-nil, first-none, yes-row}
@@ -530,3 +531,19 @@ module _ (l work : List ℕ) (given : Given) (value : ℕ) where
   unfolding storeOf doneNumbers
   refused-keeps z =
       kept-lent (first (storeOrder l work given value)) (l ∷ workAfter l work ∷ []) _ refl z
+
+-- ---- a store with writes
+
+-- its number is the store's
+pub writes-number : (ws : List Write) (list : List ℕ) (o : Outcome)
+    → withWrites ws list o .numbers .number ≡ o .numbers .number
+unfolding withWrites doneNumbers
+writes-number ws list o = go (eqb (o .numbers .number) 0) refl
+  where
+    go : (b : Bool) → eqb (o .numbers .number) 0 ≡ b
+        → cond b (outcome (doneNumbers (length ws) (o .numbers .change) 0)
+        (o .lent ++ (sets list 0 (noted ws) ∷ [])))
+        (outcome (o .numbers) (o .lent ++ (list ∷ []))) .numbers .number
+        ≡ o .numbers .number
+    go true e = sym (eqb-true (o .numbers .number) 0 e)
+    go false e = refl

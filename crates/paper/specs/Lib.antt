@@ -3,13 +3,11 @@ pub mod Adding002
 pub mod Answers
 pub mod Calls
 pub mod Cases
-pub mod CheckReasons
 pub mod Given
 pub mod Granted
 pub mod Hearing
 pub mod Repeated
 pub mod Orders
 pub mod Promises
-pub mod Reasons
 pub mod Rows
 pub mod Walk002

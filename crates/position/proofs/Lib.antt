@@ -1,4 +1,3 @@
-pub mod CountsReasons
 pub mod Plain
 pub mod Positions
 pub mod Right

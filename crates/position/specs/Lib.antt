@@ -1,7 +1,6 @@
 pub mod Calls
 pub mod Cases
 pub mod Counts
-pub mod CountsReasons
 pub mod Orders
 pub mod Promises
 pub mod Steps

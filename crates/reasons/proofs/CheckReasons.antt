@@ -20,33 +20,36 @@ use Rattle.head.specs.Fields.{shortestImage, longestImage, headOf, permitted, n
 use Rattle.alphabet.specs.Letters.{orEmpty}
 use Rattle.node.specs.Image.{tableOf}
 use Rattle.node.specs.Writes.{Write, noted}
 use Rattle.paper.specs.Hearing.{Row, Outcome, outcome, doneNumbers}
 use Rattle.paper.specs.Rows.{row1, row2, row3, row4, row5, row6path, row9, row9next}
 use Rattle.paper.specs.Rows.{allBelow}
 use Rattle.paper.specs.Rows.{row10, isNone, row10text, row11, row12, row13, row14, row15}
 use Rattle.paper.specs.Given.{Given, asLetters, asText, alphabetIn, meantBy, keyIn}
 use Rattle.paper.specs.Orders.{openingRows, openingRowsOf, linkRows, checkOrder, lettersRows}
 use Rattle.paper.specs.Orders.{textRows, keyRowsBy, keyRows, nextRows, lookUpOrder}
 use Rattle.paper.specs.Orders.{addingRows, newOf, storeOrder, nextKeyOrder}
 use Rattle.paper.specs.Calls.{freshHead, makeOf, checkOf, countOf, lookUpOf, storeOf}
 use Rattle.paper.specs.Calls.{writesIn, withWrites, storeWritesOf, storedKeys, nextIn}
 use Rattle.paper.specs.Calls.{foundIn, nextKeyOf}
-use Rattle.paper.specs.Reasons.{_when_, FirstApplies, keyReasons, valueReasons}
-use Rattle.paper.specs.CheckReasons.{openingReasons, makeReasons, linkReasons, checkReasons}
-use Rattle.paper.specs.CheckReasons.{RightPlace, BreaksOnPath, lookUpReasons, PathPlace}
-use Rattle.paper.specs.CheckReasons.{storeAnyReasons, StoredKey, askedReasons}
-use Rattle.paper.specs.CheckReasons.{nextKeyReasons}
-use Rattle.paper.proofs.FirstReason.{AllFit, parts-fit, when-fits, heard-exactly, AllTell}
-use Rattle.paper.proofs.FirstReason.{parts-tell, when-tells, heard-tells}
-use Rattle.paper.proofs.KeyReasons.{ten-fits, key-fits}
+use Rattle.reasons.specs.Reasons.{_when_, FirstApplies, keyReasons, valueReasons}
+use Rattle.reasons.specs.CheckReasons.{openingReasons, makeReasons, linkReasons}
+use Rattle.reasons.specs.CheckReasons.{checkReasons}
+use Rattle.reasons.specs.CheckReasons.{RightPlace, BreaksOnPath, lookUpReasons, PathPlace}
+use Rattle.reasons.specs.CheckReasons.{storeAnyReasons, StoredKey, askedReasons}
+use Rattle.reasons.specs.CheckReasons.{nextKeyReasons}
+use Rattle.reasons.proofs.FirstReason.{AllFit, parts-fit, when-fits, heard-exactly, AllTell}
+use Rattle.reasons.proofs.FirstReason.{parts-tell, when-tells, heard-tells}
+use Rattle.reasons.proofs.KeyReasons.{ten-fits, key-fits}
 use Rattle.paper.proofs.Opening.{spoilt}
-use Rattle.paper.proofs.OpeningReasons.{opening-fits, make-fits}
-use Rattle.paper.proofs.LinkReasons.{six-fits, seven-fits, eight-fits, placeless, six-tells}
-use Rattle.paper.proofs.LinkReasons.{seven-tells, eight-tells}
-use Rattle.paper.proofs.PathReasons.{path-fits, path-tells}
+use Rattle.reasons.proofs.OpeningReasons.{opening-fits, make-fits}
+use Rattle.reasons.proofs.LinkReasons.{six-fits, seven-fits, eight-fits, placeless}
+use Rattle.reasons.proofs.LinkReasons.{six-tells}
+use Rattle.reasons.proofs.LinkReasons.{seven-tells, eight-tells}
+use Rattle.reasons.proofs.PathReasons.{path-fits, path-tells}
 use Rattle.paper.proofs.StoreCall.{valued}
 use Rattle.paper.proofs.NextKeyCall.{stored-exactly}
-use Rattle.paper.proofs.Reasons.{five-fits, value-fits, writes-number}
+use Rattle.reasons.proofs.Reasons.{five-fits, value-fits}
+use Rattle.paper.proofs.StoreCall.{writes-number}
 
 -- ---- 1 to 4 name no place
 

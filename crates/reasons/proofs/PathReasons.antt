@@ -16,12 +16,12 @@ use Rattle.trie.proofs.Walk.{descend-nil, descend-empty, descend-on}
 use Rattle.trie.proofs.Faults.{fault-nil, fault-empty, fault-bad, fault-on}
 use Rattle.head.specs.Fields.{headOf}
 use Rattle.node.specs.Image.{tableOf}
 use Rattle.paper.specs.Rows.{badLink, row6At, row6path}
 use Rattle.paper.specs.Calls.{tableIn}
-use Rattle.paper.specs.Reasons.{_when_}
-use Rattle.paper.specs.CheckReasons.{Breaks, BreaksAfter, BreaksOnPath, PathPlace}
-use Rattle.paper.proofs.FirstReason.{Fits, Tells}
-use Rattle.paper.proofs.LinkReasons.{bad-breaks}
+use Rattle.reasons.specs.Reasons.{_when_}
+use Rattle.reasons.specs.CheckReasons.{Breaks, BreaksAfter, BreaksOnPath, PathPlace}
+use Rattle.reasons.proofs.FirstReason.{Fits, Tells}
+use Rattle.reasons.proofs.LinkReasons.{bad-breaks}
 
 module _ (g : ℕ) (t : Table) where
   -- from node a the walk of a key comes to node q after some letters, and its link for the next

@@ -24,14 +24,14 @@ use Rattle.head.specs.Fields.{fieldsLen, headOf}
 use Rattle.alphabet.specs.Letters.{among, letters, letterOf, withLetter, lettersOfChars, orEmpty}
 use Rattle.alphabet.specs.Letters.{keyOfChars, keyOfText}
 use Rattle.alphabet.proofs.Alphabets.{letter-below, no-letters}
 use Rattle.paper.specs.Rows.{row9, allBelow, row10, isNone, row10text}
 use Rattle.paper.specs.Given.{Given, asLetters, asText, alphabetIn, meantBy, meantIn, keyIn}
 use Rattle.paper.specs.Orders.{lettersRows, textRows, keyRowsBy, keyRows}
-use Rattle.paper.specs.Reasons.{_when_, LengthOutside, LetterOutside, TextOutside}
-use Rattle.paper.specs.Reasons.{keyReasons}
+use Rattle.reasons.specs.Reasons.{_when_, LengthOutside, LetterOutside, TextOutside}
+use Rattle.reasons.specs.Reasons.{keyReasons}
 use Rattle.paper.proofs.Hearing.{unfalse}
-use Rattle.paper.proofs.FirstReason.{Fits, AllFit, when-fits, NoPlace, NoPlaces}
-use Rattle.paper.proofs.FirstReason.{when-no-place}
+use Rattle.reasons.proofs.FirstReason.{Fits, AllFit, when-fits, NoPlace, NoPlaces}
+use Rattle.reasons.proofs.FirstReason.{when-no-place}
 
 -- ---- 9
 

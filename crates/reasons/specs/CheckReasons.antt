@@ -15,10 +15,10 @@ use Rattle.trie.specs.Keys.{meets}
 use Rattle.head.specs.declared.Head.{Head}
 use Rattle.head.specs.Fields.{mostLinks, mostLinkBytes, mostDataBytes, mostAlphabet, mostLetters}
 use Rattle.head.specs.Fields.{fieldsLen, shortestImage, longestImage, headOf, usedLen}
 use Rattle.paper.specs.Given.{Given, alphabetIn, keyIn}
 use Rattle.paper.specs.Orders.{newOf}
 use Rattle.paper.specs.Calls.{tableIn, freshHead}
-use Rattle.paper.specs.Reasons.{Reason, _when_, LetterOutside, keyReasons, valueReasons}
+use Rattle.reasons.specs.Reasons.{Reason, _when_, LetterOutside, keyReasons, valueReasons}
 
 -- ---- 1 to 4
 

@@ -9,8 +9,8 @@ use mathlib.Core.Option.{none, some}
 use mathlib.Core.List.{List, [], _∷_, _++_}
 use lib.Dec.{eqb}
 use Rattle.alphabet.specs.Letters.{among}
 use Rattle.paper.specs.Hearing.{Said, Row, Outcome, rowWhen, first, heard, refusedNumbers}
-use Rattle.paper.specs.Reasons.{Reason, _when_, FirstApplies}
+use Rattle.reasons.specs.Reasons.{Reason, _when_, FirstApplies}
 
 -- ---- the first reason that applies
 

@@ -17,16 +17,16 @@ use Rattle.trie.proofs.Counted.{Sums, some-part}
 use Rattle.head.specs.declared.Head.{Head}
 use Rattle.head.specs.Fields.{headOf}
 use Rattle.node.specs.Image.{tableOf}
 use Rattle.paper.specs.Hearing.{Row, rowWhen}
 use Rattle.paper.specs.Rows.{badLink, holdsBad, rowWhenLowest, row6, timesIn, times, row7}
 use Rattle.paper.specs.Rows.{row8}
 use Rattle.paper.specs.Calls.{tableIn}
-use Rattle.paper.specs.Reasons.{_when_}
-use Rattle.paper.specs.CheckReasons.{Breaks, HoldsBreaking, StandsIn, InTwo, InNone}
-use Rattle.paper.specs.CheckReasons.{LowestOf, RightPlace}
-use Rattle.paper.proofs.FirstReason.{Fits, Tells, tell-alike}
+use Rattle.reasons.specs.Reasons.{_when_}
+use Rattle.reasons.specs.CheckReasons.{Breaks, HoldsBreaking, StandsIn, InTwo, InNone}
+use Rattle.reasons.specs.CheckReasons.{LowestOf, RightPlace}
+use Rattle.reasons.proofs.FirstReason.{Fits, Tells, tell-alike}
 use Rattle.paper.proofs.Linking.{not-bad, holds-bad, one-hit, hit-most, in-node, in-nodes}
 use Rattle.paper.proofs.Linking.{counted, counted-once, holds, count, twice, nowhere}
 
 -- ---- rows with a place
 

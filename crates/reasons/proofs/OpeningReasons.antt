@@ -21,18 +21,18 @@ use Rattle.head.specs.Fields.{mostLinks, mostLinkBytes, mostDataBytes, mostAlph
 use Rattle.head.specs.Fields.{fieldsLen, shortestImage, longestImage, headOf, permitted, usedLen}
 use Rattle.head.proofs.Permitted.{Bounds, bounds}
 use Rattle.alphabet.specs.Letters.{among, allDifferent, isAlphabet, goodAlphabet}
 use Rattle.paper.specs.Hearing.{Row}
 use Rattle.paper.specs.Rows.{row1, row2, row3, row4}
 use Rattle.paper.specs.Given.{alphabetIn}
 use Rattle.paper.specs.Orders.{openingRows, openingRowsOf}
 use Rattle.paper.specs.Calls.{freshHead}
-use Rattle.paper.specs.Reasons.{_when_}
-use Rattle.paper.specs.CheckReasons.{WrongLength, FieldOutside, n-below, n-above, a-below}
-use Rattle.paper.specs.CheckReasons.{a-above, d-below, d-above, f-above, min-above}
-use Rattle.paper.specs.CheckReasons.{max-above, Different, Characters, openingReasons}
-use Rattle.paper.specs.CheckReasons.{makeReasons}
-use Rattle.paper.proofs.FirstReason.{Fits, AllFit, when-fits}
-use Rattle.paper.proofs.KeyReasons.{outside, among-member}
+use Rattle.reasons.specs.Reasons.{_when_}
+use Rattle.reasons.specs.CheckReasons.{WrongLength, FieldOutside, n-below, n-above, a-below}
+use Rattle.reasons.specs.CheckReasons.{a-above, d-below, d-above, f-above, min-above}
+use Rattle.reasons.specs.CheckReasons.{max-above, Different, Characters, openingReasons}
+use Rattle.reasons.specs.CheckReasons.{makeReasons}
+use Rattle.reasons.proofs.FirstReason.{Fits, AllFit, when-fits}
+use Rattle.reasons.proofs.KeyReasons.{outside, among-member}
 
 -- ---- 1
 

@@ -2,7 +2,7 @@
 -- that of the first reason that applies. Each row of its order is given exactly where its reason
 -- applies, and has the reason's number, so the first row that is given is the first such reason.
 use Prim.Native.Nat.{ℕ, _+_, _-_, _*_, _^_, _≤_, _<_}
-use mathlib.Core.Path.{_≡_, refl, sym}
+use mathlib.Core.Path.{_≡_, refl}
 use mathlib.Core.Logic.{_↔_, inl, ⊎-elim}
 use mathlib.Core.Bool.{Bool, true, false, _&&_, cond}
 use mathlib.Core.List.{List, [], _∷_, _++_}
@@ -10,25 +10,26 @@ use native.Mathlib.Omega.{arith}
 use lib.Dec.{ltb, eqb}
 use lib.ListN.{length}
 use lib.Seq.{sets}
-use borrow.Author.Tests.{ltb-true, eqb-true, lt-ltb}
+use borrow.Author.Tests.{ltb-true, lt-ltb}
 use Rattle.field.proofs.Range.{both}
 use Rattle.head.specs.declared.Head.{Head}
 use Rattle.head.specs.Fields.{headOf, nodeWidth, usedLen}
 use Rattle.alphabet.specs.Letters.{among}
 use Rattle.node.specs.Writes.{Write, noted}
 use Rattle.paper.specs.Hearing.{Row, Outcome, rowWhen, first, outcome, doneNumbers}
 use Rattle.paper.specs.Rows.{row5, row11, row12, row13}
 use Rattle.paper.specs.Given.{Given, asLetters, asText, keyIn}
 use Rattle.paper.specs.Orders.{keyRows, addingRows, newOf, storeOrder}
 use Rattle.paper.specs.Calls.{writesIn, storeOf, withWrites, storeWritesOf}
 use Rattle.paper.specs.Accepted.{Accepted}
-use Rattle.paper.specs.Reasons.{_when_, FirstApplies, keyReasons, valueReasons, storeReasons}
-use Rattle.paper.proofs.StoreCall.{valued, accepted-order}
-use Rattle.paper.proofs.FirstReason.{NumbersAmong, first-among, Fits, AllFit, parts-fit}
-use Rattle.paper.proofs.FirstReason.{when-fits, heard-exactly, NoPlace, NoPlaces}
-use Rattle.paper.proofs.FirstReason.{no-places-parts, when-no-place, first-no-place}
-use Rattle.paper.proofs.FirstReason.{heard-no-place}
-use Rattle.paper.proofs.KeyReasons.{key-fits, key-no-places}
+use Rattle.reasons.specs.Reasons.{_when_, FirstApplies, keyReasons, valueReasons}
+use Rattle.reasons.specs.Reasons.{storeReasons}
+use Rattle.paper.proofs.StoreCall.{valued, accepted-order, writes-number}
+use Rattle.reasons.proofs.FirstReason.{NumbersAmong, first-among, Fits, AllFit, parts-fit}
+use Rattle.reasons.proofs.FirstReason.{when-fits, heard-exactly, NoPlace, NoPlaces}
+use Rattle.reasons.proofs.FirstReason.{no-places-parts, when-no-place, first-no-place}
+use Rattle.reasons.proofs.FirstReason.{heard-no-place}
+use Rattle.reasons.proofs.KeyReasons.{key-fits, key-no-places}
 
 -- ---- 11, 12 and 13
 
@@ -140,20 +141,7 @@ module _ (l work : List ℕ) (given : Given) (value : ℕ) where
 
 -- ---- a store with writes
 
--- its number is the store's, and so is its place
-pub writes-number : (ws : List Write) (list : List ℕ) (o : Outcome)
-    → withWrites ws list o .numbers .number ≡ o .numbers .number
-unfolding withWrites doneNumbers
-writes-number ws list o = go (eqb (o .numbers .number) 0) refl
-  where
-    go : (b : Bool) → eqb (o .numbers .number) 0 ≡ b
-        → cond b (outcome (doneNumbers (length ws) (o .numbers .change) 0)
-        (o .lent ++ (sets list 0 (noted ws) ∷ [])))
-        (outcome (o .numbers) (o .lent ++ (list ∷ []))) .numbers .number
-        ≡ o .numbers .number
-    go true e = sym (eqb-true (o .numbers .number) 0 e)
-    go false e = refl
-
+-- its place is the store's
 writes-place : (ws : List Write) (list : List ℕ) (o : Outcome) → o .numbers .place ≡ 0
     → withWrites ws list o .numbers .place ≡ 0
 unfolding withWrites doneNumbers

@@ -9,8 +9,8 @@ use lib.ListN.{length, getD}
 use Rattle.head.specs.Fields.{headOf}
 use Rattle.paper.specs.Given.{Given, keyIn}
 use Rattle.paper.specs.Orders.{newOf}
-use Rattle.paper.specs.Reasons.{Reason, _when_, keyReasons, valueReasons}
+use Rattle.reasons.specs.Reasons.{Reason, _when_, keyReasons, valueReasons}
 use Rattle.position.specs.Counts.{countIn}
 
 -- 25: "counts differ": the list holds another number for a node than its count
 abbrev pub DifferentCounts : List ℕ → List ℕ → Type 0

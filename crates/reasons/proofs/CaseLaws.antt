@@ -17,25 +17,25 @@ use Rattle.head.specs.declared.Head.{Head}
 use Rattle.head.specs.Fields.{longestImage, headOf, usedLen}
 use Rattle.head.proofs.Places.{used, width-least}
 use Rattle.alphabet.specs.Letters.{orEmpty}
 use Rattle.paper.specs.Hearing.{Outcome, first, refusedNumbers}
 use Rattle.paper.specs.Answers.{numberAt}
 use Rattle.paper.specs.Rows.{row11, row12}
 use Rattle.paper.specs.Given.{Given, alphabetIn, meantIn, keyIn}
 use Rattle.paper.specs.Orders.{checkOrder, keyRows, addingRows, newOf, storeOrder}
 use Rattle.paper.specs.Calls.{checkOf, countOf, lookUpOf, storeOf, nextKeyOf}
 use Rattle.paper.specs.Accepted.{Accepted}
 use Rattle.paper.specs.Granted.{Fit}
-use Rattle.paper.specs.CheckReasons.{WrongLength, FieldOutside, AlphabetWrong}
-use Rattle.paper.specs.CheckReasons.{greatest, openingReasons, checkReasons, lookUpReasons}
-use Rattle.paper.specs.CheckReasons.{storeAnyReasons, nextKeyReasons}
+use Rattle.reasons.specs.CheckReasons.{WrongLength, FieldOutside, AlphabetWrong}
+use Rattle.reasons.specs.CheckReasons.{greatest, openingReasons, checkReasons, lookUpReasons}
+use Rattle.reasons.specs.CheckReasons.{storeAnyReasons, nextKeyReasons}
 use Rattle.paper.proofs.Hearing.{first-none, yes-row, second-part, heard-refused}
 use Rattle.paper.proofs.Keying.{fit-given}
 use Rattle.paper.proofs.CheckCall.{accepted-checks}
 use Rattle.paper.proofs.StoreCall.{none-11, valued}
-use Rattle.paper.proofs.OpeningReasons.{fields-within}
-use Rattle.paper.proofs.CheckReasons.{check-number-exactly, count-number-exactly}
-use Rattle.paper.proofs.CheckReasons.{look-up-number-exactly, store-any-number-exactly}
-use Rattle.paper.proofs.CheckReasons.{next-key-number-exactly}
+use Rattle.reasons.proofs.OpeningReasons.{fields-within}
+use Rattle.reasons.proofs.CheckReasons.{check-number-exactly, count-number-exactly}
+use Rattle.reasons.proofs.CheckReasons.{look-up-number-exactly, store-any-number-exactly}
+use Rattle.reasons.proofs.CheckReasons.{next-key-number-exactly}
 
 -- ---- "G = FFFFFFFF, with nothing earlier wrong, gives 4 at any permitted length"
 

@@ -19,22 +19,23 @@ use Rattle.paper.specs.Rows.{row5}
 use Rattle.paper.specs.Given.{Given, asLetters, asText, keyIn}
 use Rattle.paper.specs.Orders.{keyRows, newOf}
 use Rattle.paper.specs.Accepted.{Accepted}
-use Rattle.paper.specs.Reasons.{Reason, _when_, FirstApplies, keyReasons, valueReasons}
+use Rattle.reasons.specs.Reasons.{Reason, _when_, FirstApplies, keyReasons, valueReasons}
 use Rattle.paper.proofs.Hearing.{first-none}
-use Rattle.paper.proofs.FirstReason.{NumbersAmong, first-among, Fits, AllFit, parts-fit, when-fits}
-use Rattle.paper.proofs.FirstReason.{heard-exactly, NoPlace, NoPlaces, no-places-parts}
-use Rattle.paper.proofs.FirstReason.{when-no-place, first-no-place, heard-no-place}
-use Rattle.paper.proofs.KeyReasons.{key-fits, key-no-places}
-use Rattle.paper.proofs.Reasons.{value-fits, value-no-places, five-fits}
+use Rattle.reasons.proofs.FirstReason.{NumbersAmong, first-among, Fits, AllFit, parts-fit}
+use Rattle.reasons.proofs.FirstReason.{when-fits}
+use Rattle.reasons.proofs.FirstReason.{heard-exactly, NoPlace, NoPlaces, no-places-parts}
+use Rattle.reasons.proofs.FirstReason.{when-no-place, first-no-place, heard-no-place}
+use Rattle.reasons.proofs.KeyReasons.{key-fits, key-no-places}
+use Rattle.reasons.proofs.Reasons.{value-fits, value-no-places, five-fits}
 use Rattle.paper.proofs.StoreCall.{valued}
 use Rattle.position.specs.Counts.{row25, row5again}
 use Rattle.position.specs.Orders.{usable, storeCountsOrder}
 use Rattle.position.specs.Calls.{storeCountsOf}
-use Rattle.position.specs.CountsReasons.{DifferentCounts, LowestDifferent, listReasons}
-use Rattle.position.specs.CountsReasons.{storeCountsReasons}
+use Rattle.reasons.specs.CountsReasons.{DifferentCounts, LowestDifferent, listReasons}
+use Rattle.reasons.specs.CountsReasons.{storeCountsReasons}
 use Rattle.position.proofs.Plain.{both-lent}
 use Rattle.position.proofs.Right.{none-25, says-25}
 use Rattle.position.proofs.StoreCounts.{accepted-order}
 
 -- ---- the rows
 

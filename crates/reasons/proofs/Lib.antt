@@ -1,0 +1,9 @@
+pub mod CaseLaws
+pub mod CheckReasons
+pub mod CountsReasons
+pub mod FirstReason
+pub mod KeyReasons
+pub mod LinkReasons
+pub mod OpeningReasons
+pub mod PathReasons
+pub mod Reasons

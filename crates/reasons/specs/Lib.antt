@@ -1,0 +1,3 @@
+pub mod CheckReasons
+pub mod CountsReasons
+pub mod Reasons
