@@ -1,7 +1,7 @@
 -- 02, Ask 7, on the counts alone: when 25 is given and at which node, that the counts worked out
 -- are right, and for which images and lists working out and the check with counts are done. Each
 -- law follows the rows; the check's part is the theorem on `Accepted`.
-use Prim.Native.Nat.{ℕ, zero, suc, _+_, _≤_, _<_}
+use Prim.Native.Nat.{ℕ, suc, _+_, _≤_, _<_}
 use mathlib.Core.Path.{_≡_, refl, sym, _∙_, ap}
 use mathlib.Core.Logic.{_↔_, _≢_}
 use mathlib.Core.Bool.{Bool, true, false, not}
@@ -14,6 +14,7 @@ use lib.IntN.{pos}
 use lib.ListN.{length, getD, set, drop, List·getD-append}
 use lib.Seq.{sets, length-sets, sets-eq, getD-set-other, ext-getD}
 use borrow.Author.Tests.{ltb-true, eqb-true, eqb-false, eq-eqb, not-true, not-false}
+use Rattle.trie.proofs.Lowest.{lowest-found}
 use Rattle.trie.specs.Lowest.{lowest}
 use Rattle.head.specs.Fields.{headOf}
 use Rattle.alphabet.specs.Letters.{among}
@@ -32,33 +33,6 @@ use Rattle.position.specs.Calls.{workLeft, worked, countsOf, checkCounts
 use Rattle.position.proofs.Plain.{both-lent, work-left, counts-say, counts-checked}
 
 -- ---- 25
-
--- the lowest number that passes, where there is one: it passes, and none before it does
-lowest-found : (p : ℕ → Bool) (a k : ℕ) → lowest p a k < a + k
-    → (p (lowest p a k) ≡ true) × ((y : ℕ) → a ≤ y → y < lowest p a k → p y ≡ false)
-unfolding lowest
-lowest-found p a zero h = absurd (omega arith)
-lowest-found p a (suc k) h = go (p a) refl (lowest-found p (suc a) k)
-  where
-    go : (b : Bool) → p a ≡ b
-        → (lowest p (suc a) k < suc a + k
-        → (p (lowest p (suc a) k) ≡ true)
-        × ((y : ℕ) → suc a ≤ y → y < lowest p (suc a) k → p y ≡ false))
-        → (p (lowest p a (suc k)) ≡ true)
-        × ((y : ℕ) → a ≤ y → y < lowest p a (suc k) → p y ≡ false)
-    go true e below =
-        let here : lowest p a (suc k) ≡ a = rw e in
-        (ap p here ∙ e, λ y low high. absurd (omega arith))
-    go false e below =
-        let on : lowest p a (suc k) ≡ lowest p (suc a) k = rw e in
-        let f = below (omega arith) in
-        (ap p on ∙ f .0, λ y low high. before y (decLe (suc a) y) low (omega arith) (f .1 y))
-      where
-        before : (y : ℕ) → Dec (suc a ≤ y) → a ≤ y → y < lowest p (suc a) k
-            → (suc a ≤ y → y < lowest p (suc a) k → p y ≡ false)
-            → p y ≡ false
-        before y (yes b) low high f = f b high
-        before y (no b) low high f = let same : y ≡ a = omega arith in ap p same ∙ e
 
 module _ (l counts : List ℕ) where
   -- does the list hold another number for a node than its count?

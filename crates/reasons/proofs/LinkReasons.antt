@@ -2,7 +2,7 @@
 -- address that the reason speaks of. An address that is counted twice stands in two links: in two
 -- of one node, or in one of each of two nodes.
 use Prim.Native.Nat.{ℕ, zero, suc, _+_, _≤_, _<_}
-use mathlib.Core.Path.{_≡_, refl, sym, _∙_, ap}
+use mathlib.Core.Path.{_≡_, refl, sym, _∙_}
 use mathlib.Core.Logic.{_↔_, _≢_, _⊎_, inl, inr, ⊎-elim}
 use mathlib.Core.Bool.{Bool, true, false, true≢false, false≢true}
 use mathlib.Core.List.{List}
@@ -12,7 +12,7 @@ use lib.Dec.{ltb}
 use borrow.Author.Tests.{ltb-true, ltb-false, leb-true, le-leb, eqb-true, eq-eqb}
 use Rattle.trie.specs.Table.{Table}
 use Rattle.trie.specs.Lowest.{lowest}
-use Rattle.trie.proofs.Lowest.{lowest-least, none-lowest}
+use Rattle.trie.proofs.Lowest.{lowest-least, none-lowest, lowest-found}
 use Rattle.trie.proofs.Counted.{Sums, some-part}
 use Rattle.head.specs.declared.Head.{Head}
 use Rattle.head.specs.Fields.{headOf}
@@ -29,32 +29,6 @@ use Rattle.paper.proofs.Linking.{not-bad, holds-bad, one-hit, hit-most, in-node
 use Rattle.paper.proofs.Linking.{counted, counted-once, holds, count, twice, nowhere}
 
 -- ---- rows with a place
-
--- where one of the numbers passes, the lowest passes and no number before it does
-pub lowest-found : (p : ℕ → Bool) (a k : ℕ) → lowest p a k < a + k
-    → (p (lowest p a k) ≡ true) × ((y : ℕ) → a ≤ y → y < lowest p a k → p y ≡ false)
-unfolding lowest
-lowest-found p a zero h = absurd (omega arith)
-lowest-found p a (suc k) h = go (p a) refl (lowest-found p (suc a) k)
-  where
-    go : (b : Bool) → p a ≡ b
-        → (lowest p (suc a) k < suc a + k
-        → (p (lowest p (suc a) k) ≡ true)
-        × ((y : ℕ) → suc a ≤ y → y < lowest p (suc a) k → p y ≡ false))
-        → (p (lowest p a (suc k)) ≡ true)
-        × ((y : ℕ) → a ≤ y → y < lowest p a (suc k) → p y ≡ false)
-    go true e below =
-        let here : lowest p a (suc k) ≡ a = rw e in
-        (ap p here ∙ e, λ y low high. absurd (omega arith))
-    go false e below =
-        let on : lowest p a (suc k) ≡ lowest p (suc a) k = rw e in
-        let f = below (omega arith) in
-        (ap p on ∙ f .0, λ y low high. before y (decLe (suc a) y) low (omega arith) (f .1 y))
-      where
-        before : (y : ℕ) → Dec (suc a ≤ y) → a ≤ y → y < lowest p (suc a) k
-            → (suc a ≤ y → y < lowest p (suc a) k → p y ≡ false) → p y ≡ false
-        before y (yes b) low high rest = rest b high
-        before y (no b) low high rest = let same : y ≡ a = omega arith in ap p same ∙ e
 
 -- a row for the lowest number that passes a test, where the test says of the numbers from a on
 -- whether `one` is so, and `one` is so of no other number

@@ -33,19 +33,19 @@ pub fn store(image: &mut [u8], h: Head, key: Key, value: u64) -> Stored
     ensures { λ r. ⌜ StoresIn (now (image .entry)) (lettersOf key) value r (now (image .exit)) ⌝ }
 {
     let walked = walk::walk(image, h, key);
+    if let Walked::Refused(why) = walked {
+        return Stored::Refused(why);
+    }
     store_at(image, h, key, walked, value)
 }
 
 // Judges 11, 12 and 13 and carries out the writes, given how the key's walk ended. Refusals: 11,
-// 12, 13. The walk's own refusal, which cannot be met here, would be handed on.
+// 12, 13.
 pub fn store_at(image: &mut [u8], h: Head, key: Key, walked: Walked, value: u64) -> Stored
     requires { ⌜ Open h (now image) ⌝ ∗ ⌜ Ready h key ⌝ ∗ ⌜ Ends h key walked ⌝ }
     ensures { λ r. ⌜ outcome (storedOf r) (now (image .exit) ∷ []) ≡ storeAt h (now (image .entry))
         (endOf (lettersOf key) walked) value ⌝ }
 {
-    if let Walked::Refused(why) = walked {
-        return Stored::Refused(why);
-    }
     let verdict = judge(h, image.len(), new_count(h, key, walked, value), value);
     match verdict {
         Verdict::Refused(why) => Stored::Refused(why),

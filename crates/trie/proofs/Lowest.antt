@@ -1,10 +1,10 @@
 -- The lowest number that passes a test, determined by which numbers pass. Each law goes up from
 -- the first number: if it passes, it is the lowest; otherwise the rest is searched.
 use Prim.Native.Nat.{ℕ, zero, suc, _+_, _≤_, _<_}
-use mathlib.Core.Path.{_≡_, refl, _∙_}
+use mathlib.Core.Path.{_≡_, refl, ap, _∙_}
 use mathlib.Core.Bool.{Bool, true, false}
 use native.Mathlib.Omega.{arith}
-use native.Mathlib.Decide.{ℕ-discrete}
+use native.Mathlib.Decide.{ℕ-discrete, decLe}
 use Rattle.trie.specs.Lowest.{lowest}
 
 module _ (p : ℕ → Bool) where
@@ -63,3 +63,30 @@ module _ (p : ℕ → Bool) where
           at : Dec (a ≡ y) → p y ≡ false
           at (yes s) = rw (← s) e
           at (no d) = on (omega (arith, lowest-on a k e)) (omega arith) (omega arith)
+
+-- the lowest number that passes, where there is one: it passes, and none before it does
+pub lowest-found : (p : ℕ → Bool) (a k : ℕ) → lowest p a k < a + k
+    → (p (lowest p a k) ≡ true) × ((y : ℕ) → a ≤ y → y < lowest p a k → p y ≡ false)
+unfolding lowest
+lowest-found p a zero h = absurd (omega arith)
+lowest-found p a (suc k) h = go (p a) refl (lowest-found p (suc a) k)
+  where
+    go : (b : Bool) → p a ≡ b
+        → (lowest p (suc a) k < suc a + k
+        → (p (lowest p (suc a) k) ≡ true)
+        × ((y : ℕ) → suc a ≤ y → y < lowest p (suc a) k → p y ≡ false))
+        → (p (lowest p a (suc k)) ≡ true)
+        × ((y : ℕ) → a ≤ y → y < lowest p a (suc k) → p y ≡ false)
+    go true e below =
+        let here : lowest p a (suc k) ≡ a = rw e in
+        (ap p here ∙ e, λ y low high. absurd (omega arith))
+    go false e below =
+        let on : lowest p a (suc k) ≡ lowest p (suc a) k = rw e in
+        let f = below (omega arith) in
+        (ap p on ∙ f .0, λ y low high. before y (decLe (suc a) y) low (omega arith) (f .1 y))
+      where
+        before : (y : ℕ) → Dec (suc a ≤ y) → a ≤ y → y < lowest p (suc a) k
+            → (suc a ≤ y → y < lowest p (suc a) k → p y ≡ false)
+            → p y ≡ false
+        before y (yes b) low high f = f b high
+        before y (no b) low high f = let same : y ≡ a = omega arith in ap p same ∙ e
