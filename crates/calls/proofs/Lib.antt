@@ -1,3 +1,4 @@
 pub mod AnswerBuffers
 pub mod Refused
+pub mod StoreDone
 pub mod WorkingNumbers
