@@ -1,6 +1,7 @@
--- Demand 3, of the outcome of every store: where it answers 0, the image that it leaves is accepted
--- again, the key answers the new value, every other key answers as before, and only what 01 says has
--- changed. Each store that is done leaves the stored image, of which `paper` has these laws.
+-- Demand 3, of the outcome of every store: where it answers 0, the image that it leaves is
+-- accepted again, the key answers the new value, every other key answers as before, and only what
+-- 01 says has changed. Each store that is done leaves the stored image, of which `paper` has these
+-- laws.
 use Prim.Native.Nat.{ℕ}
 use mathlib.Core.Path.{_≡_, sym, ap, subst, _∙_}
 use mathlib.Core.Option.{some, Option·some-ne-none, Option·some-injective}
@@ -66,8 +67,8 @@ counts-done l work given value tally z =
     let (done, same) = store-counts-plain l work given value tally z in
     rw (same, store-leaves l work given value done) (stored-done l work given value done)
 
--- "Otherwise the image is again accepted; the key answers the new value and every other key answers
--- as before."
+-- "Otherwise the image is again accepted; the key answers the new value and every other key
+-- answers as before."
 pub store-done : (l : List ℕ) (c : Call) (w : Wanted) → wantedBy c ≡ some w
     → outcomeOf l c .numbers .number ≡ 0
     → StoreDone l w (outcomeOf l c .numbers .change) (imageAfter l c)
