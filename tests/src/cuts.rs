@@ -361,6 +361,13 @@ impl Worker {
             }
             landed[write.clone()].copy_from_slice(&after[write.clone()]);
         }
+        for part in self.parts_of_all(list, used) {
+            let mut image = held.image.clone();
+            part.iter().for_each(|at| image[*at] = after[*at]);
+            self.done.partly += u64::from(!part.is_empty());
+            let tell = |why| format!("cut among {list:?}, the bytes {part:?} landed: {why}");
+            left.push(self.mend(image, &held.stored, keys).map_err(tell)?);
+        }
         claim(landed == after, || {
             format!("the list {list:?} carried out whole leaves other bytes than the store")
         })?;
@@ -404,6 +411,19 @@ impl Worker {
         let all_but_one = bytes.iter().copied().filter(|at| *at != bytes[middle]).collect();
         let any = bytes.iter().copied().filter(|_| self.rng.one_in(2)).collect();
         vec![Vec::new(), vec![first], vec![last], one_side.to_vec(), all_but_one, any]
+    }
+
+    /// Sets of bytes that land of all writes to spare bytes, where they share one flush: the last
+    /// node without those before it, and any bytes of all of them.
+    fn parts_of_all(&mut self, list: &[Range<usize>], used: usize) -> Vec<Vec<usize>> {
+        let spare: Vec<Range<usize>> =
+            list.iter().filter(|write| write.start >= used).cloned().collect();
+        if spare.len() < 2 {
+            return Vec::new();
+        }
+        let last = spare[spare.len() - 1].clone().collect();
+        let any = spare.into_iter().flatten().filter(|_| self.rng.one_in(2)).collect();
+        vec![last, any]
     }
 
     /// Mends what a cut left, and makes the calls that read on it. Returns the mended image.
