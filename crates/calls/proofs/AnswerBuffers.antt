@@ -25,12 +25,11 @@ use Rattle.paper.specs.Calls.{tableIn, freshHead, makeOf, checkOf, countOf, loo
 use Rattle.paper.specs.Calls.{mendOf}
 use Rattle.paper.specs.Calls.{workAfter, storedKeys, storedImage, storeOf, writesIn, withWrites}
 use Rattle.paper.specs.Calls.{storeWritesOf, nextIn, foundIn, nextKeyOf}
-use Rattle.position.specs.Counts.{countsIn}
 use Rattle.position.specs.Orders.{countsOrder, checkCountsOrder, storeCountsOrder, keyAtOrder}
 use Rattle.position.specs.Orders.{positionOrder}
 use Rattle.position.specs.Calls.{workLeft, worked, countsOf, checkCountsOf, storeCountsOf}
 use Rattle.position.specs.Calls.{placedKey, keyAtOf, positionOf}
-use Rattle.position.proofs.Right.{counts-length}
+use Rattle.position.proofs.Right.{worked-rest}
 use Rattle.paper.proofs.MendCall.{mend-kept, mend-lowered}
 use Rattle.trie.specs.Table.{answer}
 use Rattle.trie.specs.Storing.{changeOf}
@@ -45,10 +44,10 @@ use Rattle.calls.specs.Call.{frontOf, answering, working, workingWith}
 rest : (l vs : List ℕ) (p : ℕ) → length vs ≤ p → getD (sets l 0 vs) p 0 ≡ getD l p 0
 rest l vs p b = getD-outside l vs 0 p 0 (inr (omega arith))
 
-noted-long : (ws : List Write) → length (noted ws) ≡ 2 * length ws
+pub length-noted : (ws : List Write) → length (noted ws) ≡ 2 * length ws
 unfolding noted
-noted-long [] = refl
-noted-long (w ∷ ws) = omega (arith, noted-long ws)
+length-noted [] = refl
+length-noted (w ∷ ws) = omega (arith, length-noted ws)
 
 -- ---- each call that has such a buffer
 
@@ -108,7 +107,7 @@ module _ (l : List ℕ) (p : ℕ) where
       go : (row : Row)
           → getD (answerIn (counts work tally) (othersIn (workingWith tally work ∷ answering tally
           ∷ []) (heard row (workLeft l work tally ∷ tally ∷ []) done .lent))) p 0 ≡ getD tally p 0
-      go none = rest tally (countsIn l) p (omega (arith, counts-length l))
+      go none = worked-rest l tally p (omega arith)
       go (some s) = refl
 
   store-counts-rest : (work : List ℕ) (given : Given) (value : ℕ) (tally : List ℕ)
@@ -134,7 +133,7 @@ module _ (l : List ℕ) (p : ℕ) where
           → getD (answerIn (storeCounts work given value tally)
           (othersIn (answering l ∷ workingWith tally work ∷ answering tally ∷ [])
           (heard row kept done .lent))) p 0 ≡ getD tally p 0
-      go none b = rest tally (countsIn image) p (omega (arith, counts-length image))
+      go none b = worked-rest image tally p (omega arith)
       go (some s) b = refl
 
   writes-rest : (work : List ℕ) (given : Given) (value : ℕ) (list : List ℕ)
@@ -164,11 +163,11 @@ module _ (l : List ℕ) (p : ℕ) where
 
       refused : (s : Said) (t : Bool) → eqb (s .number) 0 ≡ t
           → Keeps (outcome (refusedNumbers s) kept)
-      refused s true e = rw e (λ b. rest list (noted ws) p (omega (arith, noted-long ws)))
+      refused s true e = rw e (λ b. rest list (noted ws) p (omega (arith, length-noted ws)))
       refused s false e = rw e (λ b. refl)
 
       go : (row : Row) → Keeps (heard row kept done)
-      go none b = rest list (noted ws) p (omega (arith, noted-long ws))
+      go none b = rest list (noted ws) p (omega (arith, length-noted ws))
       go (some s) b = refused s (eqb (s .number) 0) refl b
 
 -- a call that has no such buffer leaves nothing there

@@ -1,18 +1,14 @@
 -- 01 on the working numbers, for every call. They end as 01 states, refused or done. "No answer
 -- depends on what they held": all outcomes have them by their length alone, but for what the rest
 -- of them keep.
-use Prim.Native.Nat.{ℕ, _+_, _-_, _≤_, _<_, min}
+use Prim.Native.Nat.{ℕ, _+_, _-_, min}
 use mathlib.Core.Path.{_≡_, refl, sym, ap, subst, _∙_}
 use mathlib.Core.Bool.{Bool, true, false}
 use mathlib.Core.Option.{none, some}
-use mathlib.Core.Logic.{_⊎_, ⊎-elim}
-use mathlib.Core.List.{List, [], _∷_, _++_, map, append-assoc}
+use mathlib.Core.List.{List, [], _∷_, _++_, map}
 use lib.Dec.{eqb}
 use lib.IntN.{ℤ}
-use lib.ListN.{length, take, drop, replicate, length-take, take-append-drop}
-use lib.Seq.{drop-append-le}
-use native.Mathlib.Omega.{arith}
-use borrow.Author.Tests.{lt-ltb, le-ltb}
+use lib.ListN.{length, length-take}
 use Rattle.head.specs.Fields.{headOf, putTotal}
 use Rattle.trie.specs.Table.{answer}
 use Rattle.trie.specs.Storing.{changeOf}
@@ -25,18 +21,17 @@ use Rattle.paper.specs.Given.{Given, keyIn}
 use Rattle.paper.specs.Rows.{row5, row14, row15}
 use Rattle.paper.specs.Orders.{openingRows, openingRowsOf, linkRows, checkOrder, keyRows, nextRows}
 use Rattle.paper.specs.Orders.{newOf, storeOrder, nextKeyOrder}
-use Rattle.paper.specs.Calls.{clearedBy, workAfter, freshHead, makeOf, checkOf, countOf}
+use Rattle.paper.specs.Calls.{workAfter, freshHead, makeOf, checkOf, countOf}
 use Rattle.paper.specs.Calls.{storedKeys, storeOf}
 use Rattle.paper.specs.Calls.{writesIn, withWrites, storeWritesOf, canMend, mendOf, nextIn}
 use Rattle.paper.specs.Calls.{foundIn}
 use Rattle.paper.specs.Calls.{nextKeyOf, tableIn, storedImage}
-use Rattle.paper.proofs.Hearing.{first-nil, yes-row, no-row, first-part, second-part}
 use Rattle.paper.proofs.MendCall.{mend-kept, mend-lowered}
 use Rattle.paper.proofs.StoreCall.{valued}
 use Rattle.position.specs.Counts.{row25, row5again}
 use Rattle.position.specs.Orders.{usable, countsOrder, checkCountsOrder, storeCountsOrder}
 use Rattle.position.specs.Orders.{keyAtOrder, ifStored, positionOrder}
-use Rattle.position.specs.Calls.{workLeft, countsOf, checkCountsOf, storeCountsOf, placedKey}
+use Rattle.position.specs.Calls.{countsOf, checkCountsOf, storeCountsOf, placedKey}
 use Rattle.position.specs.Calls.{keyAtOf, positionOf}
 use Rattle.calls.specs.Call.{Call, make, check, count, lookUp, store, storeWrites, mend}
 use Rattle.calls.specs.Call.{nextKey, counts, checkCounts, storeCounts, keyAt, position}
@@ -334,65 +329,3 @@ work-unread l w (keyAt work tally at buffer) e =
     let s = key-at-same l w work e tally at buffer in (s .numbers, s .others)
 work-unread l w (position work tally given) e =
     let s = position-same l w work e tally given in (s .numbers, s .others)
-
--- ---- once 5 is passed
-
--- 1 to 4 pass
-abbrev Opens : List ℕ → Type 0
-Opens l = first (openingRowsOf l) ≡ none
-
-module _ (l work : List ℕ) where
-  abbrev nodes : ℕ
-  nodes = headOf l .g + 1
-
-  -- "Once 5 is passed, the first G+1 of them are 0 when the call returns [..] the rest keep what
-  -- they held"
-  pub work-cleared : Opens l → nodes ≤ length work
-      → refusedLeaves l (working work) ≡ replicate nodes 0 ++ drop nodes work
-  unfolding refusedLeaves workAfter clearedBy row5
-  work-cleared o b =
-      ap (λ (r : Row). clearedBy r nodes work)
-      (second-part (openingRowsOf l) (row5 (headOf l) (length work) ∷ []) o
-      ∙ no-row 5 0 [] (le-ltb (length work) nodes b) ∙ first-nil)
-
-  -- "If the call stops at 5, where its order first names it, or before that, all keep what they
-  -- held."
-  pub work-kept : (Opens l → length work < nodes) → refusedLeaves l (working work) ≡ work
-  unfolding refusedLeaves workAfter clearedBy row5
-  work-kept few = go (first (openingRowsOf l)) refl
-    where
-      go : (r : Row) → first (openingRowsOf l) ≡ r
-          → clearedBy (first (openingRowsOf l ++ (row5 (headOf l) (length work) ∷ []))) nodes work
-          ≡ work
-      go (some s) e = rw (first-part (openingRowsOf l) (row5 (headOf l) (length work) ∷ []) e)
-      go none e =
-          rw (
-            second-part (openingRowsOf l) (row5 (headOf l) (length work) ∷ []) e,
-            yes-row 5 0 [] (lt-ltb (length work) nodes (few e)),
-          )
-
--- the same for a call with counts, where 5 asks for both lists
-module _ (l work tally : List ℕ) where
-  pub work-cleared-counts : Opens l → nodes l work ≤ length work → nodes l work ≤ length tally
-      → refusedLeaves l (workingWith tally work)
-      ≡ replicate (nodes l work) 0 ++ drop (nodes l work) work
-  unfolding refusedLeaves workLeft usable
-  work-cleared-counts o b c =
-      let m : ℕ = nodes l work in
-      let used : List ℕ = take (length tally) work in
-      let long : m ≤ length used = omega (arith, length-take (length tally) work) in
-      ap (_++ drop (length tally) work) (work-cleared l used o long)
-      ∙ append-assoc (replicate m 0) (drop m used) (drop (length tally) work)
-      ∙ ap (replicate m 0 ++_)
-      (sym (drop-append-le m used (drop (length tally) work) long)
-      ∙ ap (drop m) (take-append-drop (length tally) work))
-
-  pub work-kept-counts : (Opens l → (length work < nodes l work) ⊎ (length tally < nodes l work))
-      → refusedLeaves l (workingWith tally work) ≡ work
-  unfolding refusedLeaves workLeft usable
-  work-kept-counts few =
-      let used : List ℕ = take (length tally) work in
-      let n = length-take (length tally) work in
-      ap (_++ drop (length tally) work)
-      (work-kept l used (λ o. ⊎-elim (λ b. omega arith) (λ b. omega arith) (few o)))
-      ∙ take-append-drop (length tally) work

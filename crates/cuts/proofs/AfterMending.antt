@@ -3,7 +3,7 @@
 -- are left. These are as they were, so the walk is the same before and after.
 use Prim.Native.Nat.{ℕ, _+_, _-_, _^_, _≤_, _<_}
 use mathlib.Core.Path.{_≡_, refl, sym, ap, ap₂, subst, _∙_}
-use mathlib.Core.Bool.{Bool, true, false, cond}
+use mathlib.Core.Bool.{Bool, true, false, cond, true≢false}
 use mathlib.Core.List.{List, [], _∷_}
 use native.Mathlib.Omega.{arith}
 use lib.Dec.{eqb}
@@ -31,10 +31,11 @@ use Rattle.paper.specs.Accepted.{Accepted}
 use Rattle.paper.proofs.Numbers.{first-says, none-heard}
 use Rattle.paper.proofs.Opening.{Passed, passed}
 use Rattle.paper.proofs.Linking.{milder}
-use Rattle.paper.proofs.CheckCall.{check-accepts, checking-says, check-exactly}
+use Rattle.paper.proofs.CheckCall.{check-accepts, checking-says}
 use Rattle.paper.proofs.StoreCall.{unfaulted, looks-up-open, looks-up-accepted, same-keying}
 use Rattle.paper.proofs.StoreCall.{same-key}
 use Rattle.paper.proofs.MendCall.{accepted-exactly, mend-kept, mend-lowered, Eight, eight}
+use Rattle.paper.proofs.MendCall.{not-mended}
 use Rattle.seen.proofs.Seen.{same-alphabet}
 use Rattle.seen.proofs.SameCalls.{eight-fits}
 use Rattle.cuts.specs.Mended.{mendedImage}
@@ -95,9 +96,7 @@ module _ (l work : List ℕ) where
   pub mend-accepted : Accepted l → mendedImage l work ≡ l
   mend-accepted a =
       either (λ (r : List ℕ). r ≡ l) refl
-      (λ e.
-      let n : numbers .number ≡ 8 = lowers-tell l numbers e .0 in
-      absurd (omega (arith, check-exactly l work (eight l work n .lent) .1 a)))
+      (λ e. absurd (true≢false (sym e ∙ not-mended a work)))
 
 -- ---- where G is lowered
 

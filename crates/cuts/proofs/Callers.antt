@@ -23,6 +23,7 @@ use Rattle.paper.specs.Calls.{storeWritesOf}
 use Rattle.paper.specs.Granted.{Granted}
 use Rattle.paper.proofs.StoreCall.{store-granted, store-leaves}
 use Rattle.paper.proofs.StoreCall.{writes-number}
+use Rattle.calls.proofs.AnswerBuffers.{length-noted}
 use Rattle.cuts.specs.Mended.{readBack}
 use Rattle.cuts.proofs.Noted.{read-back}
 
@@ -54,11 +55,6 @@ few-writes {l} {key} {value} s =
         omega (arith, ap length (w .key), length-append (w .path) (x ∷ xs))
 
 -- ---- the list of writes, read by its caller
-
-length-noted : (ws : List Write) → length (noted ws) ≡ 2 * length ws
-unfolding noted
-length-noted [] = refl
-length-noted (w ∷ ws) = omega (arith, length-noted ws)
 
 front : (list vs : List ℕ) → length vs ≤ length list → take (length vs) (sets list 0 vs) ≡ vs
 front list vs b = ap (take (length vs)) (sets-eq vs list 0 (omega arith)) ∙ take-append-seam vs

@@ -1,15 +1,15 @@
 -- Demand 2, "Lent enough working numbers, the check accepts exactly the images that meet the
 -- TRIEFF rules as document 01 reads them": 1 to 8 pass exactly where the image is `Accepted`.
 -- Each row is a rule negated; 6 to 8 are in `Linking`.
-use Prim.Native.Nat.{ℕ, _+_, _≤_}
-use mathlib.Core.Path.{_≡_, refl, _∙_}
+use Prim.Native.Nat.{ℕ, _+_, _≤_, _<_}
+use mathlib.Core.Path.{_≡_, refl, ap, _∙_}
 use mathlib.Core.Logic.{_↔_}
-use mathlib.Core.Option.{none}
-use mathlib.Core.List.{List, [], _∷_}
+use mathlib.Core.Option.{none, some}
+use mathlib.Core.List.{List, [], _∷_, _++_}
 use native.Mathlib.Omega.{arith}
-use lib.ListN.{length}
+use lib.ListN.{length, drop, replicate}
 use lib.Dec.{ltb}
-use borrow.Author.Tests.{le-ltb, le-leb, ltb-false}
+use borrow.Author.Tests.{lt-ltb, le-ltb, le-leb, ltb-false}
 use Rattle.field.proofs.Range.{between-true, true-between}
 use Rattle.trie.specs.Rules.{Linked}
 use Rattle.trie.proofs.Rules.{rules-linked}
@@ -18,13 +18,14 @@ use Rattle.head.specs.Fields.{shortestImage, longestImage, headOf, usedLen}
 use Rattle.alphabet.specs.Letters.{among}
 use Rattle.node.specs.Image.{tableOf, Open}
 use Rattle.node.proofs.Tables.{framed}
-use Rattle.paper.specs.Hearing.{first, heard, doneNumbers}
+use Rattle.paper.specs.Hearing.{Row, first, heard, doneNumbers}
 use Rattle.paper.specs.Rows.{row5}
 use Rattle.paper.specs.Given.{alphabetIn}
 use Rattle.paper.specs.Orders.{openingRowsOf, linkRows, checkOrder}
-use Rattle.paper.specs.Calls.{tableIn, checkOf}
+use Rattle.paper.specs.Calls.{tableIn, clearedBy, workAfter, checkOf}
 use Rattle.paper.specs.Accepted.{Accepted}
-use Rattle.paper.proofs.Hearing.{was-false, no-row, second-part, passed-row, passed-parts}
+use Rattle.paper.proofs.Hearing.{was-false, first-nil, yes-row, no-row, first-part}
+use Rattle.paper.proofs.Hearing.{second-part, passed-row, passed-parts}
 use Rattle.paper.proofs.Numbers.{AllSay, end, _then_, given-says, parts-say, first-says}
 use Rattle.paper.proofs.Numbers.{none-heard}
 use Rattle.paper.proofs.Opening.{fits-4, left-4, Passed, passed, opening-says}
@@ -135,3 +136,35 @@ head-open a same = rw same (accepted-open a)
 pub accepted-linked : {l : List ℕ} → Accepted l → Linked (tableIn l) (headOf l .g) (headOf l .n)
 unfolding tableIn
 accepted-linked {l} a = rules-linked (framed (headOf l) l) (a .links)
+
+-- ---- the working numbers
+
+module _ (l work : List ℕ) where
+  -- "Once 5 is passed, the first G+1 of them are 0 when the call returns [..] the rest keep what
+  -- they held"
+  pub work-cleared : first (openingRowsOf l) ≡ none → headOf l .g + 1 ≤ length work
+      → workAfter l work ≡ replicate (headOf l .g + 1) 0 ++ drop (headOf l .g + 1) work
+  unfolding workAfter clearedBy row5
+  work-cleared o b =
+      ap (λ (r : Row). clearedBy r (headOf l .g + 1) work)
+      (second-part (openingRowsOf l) (row5 (headOf l) (length work) ∷ []) o
+      ∙ no-row 5 0 [] (le-ltb (length work) (headOf l .g + 1) b) ∙ first-nil)
+
+  -- "If the call stops at 5, where its order first names it, or before that, all keep what they
+  -- held."
+  pub work-kept : (first (openingRowsOf l) ≡ none → length work < headOf l .g + 1)
+      → workAfter l work ≡ work
+  unfolding workAfter clearedBy row5
+  work-kept few = go (first (openingRowsOf l)) refl
+    where
+      five : List Row
+      five = row5 (headOf l) (length work) ∷ []
+
+      go : (r : Row) → first (openingRowsOf l) ≡ r
+          → clearedBy (first (openingRowsOf l ++ five)) (headOf l .g + 1) work ≡ work
+      go (some s) e = rw (first-part (openingRowsOf l) five e)
+      go none e =
+          rw (
+            second-part (openingRowsOf l) five e,
+            yes-row 5 0 [] (lt-ltb (length work) (headOf l .g + 1) (few e)),
+          )

@@ -26,7 +26,7 @@ use Rattle.alphabet.specs.Letters.{keyOfChars, keyOfText}
 use Rattle.alphabet.proofs.Alphabets.{good-length, no-letters}
 use Rattle.node.specs.Image.{linkPlace, dataPlace, tableOf}
 use Rattle.node.proofs.Tables.{child-in, value-in}
-use Rattle.paper.specs.Hearing.{Said, Row, Outcome, first, doneNumbers}
+use Rattle.paper.specs.Hearing.{Row, Outcome, first, doneNumbers}
 use Rattle.paper.specs.Rows.{badLink, isNone, row6At, row6path}
 use Rattle.paper.specs.Given.{Given, asLetters, asText, alphabetIn, meantBy, meantIn, keyIn}
 use Rattle.paper.specs.Orders.{openingRowsOf, keyRowsBy, keyRows, lookUpOrder}
@@ -35,7 +35,7 @@ use Rattle.paper.specs.Walk002.{dataRead, linkRead, unlessEmpty, queryFr
 use Rattle.paper.specs.Walk002.{indexOf, charsQuery, queryGiven, queryMade, queryOf002}
 use Rattle.paper.specs.Granted.{Fit}
 use Rattle.paper.proofs.Hearing.{passed-row, passed-parts, heard-done}
-use Rattle.paper.proofs.Numbers.{Says, end, _then_, at-says, parts-say, first-says, one-of}
+use Rattle.paper.proofs.Numbers.{Says, end, _then_, at-says, parts-say, first-says}
 use Rattle.paper.proofs.Numbers.{none-heard}
 use Rattle.paper.proofs.Opening.{Passed, passed, opening-says, unspoilt-good}
 use Rattle.paper.proofs.Opening.{alphabet-whole}
@@ -224,11 +224,6 @@ module _ (l : List ℕ) (given : Given) where
       let keyed = given-says-key (headOf l) (alphabetIn (headOf l) l) given in
       first-says (parts-say (opening-says (headOf l) (alphabetIn (headOf l) l) (length l))
       (parts-say keyed (path then end)))
-
-  -- a lookup is refused with one of these numbers
-  pub looking-refuses : {s : Said} → first (lookUpOrder l given) ≡ some s
-      → among (s .number) lookUpNumbers ≡ true
-  looking-refuses e = one-of looking-says e
 
   pub unrefused : lookUpOf l given .numbers .number ≡ 0 → Unrefused l given
   unfolding lookUpOf lookUpOrder row6path tableIn among

@@ -11,7 +11,7 @@ use native.Mathlib.Omega.{arith}
 use lib.Dec.{ltb, eqb}
 use lib.IntN.{pos}
 use lib.ListN.{length, drop, replicate, length-append, length-drop, length-replicate}
-use borrow.Author.Tests.{eqb-true, eq-eqb, le-ltb, ltb-false}
+use borrow.Author.Tests.{eqb-true, eq-eqb, ltb-false}
 use Rattle.field.proofs.Range.{between-true}
 use Rattle.trie.specs.Table.{Table}
 use Rattle.head.specs.declared.Head.{Head}
@@ -27,11 +27,12 @@ use Rattle.paper.specs.Orders.{openingRowsOf, linkRows, checkOrder}
 use Rattle.paper.specs.Calls.{clearedBy, workAfter, checkOf, isAccepted, canMend, mendBy}
 use Rattle.paper.specs.Calls.{mendOf}
 use Rattle.paper.specs.Accepted.{Accepted}
-use Rattle.paper.proofs.Hearing.{was-false, first-nil, no-row, second-part}
+use Rattle.paper.proofs.Hearing.{was-false}
 use Rattle.paper.proofs.Numbers.{given-says, pass-row, pass-part}
 use Rattle.paper.proofs.Opening.{passed, opening-says}
 use Rattle.paper.proofs.Linking.{eight-place}
 use Rattle.paper.proofs.CheckCall.{check-accepts, accepted-checks, check-exactly}
+use Rattle.paper.proofs.CheckCall.{work-cleared}
 
 -- an image is accepted by the check's answer exactly where it is `Accepted`
 pub accepted-exactly : (l : List ℕ) → (isAccepted l ≡ true) ↔ Accepted l
@@ -116,6 +117,22 @@ module _ (l work : List ℕ) where
         most = b .1;
       }
 
+-- an accepted image is never mended: 8 is given only after 5 has passed, and with enough working
+-- numbers the check answers 0
+pub not-mended : {l : List ℕ} → Accepted l → (work : List ℕ) → canMend l (checkOf l work .numbers)
+    ≡ false
+unfolding canMend
+not-mended {l} a work = go (eqb (checkOf l work .numbers .number) 8) refl
+  where
+    go : (b : Bool) → eqb (checkOf l work .numbers .number) 8 ≡ b
+        → (eqb (checkOf l work .numbers .number) 8 && isAccepted
+        (putTotal l (checkOf l work .numbers .place - 1))) ≡ false
+    go false e = rw e
+    go true e =
+        let at8 = eqb-true (checkOf l work .numbers .number) 8 e in
+        let at0 = check-exactly l work (eight l work at8 .lent) .1 a in
+        absurd (omega arith)
+
 -- ---- the trial
 
 -- numbers whose first m are 0 stay as they are where at most m of them are cleared
@@ -143,12 +160,7 @@ module _ (l work : List ℕ) (e : checkOf l work .numbers .number ≡ 8) where
       omega (arith, between-true (length l) shortestImage longestImage (p .allowed) .0)
 
   eight-work : workAfter l work ≡ replicate (headOf l .g + 1) 0 ++ drop (headOf l .g + 1) work
-  unfolding workAfter clearedBy row5
-  eight-work =
-      let g = eight l work e in
-      ap (λ (r : Row). clearedBy r (headOf l .g + 1) work)
-      (second-part (openingRowsOf l) (row5 (headOf l) (length work) ∷ []) (g .opened)
-      ∙ no-row 5 0 [] (le-ltb (length work) (headOf l .g + 1) (g .lent)) ∙ first-nil)
+  eight-work = let g = eight l work e in work-cleared l work (g .opened) (g .lent)
 
   -- where the trial passes, the image with the lower G is accepted
   pub trial-mends : (w : List ℕ) → first (checkOrder (putTotal l lower) w) ≡ none

@@ -41,7 +41,7 @@ use Rattle.node.proofs.Heads.{withTotal, used-more}
 use Rattle.node.proofs.Tables.{framed}
 use Rattle.node.proofs.StoreOnTable.{length-carried, Storable, store-new, store-over, store-head}
 use Rattle.node.proofs.Frame.{EndsIn, frame, none-before, spare}
-use Rattle.paper.specs.Hearing.{Said, Row, Outcome, first, heard, outcome, doneNumbers}
+use Rattle.paper.specs.Hearing.{Row, Outcome, first, heard, outcome, doneNumbers}
 use Rattle.paper.specs.Rows.{row5, badLink, row9, row10, row11, row12, row13, row6At}
 use Rattle.paper.specs.Rows.{row6path}
 use Rattle.paper.specs.Given.{Given, asLetters, asText, alphabetIn, meantBy, meantIn, keyIn}
@@ -55,7 +55,7 @@ use Rattle.paper.proofs.Hearing.{not-given, was-false, first-nil, first
 use Rattle.paper.proofs.Hearing.{no-row, first-part, second-part, passed-row, passed-parts}
 use Rattle.paper.proofs.Hearing.{silent-end, heard-done, heard-alike, kept-lent}
 use Rattle.paper.proofs.Numbers.{AllSay, end, _then_, given-says, parts-say, first-says}
-use Rattle.paper.proofs.Numbers.{one-of, none-heard}
+use Rattle.paper.proofs.Numbers.{none-heard}
 use Rattle.paper.proofs.Opening.{alphabet-same}
 use Rattle.paper.proofs.Keying.{keyNumbers, given-meant, fit-given, given-says-key}
 use Rattle.paper.proofs.CheckCall.{accepted-opens, check-accepts, accepted-checks}
@@ -372,10 +372,6 @@ module _ (h : Head) where
 abbrev pub storeNumbers : List ℕ
 storeNumbers = 1 ∷ 2 ∷ 3 ∷ 4 ∷ 5 ∷ 6 ∷ 7 ∷ 8 ∷ 9 ∷ 10 ∷ 11 ∷ 12 ∷ 13 ∷ []
 
--- the numbers of its refusals in an accepted image
-abbrev pub acceptedNumbers : List ℕ
-acceptedNumbers = 5 ∷ 9 ∷ 10 ∷ 11 ∷ 12 ∷ 13 ∷ []
-
 -- 11, 12 and 13 for a key and a value
 abbrev pub valued : List ℕ → List ℕ → ℕ → List Row
 valued l key value = addingRows (headOf l) value (newOf (headOf l) l key value) (length l)
@@ -463,17 +459,6 @@ module _ (l work : List ℕ) (given : Given) (value : ℕ) where
   says : AllSay keyNumbers (keyRows l given)
   unfolding keyRows
   says = given-says-key (headOf l) (alphabetIn (headOf l) l) given
-
-  -- "Storing in an accepted image is refused only for a bad key, a value too large, spent
-  -- addresses, missing room or too few working numbers"
-  pub store-refuses : {s : Said} → Accepted l → first (storeOrder l work given value) ≡ some s
-      → among (s .number) acceptedNumbers ≡ true
-  unfolding row5 among
-  store-refuses a e =
-      let five : AllSay (5 ∷ []) (row5 (headOf l) (length work) ∷ []) =
-      given-says 5 0 (ltb (length work) (headOf l .g + 1)) refl then end in
-      one-of (first-says (parts-say five (parts-say says (valued-says l key value))))
-      (sym (accepted-order a) ∙ e)
 
   pub storing-says : AllSay storeNumbers (storeOrder l work given value)
   unfolding storeOrder

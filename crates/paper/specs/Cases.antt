@@ -194,8 +194,7 @@ cases =
     }
     ∷ []
 
--- "W is 4" in every image that is left; P1's 35 bytes, P2's "G = 2, U = 43", which P3 keeps, and
--- P7's "in 55 bytes it is done with G = 5"
+-- W is 4 in every image that is left, and U is P1's 35 bytes, P2's 43, which P3 keeps, and P7's 55
 abbrev pub sizes : List Sized
 sizes =
     record { image = file1; figures = record { g = 0; w = 4; u = 35 } }

@@ -3,7 +3,7 @@
 -- enough. Then it clears the same working numbers, and the rows that follow are the same.
 use Prim.Native.Nat.{ℕ, _+_, _≤_, _<_, min}
 use mathlib.Core.Path.{_≡_, refl, sym, _∙_, ap}
-use mathlib.Core.Logic.{_↔_, _≢_}
+use mathlib.Core.Logic.{_↔_, _≢_, _⊎_, ⊎-elim}
 use mathlib.Core.Bool.{not, _||_}
 use mathlib.Core.Option.{none, some}
 use mathlib.Core.List.{List, [], _∷_, _++_, append-assoc}
@@ -19,18 +19,19 @@ use Rattle.trie.specs.Table.{answer}
 use Rattle.head.specs.declared.Head.{Head}
 use Rattle.head.specs.Fields.{headOf}
 use Rattle.alphabet.specs.Letters.{among}
-use Rattle.paper.specs.Hearing.{Said, Row, Numbers, Outcome, rowWhen, first, heard, outcome}
+use Rattle.paper.specs.Hearing.{Row, Numbers, Outcome, rowWhen, first, heard, outcome}
 use Rattle.paper.specs.Hearing.{refusedNumbers, doneNumbers}
 use Rattle.paper.specs.Rows.{row5}
 use Rattle.paper.specs.Given.{Given, alphabetIn, keyIn}
 use Rattle.paper.specs.Orders.{openingRowsOf, checkOrder, keyRows, newOf, storeOrder}
-use Rattle.paper.specs.Calls.{tableIn, clearedBy, workAfter, storedImage, storeOf}
+use Rattle.paper.specs.Calls.{tableIn, workAfter, storedImage, storeOf}
 use Rattle.paper.specs.Accepted.{Accepted}
-use Rattle.paper.proofs.Hearing.{first-nil, no-row, second-part, passed-row, passed-parts}
+use Rattle.paper.proofs.Hearing.{second-part, passed-row, passed-parts}
 use Rattle.paper.proofs.Hearing.{heard-done, kept-lent}
 use Rattle.paper.proofs.Numbers.{AllSay, end, _then_, given-says, lowest-says, parts-say}
 use Rattle.paper.proofs.Numbers.{first-says, none-heard}
 use Rattle.paper.proofs.CheckCall.{accepted-opens, checked, check-accepts, accepted-checks}
+use Rattle.paper.proofs.CheckCall.{work-cleared, work-kept}
 use Rattle.paper.proofs.CheckCall.{checking-says, checkNumbers}
 use Rattle.paper.proofs.Keying.{given-says-key}
 use Rattle.paper.proofs.StoreCall.{valued, valued-says}
@@ -87,47 +88,48 @@ five-either h work counts =
 
 -- ---- the working numbers after the call
 
--- in an accepted image with enough of them, the first G+1 are cleared
-cleared : (l work : List ℕ) → Accepted l → headOf l .g + 1 ≤ length work
-    → workAfter l work ≡ replicate (headOf l .g + 1) 0 ++ drop (headOf l .g + 1) work
-unfolding workAfter clearedBy row5
-cleared l work a b =
-    ap (λ (r : Row). clearedBy r (headOf l .g + 1) work)
-    (second-part (openingRowsOf l) (row5 (headOf l) (length work) ∷ []) (accepted-opens a)
-    ∙ no-row 5 0 [] (le-ltb (length work) (headOf l .g + 1) b)
-    ∙ first-nil)
-
 -- the rest of a front part, and then what follows that part, are the rest of the whole
 rest-joined : (n m : ℕ) (l : List ℕ) → n ≤ length (take m l) → drop n (take m l) ++ drop m l
     ≡ drop n l
 rest-joined n m l b =
     sym (drop-append-le n (take m l) (drop m l) b) ∙ ap (drop n) (take-append-drop m l)
 
+-- 01's rule, where 5 asks for both lists
+module _ (l work counts : List ℕ) where
+  abbrev nodes : ℕ
+  nodes = headOf l .g + 1
+
+  pub counts-cleared : first (openingRowsOf l) ≡ none → nodes ≤ length work
+      → nodes ≤ length counts
+      → workLeft l work counts ≡ replicate nodes 0 ++ drop nodes work
+  unfolding workLeft usable
+  counts-cleared o b c =
+      let zeros : List ℕ = replicate nodes 0 in
+      let lent : nodes ≤ length (usable work counts) = both-lent l work counts .1 (b, c) in
+      ap (λ (w : List ℕ). w ++ drop (length counts) work)
+      (work-cleared l (usable work counts) o lent)
+      ∙ append-assoc zeros (drop nodes (usable work counts)) (drop (length counts) work)
+      ∙ ap (λ (w : List ℕ). zeros ++ w) (rest-joined nodes (length counts) work lent)
+
+  pub counts-kept : (first (openingRowsOf l) ≡ none
+      → (length work < nodes) ⊎ (length counts < nodes))
+      → workLeft l work counts ≡ work
+  unfolding workLeft usable
+  counts-kept few =
+      let e = usable-length work counts in
+      ap (λ (w : List ℕ). w ++ drop (length counts) work)
+      (work-kept l (usable work counts)
+      (λ o. ⊎-elim (λ b. omega arith) (λ b. omega arith) (few o)))
+      ∙ take-append-drop (length counts) work
+
 pub work-left : (l work counts : List ℕ) → first (checkOrder l (usable work counts)) ≡ none
     → (workLeft l work counts ≡ workAfter l work)
     × (workLeft l work counts ≡ replicate (headOf l .g + 1) 0 ++ drop (headOf l .g + 1) work)
-unfolding workLeft usable
 work-left l work counts e =
-    let m : ℕ = headOf l .g + 1 in
-    let a = check-accepts l (usable work counts) e in
-    let lent = checked l (usable work counts) e .lent in
-    let zeros : List ℕ = replicate m 0 in
-    let left : workLeft l work counts ≡ zeros ++ drop m work =
-    ap (λ (w : List ℕ). w ++ drop (length counts) work) (cleared l (usable work counts) a lent)
-    ∙ append-assoc zeros (drop m (usable work counts)) (drop (length counts) work)
-    ∙ ap (λ (w : List ℕ). zeros ++ w) (rest-joined m (length counts) work lent) in
-    (left ∙ sym (cleared l work a (both-lent l work counts .0 lent .0)), left)
-
--- "If the call stops at 5, where its order first names it, or before that, all keep what they
--- held."
-pub work-kept : (l work counts : List ℕ) {s : Said}
-    → first (openingRowsOf l ++ (row5 (headOf l) (length (usable work counts)) ∷ [])) ≡ some s
-    → workLeft l work counts ≡ work
-unfolding workLeft usable workAfter clearedBy
-work-kept l work counts e =
-    ap (λ (r : Row). clearedBy r (headOf l .g + 1) (usable work counts)
-    ++ drop (length counts) work) e
-    ∙ take-append-drop (length counts) work
+    let opens = accepted-opens (check-accepts l (usable work counts) e) in
+    let (lent, long) = both-lent l work counts .0 (checked l (usable work counts) e .lent) in
+    let left = counts-cleared l work counts opens lent long in
+    (left ∙ sym (work-cleared l work opens lent), left)
 
 -- ---- the rows of a store with counts
 

@@ -1,9 +1,9 @@
 -- 02, Ask 7, on the counts alone: when 25 is given and at which node, that the counts worked out
 -- are right, and for which images and lists working out and the check with counts are done. Each
 -- law follows the rows; the check's part is the theorem on `Accepted`.
-use Prim.Native.Nat.{ℕ, suc, _+_, _≤_, _<_}
+use Prim.Native.Nat.{ℕ, _+_, _≤_, _<_}
 use mathlib.Core.Path.{_≡_, refl, sym, _∙_, ap}
-use mathlib.Core.Logic.{_↔_, _≢_}
+use mathlib.Core.Logic.{_↔_, _≢_, inr}
 use mathlib.Core.Bool.{Bool, true, false, not}
 use mathlib.Core.Option.{none, some}
 use mathlib.Core.List.{List, [], _∷_}
@@ -11,9 +11,10 @@ use native.Mathlib.Decide.{decLe}
 use native.Mathlib.Omega.{arith}
 use lib.Dec.{ltb, eqb}
 use lib.IntN.{pos}
-use lib.ListN.{length, getD, set, drop, List·getD-append}
-use lib.Seq.{sets, length-sets, sets-eq, getD-set-other, ext-getD}
+use lib.ListN.{length, getD, drop, List·getD-append}
+use lib.Seq.{length-sets, sets-eq, ext-getD}
 use borrow.Author.Tests.{ltb-true, eqb-true, eqb-false, eq-eqb, not-true, not-false}
+use Rattle.field.proofs.Sets.{getD-outside}
 use Rattle.trie.proofs.Lowest.{lowest-found}
 use Rattle.trie.specs.Lowest.{lowest}
 use Rattle.head.specs.Fields.{headOf}
@@ -87,12 +88,6 @@ pub counts-length : (l : List ℕ) → length (countsIn l) ≡ headOf l .g + 1
 unfolding countsIn
 counts-length l = each-length (countIn l) 0 (headOf l .g + 1)
 
--- numbers after those that are written keep what they held
-sets-past : (vs l : List ℕ) (i q : ℕ) → i + length vs ≤ q → getD (sets l i vs) q 0 ≡ getD l q 0
-sets-past [] l i q h = refl
-sets-past (a ∷ vs) l i q h =
-    sets-past vs (set l i a) (suc i) q (omega arith) ∙ getD-set-other l i q a 0 (omega arith)
-
 module _ (l counts : List ℕ) where
   pub worked-length : length (worked l counts) ≡ length counts
   unfolding worked
@@ -101,7 +96,7 @@ module _ (l counts : List ℕ) where
   -- "the rest keep what they held"
   pub worked-rest : (q : ℕ) → headOf l .g < q → getD (worked l counts) q 0 ≡ getD counts q 0
   unfolding worked
-  worked-rest q b = sets-past (countsIn l) counts 0 q (omega (arith, counts-length l))
+  worked-rest q b = getD-outside counts (countsIn l) 0 q 0 (inr (omega (arith, counts-length l)))
 
   pub worked-at : headOf l .g + 1 ≤ length counts → (q : ℕ) → q ≤ headOf l .g
       → getD (worked l counts) q 0 ≡ countIn l q

@@ -5,12 +5,12 @@
 use Prim.Native.Nat.{ℕ, _+_, _≤_, _<_}
 use mathlib.Core.Path.{_≡_, refl, sym, _∙_, ap, ap₂, subst}
 use mathlib.Core.Logic.{_↔_, _≢_}
-use mathlib.Core.Bool.{Bool, true, false, _||_, true≢false, or-false}
+use mathlib.Core.Bool.{true, false, _||_, true≢false, or-false}
 use mathlib.Core.Option.{none, some}
 use mathlib.Core.List.{List, [], _∷_, _++_, append-assoc}
-use native.Mathlib.Decide.{decLe, decLt}
+use native.Mathlib.Decide.{decLe}
 use native.Mathlib.Omega.{arith}
-use lib.Dec.{ltb, eqb}
+use lib.Dec.{ltb}
 use lib.ListN.{length, getD}
 use borrow.Author.Tests.{lt-ltb, le-ltb, ltb-false}
 use Rattle.field.proofs.Range.{between-true}
@@ -19,48 +19,34 @@ use Rattle.trie.specs.Storing.{changeOf}
 use Rattle.head.specs.declared.Head.{Head}
 use Rattle.head.specs.Fields.{headOf}
 use Rattle.node.specs.Image.{tableOf}
-use Rattle.alphabet.specs.Letters.{among, orEmpty}
+use Rattle.alphabet.specs.Letters.{orEmpty}
 use Rattle.passing.specs.Passing.{passes, countAt}
 use Rattle.passing.proofs.Shifted.{stored-counts-off}
 use Rattle.passing.proofs.Added.{stored-new-passes}
-use Rattle.paper.specs.Hearing.{Said, Row, Numbers, Outcome, rowWhen, first, heard, outcome}
-use Rattle.paper.specs.Hearing.{refusedNumbers, doneNumbers}
+use Rattle.paper.specs.Hearing.{Row, Numbers, Outcome, rowWhen, first, heard, outcome}
+use Rattle.paper.specs.Hearing.{doneNumbers}
 use Rattle.paper.specs.Rows.{row5}
-use Rattle.paper.specs.Given.{Given, alphabetIn, meantIn, keyIn}
+use Rattle.paper.specs.Given.{Given, meantIn, keyIn}
 use Rattle.paper.specs.Orders.{openingRowsOf, linkRows, checkOrder, keyRows, newOf, storeOrder}
 use Rattle.paper.specs.Calls.{tableIn, workAfter, storedImage, storeOf}
 use Rattle.paper.specs.Accepted.{Accepted}
 use Rattle.paper.specs.Granted.{Granted}
-use Rattle.paper.proofs.Hearing.{was-false, first-nil, first-some, first-none, yes-row, no-row}
+use Rattle.paper.proofs.Hearing.{was-false, first-nil, first-none, yes-row, no-row}
 use Rattle.paper.proofs.Hearing.{first-part, second-part, silent-end}
-use Rattle.paper.proofs.Hearing.{heard-refused, heard-done}
-use Rattle.paper.proofs.Numbers.{Says, silent, saying, AllSay, end, _then_, given-says, parts-say}
-use Rattle.paper.proofs.Numbers.{first-says, one-of}
-use Rattle.paper.proofs.Keying.{given-says-key}
+use Rattle.paper.proofs.Hearing.{heard-done}
 use Rattle.paper.proofs.CheckCall.{accepted-opens, accepted-linked}
-use Rattle.paper.proofs.StoreCall.{stored-head, stored-table, accepted-again, valued, valued-says}
+use Rattle.paper.proofs.StoreCall.{stored-head, stored-table, accepted-again, valued}
 use Rattle.paper.proofs.StoreCall.{order-passed}
 use Rattle.paper.proofs.StoreCall.{store-passed, store-granted, store-means, store-done-exactly}
 use Rattle.position.specs.Counts.{countIn, row25, row5again, RightCounts}
 use Rattle.position.specs.Orders.{usable, countsOrder, checkCountsOrder, storeCountsOrder}
 use Rattle.position.specs.Calls.{workLeft, worked, checkCountsOf, storeCountsOf}
-use Rattle.position.proofs.Plain.{both-lent, five-either, says-only-25, store-order}
+use Rattle.position.proofs.Plain.{both-lent, five-either, store-order}
 use Rattle.position.proofs.Plain.{store-counts-passed, store-counts-plain}
-use Rattle.position.proofs.Right.{none-25, says-25, worked-at, worked-rest, worked-right}
+use Rattle.position.proofs.Right.{none-25, worked-at, worked-rest, worked-right}
 use Rattle.position.proofs.Right.{works-out, checks-counts, check-counts-exactly}
 
 -- ---- the number of an answer
-
--- an answer has no number but 0 and those of its rows
-not-heard : {numbers : List ℕ} {r : Row} (kept : List (List ℕ)) (done : Outcome) (n : ℕ)
-    → Says numbers r → among n numbers ≡ false
-    → n ≢ 0
-    → done .numbers .number ≡ 0
-    → heard r kept done .numbers .number ≢ n
-unfolding heard refusedNumbers
-not-heard kept done n silent z some-number e f = some-number (sym f ∙ e)
-not-heard {numbers} kept done n (saying p) z some-number e f =
-    true≢false (sym p ∙ ap (λ (m : ℕ). among m numbers) f ∙ z)
 
 -- the numbers of an answer do not depend on what is kept
 same-numbers : (r : Row) (kept kept′ : List (List ℕ)) (done done′ : Outcome) → done .numbers
@@ -69,20 +55,6 @@ same-numbers : (r : Row) (kept kept′ : List (List ℕ)) (done done′ : Outcom
 unfolding heard
 same-numbers none kept kept′ done done′ e = e
 same-numbers (some s) kept kept′ done done′ e = refl
-
--- the numbers of the refusals of a store with counts in an accepted image
-abbrev pub acceptedCountsNumbers : List ℕ
-acceptedCountsNumbers = 5 ∷ 25 ∷ 9 ∷ 10 ∷ 11 ∷ 12 ∷ 13 ∷ []
-
--- the second 5 adds no number
-five-again : (n : ℕ) → among n (5 ∷ 25 ∷ 9 ∷ 10 ∷ 11 ∷ 12 ∷ 13 ∷ 5 ∷ []) ≡ true
-    → among n acceptedCountsNumbers ≡ true
-unfolding among
-five-again n h = go (eqb n 5) refl
-  where
-    go : (b : Bool) → eqb n 5 ≡ b → among n acceptedCountsNumbers ≡ true
-    go true e = rw e
-    go false e = rw e (rw e at h)
 
 -- where the counts are long enough, 5 depends on the working numbers alone
 same-check : (l work counts : List ℕ) → headOf l .g + 1 ≤ length counts → countsOrder l work counts
@@ -137,25 +109,6 @@ module _ (l work : List ℕ) (given : Given) (value : ℕ) (counts : List ℕ) w
           ap (λ (o : Outcome). o .numbers .number)
           (heard-done _ _ _ (left-5 ∙ no-row 5 0 []
           (le-ltb (length counts) (headOf l .g + new + 1) long) ∙ first-nil))
-
-      -- "5 again, after 13, if the list is shorter than G+k+1"
-      short-5 : length counts < headOf l .g + new + 1
-          → storeCountsOf l work given value counts .numbers .number ≡ 5
-      unfolding storeCountsOf row5again refusedNumbers
-      short-5 short =
-          ap (λ (o : Outcome). o .numbers .number)
-          (heard-refused _ _ _ (left-5 ∙ yes-row 5 0 []
-          (lt-ltb (length counts) (headOf l .g + new + 1) short)))
-
-      pub store-counts-5 : (storeCountsOf l work given value counts .numbers .number ≡ 5)
-          ↔ (length counts < headOf l .g + new + 1)
-      store-counts-5 = (λ z. go z (decLt (length counts) (headOf l .g + new + 1)), short-5)
-        where
-          go : storeCountsOf l work given value counts .numbers .number ≡ 5
-              → Dec (length counts < headOf l .g + new + 1)
-              → length counts < headOf l .g + new + 1
-          go z (yes b) = b
-          go z (no b) = absurd (omega (arith, z, done-too (omega arith)))
 
   -- what is known where a store with counts is done
   long-enough : storeCountsOf l work given value counts .numbers .number ≡ 0 → headOf l .g + new
@@ -285,54 +238,6 @@ module _ (l work : List ℕ) (given : Given) (value : ℕ) (counts : List ℕ) w
           (first-part (countsOrder l work counts) (row25 l counts ∷ [])
           (second-part (openingRowsOf l) _ (accepted-opens a) ∙ yes-row 5 0 _ few))
           ∙ sym (yes-row 5 0 (row25 l counts ∷ rest) few)
-
-  rest-says : AllSay (9 ∷ 10 ∷ 11 ∷ 12 ∷ 13 ∷ 5 ∷ []) rest
-  unfolding keyRows row5again among
-  rest-says =
-      parts-say (given-says-key (headOf l) (alphabetIn (headOf l) l) given)
-      (parts-say (valued-says l key value)
-      (given-says 5 0 (ltb (length counts) (headOf l .g + new + 1)) refl then end))
-
-  pub store-counts-refuses : {s : Said} → Accepted l
-      → first (storeCountsOrder l work given value counts) ≡ some s
-      → among (s .number) acceptedCountsNumbers ≡ true
-  unfolding row5 among
-  store-counts-refuses {s} a e =
-      let five-says : AllSay (5 ∷ []) (five ∷ []) =
-      given-says 5 0 (ltb (length (usable work counts)) (headOf l .g + 1)) refl then end in
-      five-again (s .number)
-      (one-of (first-says (parts-say five-says (parts-say (says-only-25 l counts) rest-says)))
-      (sym (accepted-order a) ∙ e))
-
-  module _ (a : Accepted l) (lent : headOf l .g + 1 ≤ length work)
-      (long : headOf l .g + 1 ≤ length counts) where
-    left-25 : first (storeCountsOrder l work given value counts) ≡ first (row25 l counts ∷ rest)
-    unfolding row5
-    left-25 =
-        accepted-order a
-        ∙ no-row 5 0 (row25 l counts ∷ rest)
-        (le-ltb (length (usable work counts)) (headOf l .g + 1)
-        (both-lent l work counts .1 (lent, long)))
-
-    pub store-counts-25 : (storeCountsOf l work given value counts .numbers .number ≡ 25)
-        ↔ (¬ RightCounts l counts)
-    unfolding storeCountsOf among refusedNumbers doneNumbers
-    store-counts-25 = (
-      λ z r.
-          let past : first (storeCountsOrder l work given value counts) ≡ first rest =
-          left-25 ∙ first-none (row25 l counts) rest (none-25 l counts .1 (r .each)) in
-          not-heard _ _ 25 (subst (Says (9 ∷ 10 ∷ 11 ∷ 12 ∷ 13 ∷ 5 ∷ [])) (sym past)
-          (first-says rest-says)) refl (omega arith) refl z,
-      λ wrong. go wrong (row25 l counts) refl,
-    )
-      where
-        go : ¬ RightCounts l counts → (r : Row) → row25 l counts ≡ r
-            → storeCountsOf l work given value counts .numbers .number ≡ 25
-        go wrong none e = absurd (wrong (record { long = long; each = none-25 l counts .0 e }))
-        go wrong (some s) e =
-            ap (λ (o : Outcome). o .numbers .number)
-            (heard-refused _ _ _ (left-25 ∙ first-some (row25 l counts) rest e))
-            ∙ says-25 l counts e .0
 
   -- ---- the same numbers as the plain store
 

@@ -31,7 +31,8 @@ use Rattle.paper.proofs.StoreCall.{valued}
 use Rattle.position.specs.Counts.{row25, row5again}
 use Rattle.position.specs.Orders.{usable, storeCountsOrder}
 use Rattle.position.specs.Calls.{storeCountsOf}
-use Rattle.reasons.specs.CountsReasons.{DifferentCounts, LowestDifferent, listReasons}
+use Rattle.reasons.specs.CheckReasons.{LowestOf}
+use Rattle.reasons.specs.CountsReasons.{DifferentAt, DifferentCounts, listReasons}
 use Rattle.reasons.specs.CountsReasons.{storeCountsReasons}
 use Rattle.position.proofs.Plain.{both-lent}
 use Rattle.position.proofs.Right.{none-25, says-25}
@@ -76,9 +77,9 @@ differ-fit : (l counts : List ℕ) → Fits (row25 l counts) (25 when DifferentC
 differ-fit l counts = go (row25 l counts) refl
   where
     go : (r : Row) → row25 l counts ≡ r → Fits r (25 when DifferentCounts l counts)
-    go none e = λ d. let (q, b, wrong) = d in wrong (none-25 l counts .0 e q b)
+    go none e = λ d. let (q, at) = d in at .1 (none-25 l counts .0 e q (at .0))
     go (some s) e = let (number, b, wrong, _) = says-25 l counts e in
-        ((s .place, b, wrong), number)
+        ((s .place, (b, wrong)), number)
 
 -- ---- an order in which only the second row names a place
 
@@ -107,13 +108,13 @@ heard-25 : (l counts : List ℕ) (r : Row) (kept : List (List ℕ)) (done : Outc
     → done .numbers .number ≡ 0
     → done .numbers .place ≡ 0
     → (heard r kept done .numbers .number ≡ 25
-    → LowestDifferent l counts (heard r kept done .numbers .place))
+    → LowestOf (DifferentAt l counts) (heard r kept done .numbers .place))
     × (heard r kept done .numbers .number ≢ 25 → heard r kept done .numbers .place ≡ 0)
 unfolding heard refusedNumbers
 heard-25 l counts none kept done e z p = (λ f. absurd (omega arith), λ f. p)
 heard-25 l counts (some s) kept done e z p =
     let (number, node, different, lowest) = says-25 l counts (sym e) in (
-      λ f. record { node = node; different = different; lowest = lowest },
+      λ f. ((node, different), λ q b d. d .1 (lowest q b)),
       λ f. absurd (f number),
     )
 
@@ -242,7 +243,7 @@ module _ (l work : List ℕ) (given : Given) (value : ℕ) (counts : List ℕ) w
 
   -- "place the lowest such node" where the number is 25, else the place is 0
   pub store-counts-place : Accepted l
-      → (number ≡ 25 → LowestDifferent l counts place) × (number ≢ 25 → place ≡ 0)
+      → (number ≡ 25 → LowestOf (DifferentAt l counts) place) × (number ≢ 25 → place ≡ 0)
   unfolding storeCountsOf doneNumbers
   store-counts-place a = (
     λ z. heard-25 l counts row _ _ (row-25 a z) refl refl .0 z,

@@ -137,8 +137,8 @@ checkReasons l work =
 abbrev pub LowestOf : (ℕ → Type 0) → ℕ → Type 0
 LowestOf one x = one x × ((y : ℕ) → y < x → ¬ one y)
 
--- the column "Place" for the answers of the calls that check: 6 "lowest node that holds one", 7
--- and 8 "lowest such address", and "A place not named is 0"
+-- the column of places, for the calls that check: for 6 "lowest node that holds one", for the next
+-- two "lowest such address", and "A place not named is 0"
 pub record RightPlace (l : List ℕ) (number place : ℕ) : Type 0 where
   pub six : number ≡ 6 → LowestOf (HoldsBreaking l) place
   pub seven : number ≡ 7 → LowestOf (InTwo l) place
@@ -174,7 +174,7 @@ pub record FirstOnPath (l key : List ℕ) (place : ℕ) : Type 0 where
   pub earliest : (earlier : List ℕ) (q : ℕ) → length earlier < length before
       → ¬ BreaksAfter l key earlier q
 
--- the column "Place" for the answers of a lookup; "A place not named is 0"
+-- the column of places, for a lookup; "A place not named is 0"
 pub record PathPlace (l key : List ℕ) (number place : ℕ) : Type 0 where
   pub six : number ≡ 6 → FirstOnPath l key place
   pub others : number ≢ 6 → place ≡ 0

@@ -2,7 +2,6 @@
 -- in the words of the ask and of 01's table. The theorem (`store-counts-number-exactly`): such a
 -- store answers the number of the first reason that applies, and 0 where none does.
 use Prim.Native.Nat.{ℕ, _+_, _≤_, _<_}
-use mathlib.Core.Path.{_≡_}
 use mathlib.Core.Logic.{_≢_, _⊎_}
 use mathlib.Core.List.{List, [], _∷_, _++_}
 use lib.ListN.{length, getD}
@@ -12,15 +11,13 @@ use Rattle.paper.specs.Orders.{newOf}
 use Rattle.reasons.specs.Reasons.{Reason, _when_, keyReasons, valueReasons}
 use Rattle.position.specs.Counts.{countIn}
 
--- 25: "counts differ": the list holds another number for a node than its count
-abbrev pub DifferentCounts : List ℕ → List ℕ → Type 0
-DifferentCounts l counts = (q : ℕ) × (q ≤ headOf l .g) × (getD counts q 0 ≢ countIn l q)
+-- the list holds another number for node q than its count
+abbrev pub DifferentAt : List ℕ → List ℕ → ℕ → Type 0
+DifferentAt l counts q = (q ≤ headOf l .g) × (getD counts q 0 ≢ countIn l q)
 
--- "place the lowest such node"
-pub record LowestDifferent (l counts : List ℕ) (place : ℕ) : Type 0 where
-  pub node : place ≤ headOf l .g
-  pub different : getD counts place 0 ≢ countIn l place
-  pub lowest : (q : ℕ) → q < place → getD counts q 0 ≡ countIn l q
+-- 25: "counts differ"; its place is `LowestOf` this, "the lowest such node"
+abbrev pub DifferentCounts : List ℕ → List ℕ → Type 0
+DifferentCounts l counts = (q : ℕ) × DifferentAt l counts q
 
 -- the list has no number for one of k new nodes: "5 again, after 13, if the list is shorter than
 -- G+k+1"

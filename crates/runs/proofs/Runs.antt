@@ -2,19 +2,16 @@
 -- last values", and 01's sum of the changes. One invariant (`Holds`) says both: a fresh image
 -- meets it, every call keeps it, and the laws on a run follow from it. Every beginning of a run
 -- is a run, so they hold for a call in the middle too.
-use Prim.Native.Nat.{ℕ, _+_, _-_, _≤_}
+use Prim.Native.Nat.{ℕ, _+_, _≤_}
 use mathlib.Core.Path.{_≡_, refl, sym, _∙_, ap, ap₂, subst}
-use mathlib.Core.Bool.{Bool, true, false, true≢false, _&&_}
+use mathlib.Core.Bool.{Bool, true, false, true≢false}
 use mathlib.Core.Logic.{_↔_, _≢_}
-use mathlib.Core.Option.{Option, none, some, Option·some-ne-none}
+use mathlib.Core.Option.{Option, none, some}
 use mathlib.Core.List.{List, [], _∷_, _++_, List·Memᴰ, List·Memᴰ·head, List·Memᴰ·tail}
-use native.Mathlib.Decide.{ℕ-discrete}
-use native.Mathlib.Omega.{arith}
-use lib.Dec.{eqb}
 use lib.IntN.{ℤ, pos, _+ℤ_, +ℤ-idr}
 use lib.ListN.{length}
 use lib.Seq.{sets}
-use borrow.Author.Tests.{ne-eqb, eqb-true}
+use borrow.Author.Tests.{ne-eqb}
 use Rattle.field.proofs.Range.{between-true, true-between}
 use Rattle.trie.specs.Table.{Table, answer}
 use Rattle.trie.specs.Storing.{stored, changeOf}
@@ -22,18 +19,17 @@ use Rattle.trie.specs.Keys.{meets, firstMeeting}
 use Rattle.trie.proofs.Filter.{first-listed}
 use Rattle.trie.proofs.Storing.{stored-answer, stored-answer-other}
 use Rattle.head.specs.declared.Head.{Head}
-use Rattle.head.specs.Fields.{headOf, putTotal}
+use Rattle.head.specs.Fields.{headOf}
 use Rattle.alphabet.specs.Letters.{orEmpty}
-use Rattle.node.specs.Writes.{Write}
 use Rattle.node.proofs.Heads.{withTotal}
-use Rattle.paper.specs.Hearing.{Row, Numbers, Outcome, outcome, first, heard, refusedNumbers}
+use Rattle.paper.specs.Hearing.{Row, Outcome, outcome, first, heard, refusedNumbers}
 use Rattle.paper.specs.Hearing.{doneNumbers}
 use Rattle.paper.specs.Given.{Given, alphabetIn, meantBy, meantIn, keyIn}
-use Rattle.paper.specs.Orders.{newOf, checkOrder, keyRowsBy, keyRows, lookUpOrder, storeOrder}
+use Rattle.paper.specs.Orders.{newOf, checkOrder, keyRowsBy, keyRows, lookUpOrder}
 use Rattle.paper.specs.Orders.{nextRows, nextKeyOrder}
 use Rattle.paper.specs.Calls.{tableIn, workAfter, freshHead, freshImage, makeOf, storedKeys}
 use Rattle.paper.specs.Calls.{countOf, telling, lookUpOf, writesIn, storedImage, storeOf}
-use Rattle.paper.specs.Calls.{withWrites, checkOf, isAccepted, canMend, nextIn, foundIn, nextKeyOf}
+use Rattle.paper.specs.Calls.{nextIn, foundIn, nextKeyOf}
 use Rattle.passing.specs.Passing.{keyAt as keyAtPlace, rankIn}
 use Rattle.paper.specs.Repeated.{keyHeard, askedForAll}
 use Rattle.paper.specs.Rows.{isNone, row9next, row10, row14, row15}
@@ -43,22 +39,23 @@ use Rattle.paper.proofs.Hearing.{was-false, second-part, passed-row, passed-par
 use Rattle.paper.proofs.Hearing.{heard-alike}
 use Rattle.paper.proofs.Keying.{some-found}
 use Rattle.paper.proofs.NextKeyCall.{stored-exactly, stored-ascending, stored-askable, listed-all}
-use Rattle.paper.proofs.CheckCall.{accepted-opens, accepted-checks, check-exactly, accepted-linked}
+use Rattle.paper.proofs.CheckCall.{accepted-opens, accepted-checks, accepted-linked}
 use Rattle.paper.proofs.LookUpCall.{given-fit}
 use Rattle.paper.proofs.StoreCall.{accepted-again, stored-head, stored-alphabet, stored-table}
-use Rattle.paper.proofs.StoreCall.{stored-change, looks-up-accepted, keying-total, granted}
-use Rattle.paper.proofs.StoreCall.{store-granted, store-leaves, store-passed}
-use Rattle.paper.proofs.MendCall.{mend-kept, eight}
+use Rattle.paper.proofs.StoreCall.{stored-change, looks-up-accepted, keying-total}
+use Rattle.paper.proofs.StoreCall.{store-granted, store-leaves}
+use Rattle.paper.proofs.MendCall.{mend-kept, not-mended}
 use Rattle.paper.proofs.MakeCall.{Made, make-done, fresh-head, fresh-alphabet, fresh-accepted}
 use Rattle.paper.proofs.MakeCall.{fresh-answers, fresh-keys}
 use Rattle.position.specs.Counts.{RightCounts}
-use Rattle.position.specs.Calls.{worked, storeCountsOf, keyAtOf, positionOf}
+use Rattle.position.specs.Calls.{keyAtOf, positionOf}
 use Rattle.position.proofs.Positions.{heard-at, position-of}
 use Rattle.position.specs.Orders.{countsOrder, checkCountsOrder, keyAtOrder, positionOrder}
-use Rattle.position.proofs.Plain.{store-counts-plain, store-counts-kept}
 use Rattle.calls.specs.Call.{Call, make, check, count, lookUp, store, storeWrites, mend, nextKey}
 use Rattle.calls.specs.Call.{counts, checkCounts, storeCounts, keyAt, position}
 use Rattle.calls.specs.Call.{writesImage, firstLeft, imageAfter}
+use Rattle.calls.specs.StoreDone.{Wanted}
+use Rattle.calls.proofs.StoreDone.{Ended, was-done, was-refused, ended, ended-counts, ended-writes}
 use Rattle.runs.specs.Runs.{sameKey, lastOf, plainKeys, givesPlain, plainBy, NoMake, Run}
 use Rattle.runs.specs.Runs.{after, ran}
 use Rattle.runs.specs.Runs.{startOf, ranFrom}
@@ -95,59 +92,6 @@ start {h} {alphabet} {image} m =
     }
 
 -- ---- a store
-
--- how a store ends, with writes, with counts or with neither: granted and done, or refused with
--- the image as it was
-data Ended (l key : List ℕ) (value : ℕ) : Outcome → Type 0 where
-  was-done : (writes : ℕ) {others : List (List ℕ)} → Granted l key value
-      → Ended l key value (outcome (doneNumbers writes (changeOf (answer (tableIn l) key) value) 0)
-      (storedImage l key value ∷ others))
-  was-refused : (n : Numbers) {others : List (List ℕ)} → n .number ≢ 0 → n .change ≡ pos 0
-      → Ended l key value (outcome n (l ∷ others))
-
-ended : (l work : List ℕ) (given : Given) (value : ℕ) → Ended l (keyIn l given) value
-    (storeOf l work given value)
-unfolding storeOf heard refusedNumbers
-ended l work given value = go (first (storeOrder l work given value)) refl
-  where
-    go : (row : Row) → first (storeOrder l work given value) ≡ row → Ended l (keyIn l given) value
-        (storeOf l work given value)
-    go none e = rw e (was-done 0 (granted l work given value e))
-    go (some s) e =
-        rw e (was-refused (refusedNumbers s)
-        (λ z. Option·some-ne-none s (sym e ∙ store-passed l work given value (rw e z))) refl)
-
--- a store with writes leaves one buffer more, and the same number and change
-ended-listed : {l key : List ℕ} {value : ℕ} (ws : List Write) (list : List ℕ) {o : Outcome}
-    → Ended l key value o
-    → Ended l key value (withWrites ws list o)
-unfolding withWrites doneNumbers refusedNumbers
-ended-listed ws list (was-done n s) = was-done (length ws) s
-ended-listed ws list (was-refused n d c) = rw (ne-eqb (n .number) 0 d) (was-refused n d c)
-
--- a store with counts does what the plain store does, or nothing
-ended-counts : (l work : List ℕ) (given : Given) (value : ℕ) (tally : List ℕ)
-    → Ended l (keyIn l given) value (storeCountsOf l work given value tally)
-ended-counts l work given value tally = go (ℕ-discrete (o .numbers .number) 0)
-  where
-    o : Outcome
-    o = storeCountsOf l work given value tally
-
-    left : List (List ℕ)
-    left = storedImage l (keyIn l given) value ∷ workAfter l work
-        ∷ worked (storedImage l (keyIn l given) value) tally ∷ []
-
-    go : Dec (o .numbers .number ≡ 0) → Ended l (keyIn l given) value o
-    go (yes z) =
-        let p = store-counts-plain l work given value tally z in
-        let same = p .1 ∙ ap (λ (a : Outcome). outcome (a .numbers) left)
-        (store-leaves l work given value (p .0)) in
-        subst (Ended l (keyIn l given) value) (sym same)
-        (was-done 0 (store-granted l work given value (p .0)))
-    go (no z) =
-        let k = store-counts-kept l work given value tally z in
-        subst (Ended l (keyIn l given) value) (ap (outcome (o .numbers)) (sym (k .0)))
-        (was-refused (o .numbers) z (k .1))
 
 -- the state of a run after a store with this outcome
 abbrev storedRun : Run → List ℕ → ℕ → Outcome → Run
@@ -212,10 +156,12 @@ module _ {h : Head} {alphabet : List ℕ} {r : Run} (i : Holds h alphabet r) whe
       go false e = i .fits k (λ w. z (rw e w))
 
   -- after a store, however it ended
-  step-store : {key : List ℕ} {value : ℕ} {o : Outcome} → Ended (r .image) key value o
-      → Holds h alphabet (storedRun r key value o)
+  step-store : {w : Wanted} {o : Outcome} → Ended (r .image) w o
+      → Holds h alphabet (storedRun r (keyIn (r .image) (w .given)) (w .value) o)
   unfolding firstLeft plainBy doneNumbers refusedNumbers
-  step-store {key} {value} (was-done n s) =
+  step-store {w} (was-done n s _) =
+      let key : List ℕ = keyIn (r .image) (w .given) in
+      let value : ℕ = w .value in
       let g : ℕ = headOf (r .image) .g + newOf (headOf (r .image)) (r .image) key value in
       record {
         accepted = accepted-again s;
@@ -228,24 +174,6 @@ module _ {h : Head} {alphabet : List ℕ} {r : Run} (i : Holds h alphabet r) whe
             ∙ sym (stored-change s);
       }
   step-store (was-refused n d c) = rw (ne-eqb (n .number) 0 d) (unchanged c)
-
--- ---- mending
-
--- an accepted image is never mended: 8 is given only after 5 has passed, and with enough working
--- numbers the check answers 0
-not-mended : {l : List ℕ} → Accepted l → (work : List ℕ) → canMend l (checkOf l work .numbers)
-    ≡ false
-unfolding canMend
-not-mended {l} a work = go (eqb (checkOf l work .numbers .number) 8) refl
-  where
-    go : (b : Bool) → eqb (checkOf l work .numbers .number) 8 ≡ b
-        → (eqb (checkOf l work .numbers .number) 8 && isAccepted
-        (putTotal l (checkOf l work .numbers .place - 1))) ≡ false
-    go false e = rw e
-    go true e =
-        let at8 = eqb-true (checkOf l work .numbers .number) 8 e in
-        let at0 = check-exactly l work (eight l work at8 .lent) .1 a in
-        absurd (omega arith)
 
 -- ---- every call
 
@@ -270,7 +198,7 @@ module _ {h : Head} {alphabet : List ℕ} where
       unchanged i (no-change (first (lookUpOrder (r .image) given)) _ _ refl)
   step r (store work given value) cs unmade i = step-store i (ended (r .image) work given value)
   step r (storeWrites work given value list) cs unmade i =
-      step-store i (ended-listed (writesIn (r .image) (keyIn (r .image) given) value) list
+      step-store i (ended-writes (writesIn (r .image) (keyIn (r .image) given) value) list
       (ended (r .image) work given value))
   step r (mend work) cs unmade i =
       rw (mend-kept (r .image) work (not-mended (i .accepted) work))
