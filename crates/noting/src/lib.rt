@@ -36,9 +36,6 @@ pub fn store_noted(
         (now (image .exit)) (now (writes .exit)) ⌝ }
 {
     let walked = walk::walk(image, h, key);
-    if let Walked::Refused(why) = walked {
-        return Noted::Refused(why);
-    }
     let stored = storing::store_at(image, h, key, walked, value);
     match stored {
         Stored::Refused(why) => Noted::Refused(why),

@@ -33,9 +33,6 @@ pub fn store(image: &mut [u8], h: Head, key: Key, value: u64) -> Stored
     ensures { λ r. ⌜ StoresIn (now (image .entry)) (lettersOf key) value r (now (image .exit)) ⌝ }
 {
     let walked = walk::walk(image, h, key);
-    if let Walked::Refused(why) = walked {
-        return Stored::Refused(why);
-    }
     store_at(image, h, key, walked, value)
 }
 

@@ -21,7 +21,6 @@ use key::Key;
 use paper::Refusal;
 use paper::Stored;
 use paper::Verdict;
-use walk::Walked;
 
 // Stores a value under a key, 0 to delete it, and keeps the counts right. Refusals: 11, 12, 13,
 // 5 again; they leave image and counts as they were.
@@ -33,9 +32,6 @@ pub fn store_counted(image: &mut [u8], h: Head, key: Key, value: u64, counts: &m
         r (now (image .exit)) (now (counts .exit)) ⌝ }
 {
     let walked = walk::walk(image, h, key);
-    if let Walked::Refused(why) = walked {
-        return Stored::Refused(why);
-    }
     let new = storing::new_count(h, key, walked, value);
     let verdict = storing::judge(h, image.len(), new, value);
     match verdict {

@@ -1,7 +1,7 @@
--- `tracking::store_counted` meets its contract: the walk is not refused, and every refusal is
--- judged before a byte is written. Then the counts changed along the key's path are those of the
--- image after the store. Assumes nothing.
-use mathlib.Core.Path.{_≡_, _∙_, subst}
+-- `tracking::store_counted` meets its contract: every refusal is judged before a byte is
+-- written. Then the counts changed along the key's path are those of the image after the store.
+-- Assumes nothing.
+use mathlib.Core.Path.{_≡_, _∙_}
 use mathlib.Core.Option.{none}
 use mir.Syntax.{w32}
 use mir.Facts.{toZ-ofZ}
@@ -33,24 +33,24 @@ ended c =
 
 -- what is known once the new nodes are counted
 hand : (c : tie.After-new-count) →
-    let a = c .before .before .before .before .before .before .args in
-    Hand (a .image .now) (a .h) (a .key) (c .before .before .walk .result) (a .value)
+    let a = c .before .before .before .before .before .args in
+    Hand (a .image .now) (a .h) (a .key) (c .before .walk .result) (a .value)
     (c .new-count .result)
 hand c =
-    let p = c .before .before .before .before .before .before .pre in
+    let p = c .before .before .before .before .before .pre in
     record {
       accepted = p .0;
       same = p .1 .0;
       ready = p .1 .1 .0;
       allowed = p .1 .1 .1 .0;
-      walked = c .before .before .walk .ensures;
+      walked = c .before .walk .ensures;
       count = c .new-count .ensures .0;
     }
 
 -- 11, 12 and 13 have passed
 passed : (c : tie.After-enum-told) →
     let counted = c .before .before .before in
-    let a = counted .before .before .before .before .before .before .args in
+    let a = counted .before .before .before .before .before .args in
     first (addingRows (a .h) (a .value) (counted .new-count .result) (length (a .image .now)))
     ≡ none
 passed c = told-passed (c .before .before .judge .ensures) (c .enum-told .given .1)
@@ -59,25 +59,12 @@ walk-requires : tie.Need-walk-requires
 walk-requires c κs =
     let p = c .before .before .before .pre in (head-open (p .0) (p .1 .0), p .1 .1 .0)
 
-enum-known-walked : tie.Need-enum-known-walked
-enum-known-walked c = search needs
-
-same-length : tie.Need-same-length
-same-length c = search needs
-
-returns : tie.Need-returns
-returns c =
-    let walked = c .before .before .before in
-    let a = walked .before .before .before .before .args in
-    absurd (subst (Ends (a .h) (a .key)) (c .before .walked .given .1) (ended walked))
-
 new-count-requires : tie.Need-new-count-requires
-new-count-requires c κs =
-    let walked = c .before in (walked .before .before .before .before .pre .1 .1 .0, ended walked)
+new-count-requires c κs = (c .before .before .before .before .pre .1 .1 .0, ended c)
 
 judge-requires : tie.Need-judge-requires
 judge-requires c κs =
-    let p = c .before .before .before .before .before .before .pre in
+    let p = c .before .before .before .before .before .pre in
     (head-open (p .0) (p .1 .0) .head-permitted, c .new-count .ensures .1)
 
 enum-known-verdict : tie.Need-enum-known-verdict
@@ -95,11 +82,11 @@ add-last c = search needs
 add-if1 : tie.Need-add-if1
 add-if1 c = search needs
 
-same-length-2 : tie.Need-same-length-2
-same-length-2 c = search needs
+same-length : tie.Need-same-length
+same-length c = search needs
 
-returns-2 : tie.Need-returns-2
-returns-2 c =
+returns : tie.Need-returns
+returns c =
     let told = c .before .before in
     too-few (hand (told .before .before .before)) (passed told) _ (c .if1 .taken)
 
@@ -107,9 +94,9 @@ write-at-requires : tie.Need-write-at-requires
 write-at-requires c κs =
     let told = c .before .before .before in
     let counted = told .before .before .before in
-    let p = counted .before .before .before .before .before .before .pre in (
+    let p = counted .before .before .before .before .before .pre in (
       head-open (p .0) (p .1 .0),
-      (p .1 .1 .0, (ended (counted .before .before), allows (hand counted) (passed told))),
+      (p .1 .1 .0, (ended (counted .before), allows (hand counted) (passed told))),
     )
 
 cast-clear : tie.Need-cast-clear
@@ -138,38 +125,38 @@ carry-requires c κs =
     let room = wrote .before .before in
     let told = room .before .before in
     let counted = told .before .before .before in
-    let p = counted .before .before .before .before .before .before .pre in
+    let p = counted .before .before .before .before .before .pre in
     let r = carries (hand counted) (passed told) (wrote .write-at .ensures .0)
     (toZ-ofZ {w = w32} (sfits-of (wrote .write-at .ok)) ∙ wrote .write-at .ensures .1)
     (p .1 .1 .1 .1) (cleared .clear .ensures)
     (room .if1 .left) in
     (r .0, (r .1, (r .2, (r .3, (r .4, r .5)))))
 
-same-length-3 : tie.Need-same-length-3
-same-length-3 c = search needs
+same-length-2 : tie.Need-same-length-2
+same-length-2 c = search needs
 
-returns-3 : tie.Need-returns-3
-returns-3 c =
+returns-2 : tie.Need-returns-2
+returns-2 c =
     let told = c .before in
     let judged = told .before .before in
     refused (hand (judged .before)) _ _
     (told-refused (judged .judge .ensures) (told .verdict .given .1))
 
+same-length-3 : tie.Need-same-length-3
+same-length-3 c = search needs
+
 same-length-4 : tie.Need-same-length-4
 same-length-4 c = search needs
 
-same-length-5 : tie.Need-same-length-5
-same-length-5 c = search needs
-
-returns-4 : tie.Need-returns-4
-returns-4 c =
+returns-3 : tie.Need-returns-3
+returns-3 c =
     let carried = c .before .before in
     let cleared = carried .before .before .before .before .before in
     let wrote = cleared .before .before .before .before .before in
     let room = wrote .before .before in
     let told = room .before .before in
     let counted = told .before .before .before in
-    let p = counted .before .before .before .before .before .before .pre in
+    let p = counted .before .before .before .before .before .pre in
     done (hand counted) (passed told) (wrote .write-at .ensures .0)
     (toZ-ofZ {w = w32} (sfits-of (wrote .write-at .ok)) ∙ wrote .write-at .ensures .1)
     (p .1 .1 .1 .1) (cleared .clear .ensures)
@@ -180,9 +167,6 @@ store-counted-spec =
     tie.close
     (tie.spec
     walk-requires
-    enum-known-walked
-    same-length
-    returns
     new-count-requires
     judge-requires
     enum-known-verdict
@@ -190,8 +174,8 @@ store-counted-spec =
     cast-last
     add-last
     add-if1
-    same-length-2
-    returns-2
+    same-length
+    returns
     write-at-requires
     cast-clear
     add-clear
@@ -199,8 +183,8 @@ store-counted-spec =
     clear-requires
     cast-total
     carry-requires
+    same-length-2
+    returns-2
     same-length-3
-    returns-3
     same-length-4
-    same-length-5
-    returns-4)
+    returns-3)
