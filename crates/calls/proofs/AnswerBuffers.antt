@@ -36,7 +36,8 @@ use Rattle.trie.specs.Storing.{changeOf}
 use Rattle.calls.proofs.WorkingNumbers.{either-left}
 use Rattle.calls.specs.Call.{Call, make, check, count, lookUp, store, storeWrites, mend}
 use Rattle.calls.specs.Call.{nextKey, counts, checkCounts, storeCounts, keyAt, position}
-use Rattle.calls.specs.Call.{outcomeOf, writesImage, firstLeft, restLeft, imageAfter, lentTo}
+use Rattle.paper.specs.Repeated.{firstLeft}
+use Rattle.calls.specs.Call.{outcomeOf, writesImage, restLeft, imageAfter, lentTo}
 use Rattle.calls.specs.Call.{refusedLeaves, othersIn, answerIn, answerAfter, answerLent}
 use Rattle.calls.specs.Call.{frontOf, answering, working, workingWith}
 

@@ -30,7 +30,8 @@ use Rattle.position.specs.Calls.{worked, storeCountsOf}
 use Rattle.position.proofs.Plain.{store-counts-plain, store-counts-kept}
 use Rattle.calls.specs.Call.{Call, make, check, count, lookUp, store, storeWrites, mend}
 use Rattle.calls.specs.Call.{nextKey, counts, checkCounts, storeCounts, keyAt, position}
-use Rattle.calls.specs.Call.{outcomeOf, writesImage, firstLeft, imageAfter}
+use Rattle.paper.specs.Repeated.{firstLeft}
+use Rattle.calls.specs.Call.{outcomeOf, writesImage, imageAfter}
 use Rattle.calls.specs.StoreDone.{Wanted, wantedBy, StoreDone}
 
 -- ---- how a store ends

@@ -9,6 +9,7 @@ use Rattle.paper.specs.Hearing.{Numbers, Outcome}
 use Rattle.paper.specs.Given.{Given}
 use Rattle.paper.specs.Calls.{workAfter, makeOf, checkOf, countOf, lookUpOf, storeOf}
 use Rattle.paper.specs.Calls.{storeWritesOf, mendOf, nextKeyOf}
+use Rattle.paper.specs.Repeated.{firstLeft}
 use Rattle.position.specs.Calls.{workLeft, countsOf, checkCountsOf, storeCountsOf, keyAtOf}
 use Rattle.position.specs.Calls.{positionOf}
 
@@ -65,12 +66,7 @@ writesImage (storeCounts work given value tally) = true
 writesImage (keyAt work tally at buffer) = false
 writesImage (position work tally given) = false
 
--- the first of the buffers that a call leaves
-unfoldable pub firstLeft : List (List ℕ) → List ℕ
-firstLeft [] = []
-firstLeft (l ∷ rest) = l
-
--- the others
+-- the buffers that a call leaves after the first
 unfoldable pub restLeft : List (List ℕ) → List (List ℕ)
 restLeft [] = []
 restLeft (l ∷ rest) = rest

@@ -33,7 +33,7 @@ use Rattle.paper.specs.Rows.{isNone, row5, row14, row15}
 use Rattle.paper.specs.Orders.{openingRowsOf, checkOrder, nextRows, nextKeyOrder}
 use Rattle.paper.specs.Calls.{tableIn, clearedBy, workAfter, storedKeys, nextIn, foundIn}
 use Rattle.paper.specs.Calls.{nextKeyOf}
-use Rattle.paper.specs.Repeated.{numbersLeft, keyLeft, keyHeard, heardThen, askedFrom}
+use Rattle.paper.specs.Repeated.{firstLeft, keyLeft, keyHeard, heardThen, askedFrom}
 use Rattle.paper.specs.Repeated.{askedAfter, askedForAll}
 use Rattle.paper.specs.Accepted.{Accepted}
 use Rattle.paper.proofs.Hearing.{was-false, first-nil, yes-row, no-row, second-part}
@@ -240,7 +240,7 @@ module _ (l : List ℕ) (a : Accepted l) where
       → (found : List (List ℕ)) → filter (meets after key) (storedKeys l) ≡ found
       → length found ≤ suc times
       → askedFrom l (suc times) work key after buffer ≡ found
-  unfolding askedFrom heardThen withKey keyHeard keyLeft numbersLeft nextIn firstOf refusedNumbers
+  unfolding askedFrom heardThen withKey keyHeard keyLeft firstLeft nextIn firstOf refusedNumbers
       foundIn doneNumbers
   asked-on times work key after buffer s rest [] e few =
       ap (λ (o : Outcome). heardThen o (λ w k b. askedFrom l times w k true b))

@@ -11,10 +11,11 @@ use Rattle.trie.specs.Keys.{withKey}
 use Rattle.paper.specs.Hearing.{Outcome}
 use Rattle.paper.specs.Calls.{nextKeyOf}
 
--- the first of the buffers that a call leaves: for next key, the working numbers
-unfoldable pub numbersLeft : List (List ℕ) → List ℕ
-numbersLeft [] = []
-numbersLeft (work ∷ rest) = work
+-- the first of the buffers that a call leaves: for next key the working numbers, for a call that
+-- may write the image the image
+unfoldable pub firstLeft : List (List ℕ) → List ℕ
+firstLeft [] = []
+firstLeft (x ∷ rest) = x
 
 -- the second of the buffers that a call leaves: for next key and for key at a position, the key
 -- buffer
@@ -33,9 +34,9 @@ keyHeard o =
 -- the key that a call gave, then the keys that `rest` gives for the working numbers that the
 -- call left, its key and the key buffer that it left; no keys if the call gave none
 unfoldable pub heardThen : Outcome → (List ℕ → List ℕ → List ℕ → List (List ℕ)) → List (List ℕ)
-unfolding withKey keyHeard numbersLeft keyLeft
+unfolding withKey keyHeard firstLeft keyLeft
 heardThen o rest =
-    withKey (keyHeard o) (λ k. k ∷ rest (numbersLeft (o .lent)) k (keyLeft (o .lent)))
+    withKey (keyHeard o) (λ k. k ∷ rest (firstLeft (o .lent)) k (keyLeft (o .lent)))
 
 -- the keys that this many calls give: the first asks as it is said, each next one for the key
 -- after the last key given

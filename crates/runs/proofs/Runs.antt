@@ -31,7 +31,7 @@ use Rattle.paper.specs.Calls.{tableIn, workAfter, freshHead, freshImage, makeOf
 use Rattle.paper.specs.Calls.{countOf, telling, lookUpOf, writesIn, storedImage, storeOf}
 use Rattle.paper.specs.Calls.{nextIn, foundIn, nextKeyOf}
 use Rattle.passing.specs.Passing.{keyAt as keyAtPlace, rankIn}
-use Rattle.paper.specs.Repeated.{keyHeard, askedForAll}
+use Rattle.paper.specs.Repeated.{firstLeft, keyHeard, askedForAll}
 use Rattle.paper.specs.Rows.{isNone, row9next, row10, row14, row15}
 use Rattle.paper.specs.Accepted.{Accepted}
 use Rattle.paper.specs.Granted.{Fit, Granted}
@@ -53,7 +53,7 @@ use Rattle.position.proofs.Positions.{heard-at, position-of}
 use Rattle.position.specs.Orders.{countsOrder, checkCountsOrder, keyAtOrder, positionOrder}
 use Rattle.calls.specs.Call.{Call, make, check, count, lookUp, store, storeWrites, mend, nextKey}
 use Rattle.calls.specs.Call.{counts, checkCounts, storeCounts, keyAt, position}
-use Rattle.calls.specs.Call.{writesImage, firstLeft, imageAfter}
+use Rattle.calls.specs.Call.{writesImage, imageAfter}
 use Rattle.calls.specs.StoreDone.{Wanted}
 use Rattle.calls.proofs.StoreDone.{Ended, was-done, was-refused, ended, ended-counts, ended-writes}
 use Rattle.runs.specs.Runs.{sameKey, lastOf, plainKeys, givesPlain, plainBy, NoMake, Run}

@@ -48,7 +48,8 @@ use Rattle.position.specs.Orders.{storeCountsOrder}
 use Rattle.position.proofs.Plain.{store-order, plain-passes}
 use Rattle.calls.specs.Call.{Call, make, check, count, lookUp, store, storeWrites as storesWrites}
 use Rattle.calls.specs.Call.{mend, nextKey, counts, checkCounts, storeCounts, keyAt, position}
-use Rattle.calls.specs.Call.{outcomeOf, writesImage, firstLeft, restLeft, imageAfter, besidesImage}
+use Rattle.paper.specs.Repeated.{firstLeft}
+use Rattle.calls.specs.Call.{outcomeOf, writesImage, restLeft, imageAfter, besidesImage}
 use Rattle.calls.specs.Call.{answersOf}
 use Rattle.seen.specs.Seen.{seenIn, SameUsed, SameOutcome, SameAnswers}
 use Rattle.seen.proofs.SameWrites.{AgreeAt, carried-agree, sets-agree, sets-cover}
