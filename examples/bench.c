@@ -188,6 +188,7 @@ static void cut_off(void)
             memcpy(kept + place, small + place, length);
     }
     show("cut before the last", trieff_check(ALL(kept), ALL(work)));
+    show("mend with 3 working numbers for 5 nodes", trieff_mend(ALL(kept), work, 3));
     show("mend", trieff_mend(ALL(kept), ALL(work)));
     printf("AC: %llu in memory, %llu kept\n",
            (unsigned long long)trieff_look_up_text(ALL(small), TEXT("AC")).value,

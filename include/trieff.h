@@ -13,7 +13,8 @@
    any key, any text and any value may be passed, and each has its answer.
 
    C cannot check the following. It is the caller's part:
-   - No pointer is NULL, also where the length is 0. As many elements are there as the length says.
+   - As many elements are there as the length says. Where the length is 0, the pointer may be NULL.
+     `writes` has no length and is never NULL.
    - `work`, `counts` and `writes` are aligned as uint32_t is, as every array of uint32_t is.
    - A slice that a call may write to overlaps no other slice of that call. So `work` and `counts`
      are two lists.
@@ -41,6 +42,11 @@
    of them are 0 when the call returns, whatever the answer. G is the one at entry, also where a
    store raises it or mend lowers it. The rest keep what they held.
 
+   Lend as many as the image can ever have nodes, in every call: `static uint32_t work[nodes]` for
+   an image of TRIEFF_LENGTH(nodes, ..) bytes. A store needs one for each node from before it, but
+   mend needs one for each node of the image that it meets. After a cut this may be the greater
+   number: G may count new nodes already.
+
    The image
    ---------
    An image is seven big-endian 32-bit fields G, N, A, D, F, min, max, then F bytes of alphabet,
@@ -48,34 +54,60 @@
    then D bytes of data. Keys have min to max letters. The used length is U = 28 + F + (G+1)*W. The
    bytes from U on are spare and are never judged.
 
-   A cut between two writes
-   ------------------------
-   An image that must survive a power cut is kept twice: in memory, and in a file, in flash or on
-   another device. The second one is called the kept image here.
-   - At the start, read the kept image into memory and mend it. If mend changed its first four
-     bytes, write them back to the kept image.
-   - Store by trieff_store_writes or trieff_store_text_writes. Then carry out the list of writes on
-     the kept image, in the order of the list. Three flushes are enough: one before the write of G,
-     one before the write of the link and one after it. A list of one write, a data field, needs
-     one flush, after it.
+   A power cut
+   -----------
+   An image that must survive a power cut is kept twice: in memory, and in a file or on a device.
+   The second one is called the kept image here. The calls work on the image in memory alone. One
+   program at a time works on a kept image: in a file it takes a lock before it reads or makes it.
 
-   examples/bench_file.c does all of this; it flushes after every write, which is allowed too. The
-   device must promise:
-   - What was written before a flush has landed whole once the flush has returned. Nothing is
-     written after a flush before it has returned.
-   - A write of G, of a link or of a data field lands whole or not at all. These fields are 1 to 4
-     bytes long. The head decides where they stand, so one may lie across the end of a sector. None
-     does if the image begins at the start of a sector, A and D are 1, 2 or 4, and both divide
-     28 + F, N*A and W.
-   - A write of a node goes to spare bytes. Of all nodes written since the last flush any bytes may
-     have landed, in any order, and the others not.
+   At a start:
+   1. Read the kept image into memory.
+   2. Write back all that was read, and flush. This may be left out if the machine was off since
+      the last write: then what was read has landed. Otherwise it may be in a cache alone.
+   3. Call trieff_mend. If it changed the first four bytes, write them back, and flush.
+   4. Only now answer and store.
+
+   To store, call trieff_store_writes or trieff_store_text_writes. Carry out the list of writes on
+   the kept image, in its order, with three flushes: the new nodes, flush, G, flush, the link,
+   flush. A list of one write has a data field: the field, flush. Answer after the last flush.
+
+   If a write or a flush failed, or may have failed: store nothing more and answer nothing more, no
+   lookup either. The image in memory holds a store that the kept image may lack, and the next
+   store would build on it. What is read back may never have landed, and a second flush may succeed
+   without it. So restart the machine and begin at step 1. Or begin at step 1 without a restart,
+   and do not leave out step 2.
+
+   A fresh image is made in memory by trieff_make. To put it on a device:
+   1. Write 28 zero bytes where it begins, and flush. The check now answers TRIEFF_HEAD_FIELD.
+   2. Write the bytes from 28 on, up to U at least, and flush.
+   3. Write the first 28 bytes, and flush.
+   If a start finds 28 zero bytes there, the making was cut: begin again. To put a fresh image in a
+   file, write it to a new file, flush that file, rename it, and flush the folder.
+
+   examples/bench_file.c does all of this in a file.
+
+   The device must promise:
+   - What was written before a flush has landed once the flush has returned without a failure. What
+     comes after a flush is not begun before that.
+   - A write of G, of a link, of a data field or of the first 28 bytes lands whole or not at all.
+     Devices promise this within a sector. So the image begins at the start of a sector, and no
+     field lies across the end of one: see TRIEFF_FIELDS_WHOLE.
+   - Of nodes that were written since the last flush any bytes may have landed, in any order. They
+     go to spare bytes.
    - No byte changes that was not written.
 
-   Then, wherever the cut was, mending with enough working numbers answers TRIEFF_DONE. After that,
-   all answers are those from before the store, or all answers are those from after it. They are
-   those from after it exactly if the last write of the list landed. That holds of every call and
-   of every later run of calls. A key is never half stored, no other key is touched, and what a cut
-   store wrote after the old used length is spare again.
+   Bare flash promises none of this: it is erased in blocks, and a cut while a block is erased and
+   written again loses the neighbours. A layer that moves sectors, or a card, promises it if its
+   maker says so. FRAM and EEPROM take single bytes: there the supply must last until a field is
+   written whole. The order in which a call writes to the image in memory is not promised. So do
+   not lend FRAM or memory with a battery as the image: also there keep two images, and go by the
+   list of writes.
+
+   With these promises, wherever the cut was, mending answers TRIEFF_DONE if enough working numbers
+   are lent. After that, all answers are those from before the store, or all answers are those from
+   after it. They are those from after it exactly if the last write of the list landed. That holds
+   of every call and of every later run of calls. A key is never half stored, no other key is
+   touched, and what a cut store wrote after the old used length is spare again.
 
    Positions and counts
    --------------------
@@ -94,7 +126,7 @@
      same list to every call with counts.
    - trieff_store_counts and trieff_store_text_counts keep the counts right.
    - No other call that changes the image does. After a store with writes (trieff_store_writes,
-     trieff_store_text_writes), carry out its writes, then work the counts out afresh. Work them
+     trieff_store_text_writes), carry out its list, then work the counts out afresh. Work them
      out afresh after trieff_store, trieff_store_text, trieff_mend and trieff_make too.
    - The counts are not part of the image, and need not be kept through a power cut.
 
@@ -111,6 +143,11 @@
 #ifdef __cplusplus
 extern "C" {
 #endif
+
+/* The version of this header. It is raised by one whenever a prototype, or the layout of a struct,
+   changes. A program that declares the calls itself, in another language for example, must fit the
+   version of the library. */
+#define TRIEFF_VERSION 1
 
 /* The limits of an image's length in bytes. The least is the length of the seven fields. */
 #define TRIEFF_IMAGE_LEAST 28
@@ -139,6 +176,17 @@ extern "C" {
 #define TRIEFF_LENGTH(nodes, n, a, d, f)         \
     ((size_t)TRIEFF_IMAGE_LEAST + (size_t)(f) +  \
      (size_t)(nodes) * ((size_t)(n) * (size_t)(a) + (size_t)(d)))
+
+/* Whether no link and no data field of an image with these numbers lies across the end of a
+   sector, if the image begins at the start of a sector, and sectors have 512 bytes or another
+   power of two from 4 on. It is so if A is 1, 2 or 4 and divides 28 + F and W, and D is 1, 2 or 4
+   and divides 28 + F + N*A and W: `_Static_assert(TRIEFF_FIELDS_WHOLE(n, a, d, f), "..")`. G never
+   does. */
+#define TRIEFF_FIELDS_WHOLE(n, a, d, f)                               \
+    ((a) != 3 && (TRIEFF_IMAGE_LEAST + (f)) % (a) == 0 &&             \
+     ((n) * (a) + (d)) % (a) == 0 &&                                  \
+     (d) != 3 && (TRIEFF_IMAGE_LEAST + (f) + (n) * (a)) % (d) == 0 && \
+     ((n) * (a) + (d)) % (d) == 0)
 
 /* The number of an answer. The place is 0 where the comment names none. */
 enum trieff_number {
@@ -200,6 +248,31 @@ typedef struct trieff_answer {
        found. count: the number of stored keys. position, position_text: the key's position. */
     uint64_t value;
 } trieff_answer;
+
+/* A number in words, for a log or a person. */
+static inline const char *trieff_text(uint32_t number)
+{
+    switch (number) {
+    case TRIEFF_DONE: return "done";
+    case TRIEFF_IMAGE_LENGTH: return "image shorter than 28 or longer than 16,777,216 bytes";
+    case TRIEFF_HEAD_FIELD: return "a head field outside its limits";
+    case TRIEFF_ALPHABET: return "the alphabet is not N different well-formed characters";
+    case TRIEFF_IMAGE_ROOM: return "U exceeds the image's length";
+    case TRIEFF_TOO_FEW_NUMBERS: return "too few working numbers or counts lent";
+    case TRIEFF_LINK: return "a link breaks the first link rule";
+    case TRIEFF_LINKED_TWICE: return "an address stands in two links or more";
+    case TRIEFF_NOT_LINKED: return "an address in 1..G stands in no link";
+    case TRIEFF_KEY_LENGTH: return "key length outside min..max";
+    case TRIEFF_LETTER: return "a letter number is N or more, or the text names no key";
+    case TRIEFF_VALUE_TOO_GREAT: return "value above 256^D - 1";
+    case TRIEFF_NO_ADDRESS: return "G + k above 256^A - 1, with k new nodes";
+    case TRIEFF_NO_ROOM: return "U + k*W exceeds the image's length, with k new nodes";
+    case TRIEFF_SHORT_BUFFER: return "key buffer shorter than max";
+    case TRIEFF_NO_KEY: return "no stored key meets the request";
+    case TRIEFF_COUNTS_DIFFER: return "a count is not the fresh one";
+    default: return "a number that this header does not know";
+    }
+}
 
 /* Makes a fresh image: N links in a node, A bytes in a link, D bytes of data, keys of min to max
    letters. Letter i is the i-th character of the alphabet, from 0. F is the length of the alphabet
@@ -267,14 +340,14 @@ trieff_answer trieff_store_text(uint8_t *image, size_t image_len, uint32_t *work
 trieff_answer trieff_store_writes(uint8_t *image, size_t image_len,
                                   uint32_t *work, size_t work_len,
                                   const uint8_t *letters, size_t letters_len, uint32_t value,
-                                  uint32_t *writes);
+                                  uint32_t writes[TRIEFF_WRITES_LEN]);
 
 /* The same as trieff_store_writes, for a key given as text in UTF-8.
    Refusals: 1 to 8, 10, 9, 11, 12, 13. */
 trieff_answer trieff_store_text_writes(uint8_t *image, size_t image_len,
                                        uint32_t *work, size_t work_len,
                                        const uint8_t *text, size_t text_len, uint32_t value,
-                                       uint32_t *writes);
+                                       uint32_t writes[TRIEFF_WRITES_LEN]);
 
 /* Mends an image after a cut. If the check answers 8 at p, and the image with G set to p-1 is
    accepted, G becomes p-1 and the answer is TRIEFF_DONE. Otherwise nothing changes and the check's
@@ -282,9 +355,9 @@ trieff_answer trieff_store_text_writes(uint8_t *image, size_t image_len,
    image, cut or not.
    Refusals: 1 to 8.
    Done: changes the first four bytes or nothing. If they changed, write them back to the kept
-   image, as one write that lands whole or not at all, before the next store. Until then the kept
-   image still counts the nodes that were cut off, so new nodes would not go to its spare bytes. If
-   a cut comes there, the next start mends again. */
+   image, as one write that lands whole or not at all, and flush, before the next store. Until then
+   the kept image still counts the nodes that were cut off, so new nodes would not go to its spare
+   bytes. If a cut comes there, the next start mends again. */
 trieff_answer trieff_mend(uint8_t *image, size_t image_len, uint32_t *work, size_t work_len);
 
 /* The first stored key at or after the key given or, if `after` is true, after it. A key comes
