@@ -1,5 +1,7 @@
-"""The form of the house: its names, its lines, its comments, its calls and its words."""
+"""The form of the house: its names, lines, comments, calls, words and pictures."""
 import re
+import subprocess
+import sys
 from collections import defaultdict
 
 from checks.house import (
@@ -143,10 +145,26 @@ def same_orders():
                 yield at(path, lines[f"trieff_{call}"], why)
 
 
+def same_texts():
+    """A refusal has the same words in the header's trieff_text as in Rust."""
+    path = ROOT / "rust/src/refusal.rs"
+    numbers = dict(re.findall(r"(TRIEFF_\w+) = (\d+)", text(HEADER)))
+    of_name = dict(re.findall(r"Refusal::(\w+)(?:\(_\))? => (\d+),", text(path)))
+    in_rust = {of_name.get(name): said for name, said in
+               re.findall(r'Refusal::(\w+)(?:\(_\))? => "(.*)"', text(path))}
+    in_c = {numbers.get(name): said for name, said in
+            re.findall(r'case (TRIEFF_\w+): return "(.*)"', text(HEADER))}
+    for number in sorted({*numbers.values()} - {"0"}, key=int):
+        if in_c.get(number) is None or in_c[number] != in_rust.get(number):
+            yield at(HEADER, 1, f"trieff_text says {in_c.get(number)!r} for {number}, "
+                                f"refusal.rs {in_rust.get(number)!r}")
+
+
 def calls():
     yield from same_calls()
     yield from same_numbers()
     yield from same_orders()
+    yield from same_texts()
     return f"{len(table('Call'))} calls and {len(table('No.'))} refusals"
 
 
@@ -179,3 +197,12 @@ def words():
             if line not in lines:
                 yield at(path, line, f'"{phrase}": write "{instead}"')
     return f"{len(STUMBLED)} phrases"
+
+
+def pictures():
+    scripts = sorted((ROOT / "docs/pictures").glob("*.py"))
+    for script in scripts:
+        drawn = subprocess.run([sys.executable, script], stdout=subprocess.PIPE, text=True)
+        if drawn.returncode != 0 or drawn.stdout != text(script.with_suffix(".svg")):
+            yield at(script.with_suffix(".svg"), 1, f"{script.name} draws another picture")
+    return f"{len(scripts)} picture"
