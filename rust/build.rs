@@ -1,11 +1,16 @@
 //! Links `libtrieff.a`, which `rt staticlib trieff` builds. It is taken from the folder that the
-//! environment variable TRIEFF_LIB names, else from `target/staticlib` of the repository.
+//! environment variable TRIEFF_LIB names, else from `target/staticlib` of the repository. Sets
+//! `core_error` if the compiler has `core::error::Error`, which came with Rust 1.81.
 
 use std::env;
 use std::path::PathBuf;
-use std::process::exit;
+use std::process::{exit, Command};
 
 fn main() {
+    println!("cargo:rustc-check-cfg=cfg(core_error)");
+    if minor_version().map_or(false, |minor| minor >= 81) {
+        println!("cargo:rustc-cfg=core_error");
+    }
     println!("cargo:rerun-if-env-changed=TRIEFF_LIB");
     let folder = match env::var_os("TRIEFF_LIB") {
         Some(named) => PathBuf::from(named),
@@ -28,6 +33,13 @@ fn main() {
     }
     println!("cargo:rustc-link-search=native={}", folder.display());
     println!("cargo:rustc-link-lib=static=trieff");
+}
+
+/// The 81 of `rustc 1.81.0 (..)`; `None` if the compiler says something else.
+fn minor_version() -> Option<u32> {
+    let said = Command::new(env::var_os("RUSTC")?).arg("--version").output().ok()?.stdout;
+    let version = String::from_utf8(said).ok()?;
+    version.strip_prefix("rustc 1.")?.split('.').next()?.parse().ok()
 }
 
 fn refuse(why: &str) -> ! {

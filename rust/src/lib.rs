@@ -6,7 +6,9 @@
 //! first [`Refusal`] that applies, else what was asked for. A refused call changes nothing but the
 //! working numbers. The crate links `libtrieff.a`, which `rt staticlib trieff` proves and builds,
 //! for x86-64 alone.
-//! It needs no `std`.
+//!
+//! The crate needs no `std`. Its feature `std` is for compilers before Rust 1.81: with it
+//! [`Refusal`] is an `Error` there too.
 //!
 //! Working numbers: every call but [`make`] and the lookups needs G+1 of them, one for each node
 //! in use. No answer depends on what they held. If the call stops at [`Refusal::TooFewNumbers`],
@@ -105,6 +107,9 @@
 //! ```
 #![no_std]
 #![warn(missing_docs)]
+
+#[cfg(all(feature = "std", not(core_error)))]
+extern crate std;
 
 mod counts;
 pub mod raw;

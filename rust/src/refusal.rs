@@ -1,4 +1,8 @@
+#[cfg(core_error)]
+use core::error::Error;
 use core::fmt;
+#[cfg(all(feature = "std", not(core_error)))]
+use std::error::Error;
 
 /// Why a call was refused. There is a variant for each number. Those whose place is a node or an
 /// address carry the place.
@@ -152,6 +156,21 @@ impl fmt::Display for Refusal {
         write!(f, "refused {} at {}: {}", self.number(), self.place(), self.words())
     }
 }
+
+/// From Rust 1.81 on it is `core::error::Error`, without `std`. Older compilers need the feature
+/// `std` for it.
+///
+/// ```
+/// fn labels(image: &[u8], work: &mut [u32]) -> Result<String, Box<dyn std::error::Error>> {
+///     Ok(format!("{} labels", trieff::count(image, work)?))
+/// }
+///
+/// let refused = labels(&[0; 28], &mut [0; 1]).unwrap_err();
+/// assert_eq!(refused.to_string(), "refused 2 at 0: a head field outside its limits");
+/// assert_eq!(refused.downcast_ref(), Some(&trieff::Refusal::HeadField));
+/// ```
+#[cfg(any(core_error, feature = "std"))]
+impl Error for Refusal {}
 
 #[cfg(test)]
 mod tests {
