@@ -8,8 +8,8 @@
 //! ```
 
 use trieff::{
-    check, count, look_up_text, make, mend, next_key, store_text, store_text_writes, Counts,
-    Refusal, Shape, Writes,
+    check, count, keys, look_up_text, make, mend, store_text, store_text_writes, Counts, Refusal,
+    Shape, Writes,
 };
 
 const ALPHABET: &[u8] = b"0123456789ABCDE-";
@@ -50,22 +50,14 @@ fn label(letters: &[u8]) -> String {
     letters.iter().map(|&letter| ALPHABET[letter as usize] as char).collect()
 }
 
-/// Every label in order: first the one at or after the empty key, then always the one after the
-/// last.
+/// Every label in order.
 fn list(image: &[u8], work: &mut [u32]) -> Result<(), Refusal> {
     println!("labels: {}", count(image, work)?);
-    let mut last = [0; 12];
-    let mut length = 0;
-    let mut after = false;
-    loop {
-        let mut key = [0; 12];
-        let found = match next_key(image, work, &last[..length], after, &mut key) {
-            Err(Refusal::NoKey) => return Ok(()),
-            heard => heard?,
-        };
-        println!("{} {}", label(&key[..found.length]), found.value);
-        (last, length, after) = (key, found.length, true);
+    for stored in keys(image, work) {
+        let stored = stored?;
+        println!("{} {}", label(stored.letters()), stored.value());
     }
+    Ok(())
 }
 
 /// Stores a label in memory and carries out the first `cut` writes on the kept image. Then the

@@ -17,7 +17,7 @@
 //! rest keep what they held.
 //!
 //! ```
-//! use trieff::{count, look_up_text, make, next_key, store_text, Refusal, Shape};
+//! use trieff::{count, keys, look_up_text, make, store_text, Refusal, Shape};
 //!
 //! let mut image = [0; 100];
 //! let mut work = [0; 16];
@@ -27,9 +27,8 @@
 //! assert_eq!(look_up_text(&image, b"BA")?, Some(9));
 //! assert_eq!(count(&image, &mut work)?, 2);
 //!
-//! let mut key = [0; 3];
-//! let found = next_key(&image, &mut work, &[], false, &mut key)?;
-//! assert_eq!((&key[..found.length], found.value), (&[1][..], 5));
+//! let first = keys(&image, &mut work).next().unwrap()?;
+//! assert_eq!((first.letters(), first.value()), (&[1][..], 5));
 //! # Ok::<(), Refusal>(())
 //! ```
 //!
@@ -112,11 +111,13 @@
 extern crate std;
 
 mod counts;
+mod keys;
 pub mod raw;
 mod refusal;
 mod writes;
 
 pub use counts::Counts;
+pub use keys::{keys, keys_from, Keys, Stored};
 use raw::TrieffAnswer;
 pub use refusal::Refusal;
 pub use writes::{Writes, WRITES_MOST};
@@ -538,7 +539,7 @@ pub fn mend(image: &mut [u8], work: &mut [u32]) -> Result<(), Refusal> {
 /// The first stored key at or after the key given or, if `after` is true, after it. A key comes
 /// before its extensions; otherwise the first different letter number decides. The key given has 0
 /// to max letters and need not be stored. The first stored key of all is the one at or after the
-/// empty key.
+/// empty key. [`keys`] and [`keys_from`] call it repeatedly.
 ///
 /// Done: it writes the letters of the key found to the front of the key buffer. The rest of the
 /// buffer keeps what it held. If there is no such key, the refusal is [`Refusal::NoKey`].

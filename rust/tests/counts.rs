@@ -1,39 +1,25 @@
 //! Counts beside an image. A store leaves the counts that working them out afresh would give. The
 //! keys by position are those of the listing, in its order.
 
-use trieff::{make, next_key, Counts, Refusal, Shape};
+use trieff::{keys, make, Counts, Refusal, Shape, Stored};
 
 const SEASON: &[u8] = include_bytes!("../../samples/season.trieff");
 const NODES: usize = 659;
 
-/// Every stored key with its value, by next key.
-fn listing(image: &[u8], work: &mut [u32]) -> Vec<(Vec<u8>, u64)> {
-    let (mut all, mut last, mut after) = (Vec::new(), Vec::new(), false);
-    loop {
-        let mut key = [0; 64];
-        match next_key(image, work, &last, after, &mut key) {
-            Ok(found) => {
-                last = key[..found.length].to_vec();
-                all.push((last.clone(), found.value));
-            }
-            Err(refusal) => {
-                assert_eq!(refusal, Refusal::NoKey);
-                return all;
-            }
-        }
-        after = true;
-    }
+/// Every stored key with its value. There are no more keys than nodes.
+fn listing(image: &[u8], work: &mut [u32]) -> Vec<Stored> {
+    keys(image, work).take(NODES + 1).collect::<Result<_, _>>().unwrap()
 }
 
-/// The keys by position are the keys by next key, and each key's position leads back to it. The
+/// The keys by position are those of the listing, and each key's position leads back to it. The
 /// number of keys.
 fn agree(image: &[u8], counts: &Counts, work: &mut [u32]) -> usize {
     let all = listing(image, work);
-    for (position, (letters, value)) in all.iter().enumerate() {
+    for (position, stored) in all.iter().enumerate() {
         let mut key = [0; 64];
         let found = counts.nth(image, work, position as u64, &mut key).unwrap();
-        assert_eq!((&key[..found.length], found.value), (&letters[..], *value));
-        assert_eq!(counts.position(image, work, letters), Ok(position as u64));
+        assert_eq!((&key[..found.length], found.value), (stored.letters(), stored.value()));
+        assert_eq!(counts.position(image, work, stored.letters()), Ok(position as u64));
     }
     for position in [all.len() as u64, u64::MAX] {
         assert_eq!(counts.nth(image, work, position, &mut [0; 64]), Err(Refusal::NoKey));

@@ -1,7 +1,7 @@
 //! Every cut of a list of writes, in memory. After mending, the answers are those from after the
 //! store if the last write landed, else those from before it.
 
-use trieff::{check, count, look_up, make, mend, next_key, store_writes, Refusal, Shape, Writes};
+use trieff::{check, count, keys, look_up, make, mend, store_writes, Shape, Stored, Writes};
 
 const SHAPE: Shape = Shape { n: 3, a: 2, d: 3, min: 0, max: 3 };
 const ROOM: usize = SHAPE.length(20, 0);
@@ -17,23 +17,16 @@ const STORES: [(&[u8], u32); 9] = [
     (&[0, 1, 2], 2),
 ];
 
-/// What an image answers: the number of keys, and each key of the listing with the value that its
-/// lookup gives.
-fn answers(image: &[u8]) -> (u64, Vec<(Vec<u8>, u64)>) {
+/// What an image answers: the keys of the listing. The count must be their number, and each key's
+/// lookup must give its value. There are no more keys than nodes.
+fn answers(image: &[u8]) -> Vec<Stored> {
     let mut work = [0; 20];
-    let (mut all, mut last, mut after) = (Vec::new(), Vec::new(), false);
-    loop {
-        let mut key = [0; 3];
-        match next_key(image, &mut work, &last, after, &mut key) {
-            Ok(found) => last = key[..found.length].to_vec(),
-            Err(refusal) => {
-                assert_eq!(refusal, Refusal::NoKey);
-                return (count(image, &mut work).unwrap(), all);
-            }
-        }
-        all.push((last.clone(), look_up(image, &last).unwrap().unwrap()));
-        after = true;
+    let all: Vec<Stored> = keys(image, &mut work).take(21).collect::<Result<_, _>>().unwrap();
+    for stored in &all {
+        assert_eq!(look_up(image, stored.letters()), Ok(Some(stored.value())));
     }
+    assert_eq!(count(image, &mut work), Ok(all.len() as u64));
+    all
 }
 
 #[test]

@@ -1,0 +1,105 @@
+//! The iterator over the stored keys gives what next key gives, step by step, and then ends.
+
+use trieff::{keys, keys_from, make, next_key, store, Found, Keys, Refusal, Shape};
+
+const SEASON: &[u8] = include_bytes!("../../samples/season.trieff");
+const NODES: usize = 659;
+const DEEP: Shape = Shape { n: 2, a: 1, d: 4, min: 0, max: 64 };
+
+/// Compares the iterator with next key, called by hand. After the end it must stay ended. The
+/// number of keys, and the refusal that came last.
+fn agree(image: &[u8], nodes: usize, from: &[u8], after: bool) -> (usize, Refusal) {
+    let (mut lent, mut work) = (vec![7; nodes], vec![7; nodes]);
+    let mut given = keys_from(image, &mut lent, from, after);
+    let (mut last, mut after, mut count) = (from.to_vec(), after, 0);
+    loop {
+        let mut key = [0; 64];
+        match next_key(image, &mut work, &last, after, &mut key) {
+            Ok(Found { length, value }) => {
+                let stored = given.next().unwrap().unwrap();
+                assert_eq!((stored.letters(), stored.value()), (&key[..length], value));
+                (last, after) = (key[..length].to_vec(), true);
+            }
+            Err(refusal) => {
+                let end = if refusal == Refusal::NoKey { None } else { Some(Err(refusal)) };
+                assert_eq!(given.next(), end);
+                assert_eq!((given.next(), given.next()), (None, None));
+                assert_eq!(lent, work);
+                return (count, refusal);
+            }
+        }
+        count += 1;
+    }
+}
+
+#[test]
+fn a_season_key_by_key() {
+    assert_eq!(agree(SEASON, NODES, &[], false), (394, Refusal::NoKey));
+    let mut work = [0; NODES];
+    let all: Vec<_> = keys(SEASON, &mut work).take(NODES).collect::<Result<_, _>>().unwrap();
+    assert_eq!(all.len(), 394);
+    for (i, stored) in all.iter().enumerate() {
+        let mut first = |after| keys_from(SEASON, &mut work, stored.letters(), after).next();
+        assert_eq!(
+            (first(false), first(true)),
+            (Some(Ok(*stored)), all.get(i + 1).map(|s| Ok(*s)))
+        );
+    }
+    assert_eq!(agree(SEASON, NODES, all[200].letters(), true), (193, Refusal::NoKey));
+}
+
+#[test]
+fn a_key_given_of_any_length() {
+    let mut image = [0; DEEP.length(66, 0)];
+    make(&mut image, DEEP, b"").unwrap();
+    assert_eq!(agree(&image, 66, &[], false), (0, Refusal::NoKey));
+    for letters in [&[][..], &[1], &[0; 63], &[0; 64]] {
+        store(&mut image, &mut [0; 66], letters, 77).unwrap();
+    }
+    for (length, count, refusal) in [
+        (0, 4, Refusal::NoKey),
+        (63, 3, Refusal::NoKey),
+        (64, 2, Refusal::NoKey),
+        (65, 0, Refusal::KeyLength),
+        (66, 0, Refusal::KeyLength),
+        (1000, 0, Refusal::KeyLength),
+    ] {
+        assert_eq!(agree(&image, 66, &vec![0; length], false), (count, refusal));
+    }
+    assert_eq!(agree(&image, 66, &[0; 64], true), (1, Refusal::NoKey));
+    assert_eq!(agree(&image, 66, &[2; 64], true), (0, Refusal::Letter));
+    assert_eq!(agree(&image, 66, &[2; 65], true), (0, Refusal::KeyLength));
+    assert_eq!(agree(&image, 65, &[2; 65], true), (0, Refusal::TooFewNumbers));
+    image[28] = 77; // the root links to a node that is not there
+    assert_eq!(agree(&image, 66, &[2; 65], true), (0, Refusal::Link(0)));
+    assert_eq!(agree(&image[..27], 66, &[2; 65], true), (0, Refusal::ImageLength));
+}
+
+#[test]
+fn the_key_given_is_not_borrowed() {
+    let mut work = [0; NODES];
+    let mut last = keys(SEASON, &mut work).next().unwrap().unwrap();
+    let mut pages = 0;
+    loop {
+        let before = last;
+        for stored in keys_from(SEASON, &mut work, last.letters(), true).take(100) {
+            last = stored.unwrap();
+        }
+        if last == before {
+            break;
+        }
+        pages += 1;
+    }
+    assert_eq!(pages, 4);
+}
+
+#[test]
+fn a_stored_key_in_words() {
+    let mut image = [0; DEEP.length(3, 0)];
+    make(&mut image, DEEP, b"").unwrap();
+    store(&mut image, &mut [0; 3], &[1, 0], 9).unwrap();
+    let mut work = [0; 3];
+    let mut all: Keys = keys(&image, &mut work);
+    let stored = all.next().unwrap().unwrap();
+    assert_eq!(format!("{stored:?}"), "Stored { letters: [1, 0], value: 9 }");
+}
