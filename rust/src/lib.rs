@@ -16,6 +16,11 @@
 //! first G+1 of them are 0 when the call returns, whatever the answer. G is the one at entry. The
 //! rest keep what they held.
 //!
+//! Lend as many as the image can ever have nodes, in every call: those passed to
+//! [`Shape::length`]. A store needs one for each node from before it, but [`mend`] needs one for
+//! each node of the image that it meets. After a cut this may be the greater number: G may count
+//! new nodes already.
+//!
 //! ```
 //! use trieff::{count, keys, look_up_text, make, store_text, Refusal, Shape};
 //!
@@ -32,25 +37,52 @@
 //! # Ok::<(), Refusal>(())
 //! ```
 //!
-//! # A cut between two writes
+//! # A power cut
 //!
-//! An image that must survive a power cut is kept twice: in memory, and in a file, in flash or on
-//! another device. The second one is called the kept image here. At the start, read the kept image
-//! into memory and [`mend`] it. If that changed its first four bytes, write them back to the kept
-//! image. Store by [`store_writes`] or [`store_text_writes`]. Then carry out the list of writes on
-//! the kept image: one write after the other, in the order of the list. Flush each write before
-//! the next one begins. The device must promise:
+//! An image that must survive a power cut is kept twice: in memory, and in a file or on a device.
+//! The second one is called the kept image here. The calls work on the image in memory alone. One
+//! program at a time works on a kept image: in a file it takes a lock before it reads or makes it.
 //!
-//! - The writes before the cut landed whole. No write after the one that was hit was begun.
-//! - A write of G, of a link or of a data field lands whole or not at all. These fields are 1 to 4
-//!   bytes long and may lie across the end of a sector. None does if the image begins at the start
-//!   of a sector, A and D are 1, 2 or 4, and both divide 28 + F, N*A and W.
-//! - A write of a node goes to spare bytes. Any of its bytes may have landed, and the others not.
+//! At a start:
+//!
+//! 1. Read the kept image into memory.
+//! 2. Write back all that was read, and flush. This may be left out if the machine was off since
+//!    the last write: then what was read has landed. Otherwise it may be in a cache alone.
+//! 3. Call [`mend`]. If it changed the first four bytes, write them back, and flush.
+//! 4. Only now answer and store.
+//!
+//! To store, call [`store_writes`] or [`store_text_writes`]. Carry out the list of writes on the
+//! kept image, in its order, with three flushes: the new nodes, flush, G, flush, the link, flush.
+//! A list of one write has a data field: the field, flush. Answer after the last flush.
+//!
+//! If a write or a flush failed, or may have failed: store nothing more and answer nothing more,
+//! no lookup either. The image in memory holds a store that the kept image may lack. What is read
+//! back may never have landed, and a second flush may succeed without it. So restart the machine
+//! and begin at step 1. Or begin at step 1 without a restart, and do not leave out step 2.
+//!
+//! A fresh image is made in memory by [`make`]. To put it on a device, write 28 zero bytes where
+//! it begins, and flush; then its bytes from 28 on, up to U at least, and flush; then its first 28
+//! bytes, and flush. If a start finds 28 zero bytes there, the making was cut: begin again. To put
+//! it in a file, write it to a new file, flush that file, rename it, and flush the folder.
+//!
+//! `rust/examples/bench_file.rs` does all of this in a file. The device must promise:
+//!
+//! - What was written before a flush has landed once the flush has returned without a failure.
+//!   What comes after a flush is not begun before that.
+//! - A write of G, of a link, of a data field or of the first 28 bytes lands whole or not at all.
+//!   Devices promise this within a sector. So the image begins at the start of a sector, and no
+//!   field lies across the end of one: see [`Shape::fields_whole`].
+//! - Of nodes that were written since the last flush any bytes may have landed, in any order. They
+//!   go to spare bytes.
 //! - No byte changes that was not written.
 //!
-//! Then, wherever the cut was, mending with enough working numbers is done. After that, all
-//! answers are those from before the store, or all answers are those from after it. They are those
-//! from after it exactly if the last write of the list landed.
+//! The order in which a call writes to the image in memory is not promised. So do not lend memory
+//! that outlives a cut, such as FRAM or a mapped file, as the image: also there keep two images,
+//! and go by the list of writes.
+//!
+//! With these promises, wherever the cut was, mending with enough working numbers is done. After
+//! that, all answers are those from before the store, or all answers are those from after it. They
+//! are those from after it exactly if the last write of the list landed.
 //!
 //! ```
 //! use trieff::{look_up_text, make, mend, store_text_writes, Refusal, Shape, Writes};
@@ -153,7 +185,32 @@ impl Shape {
     /// assert_eq!(make(&mut [0; ABC.length(1, 3) - 1], ABC, b"ABC"), Err(Refusal::ImageRoom));
     /// ```
     pub const fn length(&self, nodes: usize, f: usize) -> usize {
-        28 + f + nodes * (self.n as usize * self.a as usize + self.d as usize)
+        28 + f + nodes * self.width()
+    }
+
+    /// Whether every link and every data field of an image with these numbers and an alphabet of
+    /// `f` bytes is 1, 2 or 4 bytes long and stands at a multiple of its length. Then none lies
+    /// across the end of a sector, if the image begins at the start of a sector, and sectors have
+    /// 512 bytes or another power of two from 4 on. G never does.
+    ///
+    /// ```
+    /// const LABELS: trieff::Shape = trieff::Shape { n: 16, a: 2, d: 4, min: 1, max: 64 };
+    /// const _: () = assert!(LABELS.fields_whole(16));
+    /// assert!(!LABELS.fields_whole(17));
+    /// ```
+    pub const fn fields_whole(&self, f: usize) -> bool {
+        self.stands_whole(self.a as usize, f) && self.stands_whole(self.d as usize, f)
+    }
+
+    /// It holds of the data too, though that begins after the links: if D divides W = N*A + D, it
+    /// divides N*A.
+    const fn stands_whole(&self, length: usize, f: usize) -> bool {
+        matches!(length, 1 | 2 | 4) && (28 + f) % length == 0 && self.width() % length == 0
+    }
+
+    /// The node width W.
+    const fn width(&self) -> usize {
+        self.n as usize * self.a as usize + self.d as usize
     }
 }
 
@@ -321,8 +378,8 @@ pub fn look_up_text(image: &[u8], text: &[u8]) -> Result<Option<u64>, Refusal> {
 /// for another value of a stored key and for deleting a key that is not stored.
 ///
 /// Done: if the key's path is complete, it writes the key's data. If it is not complete, a value
-/// of 0 changes nothing. Any other value writes the new nodes to the spare bytes at U, then G,
-/// then the link to the first new node.
+/// of 0 changes nothing. Any other value writes the new nodes to the spare bytes at U, G, and the
+/// link to the first new node.
 ///
 /// Refusals: 1 to 8, 9, 10, 11, 12, 13. A value of 0 needs no new nodes, so 12 and 13 are never
 /// given for it.
@@ -501,8 +558,9 @@ pub fn store_text_writes(
 /// `Ok` for an image that is accepted as it is. This holds for every image, cut or not.
 ///
 /// Done: it changes the first four bytes or nothing. If they changed, write them back to the kept
-/// image, as one write that lands whole or not at all, before the next store. If a cut comes
-/// there, the next start mends again.
+/// image, as one write that lands whole or not at all, and flush, before the next store. Until
+/// then the kept image still counts the nodes that were cut off, so new nodes would not go to its
+/// spare bytes. If a cut comes there, the next start mends again.
 ///
 /// Refusals: 1 to 8.
 ///
