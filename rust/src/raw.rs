@@ -1,8 +1,9 @@
 //! The C functions as they are: `include/trieff.h`, name for name. The functions of the crate's
-//! root call them and are safe. Here the caller's part is what the header says. No pointer is
-//! null, also where the length is 0, and as many elements are there as the length says. `work`,
-//! `counts` and `writes` are aligned. A slice that a call may write to overlaps no other slice of
-//! that call. Nobody else changes a slice during the call.
+//! root call them and are safe. Here the caller's part is what the header says. As many elements
+//! are there as the length says. Where the length is 0, the pointer may be null. `writes` has no
+//! length, is never null, and 132 numbers are there. `work`, `counts` and `writes` are aligned. A
+//! slice that a call may write to overlaps no other slice of that call. Nobody else changes a
+//! slice during the call.
 
 /// The answer of every call. A field that a call does not use is 0. In a refusal all fields but
 /// `number` and `place` are 0.
