@@ -18,7 +18,8 @@
    - Every start reads the file, mends the image in memory, and writes all of it to a new file,
      which then takes the name. Nothing is answered before that is flushed. What was read may have
      been in the computer's memory alone: written by a bench that was stopped before its flush, or
-     by one whose flush failed. A cut at any step leaves the old file or the new one.
+     by one whose flush failed. A cut at any step leaves the old file or the new one. (So the file
+     has the rights of a new one, and the name is not a link to a file elsewhere.)
    - A store is answered after its last flush. So no store that was answered is lost.
    - After a write or a flush that failed, nothing more is stored or answered. The bench stops, and
      may be started again at once.
@@ -121,12 +122,26 @@ static char *named(const char *ending)
     return whole;
 }
 
+/* The descriptor; -1 if there is no such file. */
 static int opened(const char *path, int flags)
 {
-    int fd = open(path, flags | O_CLOEXEC, 0666);
-    if (fd < 0)
+    int fd;
+    do
+        fd = open(path, flags | O_CLOEXEC, 0666);
+    while (fd < 0 && errno == EINTR);
+    if (fd < 0 && (errno != ENOENT || (flags & O_CREAT) != 0))
         disk_failed("open");
     return fd;
+}
+
+/* Standard streams that are closed are opened, so that no file gets the number of one. */
+static void open_streams(void)
+{
+    int fd;
+    do
+        fd = open("/dev/null", O_RDWR | O_CLOEXEC);
+    while (fd >= 0 && fd <= STDERR_FILENO);
+    close(fd);
 }
 
 /* The descriptor stays open, and the lock with it, until the program ends. */
@@ -148,11 +163,11 @@ static void load(void)
     uint8_t head[TRIEFF_IMAGE_LEAST + F];
     struct stat is;
     size_t had = 0;
-    int fd = open(name, O_RDONLY | O_CLOEXEC);
-    if (fd < 0 && errno == ENOENT)
+    int fd = opened(name, O_RDONLY);
+    if (fd < 0)
         return;
-    if (fd < 0 || fstat(fd, &is) != 0)
-        disk_failed("open");
+    if (fstat(fd, &is) != 0)
+        disk_failed("fstat");
     if (is.st_size != 0 && is.st_size != (off_t)sizeof image)
         stop("it has %lld bytes, an image of this bench has %zu", (long long)is.st_size,
              sizeof image);
@@ -320,6 +335,7 @@ int main(int argc, char **argv)
         return 2;
     }
     name = argv[1];
+    open_streams();
     start();
     while ((length = getline(&line, &room, stdin)) >= 0) {
         obey(line, (size_t)length);

@@ -315,8 +315,8 @@ trieff_answer trieff_look_up_text(const uint8_t *image, size_t image_len,
    Refusals: 1 to 8, 9, 10, 11, 12, 13. A value of 0 needs no new nodes, so 12 and 13 are never
    given for it.
    Done: if the key's path is complete, writes the D bytes of its data. If it is not complete, a
-   value of 0 changes nothing. Any other value writes the new nodes to the spare bytes at U, then
-   G, then the link to the first new node. */
+   value of 0 changes nothing. Any other value writes the new nodes to the spare bytes at U, G, and
+   the link to the first new node. */
 trieff_answer trieff_store(uint8_t *image, size_t image_len, uint32_t *work, size_t work_len,
                            const uint8_t *letters, size_t letters_len, uint32_t value);
 

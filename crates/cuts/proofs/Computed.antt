@@ -75,9 +75,13 @@ computed = (refl, refl, refl, refl, refl)
 
 -- ---- with three flushes
 
--- the same store, cut after k flushes
+-- the same store, cut after k flushes, with what landed in each round
+abbrev leftIn : ℕ → List (ℕ → ℕ → Bool) → List ℕ
+leftIn k rounds = cutSince k rounds before (groupsIn before (2 ∷ 2 ∷ 2 ∷ []) 1)
+
+-- with one round, in the store
 abbrev leftSince : ℕ → (ℕ → ℕ → Bool) → List ℕ
-leftSince k lands = cutSince k lands before (groupsIn before (2 ∷ 2 ∷ 2 ∷ []) 1)
+leftSince k lands = leftIn k (lands ∷ [])
 
 -- what landed since the last flush: nothing, all, the second write alone, and of each write the
 -- bytes at odd places
@@ -102,6 +106,10 @@ sparse =
 abbrev striped : List ℕ
 striped = after (0 ∷ 0xAA ∷ 4 ∷ 0xAA ∷ 0 ∷ 0xAA ∷ 5 ∷ 0xAA ∷ 0 ∷ 0xAA ∷ 0 ∷ 0xAA ∷ [])
 
+-- the image with the second of three new nodes, and then the bytes of all at odd places
+abbrev both : List ℕ
+both = after (0 ∷ 0xAA ∷ 4 ∷ 0xAA ∷ 0 ∷ 0 ∷ 5 ∷ 0 ∷ 0 ∷ 0xAA ∷ 0 ∷ 0xAA ∷ [])
+
 -- the places and lengths in each group; what a cut leaves; and what mending leaves then
 pub computed-flushes : (map noted (groupsIn before (2 ∷ 2 ∷ 2 ∷ []) 1)
     ≡ (43 ∷ 4 ∷ 47 ∷ 4 ∷ 51 ∷ 4 ∷ []) ∷ (0 ∷ 4 ∷ []) ∷ (33 ∷ 1 ∷ []) ∷ [])
@@ -121,6 +129,17 @@ pub computed-flushes : (map noted (groupsIn before (2 ∷ 2 ∷ 2 ∷ []) 1)
 unfolding row1 row2 row3 row4 row6 row7 row8 flushed cutSince mendedImage mendOf noted storeWrites
     tableIn descend storedKeys keysUnder
 computed-flushes = (refl, refl, refl, refl, refl, refl, refl, refl, refl, refl)
+
+-- the second node landed in the store, and the bytes at odd places when a start wrote back; G
+-- landed at the second start; the link landed in the store and again at a start
+pub computed-rounds : (leftIn 0 (second ∷ odds ∷ []) ≡ both)
+    × (mendedImage both work ≡ both)
+    × (storedKeys both ≡ (1 ∷ []) ∷ (1 ∷ 0 ∷ []) ∷ [])
+    × (leftIn 1 (nothing ∷ odds ∷ all ∷ []) ≡ grown 5 0)
+    × (leftIn 2 (all ∷ all ∷ []) ≡ grown 5 3)
+unfolding row1 row2 row3 row4 row6 row7 row8 flushed cutSince mendedImage mendOf noted storeWrites
+    tableIn descend storedKeys keysUnder
+computed-rounds = (refl, refl, refl, refl, refl)
 
 -- the store with no flush until all writes were issued: of write i all or nothing landed
 abbrev unflushed : (ℕ → Bool) → List ℕ

@@ -1,7 +1,8 @@
 -- 02, Ask 1, with three flushes in a store instead of one for each write: "After a cut anywhere, a
 -- mending call with enough working numbers must leave the answers from before the store or after
 -- it." Of the new nodes any bytes may have landed, in any order: all of them are spare bytes until
--- G has landed. G and the link are alone since the last flush, and land whole or not at all.
+-- G has landed. G and the link are alone since the last flush, and land whole or not at all. So it
+-- is after any number of rounds, in which starts wrote the same bytes back and were cut in turn.
 use Prim.Native.Nat.{ℕ, zero, suc, _+_, _-_, _≤_, _<_}
 use mathlib.Core.Path.{_≡_, refl, sym, ap, subst, _∙_}
 use mathlib.Core.Bool.{Bool, true, false, cond}
@@ -26,11 +27,12 @@ use Rattle.paper.specs.Accepted.{Accepted}
 use Rattle.paper.specs.Granted.{Granted}
 use Rattle.paper.proofs.StoreCall.{able, accepted-again, store-granted}
 use Rattle.cuts.specs.Cut.{cutAfter}
-use Rattle.cuts.specs.Flushed.{closed, flushed, groupsIn, landed, cutSince}
+use Rattle.cuts.specs.Flushed.{closed, flushed, groupsIn, inRounds, cutSince}
 use Rattle.cuts.specs.Mended.{MendsTo}
 use Rattle.cuts.proofs.WriteLists.{From, from-before, cut-append, hit-none}
-use Rattle.cuts.proofs.WriteGroups.{flushed-spare, flushed-other, since-whole, length-since}
-use Rattle.cuts.proofs.WriteGroups.{since-before, since-other, since-none, upTo, cut-since}
+use Rattle.cuts.proofs.WriteGroups.{flushed-spare, flushed-other, since-whole}
+use Rattle.cuts.proofs.WriteGroups.{length-rounds, rounds-before, inOne, rounds-other}
+use Rattle.cuts.proofs.WriteGroups.{upTo, cut-since}
 use Rattle.cuts.proofs.Cuts.{Before, mends-kept, nodes-from, last, mends-lowered}
 use Rattle.cuts.proofs.Cuts.{looks-begun, link-used}
 use Rattle.seen.specs.Seen.{SameUsed}
@@ -48,11 +50,7 @@ Halves l after work r = Before l work r ⊎ (r ≡ after)
 
 -- the cut left what one after some flushes can leave
 abbrev Case : List ℕ → List (List Write) → List ℕ → Type 0
-Case l groups r = (j : ℕ) × (lands : ℕ → ℕ → Bool) × (r ≡ cutSince j lands l groups)
-
--- nothing of a group landed
-abbrev nothing : ℕ → ℕ → Bool
-nothing i p = false
+Case l groups r = (j : ℕ) × (rounds : List (ℕ → ℕ → Bool)) × (r ≡ cutSince j rounds l groups)
 
 -- ---- new nodes
 
@@ -112,19 +110,20 @@ module _ {l key : List ℕ} {v : ℕ} (s : Granted l key (suc v)) {q x : ℕ} {x
   -- ---- a cut among the nodes
 
   -- the image that it left
-  abbrev pub among : (ℕ → ℕ → Bool) → List ℕ
-  among lands = landed u lands l nodes
+  abbrev pub among : List (ℕ → ℕ → Bool) → List ℕ
+  among rounds = inRounds u rounds l nodes
 
   -- whatever of the nodes landed, the bytes up to U are as before the store
-  pub among-below : (lands : ℕ → ℕ → Bool) (p : ℕ) → p < u → getD (among lands) p 0 ≡ getD l p 0
-  among-below lands p b = since-before p u lands l nodes
+  pub among-below : (rounds : List (ℕ → ℕ → Bool)) (p : ℕ) → p < u
+      → getD (among rounds) p 0 ≡ getD l p 0
+  among-below rounds p b = rounds-before p u rounds l nodes
       (from-before (suc p) u nodes b all-spare)
 
-  pub among-length : (lands : ℕ → ℕ → Bool) → length (among lands) ≡ length l
-  among-length lands = length-since u lands l nodes
+  pub among-length : (rounds : List (ℕ → ℕ → Bool)) → length (among rounds) ≡ length l
+  among-length rounds = length-rounds u rounds l nodes
 
-  looks-among : (lands : ℕ → ℕ → Bool) → SameUsed 0 (among lands) l
-  looks-among lands = agree-alike (among lands) l (among-length lands) (among-below lands)
+  looks-among : (rounds : List (ℕ → ℕ → Bool)) → SameUsed 0 (among rounds) l
+  looks-among rounds = agree-alike (among rounds) l (among-length rounds) (among-below rounds)
 
   -- ---- a cut after the nodes
 
@@ -136,48 +135,49 @@ module _ {l key : List ℕ} {v : ℕ} (s : Granted l key (suc v)) {q x : ℕ} {x
   counted = carriedOut begun (total ∷ [])
 
   -- G has landed or not
-  at-total : (lands : ℕ → ℕ → Bool) (work : List ℕ)
-      → Before l work (landed (usedLen (headOf begun)) lands begun (total ∷ []))
+  at-total : (rounds : List (ℕ → ℕ → Bool)) (work : List ℕ)
+      → Before l work (inRounds (usedLen (headOf begun)) rounds begun (total ∷ []))
   unfolding totalWrite carriedOut
-  at-total lands work =
+  at-total rounds work =
       subst (Before l work)
-      (sym (since-other (usedLen (headOf begun)) lands begun total
+      (sym (rounds-other (usedLen (headOf begun)) rounds begun total
       (omega (arith, before-used (headOf begun)))))
-      (go (lands 0 0))
+      (go (inOne rounds 0))
     where
       go : (b : Bool) → Before l work (cond b counted begun)
       go true = mends-lowered s e work
       go false = mends-kept begun work l (looks-begun s e) (s .accepted)
 
-  before-last : (lands : ℕ → ℕ → Bool) (work : List ℕ) (k : ℕ) → k < 2
-      → Before l work (cutSince k lands l groups)
+  before-last : (rounds : List (ℕ → ℕ → Bool)) (work : List ℕ) (k : ℕ) → k < 2
+      → Before l work (cutSince k rounds l groups)
   unfolding cutSince
-  before-last lands work zero b = mends-kept (among lands) work l (looks-among lands) (s .accepted)
-  before-last lands work (suc zero) b = at-total lands work
-  before-last lands work (suc (suc k)) b = absurd (omega arith)
+  before-last rounds work zero b =
+      mends-kept (among rounds) work l (looks-among rounds) (s .accepted)
+  before-last rounds work (suc zero) b = at-total rounds work
+  before-last rounds work (suc (suc k)) b = absurd (omega arith)
 
   -- the link has landed or not
-  at-link : (lands : ℕ → ℕ → Bool) (work : List ℕ)
+  at-link : (rounds : List (ℕ → ℕ → Bool)) (work : List ℕ)
       → Halves l (storedImage l key (suc v)) work
-      (landed (usedLen (headOf counted)) lands counted (link ∷ []))
+      (inRounds (usedLen (headOf counted)) rounds counted (link ∷ []))
   unfolding totalWrite linkWrite carriedOut
-  at-link lands work =
+  at-link rounds work =
       subst (Halves l (storedImage l key (suc v)) work)
-      (sym (since-other (usedLen (headOf counted)) lands counted link (link-used s e)))
-      (go (lands 0 (linkPlace h q x)))
+      (sym (rounds-other (usedLen (headOf counted)) rounds counted link (link-used s e)))
+      (go (inOne rounds (linkPlace h q x)))
     where
       go : (b : Bool) → Halves l (storedImage l key (suc v)) work
           (cond b (carriedOut counted (link ∷ [])) counted)
       go true = inr (sym (last s e))
       go false = inl (mends-lowered s e work)
 
-  halves-new : (lands : ℕ → ℕ → Bool) (work : List ℕ) (k : ℕ)
-      → Halves l (storedImage l key (suc v)) work (cutSince k lands l groups)
+  halves-new : (rounds : List (ℕ → ℕ → Bool)) (work : List ℕ) (k : ℕ)
+      → Halves l (storedImage l key (suc v)) work (cutSince k rounds l groups)
   unfolding cutSince carriedOut totalWrite linkWrite
-  halves-new lands work zero = inl (before-last lands work 0 (omega arith))
-  halves-new lands work (suc zero) = inl (before-last lands work 1 (omega arith))
-  halves-new lands work (suc (suc zero)) = at-link lands work
-  halves-new lands work (suc (suc (suc k))) = inr (sym (last s e))
+  halves-new rounds work zero = inl (before-last rounds work 0 (omega arith))
+  halves-new rounds work (suc zero) = inl (before-last rounds work 1 (omega arith))
+  halves-new rounds work (suc (suc zero)) = at-link rounds work
+  halves-new rounds work (suc (suc (suc k))) = inr (sym (last s e))
 
   -- ---- a cut that hits one write is one of these
 
@@ -187,22 +187,20 @@ module _ {l key : List ℕ} {v : ℕ} (s : Granted l key (suc v)) {q x : ℕ} {x
   unfolding cutAfter cutSince carriedOut totalWrite linkWrite
   case-later lands zero = (
     1,
-    nothing,
-    hit-none lands begun total (omega (arith, before-used (headOf begun)))
-        ∙ sym (since-none (usedLen (headOf begun)) begun (total ∷ [])),
+    [],
+    hit-none lands begun total (omega (arith, before-used (headOf begun))),
   )
   case-later lands (suc zero) = (
     2,
-    nothing,
-    hit-none lands counted link (link-used s e)
-        ∙ sym (since-none (usedLen (headOf counted)) counted (link ∷ [])),
+    [],
+    hit-none lands counted link (link-used s e),
   )
-  case-later lands (suc (suc j)) = (3, nothing, refl)
+  case-later lands (suc (suc j)) = (3, [], refl)
 
   -- a new node, or a later write
   case-new : (lands : ℕ → Bool) (k : ℕ)
       → Case l groups (cutAfter k lands l (nodes ++ (total ∷ link ∷ [])))
-  unfolding cutSince
+  unfolding cutSince inRounds
   case-new lands k = go (decLt k (length nodes))
     where
       two : List Write
@@ -211,7 +209,7 @@ module _ {l key : List ℕ} {v : ℕ} (s : Granted l key (suc v)) {q x : ℕ} {x
       go : Dec (k < length nodes) → Case l groups (cutAfter k lands l (nodes ++ two))
       go (yes c) = (
         0,
-        upTo k lands,
+        upTo k lands ∷ [],
         cut-since k lands u l nodes two refl (omega (arith, before-used h)) all-spare c,
       )
       go (no c) =
@@ -253,19 +251,19 @@ module _ {l key : List ℕ} {value : ℕ} (s : Granted l key value) {q : ℕ}
   stored-data = sym (ap (λ (d : Descent). carriedOut l (storeWrites (headOf l) d value)) e)
 
   -- it has landed or not
-  halves-data : (lands : ℕ → ℕ → Bool) (work : List ℕ) (k : ℕ)
-      → Halves l (storedImage l key value) work (cutSince k lands l ((field ∷ []) ∷ []))
+  halves-data : (rounds : List (ℕ → ℕ → Bool)) (work : List ℕ) (k : ℕ)
+      → Halves l (storedImage l key value) work (cutSince k rounds l ((field ∷ []) ∷ []))
   unfolding cutSince dataWrite carriedOut
-  halves-data lands work zero =
+  halves-data rounds work zero =
       subst (Halves l (storedImage l key value) work)
-      (sym (since-other (usedLen (headOf l)) lands l field data-below))
-      (go (lands 0 (dataPlace (headOf l) q)))
+      (sym (rounds-other (usedLen (headOf l)) rounds l field data-below))
+      (go (inOne rounds (dataPlace (headOf l) q)))
     where
       go : (b : Bool) → Halves l (storedImage l key value) work
           (cond b (carriedOut l (field ∷ [])) l)
       go true = inr stored-data
       go false = inl (kept l work (s .accepted))
-  halves-data lands work (suc k) = inr stored-data
+  halves-data rounds work (suc k) = inr stored-data
 
   -- a cut that hits one write is one of these
   case-data : (lands : ℕ → Bool) (k : ℕ)
@@ -273,10 +271,10 @@ module _ {l key : List ℕ} {value : ℕ} (s : Granted l key value) {q : ℕ}
   unfolding cutAfter cutSince carriedOut dataWrite
   case-data lands zero = (
     0,
-    nothing,
-    hit-none lands l field data-below ∙ sym (since-none (usedLen (headOf l)) l (field ∷ [])),
+    [],
+    hit-none lands l field data-below,
   )
-  case-data lands (suc k) = (1, nothing, refl)
+  case-data lands (suc k) = (1, [], refl)
 
 -- ---- how many flushes
 
@@ -309,19 +307,19 @@ pub record MendedSince (l key : List ℕ) (value k : ℕ) (cut work : List ℕ) 
   -- after the last flush all landed
   pub late : length (groupsIn l key value) ≤ k → cut ≡ storedImage l key value
 
--- wherever the cut is and whatever lands
+-- wherever the cut is, whatever landed, and however many starts wrote back and were cut in turn
 abbrev pub MendedFlushed : List ℕ → List ℕ → ℕ → Type 0
 MendedFlushed l key value =
-    (k : ℕ) (lands : ℕ → ℕ → Bool) (work : List ℕ)
-    → headOf (cutSince k lands l (groupsIn l key value)) .g + 1 ≤ length work
-    → MendedSince l key value k (cutSince k lands l (groupsIn l key value)) work
+    (k : ℕ) (rounds : List (ℕ → ℕ → Bool)) (work : List ℕ)
+    → headOf (cutSince k rounds l (groupsIn l key value)) .g + 1 ≤ length work
+    → MendedSince l key value k (cutSince k rounds l (groupsIn l key value)) work
 
-module _ (l : List ℕ) (k : ℕ) (lands : ℕ → ℕ → Bool) (work : List ℕ) where
+module _ (l : List ℕ) (k : ℕ) (rounds : List (ℕ → ℕ → Bool)) (work : List ℕ) where
   -- of a store that leaves `after` and has these groups
   abbrev Parts : List ℕ → List (List Write) → Type 0
   Parts after groups =
-      Halves l after work (cutSince k lands l groups)
-      × (k + 1 < length groups → Before l work (cutSince k lands l groups))
+      Halves l after work (cutSince k rounds l groups)
+      × (k + 1 < length groups → Before l work (cutSince k rounds l groups))
 
   parts : {key : List ℕ} {value : ℕ} → Granted l key value
       → Parts (storedImage l key value) (groupsIn l key value)
@@ -331,33 +329,33 @@ module _ (l : List ℕ) (k : ℕ) (lands : ℕ → ℕ → Bool) (work : List �
       go : (d : Descent) (v : ℕ) → descend (tableIn l) 0 key ≡ d → Granted l key v
           → Parts (storedImage l key v) (groupsIn l key v)
       go (complete q) v e t =
-          rw (groups-data t e) (halves-data t e lands work k, λ b. absurd (omega arith))
+          rw (groups-data t e) (halves-data t e rounds work k, λ b. absurd (omega arith))
       go (stopped q x xs) zero e t =
           rw (groups-none l key e)
           (inl (kept l work (t .accepted)), λ b. absurd (omega arith))
       go (stopped q x xs) (suc v) e t =
           rw (groups-new t e)
-          (halves-new t e lands work k, λ b. before-last t e lands work k (omega arith))
+          (halves-new t e rounds work k, λ b. before-last t e rounds work k (omega arith))
 
 -- after the last flush, granted or not
-pub flushed-whole : (l key : List ℕ) (value k : ℕ) (lands : ℕ → ℕ → Bool)
+pub flushed-whole : (l key : List ℕ) (value k : ℕ) (rounds : List (ℕ → ℕ → Bool))
     → length (groupsIn l key value) ≤ k
-    → cutSince k lands l (groupsIn l key value) ≡ storedImage l key value
+    → cutSince k rounds l (groupsIn l key value) ≡ storedImage l key value
 unfolding storedImage
-flushed-whole l key value k lands b =
-    since-whole k lands l (usedLen (headOf l)) (writesIn l key value) b
+flushed-whole l key value k rounds b =
+    since-whole k rounds l (usedLen (headOf l)) (writesIn l key value) b
 
 pub flushed-cut : {l key : List ℕ} {value : ℕ} → Granted l key value → MendedFlushed l key value
-flushed-cut {l} {key} {value} s k lands work lent =
-    let p = parts l k lands work s in
+flushed-cut {l} {key} {value} s k rounds work lent =
+    let p = parts l k rounds work s in
     record {
       either = go (p .0);
       early = λ b. p .1 b lent;
-      late = flushed-whole l key value k lands;
+      late = flushed-whole l key value k rounds;
     }
   where
     cut : List ℕ
-    cut = cutSince k lands l (groupsIn l key value)
+    cut = cutSince k rounds l (groupsIn l key value)
 
     after : List ℕ
     after = storedImage l key value
@@ -378,7 +376,7 @@ flushed-store l work given value z = flushed-cut (store-granted l work given val
 -- every cut that hits one write, with a flush after each write, is a cut with three flushes
 pub cut-is-flushed : {l key : List ℕ} {value : ℕ} → Granted l key value → (k : ℕ)
     (lands : ℕ → Bool)
-    → (j : ℕ) × (some : ℕ → ℕ → Bool)
+    → (j : ℕ) × (some : List (ℕ → ℕ → Bool))
     × (cutAfter k lands l (writesIn l key value) ≡ cutSince j some l (groupsIn l key value))
 unfolding storeWrites cutAfter cutSince
 cut-is-flushed {l} {key} {value} s k lands = go (descend (tableIn l) 0 key) value refl s
@@ -386,5 +384,5 @@ cut-is-flushed {l} {key} {value} s k lands = go (descend (tableIn l) 0 key) valu
     go : (d : Descent) (v : ℕ) → descend (tableIn l) 0 key ≡ d → Granted l key v
         → Case l (groupsIn l key v) (cutAfter k lands l (storeWrites (headOf l) d v))
     go (complete q) v e t = rw (groups-data t e) (case-data t e lands k)
-    go (stopped q x xs) zero e t = rw (groups-none l key e) (0, nothing, refl)
+    go (stopped q x xs) zero e t = rw (groups-none l key e) (0, [], refl)
     go (stopped q x xs) (suc v) e t = rw (groups-new t e) (case-new t e lands k)

@@ -107,15 +107,15 @@ module _ (l work : List ℕ) (given : Given) (value : ℕ) where
 -- with enough working numbers for the image that the cut left
 abbrev pub RecountsFlushed : List ℕ → List ℕ → ℕ → Type 0
 RecountsFlushed l key value =
-    (k : ℕ) (lands : ℕ → ℕ → Bool) (work : List ℕ)
-    → headOf (cutSince k lands l (groupsIn l key value)) .g + 1 ≤ length work
-    → Recounts (mendedImage (cutSince k lands l (groupsIn l key value)) work)
+    (k : ℕ) (rounds : List (ℕ → ℕ → Bool)) (work : List ℕ)
+    → headOf (cutSince k rounds l (groupsIn l key value)) .g + 1 ≤ length work
+    → Recounts (mendedImage (cutSince k rounds l (groupsIn l key value)) work)
 
 flushed-again : (l key : List ℕ) (value : ℕ) → MendedFlushed l key value
     → RecountsFlushed l key value
-flushed-again l key value mended k lands work lent =
-    mend-recounts (cutSince k lands l (groupsIn l key value)) work
-    (⊎-elim (λ t. mends-zero t) (λ t. mends-zero (t .1)) (mended k lands work lent .either))
+flushed-again l key value mended k rounds work lent =
+    mend-recounts (cutSince k rounds l (groupsIn l key value)) work
+    (⊎-elim (λ t. mends-zero t) (λ t. mends-zero (t .1)) (mended k rounds work lent .either))
 
 module _ (l work : List ℕ) (given : Given) (value : ℕ) where
   pub flushed-recounts : storeOf l work given value .numbers .number ≡ 0

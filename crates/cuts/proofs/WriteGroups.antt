@@ -10,7 +10,7 @@ use mathlib.Core.List.{List, [], _∷_, _++_, append-nil, append-assoc, flatten}
 use native.Mathlib.Omega.{arith}
 use lib.Dec.{leb}
 use lib.ListN.{length, getD, set}
-use lib.Seq.{sets, length-sets}
+use lib.Seq.{sets, length-sets, set-set, set-comm}
 use borrow.Author.Tests.{le-leb, lt-leb}
 use Rattle.field.proofs.Sets.{getD-outside}
 use Rattle.head.specs.Fields.{fieldsLen, headOf, usedLen}
@@ -18,7 +18,7 @@ use Rattle.head.proofs.Fields.{head-outside}
 use Rattle.node.specs.Writes.{Write, carriedOut}
 use Rattle.node.proofs.StoreOnTable.{carried-append}
 use Rattle.cuts.specs.Cut.{torn, hit, cutAfter}
-use Rattle.cuts.specs.Flushed.{closed, flushed, landing, landed, cutSince}
+use Rattle.cuts.specs.Flushed.{closed, flushed, landing, landed, inRounds, cutSince}
 use Rattle.cuts.proofs.WriteLists.{From, length-torn, torn-before}
 
 -- ---- the groups put together
@@ -67,20 +67,20 @@ flushed-other u since w ws h = rw (lt-leb u (w .place) h)
 
 -- ---- a cut after the last flush
 
-since-flat : (k : ℕ) (lands : ℕ → ℕ → Bool) (l : List ℕ) (groups : List (List Write))
-    → length groups ≤ k → cutSince k lands l groups ≡ carriedOut l (flatten groups)
+since-flat : (k : ℕ) (rounds : List (ℕ → ℕ → Bool)) (l : List ℕ) (groups : List (List Write))
+    → length groups ≤ k → cutSince k rounds l groups ≡ carriedOut l (flatten groups)
 unfolding cutSince carriedOut flatten
-since-flat k lands l [] h = refl
-since-flat zero lands l (ws ∷ groups) h = absurd (omega arith)
-since-flat (suc k) lands l (ws ∷ groups) h =
-    since-flat k lands (carriedOut l ws) groups (omega arith)
+since-flat k rounds l [] h = refl
+since-flat zero rounds l (ws ∷ groups) h = absurd (omega arith)
+since-flat (suc k) rounds l (ws ∷ groups) h =
+    since-flat k rounds (carriedOut l ws) groups (omega arith)
     ∙ sym (carried-append l ws (flatten groups))
 
 -- all writes have landed
-pub since-whole : (k : ℕ) (lands : ℕ → ℕ → Bool) (l : List ℕ) (u : ℕ) (ws : List Write)
-    → length (flushed u [] ws) ≤ k → cutSince k lands l (flushed u [] ws) ≡ carriedOut l ws
-since-whole k lands l u ws h =
-    since-flat k lands l (flushed u [] ws) h ∙ ap (carriedOut l) (joined u ws)
+pub since-whole : (k : ℕ) (rounds : List (ℕ → ℕ → Bool)) (l : List ℕ) (u : ℕ) (ws : List Write)
+    → length (flushed u [] ws) ≤ k → cutSince k rounds l (flushed u [] ws) ≡ carriedOut l ws
+since-whole k rounds l u ws h =
+    since-flat k rounds l (flushed u [] ws) h ∙ ap (carriedOut l) (joined u ws)
 
 -- ---- the length is kept, and bytes before all writes stay
 
@@ -99,13 +99,20 @@ length-landing u lands l w =
     (length-torn lands l (w .place) (w .bytes))
     (length-cond (lands (w .place)) all l (length-sets l (w .place) (w .bytes)) refl)
 
-pub length-since : (u : ℕ) (lands : ℕ → ℕ → Bool) (l : List ℕ) (ws : List Write)
+length-since : (u : ℕ) (lands : ℕ → ℕ → Bool) (l : List ℕ) (ws : List Write)
     → length (landed u lands l ws) ≡ length l
 unfolding landed
 length-since u lands l [] = refl
 length-since u lands l (w ∷ ws) =
     length-since u (λ i. lands (suc i)) (landing u (lands 0) l w) ws
     ∙ length-landing u (lands 0) l w
+
+pub length-rounds : (u : ℕ) (rounds : List (ℕ → ℕ → Bool)) (l : List ℕ) (ws : List Write)
+    → length (inRounds u rounds l ws) ≡ length l
+unfolding inRounds
+length-rounds u [] l ws = refl
+length-rounds u (lands ∷ rounds) l ws =
+    length-rounds u rounds (landed u lands l ws) ws ∙ length-since u lands l ws
 
 module _ (p : ℕ) where
   getD-cond : {n : ℕ} (b : Bool) (x y : List ℕ) → getD x p 0 ≡ n → getD y p 0 ≡ n
@@ -123,7 +130,7 @@ module _ (p : ℕ) where
       (torn-before p lands l (w .place) (w .bytes) h)
       (getD-cond (lands (w .place)) all l (getD-outside l (w .bytes) (w .place) p 0 (inl h)) refl)
 
-  pub since-before : (u : ℕ) (lands : ℕ → ℕ → Bool) (l : List ℕ) (ws : List Write)
+  since-before : (u : ℕ) (lands : ℕ → ℕ → Bool) (l : List ℕ) (ws : List Write)
       → From (suc p) ws → getD (landed u lands l ws) p 0 ≡ getD l p 0
   unfolding landed
   since-before u lands l [] f = refl
@@ -131,13 +138,67 @@ module _ (p : ℕ) where
       since-before u (λ i. lands (suc i)) (landing u (lands 0) l w) ws (f .1)
       ∙ landing-before u (lands 0) l w (f .0)
 
+  pub rounds-before : (u : ℕ) (rounds : List (ℕ → ℕ → Bool)) (l : List ℕ) (ws : List Write)
+      → From (suc p) ws → getD (inRounds u rounds l ws) p 0 ≡ getD l p 0
+  unfolding inRounds
+  rounds-before u [] l ws f = refl
+  rounds-before u (lands ∷ rounds) l ws f =
+      rounds-before u rounds (landed u lands l ws) ws f ∙ since-before u lands l ws f
+
 -- ---- a group of one write that does not go to spare bytes
 
-pub since-other : (u : ℕ) (lands : ℕ → ℕ → Bool) (l : List ℕ) (w : Write) → w .place < u
+since-other : (u : ℕ) (lands : ℕ → ℕ → Bool) (l : List ℕ) (w : Write) → w .place < u
     → landed u lands l (w ∷ [])
     ≡ cond (lands 0 (w .place)) (sets l (w .place) (w .bytes)) l
 unfolding landed landing
 since-other u lands l w h = rw (lt-leb u (w .place) h)
+
+-- bytes written before a place are not changed by writing at that place, in either order
+set-first : (l : List ℕ) (i a at : ℕ) (bs : List ℕ) → i < at
+    → set (sets l at bs) i a ≡ sets (set l i a) at bs
+set-first l i a at [] h = refl
+set-first l i a at (b ∷ bs) h =
+    set-first (set l at b) i a (suc at) bs (omega arith)
+    ∙ ap (λ (m : List ℕ). sets m (suc at) bs) (set-comm l at i b a (omega arith))
+
+-- a write that lands a second time changes nothing
+sets-twice : (l : List ℕ) (at : ℕ) (bs : List ℕ) → sets (sets l at bs) at bs ≡ sets l at bs
+sets-twice l at [] = refl
+sets-twice l at (b ∷ bs) =
+    ap (λ (m : List ℕ). sets m (suc at) bs)
+    (set-first (set l at b) at b (suc at) bs (omega arith)
+    ∙ ap (λ (m : List ℕ). sets m (suc at) bs) (set-set l at b b))
+    ∙ sets-twice (set l at b) (suc at) bs
+
+-- whether the first write of a group landed in one of the rounds
+abbrev pub inOne : List (ℕ → ℕ → Bool) → ℕ → Bool
+inOne [] p = false
+inOne (lands ∷ rounds) p = cond (lands 0 p) true (inOne rounds p)
+
+pub rounds-other : (u : ℕ) (rounds : List (ℕ → ℕ → Bool)) (l : List ℕ) (w : Write)
+    → w .place < u → inRounds u rounds l (w ∷ [])
+    ≡ cond (inOne rounds (w .place)) (sets l (w .place) (w .bytes)) l
+unfolding inRounds
+rounds-other u [] l w h = refl
+rounds-other u (lands ∷ rounds) l w h =
+    ap (λ (m : List ℕ). inRounds u rounds m (w ∷ [])) (since-other u lands l w h)
+    ∙ go (lands 0 (w .place)) (rounds-other u rounds all w h) (rounds-other u rounds l w h)
+  where
+    all : List ℕ
+    all = sets l (w .place) (w .bytes)
+
+    go : (b : Bool)
+        → inRounds u rounds all (w ∷ [])
+        ≡ cond (inOne rounds (w .place)) (sets all (w .place) (w .bytes)) all
+        → inRounds u rounds l (w ∷ []) ≡ cond (inOne rounds (w .place)) all l
+        → inRounds u rounds (cond b all l) (w ∷ [])
+        ≡ cond (cond b true (inOne rounds (w .place))) all l
+    go true again first = again ∙ same (inOne rounds (w .place))
+      where
+        same : (b : Bool) → cond b (sets all (w .place) (w .bytes)) all ≡ all
+        same true = sets-twice l (w .place) (w .bytes)
+        same false = refl
+    go false again first = first
 
 -- ---- all of the bytes landed, or none
 
@@ -159,7 +220,7 @@ landing-none u l w = go (leb u (w .place))
     go true = torn-none l (w .place) (w .bytes)
     go false = refl
 
-pub since-none : (u : ℕ) (l : List ℕ) (ws : List Write) → landed u (λ i p. false) l ws ≡ l
+since-none : (u : ℕ) (l : List ℕ) (ws : List Write) → landed u (λ i p. false) l ws ≡ l
 unfolding landed
 since-none u l [] = refl
 since-none u l (w ∷ ws) =

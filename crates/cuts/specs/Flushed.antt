@@ -2,7 +2,8 @@
 -- flush. `Cut` flushes after every write. The new nodes lie in spare bytes until G has landed, so
 -- they need no order among themselves: here they share one flush. A flush comes before G, before
 -- the link and after it; a data field has one flush, after it. The list of writes and its order
--- stay as they are.
+-- stay as they are. At a start the firmware writes back all that it read from the device, before
+-- it mends: this may be cut in turn, any number of times.
 use Prim.Native.Nat.{ℕ, zero, suc}
 use mathlib.Core.Bool.{Bool, cond}
 use mathlib.Core.List.{List, [], _∷_, _++_}
@@ -51,10 +52,18 @@ unfolding landing
 landed u lands l [] = l
 landed u lands l (w ∷ ws) = landed u (λ i. lands (suc i)) (landing u (lands 0) l w) ws
 
+-- The same writes in rounds: in the store, and at each start after it that wrote back what it had
+-- read and was cut in turn. What was read of these writes may have been in a cache alone; every
+-- other byte is written back as it is. For each round, what landed in it.
+unfoldable pub inRounds : ℕ → List (ℕ → ℕ → Bool) → List ℕ → List Write → List ℕ
+unfolding landed
+inRounds u [] l ws = l
+inRounds u (lands ∷ rounds) l ws = inRounds u rounds (landed u lands l ws) ws
+
 -- A cut after the first k flushes. What was flushed has landed whole, of the next group anything
 -- may have landed, and no write of a later group was issued.
-unfoldable pub cutSince : ℕ → (ℕ → ℕ → Bool) → List ℕ → List (List Write) → List ℕ
-unfolding landed carriedOut usedLen headOf
-cutSince k lands l [] = l
-cutSince zero lands l (ws ∷ groups) = landed (usedLen (headOf l)) lands l ws
-cutSince (suc k) lands l (ws ∷ groups) = cutSince k lands (carriedOut l ws) groups
+unfoldable pub cutSince : ℕ → List (ℕ → ℕ → Bool) → List ℕ → List (List Write) → List ℕ
+unfolding inRounds carriedOut usedLen headOf
+cutSince k rounds l [] = l
+cutSince zero rounds l (ws ∷ groups) = inRounds (usedLen (headOf l)) rounds l ws
+cutSince (suc k) rounds l (ws ∷ groups) = cutSince k rounds (carriedOut l ws) groups
