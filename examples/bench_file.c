@@ -225,7 +225,8 @@ static void refused(const char *asked, trieff_answer heard)
 }
 
 /* The library stores in memory. Then the list of writes is carried out in the file: the new nodes,
-   flush, G, flush, the link, flush; or the data field, flush. */
+   flush, G, flush, the link, flush; or the data field, flush. So each of the last three writes has
+   its flush. */
 static void store(const char *label, uint32_t record)
 {
     trieff_answer heard =
@@ -236,13 +237,10 @@ static void store(const char *label, uint32_t record)
     }
     storing = label;
     for (uint32_t i = 0; i < heard.length; i++) {
-        bool after_nodes = heard.length > 1 && i + 2 >= heard.length;
-        if (after_nodes)
-            flush(file, fdatasync);
         put(image + writes[2 * i], writes[2 * i + 1], writes[2 * i]);
+        if (i + 3 >= heard.length)
+            flush(file, fdatasync);
     }
-    if (heard.length > 0)
-        flush(file, fdatasync);
     storing = NULL;
     printf("%s = %u: change %d, writes %u\n", label, (unsigned)record, (int)heard.change,
            (unsigned)heard.length);

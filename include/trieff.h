@@ -177,16 +177,13 @@ extern "C" {
     ((size_t)TRIEFF_IMAGE_LEAST + (size_t)(f) +  \
      (size_t)(nodes) * ((size_t)(n) * (size_t)(a) + (size_t)(d)))
 
-/* Whether no link and no data field of an image with these numbers lies across the end of a
-   sector, if the image begins at the start of a sector, and sectors have 512 bytes or another
-   power of two from 4 on. It is so if A is 1, 2 or 4 and divides 28 + F and W, and D is 1, 2 or 4
-   and divides 28 + F + N*A and W: `_Static_assert(TRIEFF_FIELDS_WHOLE(n, a, d, f), "..")`. G never
-   does. */
-#define TRIEFF_FIELDS_WHOLE(n, a, d, f)                               \
-    ((a) != 3 && (TRIEFF_IMAGE_LEAST + (f)) % (a) == 0 &&             \
-     ((n) * (a) + (d)) % (a) == 0 &&                                  \
-     (d) != 3 && (TRIEFF_IMAGE_LEAST + (f) + (n) * (a)) % (d) == 0 && \
-     ((n) * (a) + (d)) % (d) == 0)
+/* Whether A and D are 1, 2 or 4, and both divide 28 + F and W. Then each link and each data field
+   stands at a multiple of its length, and none lies across the end of a sector, if the image
+   begins at the start of a sector, and sectors have 512 bytes or another power of two from 4 on:
+   `_Static_assert(TRIEFF_FIELDS_WHOLE(n, a, d, f), "..")`. G never does. */
+#define TRIEFF_FIELDS_WHOLE(n, a, d, f)                                             \
+    ((a) != 3 && (TRIEFF_IMAGE_LEAST + (f)) % (a) == 0 && ((n) * (a) + (d)) % (a) == 0 && \
+     (d) != 3 && (TRIEFF_IMAGE_LEAST + (f)) % (d) == 0 && ((n) * (a) + (d)) % (d) == 0)
 
 /* The number of an answer. The place is 0 where the comment names none. */
 enum trieff_number {
