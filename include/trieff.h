@@ -181,9 +181,12 @@ extern "C" {
    stands at a multiple of its length, and none lies across the end of a sector, if the image
    begins at the start of a sector, and sectors have 512 bytes or another power of two from 4 on:
    `_Static_assert(TRIEFF_FIELDS_WHOLE(n, a, d, f), "..")`. G never does. */
-#define TRIEFF_FIELDS_WHOLE(n, a, d, f)                                             \
-    ((a) != 3 && (TRIEFF_IMAGE_LEAST + (f)) % (a) == 0 && ((n) * (a) + (d)) % (a) == 0 && \
-     (d) != 3 && (TRIEFF_IMAGE_LEAST + (f)) % (d) == 0 && ((n) * (a) + (d)) % (d) == 0)
+#define TRIEFF_FIELDS_WHOLE(n, a, d, f)            \
+    (TRIEFF_FIELD_WHOLE_(a, (n) * (a) + (d), f) && \
+     TRIEFF_FIELD_WHOLE_(d, (n) * (a) + (d), f))
+#define TRIEFF_FIELD_WHOLE_(length, w, f)                       \
+    (((length) & ((length) - 1)) == 0 &&                        \
+     (TRIEFF_IMAGE_LEAST + (f)) % (length) == 0 && (w) % (length) == 0)
 
 /* The number of an answer. The place is 0 where the comment names none. */
 enum trieff_number {
