@@ -10,7 +10,7 @@ use crate::model::{self, Answer, Head};
 use crate::progress::Progress;
 use crate::report;
 use crate::rng::Rng;
-use crate::saboteurs::{Saboteur, CUT_SABOTEURS};
+use crate::saboteurs::{Sabotage, CUT_SABOTEURS};
 use crate::shapes::Shape;
 use crate::small::{self, Key};
 use crate::twins::{Asked, Twins};
@@ -214,18 +214,18 @@ struct Worker {
     reader: Reader,
     /// Spoils the store with writes, the store with counts and mend. It must be found without the
     /// model.
-    saboteur: Option<&'static Saboteur>,
+    sabotage: Option<Sabotage>,
     done: Tried,
 }
 
 impl Worker {
-    fn new(seed: u64, saboteur: Option<&'static Saboteur>) -> Worker {
+    fn new(seed: u64, sabotage: Option<Sabotage>) -> Worker {
         let reader = Reader { work: Vec::new(), key: [0; 64], counts: Vec::new(), turn: 0 };
         Worker {
             twins: Twins::default(),
             rng: Rng::new(seed),
             reader,
-            saboteur,
+            sabotage,
             done: Tried::default(),
         }
     }
@@ -244,9 +244,9 @@ impl Worker {
     ) -> Result<Answer, String> {
         let work_len = Head::read(image).g as usize + 1 + self.rng.below(2) as usize;
         let asked = Asked { call, image, given, key_len: 0, work_len, counts };
-        let outcome = self.twins.ask(&asked, &mut self.rng, self.saboteur);
+        let outcome = self.twins.ask(&asked, &mut self.rng, self.sabotage);
         match outcome.difference {
-            Some(_) if self.saboteur.is_none() => {
+            Some(_) if self.sabotage.is_none() => {
                 Err(report::asked(&asked) + &report::outcome(&outcome))
             }
             _ => Ok(outcome.library),
@@ -675,7 +675,7 @@ pub fn replay(seed: u64) -> bool {
 pub fn self_test(start: u64, histories: u64) -> usize {
     let mut missed = 0;
     for saboteur in &CUT_SABOTEURS {
-        let mut worker = Worker::new(0, Some(saboteur));
+        let mut worker = Worker::new(0, Some(Sabotage::Library(saboteur)));
         match (0..histories)
             .find(|index| history(&mut worker, start.wrapping_add(*index)).is_err())
         {

@@ -15,6 +15,7 @@ mod random;
 mod report;
 mod rng;
 mod saboteurs;
+mod safe;
 mod shapes;
 mod situations;
 mod small;

@@ -6,9 +6,9 @@ use crate::cases::Case;
 use crate::progress::Progress;
 use crate::report::{self, say};
 use crate::rng::Rng;
-use crate::saboteurs::{self, Saboteur};
+use crate::saboteurs::{self, Sabotage};
 use crate::situations::{Seen, SITUATIONS};
-use crate::twins::Twins;
+use crate::twins::{Twins, IN_WRAPPER};
 use std::sync::atomic::{AtomicU64, Ordering};
 use std::sync::Mutex;
 
@@ -114,7 +114,7 @@ fn run_case(
     seed: u64,
     twins: &mut Twins,
     tally: &mut Tally,
-    saboteur: Option<&Saboteur>,
+    sabotage: Option<Sabotage>,
 ) -> Result<(), String> {
     let mut case = Case::new(seed);
     let mut guards = Rng::new(!seed);
@@ -122,7 +122,7 @@ fn run_case(
     while let Some(step) = case.next() {
         number += 1;
         let asked = case.asked(&step);
-        let outcome = twins.ask(&asked, &mut guards, saboteur);
+        let outcome = twins.ask(&asked, &mut guards, sabotage);
         if outcome.difference.is_some() {
             let told = report::asked(&asked) + &report::outcome(&outcome);
             return Err(format!(
@@ -146,7 +146,7 @@ pub fn run(start: u64, cases: u64) -> (Tally, Vec<String>) {
         for thread in 0..2 {
             let (next, all) = (&next, &all);
             scope.spawn(move || {
-                let mut twins = Twins::default();
+                let mut twins = Twins::with_wrapper();
                 let mut tally = Tally::new();
                 let mut progress = Progress::of(thread);
                 loop {
@@ -168,32 +168,38 @@ pub fn run(start: u64, cases: u64) -> (Tally, Vec<String>) {
     all.into_inner().unwrap()
 }
 
-/// Every saboteur must be reported within the same cases. Returns the number of those that were
-/// not.
+/// Every saboteur must be reported within the same cases, and the report must say whether the safe
+/// wrapper differs. Returns the number of those for which this does not hold.
 pub fn self_test(start: u64, cases: u64) -> usize {
     let mut missed = 0;
-    for saboteur in saboteurs::all() {
-        let mut twins = Twins::default();
+    for sabotage in saboteurs::all() {
+        let mut twins = Twins::with_wrapper();
         let mut tally = Tally::new();
-        let caught = (0..cases).find(|index| {
-            run_case(start.wrapping_add(*index), &mut twins, &mut tally, Some(saboteur)).is_err()
+        let caught = (0..cases).find_map(|index| {
+            run_case(start.wrapping_add(index), &mut twins, &mut tally, Some(sabotage))
+                .err()
+                .map(|failure| (index, failure.contains(IN_WRAPPER)))
         });
+        let in_wrapper = matches!(sabotage, Sabotage::Wrapper(_));
         match caught {
-            Some(index) => println!("    caught in case {:>6}: {}", index + 1, saboteur.name),
-            None => {
+            Some((index, said)) if said == in_wrapper => {
+                println!("    caught in case {:>6}: {}", index + 1, sabotage.name())
+            }
+            _ => {
                 missed += 1;
-                println!("    NOT CAUGHT: {}", saboteur.name);
+                println!("    NOT CAUGHT: {}", sabotage.name());
             }
         }
     }
     missed
 }
 
-/// Repeats one case and prints all of it. Returns whether model and library agreed.
+/// Repeats one case and prints all of it. Returns whether the model, the library and the safe
+/// wrapper agreed.
 pub fn replay(seed: u64) -> bool {
     let mut case = Case::new(seed);
     let mut guards = Rng::new(!seed);
-    let mut twins = Twins::default();
+    let mut twins = Twins::with_wrapper();
     let mut printed: Vec<u8> = Vec::new();
     let mut number = 0;
     while let Some(step) = case.next() {
@@ -207,18 +213,20 @@ pub fn replay(seed: u64) -> bool {
         let outcome = twins.ask(&asked, &mut guards, None);
         say(&report::outcome(&outcome));
         if outcome.difference.is_some() {
-            say(&format!(
-                "the image as the model leaves it:\n{}",
-                report::hex_lines(twins.model.image())
-            ));
-            say(&format!(
-                "the image as the library leaves it:\n{}",
-                report::hex_lines(twins.library.image())
-            ));
+            say_images(&twins);
             return false;
         }
         case.learn(step.call, &outcome.model, &twins.model);
     }
-    say(&format!("seed {seed}: {number} calls, model and library agree\n"));
+    say(&format!("seed {seed}: {number} calls; model, library and safe wrapper agree\n"));
     true
+}
+
+fn say_images(twins: &Twins) {
+    let wrapper = twins.wrapper.as_ref().map(|wrapper| ("safe wrapper", &wrapper.arena));
+    let all = [("model", &twins.model), ("library", &twins.library)];
+    for (name, arena) in all.into_iter().chain(wrapper) {
+        let lines = report::hex_lines(arena.image());
+        say(&format!("the image as the {name} leaves it:\n{lines}"));
+    }
 }

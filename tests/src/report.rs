@@ -83,13 +83,16 @@ fn answer(answer: &Answer) -> String {
 }
 
 pub fn outcome(outcome: &Outcome) -> String {
-    let both = format!(
+    let mut told = format!(
         "    model:   {}\n    library: {}\n",
         answer(&outcome.model),
         answer(&outcome.library)
     );
-    match &outcome.difference {
-        Some(difference) => both + &format!("    DIFFERENT: {difference}\n"),
-        None => both,
+    if let Some(wrapper) = &outcome.wrapper {
+        told += &format!("    wrapper: {}\n", answer(wrapper));
     }
+    if let Some(difference) = &outcome.difference {
+        told += &format!("    DIFFERENT: {difference}\n");
+    }
+    told
 }

@@ -1,9 +1,12 @@
-//! Saboteurs: each spoils the library's outcome in one small way. The judge must report every one
-//! of them. Otherwise it would not find such a fault in the library either.
+//! Saboteurs: each spoils the outcome of the library, or of the crate's safe functions, in one
+//! small way. The judge must report every one of them. Otherwise it would not find such a fault
+//! there either.
 
 use crate::calls::Call;
 use crate::model::{self, Answer, Head};
+use crate::safe::SOME_ZERO;
 use crate::twins::Arena;
+use std::ops::Range;
 
 /// What a saboteur sees, and may spoil.
 pub struct Spoiled<'a> {
@@ -11,11 +14,30 @@ pub struct Spoiled<'a> {
     pub before: &'a Arena,
     pub after: &'a mut Arena,
     pub answer: &'a mut Answer,
+    /// The list that the wrapper's `Writes` holds. For the library it is empty.
+    pub writes: &'a mut Vec<Range<usize>>,
 }
 
 pub struct Saboteur {
     pub name: &'static str,
     pub spoil: fn(&mut Spoiled),
+}
+
+/// A saboteur, and whose outcome it spoils.
+#[derive(Clone, Copy)]
+pub enum Sabotage {
+    /// The library's, as `trieff::raw` gives it.
+    Library(&'static Saboteur),
+    /// That of the crate's safe functions.
+    Wrapper(&'static Saboteur),
+}
+
+impl Sabotage {
+    pub fn name(&self) -> &'static str {
+        match self {
+            Sabotage::Library(saboteur) | Sabotage::Wrapper(saboteur) => saboteur.name,
+        }
+    }
 }
 
 impl Spoiled<'_> {
@@ -194,8 +216,9 @@ impl Spoiled<'_> {
 }
 
 /// All saboteurs.
-pub fn all() -> impl Iterator<Item = &'static Saboteur> {
-    SABOTEURS.iter().chain(&COUNT_SABOTEURS).chain(&CUT_SABOTEURS)
+pub fn all() -> impl Iterator<Item = Sabotage> {
+    let of_library = SABOTEURS.iter().chain(&COUNT_SABOTEURS).chain(&CUT_SABOTEURS);
+    of_library.map(Sabotage::Library).chain(WRAPPER_SABOTEURS.iter().map(Sabotage::Wrapper))
 }
 
 const SABOTEURS: [Saboteur; 39] = [
@@ -1061,3 +1084,103 @@ pub const CUT_SABOTEURS: [Saboteur; 16] = [
         },
     },
 ];
+
+/// The saboteurs of the crate's safe functions: what a wrapper can get wrong.
+const WRAPPER_SABOTEURS: [Saboteur; 11] = [
+    Saboteur { name: "the wrapper loses the place of a refusal", spoil: |s| s.answer.place = 0 },
+    Saboteur {
+        name: "the wrapper takes 7 for 6",
+        spoil: |s| {
+            if s.number() == 7 {
+                s.answer.number = 6;
+            }
+        },
+    },
+    Saboteur {
+        name: "the wrapper answers the change 0 for every store with counts",
+        spoil: |s| {
+            if s.call.stores_counts() {
+                s.answer.change = 0;
+            }
+        },
+    },
+    Saboteur {
+        name: "the wrapper gives Some(0) for an absent key",
+        spoil: |s| {
+            if s.call == Call::LookUp && s.done() && s.answer.value == 0 {
+                s.answer.value = SOME_ZERO;
+            }
+        },
+    },
+    Saboteur {
+        name: "the wrapper does not note the number of writes",
+        spoil: |s| {
+            if s.listed() {
+                s.writes.resize(EARLIER, 0..4);
+                s.answer.length = EARLIER as u32;
+            }
+        },
+    },
+    Saboteur {
+        name: "the wrapper notes the number of writes of a refused store",
+        spoil: |s| {
+            if !s.done() {
+                s.writes.clear();
+            }
+        },
+    },
+    Saboteur {
+        name: "the wrapper takes text for letters",
+        spoil: |s| {
+            if s.call == Call::LookUpText {
+                *s.answer = model::look_up(s.before.image(), s.before.given());
+            }
+        },
+    },
+    Saboteur {
+        name: "the wrapper's key is one letter short",
+        spoil: |s| {
+            if matches!(s.call, Call::NextKey { .. } | Call::KeyAt { .. }) {
+                s.answer.length = s.answer.length.saturating_sub(1);
+            }
+        },
+    },
+    Saboteur {
+        name: "the wrapper exchanges the working numbers and the counts",
+        spoil: |s| {
+            if s.call == Call::Counts && s.done() {
+                let fresh = model::fresh_counts(s.before.image(), &s.head().unwrap());
+                let start = s.after.work.start;
+                s.after.words[start..start + fresh.len()].copy_from_slice(&fresh);
+                s.counts()[..fresh.len()].fill(0);
+            }
+        },
+    },
+    Saboteur {
+        name: "the wrapper does not pass `after` on",
+        spoil: |s| {
+            if s.call == (Call::NextKey { after: true }) && !(1..=14).contains(&s.number()) {
+                let key = s.after.key.clone();
+                s.after.bytes[key.clone()].copy_from_slice(s.before.key());
+                *s.answer = model::next_key(
+                    s.before.image(),
+                    &mut vec![0; s.nodes()],
+                    s.before.given(),
+                    false,
+                    &mut s.after.bytes[key],
+                );
+            }
+        },
+    },
+    Saboteur {
+        name: "the wrapper does not pass the image's last byte on",
+        spoil: |s| {
+            if s.call == Call::Count && s.done() && s.used() == Some(s.after.image.len()) {
+                s.refuse(4);
+            }
+        },
+    },
+];
+
+/// The number of writes in the list that a store with writes is passed.
+const EARLIER: usize = 4;

@@ -1,11 +1,13 @@
 //! Lays out the memory lent to a call between guards, twice with the same content: once for the
 //! library, once for the model. After the call the two must be equal in every byte: also in the
-//! guards, in what was lent to be read only, and in all that a call must not touch.
+//! guards, in what was lent to be read only, and in all that a call must not touch. In the random
+//! part the crate's safe function is called too, over a third copy, and compared in the same way.
 
 use crate::calls::{ask_library, ask_model, Call, Lent, Pointers};
 use crate::model::Answer;
 use crate::rng::Rng;
-use crate::saboteurs::{Saboteur, Spoiled};
+use crate::saboteurs::{Sabotage, Saboteur, Spoiled};
+use crate::safe::Wrapper;
 use std::ops::Range;
 
 /// A call with what is lent to it. The key buffer and the working numbers have only a length here,
@@ -91,7 +93,7 @@ impl Arena {
     }
 
     /// As `clone`, but without new memory.
-    fn copy_from(&mut self, other: &Arena) {
+    pub fn copy_from(&mut self, other: &Arena) {
         self.bytes.clone_from(&other.bytes);
         self.words.clone_from(&other.words);
         self.image = other.image.clone();
@@ -102,7 +104,7 @@ impl Arena {
         self.counts = other.counts.clone();
     }
 
-    fn lent(&mut self) -> Lent<'_> {
+    pub fn lent(&mut self) -> Lent<'_> {
         let (front, key) = self.bytes.split_at_mut(self.key.start);
         let (front, given) = front.split_at_mut(self.given.start);
         let (words, counts) = self.words.split_at_mut(self.counts.start);
@@ -190,73 +192,114 @@ fn name(what: &str, at: usize, pieces: &[(&str, &Range<usize>)]) -> String {
     format!("guard {what} {far} {side} the {name}")
 }
 
-/// What both answered, and where they differ, as text.
+/// What they answered, and where the library or the safe wrapper differs from the model, as text.
 pub struct Outcome {
     pub model: Answer,
     pub library: Answer,
+    pub wrapper: Option<Answer>,
     pub difference: Option<String>,
 }
+
+/// What a report says in front of a difference of the crate's safe functions.
+pub const IN_WRAPPER: &str = "in the safe wrapper: ";
 
 #[derive(Default)]
 pub struct Twins {
     pub library: Arena,
     pub model: Arena,
+    /// The crate's safe functions, if they are called too.
+    pub wrapper: Option<Wrapper>,
 }
 
 impl Twins {
-    /// Makes the call in both and compares. With a saboteur, the library's outcome is spoiled
-    /// first.
-    pub fn ask(&mut self, asked: &Asked, rng: &mut Rng, saboteur: Option<&Saboteur>) -> Outcome {
+    /// Those that call the crate's safe functions too.
+    pub fn with_wrapper() -> Twins {
+        Twins { wrapper: Some(Wrapper::new()), ..Twins::default() }
+    }
+
+    /// Makes the call in all of them and compares. With a saboteur, the outcome that it spoils is
+    /// spoiled first.
+    pub fn ask(&mut self, asked: &Asked, rng: &mut Rng, sabotage: Option<Sabotage>) -> Outcome {
         self.library.lay(asked, rng);
         self.model.copy_from(&self.library);
-        let before = saboteur.map(|_| self.library.clone());
+        let before = sabotage.map(|_| self.library.clone());
+        if let Some(wrapper) = &mut self.wrapper {
+            wrapper.arena.copy_from(&self.library);
+            wrapper.ask(asked.call);
+        }
         let pointers = self.library.pointers();
         let mut library = unsafe { ask_library(asked.call, &pointers) };
         let model = ask_model(asked.call, self.model.lent());
-        if let (Some(saboteur), Some(before)) = (saboteur, before) {
-            (saboteur.spoil)(&mut Spoiled {
-                call: asked.call,
-                before: &before,
-                after: &mut self.library,
-                answer: &mut library,
-            });
+        if let (Some(sabotage), Some(before)) = (sabotage, before) {
+            self.spoil(asked.call, sabotage, &before, &mut library);
         }
-        let difference = self.difference(&model, &library);
-        Outcome { model, library, difference }
+        if let Some(wrapper) = &mut self.wrapper {
+            wrapper.lay_writes();
+        }
+        let difference = self.difference(asked.call, &model, &library);
+        let wrapper = self.wrapper.as_ref().map(|wrapper| wrapper.answer);
+        Outcome { model, library, wrapper, difference }
     }
 
-    /// Where the two differ: in the answers, the first byte, the first number.
-    fn difference(&self, model: &Answer, library: &Answer) -> Option<String> {
-        let answers = if model != library { Some("the answers".to_string()) } else { None };
-        let found: Vec<String> =
-            [answers, self.first_byte(), self.first_word()].into_iter().flatten().collect();
-        if found.is_empty() {
-            None
-        } else {
-            Some(found.join("; "))
+    fn spoil(&mut self, call: Call, sabotage: Sabotage, before: &Arena, library: &mut Answer) {
+        let spoil = |saboteur: &Saboteur, after, answer, writes| {
+            (saboteur.spoil)(&mut Spoiled { call, before, after, answer, writes })
+        };
+        match (sabotage, &mut self.wrapper) {
+            (Sabotage::Library(saboteur), _) => {
+                spoil(saboteur, &mut self.library, library, &mut Vec::new())
+            }
+            (Sabotage::Wrapper(saboteur), Some(wrapper)) => {
+                let Wrapper { arena, answer, writes, .. } = wrapper;
+                spoil(saboteur, arena, answer, writes)
+            }
+            (Sabotage::Wrapper(_), None) => {}
         }
     }
 
-    fn first_byte(&self) -> Option<String> {
-        let (ours, its) = (&self.model.bytes, &self.library.bytes);
-        if ours == its {
-            return None;
-        }
-        let at = (0..ours.len()).find(|at| ours[*at] != its[*at])?;
-        Some(format!(
-            "{}: model {:02X}, library {:02X}",
-            self.model.name_byte(at),
-            ours[at],
-            its[at]
-        ))
+    /// Where the library and the safe wrapper differ from the model.
+    fn difference(&self, call: Call, model: &Answer, library: &Answer) -> Option<String> {
+        let ours = (model, &self.model);
+        let in_library = difference(ours, ("library", library, &self.library));
+        let in_wrapper = self.wrapper.as_ref().and_then(|wrapper| {
+            let memory = difference(ours, ("wrapper", &wrapper.answer, &wrapper.arena));
+            let lost = wrapper.lost_writes(call).then(|| "a refusal changed Writes".to_string());
+            joined([memory, lost])
+        });
+        joined([in_library, in_wrapper.map(|found| format!("{IN_WRAPPER}{found}"))])
     }
+}
 
-    fn first_word(&self) -> Option<String> {
-        let (ours, its) = (&self.model.words, &self.library.words);
-        if ours == its {
-            return None;
-        }
-        let at = (0..ours.len()).find(|at| ours[*at] != its[*at])?;
-        Some(format!("{}: model {}, library {}", self.model.name_word(at), ours[at], its[at]))
+/// Where the model and another differ: in the answers, the first byte, the first number.
+fn difference(model: (&Answer, &Arena), other: (&str, &Answer, &Arena)) -> Option<String> {
+    let ((answer, ours), (name, its_answer, its)) = (model, other);
+    let answers = if answer != its_answer { Some("the answers".to_string()) } else { None };
+    let byte = first_other(&ours.bytes, &its.bytes).map(|at| {
+        let (mine, its) = (ours.bytes[at], its.bytes[at]);
+        format!("{}: model {mine:02X}, {name} {its:02X}", ours.name_byte(at))
+    });
+    let word = first_other(&ours.words, &its.words).map(|at| {
+        let (mine, its) = (ours.words[at], its.words[at]);
+        format!("{}: model {mine}, {name} {its}", ours.name_word(at))
+    });
+    joined([answers, byte, word])
+}
+
+/// The first index at which two pieces of memory of the same length differ.
+fn first_other<T: PartialEq>(ours: &[T], its: &[T]) -> Option<usize> {
+    // comparing them whole is the quick way where they are equal
+    if ours == its {
+        None
+    } else {
+        (0..ours.len()).find(|at| ours[*at] != its[*at])
+    }
+}
+
+fn joined<const MOST: usize>(found: [Option<String>; MOST]) -> Option<String> {
+    let found: Vec<String> = found.into_iter().flatten().collect();
+    if found.is_empty() {
+        None
+    } else {
+        Some(found.join("; "))
     }
 }
