@@ -6,6 +6,7 @@ mod cases;
 mod cuts;
 mod damage;
 mod exhaustive;
+mod iteration;
 mod keys;
 mod listing;
 mod lists;

@@ -3,6 +3,7 @@
 //! there either.
 
 use crate::calls::Call;
+use crate::iteration::Met;
 use crate::model::{self, Answer, Head};
 use crate::safe::SOME_ZERO;
 use crate::twins::Arena;
@@ -16,6 +17,8 @@ pub struct Spoiled<'a> {
     pub answer: &'a mut Answer,
     /// The list that the wrapper's `Writes` holds. For the library it is empty.
     pub writes: &'a mut Vec<Range<usize>>,
+    /// What the crate's iterator gave, if it was tried.
+    pub keys: Option<&'a mut Vec<Met>>,
 }
 
 pub struct Saboteur {
@@ -1086,7 +1089,7 @@ pub const CUT_SABOTEURS: [Saboteur; 16] = [
 ];
 
 /// The saboteurs of the crate's safe functions: what a wrapper can get wrong.
-const WRAPPER_SABOTEURS: [Saboteur; 11] = [
+const WRAPPER_SABOTEURS: [Saboteur; 14] = [
     Saboteur { name: "the wrapper loses the place of a refusal", spoil: |s| s.answer.place = 0 },
     Saboteur {
         name: "the wrapper takes 7 for 6",
@@ -1177,6 +1180,34 @@ const WRAPPER_SABOTEURS: [Saboteur; 11] = [
         spoil: |s| {
             if s.call == Call::Count && s.done() && s.used() == Some(s.after.image.len()) {
                 s.refuse(4);
+            }
+        },
+    },
+    Saboteur {
+        name: "the iterator gives the first key twice",
+        spoil: |s| {
+            if let Some(keys) = &mut s.keys {
+                if let Some(Ok(first)) = keys.first().cloned() {
+                    keys.insert(0, Ok(first));
+                }
+            }
+        },
+    },
+    Saboteur {
+        name: "the iterator gives 15 at its end",
+        spoil: |s| {
+            if let (Some(keys), 15) = (&mut s.keys, s.answer.number) {
+                keys.push(Err((15, 0)));
+            }
+        },
+    },
+    Saboteur {
+        name: "the iterator gives a refusal twice",
+        spoil: |s| {
+            if let Some(keys) = &mut s.keys {
+                if let Some(Err(refusal)) = keys.last().cloned() {
+                    keys.push(Err(refusal));
+                }
             }
         },
     },

@@ -2,6 +2,7 @@
 //! turned back into what the model leaves: the five numbers of the answer, and a list of writes.
 
 use crate::calls::{Call, Lent};
+use crate::iteration::Iteration;
 use crate::model::Answer;
 use crate::twins::Arena;
 use std::ops::Range;
@@ -17,6 +18,7 @@ pub struct Wrapper {
     pub answer: Answer,
     /// The list that the `Writes` passed holds after the call.
     pub writes: Vec<Range<usize>>,
+    pub iteration: Option<Iteration>,
     /// Holds the list of a store that was done before the call.
     earlier: Writes,
 }
@@ -27,12 +29,15 @@ impl Wrapper {
             arena: Arena::default(),
             answer: Answer::default(),
             writes: Vec::new(),
+            iteration: None,
             earlier: earlier_writes(),
         }
     }
 
-    /// Makes the call. A store with writes is passed the list of an earlier store.
+    /// Makes the call. A store with writes is passed the list of an earlier store. Before a next
+    /// key the iterator is tried with the same key.
     pub fn ask(&mut self, call: Call) {
+        self.iteration = Iteration::of(call, &self.arena);
         self.writes.clear();
         if call.writes_len() == 0 {
             self.answer = ask_safe(call, self.arena.lent(), &mut Writes::new());

@@ -242,16 +242,17 @@ impl Twins {
     }
 
     fn spoil(&mut self, call: Call, sabotage: Sabotage, before: &Arena, library: &mut Answer) {
-        let spoil = |saboteur: &Saboteur, after, answer, writes| {
-            (saboteur.spoil)(&mut Spoiled { call, before, after, answer, writes })
+        let spoil = |saboteur: &Saboteur, after, answer, writes, keys| {
+            (saboteur.spoil)(&mut Spoiled { call, before, after, answer, writes, keys })
         };
         match (sabotage, &mut self.wrapper) {
             (Sabotage::Library(saboteur), _) => {
-                spoil(saboteur, &mut self.library, library, &mut Vec::new())
+                spoil(saboteur, &mut self.library, library, &mut Vec::new(), None)
             }
             (Sabotage::Wrapper(saboteur), Some(wrapper)) => {
-                let Wrapper { arena, answer, writes, .. } = wrapper;
-                spoil(saboteur, arena, answer, writes)
+                let Wrapper { arena, answer, writes, iteration, .. } = wrapper;
+                let keys = iteration.as_mut().map(|iteration| &mut iteration.keys);
+                spoil(saboteur, arena, answer, writes, keys)
             }
             (Sabotage::Wrapper(_), None) => {}
         }
@@ -264,7 +265,9 @@ impl Twins {
         let in_wrapper = self.wrapper.as_ref().and_then(|wrapper| {
             let memory = difference(ours, ("wrapper", &wrapper.answer, &wrapper.arena));
             let lost = wrapper.lost_writes(call).then(|| "a refusal changed Writes".to_string());
-            joined([memory, lost])
+            let iteration = wrapper.iteration.as_ref();
+            let keys = iteration.and_then(|iteration| iteration.difference(&self.model));
+            joined([memory, lost, keys])
         });
         joined([in_library, in_wrapper.map(|found| format!("{IN_WRAPPER}{found}"))])
     }
