@@ -1,8 +1,8 @@
 //! The calls. Each has its name and the numbers that documents 01 and 02 let it answer. The model
 //! and the library are called here.
 //!
-//! To add a call, add a variant of `Call`, its row in `KINDS`, an arm in `Call::kind`, `ask_model`
-//! and `ask_library`, and a choice in `cases::Case::draw`.
+//! To add a call, add a variant of `Call`, its row in `KINDS`, an arm in `Call::kind`,
+//! `ask_model`, `ask_library` and `safe::ask_safe`, and a choice in `cases::Case::draw`.
 
 use crate::model::{self, Answer, WRITES};
 use trieff::raw;
@@ -158,7 +158,7 @@ impl Call {
     }
 }
 
-/// The memory lent to the model.
+/// The memory lent to the model or to the crate's safe functions.
 pub struct Lent<'a> {
     pub image: &'a mut [u8],
     pub given: &'a [u8],

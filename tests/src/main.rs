@@ -1,5 +1,5 @@
-//! The judge: compares libtrieff.a and the listing program with a model written from documents 01
-//! and 02 alone. tests/README.md says how.
+//! The judge: compares libtrieff.a, the crate's safe functions and the listing program with a
+//! model written from documents 01 and 02 alone. tests/README.md says how.
 
 mod calls;
 mod cases;

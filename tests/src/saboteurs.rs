@@ -1184,11 +1184,11 @@ const WRAPPER_SABOTEURS: [Saboteur; 14] = [
         },
     },
     Saboteur {
-        name: "the iterator gives the first key twice",
+        name: "the iterator gives the second key twice",
         spoil: |s| {
             if let Some(keys) = &mut s.keys {
-                if let Some(Ok(first)) = keys.first().cloned() {
-                    keys.insert(0, Ok(first));
+                if let Some(Ok(second)) = keys.get(1).cloned() {
+                    keys.insert(1, Ok(second));
                 }
             }
         },
