@@ -119,17 +119,20 @@ impl Arena {
         }
     }
 
+    /// The pieces as the library takes them. One of no elements is at NULL in half of the cases:
+    /// where the first guard has an odd length.
     fn pointers(&mut self) -> Pointers {
-        let bytes = self.bytes.as_mut_ptr();
-        let words = self.words.as_mut_ptr();
-        let piece = |range: &Range<usize>| (unsafe { bytes.add(range.start) }, range.len());
+        let odd = self.image.start % 2 == 1;
+        let (bytes, words) = (self.bytes.as_mut_ptr(), self.words.as_mut_ptr());
+        let piece = |range: &Range<usize>| (at(bytes, range, odd), range.len());
+        let list = |range: &Range<usize>| (at(words, range, odd), range.len());
         Pointers {
             image: piece(&self.image),
             given: piece(&self.given),
             key: piece(&self.key),
-            work: (unsafe { words.add(self.work.start) }, self.work.len()),
-            writes: unsafe { words.add(self.writes.start) },
-            counts: (unsafe { words.add(self.counts.start) }, self.counts.len()),
+            work: list(&self.work),
+            writes: at(words, &self.writes, false),
+            counts: list(&self.counts),
         }
     }
 
@@ -172,6 +175,14 @@ impl Arena {
             ],
         )
     }
+}
+
+/// Where a piece of memory begins; NULL, if that is wanted and it has no elements.
+fn at<T>(memory: *mut T, piece: &Range<usize>, null: bool) -> *mut T {
+    if null && piece.is_empty() {
+        return std::ptr::null_mut();
+    }
+    unsafe { memory.add(piece.start) }
 }
 
 /// Says where `at` is among the pieces of memory. In a guard it is counted from the nearer piece.
