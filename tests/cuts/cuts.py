@@ -1,326 +1,398 @@
 #!/usr/bin/env python3
-"""Stops examples/bench_file.c at every write of a session, in every way that tests/cuts/cut_shim.c
-knows, and compares its answers after the next start.
+"""Tries whether a bench that keeps its labels in a file keeps what it answered.
 
-cuts.py BENCH SHIM FOLDER [MISTAKE]
+cuts.py BENCH SHIM FOLDER [few] [first]
 
-BENCH is the compiled bench, SHIM the compiled shim, FOLDER a folder to work in. Every answer after
-a start is compared with a plain list of labels that is kept here: the list from after the store
-that was hit if the last of its writes landed, else the list from before it. Then the session goes
-on to its end, and the file must hold the labels of the list. MISTAKE is a CUT_WRONG of the shim,
-which must be reported. The last line gives the number of stops. The exit status is 1 if anything
-was wrong.
+BENCH is the compiled bench, SHIM the compiled cut_shim.c, FOLDER a folder to work in. `few` tries
+a selection. `first` ends at the first report.
+
+A session of stores is recorded once. At each of its calls on files
+- the power is cut: disk.py works out what may be left, and the next start is run on it;
+- the bench is killed, and the next start must answer from what a cut cannot take away;
+- the call fails: the bench must stop with 1 and a sentence, and answer nothing more. It may go on
+  after a call that was interrupted, or did only a part and said so.
+And two benches are started together: the first is held at each call of its start.
+
+The promise that is judged: every answer stays true. A store that was answered is there after any
+cut. The store that was hit is there as a whole or not at all, and it is there exactly if the last
+write of its list landed. All other labels answer as before. The session can be finished, and then
+the bytes of the file up to U are those of the plain list in labels.py.
+
+The last line gives the numbers of what was tried. The exit status is 1 if anything was wrong.
 """
-import itertools
+import multiprocessing
 import os
 import random
-import shutil
-import struct
-import subprocess
+import signal
 import sys
+import time
 
-ALPHABET = "0123456789ABCDE-"
-LONGEST = 64
-WIDTH = 16 * 2 + 4  # bytes of a node
-FIRST = 28 + 16  # where node 0 begins
-CUT, TOLD = 77, 1  # exit status of the bench: stopped by the shim, or by itself after a failure
-SEEDS = (0, 1, 2, 3)  # CUT_SEED of the shim: the front half, the back half, two random sets
+from bench import NAME, REFUSED, STOPPED, Bench, Ran, Wrong, also
+from disk import Disk
+from labels import (ANOTHER, ASKING, FIRST, ONE, SESSION, TWO, WIDTH, Labels, commands, lines_of,
+                    told)
 
-SESSION = [
-    ("B04-117-2", 2402),  # a new path
-    ("B04-117-1", 2401),  # a path that shares all but its last letter
-    ("A01-101-1", 2400),
-    ("B04", 16),  # the path is there, nothing stored
-    ("B04-117-2", 2409),  # another value
-    ("B04-117-2", 2409),  # the same again
-    ("C99-1", 0),  # nothing to delete, and no path
-    ("B04-117-1", 0),
-    ("B04-117-1", 0),  # nothing to delete, with a path
-    ("B04-117-12", 70000),  # under a deleted label
-    ("B04/117", 5),  # no such letter
-    ("0" * 65, 5),  # too long
-    ("0123456789ABCDE-" * 4, 4294967295),  # as many writes as there can be
-    ("0123456789ABCDE-" * 3 + "0123456789ABCDEE", 66),
-    ("0123456789ABCDE-", 8),
-    ("B04-117-1", 2403),  # stored again
-    ("D", 1),
-    ("E-E-E", 0x01020304),
-    ("E-E-D-1", 258),
-    ("A01-101-1", 0),
-    ("A01", 77),
-]
-ANOTHER = ("5A-5", 99)  # stored after a cut instead of the store that was hit
-NEVER = ["A", "B04-117-3", "C99-1", "5", "5A-5-1", "E-E", "--"]  # looked up, never stored
+WORKERS = 2
+MOST_WRONG = 10
+WAYS = {  # how a call of each kind fails
+    "open": ("eio", "intr"), "read": ("eio", "short", "intr"),
+    "write": ("eio", "full", "part", "short", "intr"), "truncate": ("eio",),
+    "flush": ("eio", "intr"), "rename": ("eio", "part"), "unlink": ("eio",),
+    "lock": ("busy", "eio", "intr"), "close": (),
+}
+GOES_ON = ("short", "intr")  # after these a bench may go on
 
 
-class Labels:
-    """What the bench must hold: the labels with their records. `nodes` has the address of each
-    prefix that has a node; from these follow the writes of a store."""
+class Tried:
+    """The numbers of what was tried, and the reports."""
 
     def __init__(self):
-        self.records, self.nodes = {}, {"": 0}
+        self.stops = self.failures = self.holds = self.starts = 0
+        self.wrong = []
 
-    def copy(self):
-        other = Labels()
-        other.records, other.nodes = dict(self.records), dict(self.nodes)
-        return other
+    def add(self, other):
+        self.stops += other.stops
+        self.failures += other.failures
+        self.holds += other.holds
+        self.starts += other.starts
+        self.wrong += other.wrong
 
-    def place(self, prefix):
-        return FIRST + self.nodes[prefix] * WIDTH
+    def trying(self, words):
+        return Trying(self, words)
 
-    def store(self, label, record):
-        """Stores. Returns the offset and length of each write in order, and the line that the
-        bench must answer."""
-        if any(c not in ALPHABET for c in label):
-            return [], f"{label}: refused 10 at 0"
-        if not 1 <= len(label) <= LONGEST:
-            return [], f"{label}: refused 9 at 0"
-        path = [label[: i + 1] for i in range(len(label))]
-        missing = [p for p in path if p not in self.nodes]
-        if missing and record == 0:
-            return [], f"{label} = 0: change 0, writes 0"
-        for prefix in missing:
-            self.nodes[prefix] = len(self.nodes)
-        if missing:
-            parent, letter = missing[0][:-1], ALPHABET.index(missing[0][-1])
-            writes = [(self.place(p), WIDTH) for p in missing] + [
-                (0, 4), (self.place(parent) + 2 * letter, 2)]
+
+class Trying:
+    """One thing that is tried. If it is wrong, it is reported, and the next is tried."""
+
+    def __init__(self, tried, words):
+        self.tried, self.words = tried, words
+
+    def __enter__(self):
+        pass
+
+    def __exit__(self, kind, wrong, trace):
+        if kind is Wrong:
+            self.tried.wrong.append(f"{self.words}: {wrong}")
+        return kind is Wrong
+
+
+class Session:
+    """Stores that are given to one start, in a folder where these files are safe. `then` is
+    stored after it, and is not disturbed."""
+
+    def __init__(self, title, files, labels, stores, then=()):
+        self.title, self.files, self.stores, self.then = title, files, stores, list(then)
+        self.labels, self.lines, self.writes = [labels], [], []  # after each store; of each store
+        for store in stores:
+            labels = labels.copy()
+            writes, line = labels.store(*store)
+            self.labels.append(labels)
+            self.writes.append(writes)
+            self.lines.append(line)
+
+    def record(self, bench):
+        bench.put(self.files)
+        ran = bench.run(commands(self.stores))
+        bench.expect(ran, 0, self.lines)
+        self.calls, self.said = ran.calls, ran.said
+        bench.same(Disk(self.files, ran.calls))
+        bench.put(self.files)
+        self.start = len(bench.run([]).calls)  # the calls before the first store
+        return self
+
+    def answered(self, k):
+        """The lines that were answered after k calls, before the next."""
+        return lines_of(self.said[: self.calls[k].said] if k < len(self.calls) else self.said)
+
+    def expected(self, files, n):
+        """The labels that must be in the files when n stores were answered, and the stores that
+        are to come. The store that was hit is there if the last write of its list landed."""
+        over = 0
+        if n < len(self.stores) and self.writes[n]:
+            place, length = self.writes[n][-1]
+            after = self.labels[n + 1].image()
+            over = files.get(NAME, b"")[place : place + length] == after[place : place + length]
+        return self.labels[n + over], self.stores[n + over :] + self.then
+
+    def words(self, k):
+        """What call k is, from 1."""
+        call = self.calls[k - 1]
+        about = " ".join(word if len(word) < 40 else f"({len(word) // 2} bytes)"
+                         for word in call.about)
+        return f"call {k} ({call.kind} {about})"
+
+
+def cut_at(bench, tried, s, k):
+    """The power is cut after k calls."""
+    n = len(s.answered(k))
+    where = f"after {s.words(k)}" if k else "before the first call"
+    for words, left in Disk(s.files, s.calls[:k]).cuts():
+        tried.stops += 1
+        with tried.trying(f"{s.title}, cut {where}, {words}"):
+            bench.goes_on(left, *s.expected(left, n))
+
+
+def kill_at(bench, tried, s, k, deep):
+    """The bench is killed before call k. Then a start, and the power is cut after it answered; if
+    `deep`, also at each call before that."""
+    tried.stops += 1
+    with tried.trying(f"{s.title}, killed before {s.words(k)}"):
+        lines = s.answered(k - 1)
+        bench.put(s.files)
+        ran = bench.run(commands(s.stores), k, "stop")
+        bench.expect(ran, STOPPED, lines)
+        view = Disk(s.files, ran.calls)
+        bench.same(view)
+        labels, _ = s.expected(view.view(), len(lines))
+        bench.answers_again(s.files, ran.calls, labels,
+                            (lambda left: s.expected(left, len(lines))) if deep else None)
+
+
+def fail_at(bench, tried, s, k, how):
+    """Call k fails."""
+    tried.failures += 1
+    with tried.trying(f"{s.title}, {how} at {s.words(k)}"):
+        bench.put(s.files)
+        ran = bench.run(commands(s.stores), k, how)
+        disk = Disk(s.files, ran.calls)
+        bench.same(disk)
+        if ran.status == 0 and (how in GOES_ON or s.calls[k - 1].kind == "unlink"):
+            bench.expect(ran, 0, s.lines)
+            bench.holds(disk.view(), s.labels[-1], "at the end")
+            bench.holds(disk.cut(), s.labels[-1], "after a cut at the end")
+            return
+        lines = s.answered(k - 1)
+        bench.expect(ran, REFUSED, lines)
+        labels, _ = s.expected(disk.view(), len(lines))
+        bench.answers_again(s.files, ran.calls, labels)
+        for words, left in disk.cuts():
+            with also(f"then a cut, {words}"):
+                bench.goes_on(left, *s.expected(left, len(lines)))
+
+
+def at(bench, tried, s, k, ways):
+    """Everything that is tried after k calls of a session."""
+    cut_at(bench, tried, s, k)
+    if k < len(s.calls):
+        if "kill" in ways:
+            kill_at(bench, tried, s, k + 1, "deep" in ways)
+        for how in WAYS[s.calls[k].kind] if "fail" in ways else ():
+            fail_at(bench, tried, s, k + 1, how)
+
+
+def stored_or_refused(bench, ran, labels, stores):
+    """A bench that met another one has answered all, or it was refused and answered nothing.
+    Returns the labels after it."""
+    if ran.status == REFUSED:
+        bench.expect(ran, REFUSED, [])
+        return labels
+    lines, after = told(labels, stores)
+    bench.expect(ran, 0, lines + after.answers())
+    return after
+
+
+def kept(bench, files, labels):
+    """All of these labels must be there at the next start, and after a cut."""
+    calls = bench.log()
+    disk = Disk(files, calls)
+    bench.same(disk)
+    for words, left in disk.cuts():
+        with also(f"then a cut, {words}"):
+            bench.goes_on(left, labels, [])
+    bench.put(disk.view())
+    bench.answers_again(files, calls, labels)
+
+
+def hold_at(bench, tried, title, files, labels, k, stays):
+    """The first bench is held before call k of its start. The second stores and ends or, if it
+    stays, it stores, waits until the first has ended, and stores again."""
+    tried.holds += 1
+    second = "stays" if stays else "ends"
+    with tried.trying(f"two benches, {title}, the first held before call {k}, the second {second}"):
+        bench.put(files)
+        bench.forget()
+        first = bench.given(commands(ONE) + ASKING, "said-first", errors="errors-first", at=k,
+                            how="hold")
+        _, status = os.waitpid(first.pid, os.WUNTRACED)
+        if not os.WIFSTOPPED(status):
+            first.returncode = os.waitstatus_to_exitcode(status)
+            raise Wrong(f"the first does not come to call {k}")
+        begun = labels
+        if stays:
+            other = bench.waiting()
+            other.tell(commands(TWO)[0])
         else:
-            writes = [(self.place(label) + 16 * 2, 4)]
-        change = (record != 0) - (label in self.records)
-        self.records[label] = record
-        if record == 0:
-            del self.records[label]
-        return writes, f"{label} = {record}: change {change}, writes {len(writes)}"
-
-    def image(self):
-        """The bytes of the image up to U."""
-        nodes = [bytearray(WIDTH) for _ in self.nodes]
-        for prefix, address in self.nodes.items():
-            if prefix:
-                struct.pack_into(">H", nodes[self.nodes[prefix[:-1]]],
-                                 2 * ALPHABET.index(prefix[-1]), address)
-            struct.pack_into(">I", nodes[address], 16 * 2, self.records.get(prefix, 0))
-        head = struct.pack(">7I", len(nodes) - 1, 16, 2, 4, len(ALPHABET), 1, LONGEST)
-        return head + ALPHABET.encode() + b"".join(nodes)
-
-    def answers(self, labels):
-        lines = [f"{a}: record {self.records[a]}" if a in self.records else f"{a}: absent"
-                 for a in labels]
-        ordered = sorted(self.records, key=lambda a: [ALPHABET.index(c) for c in a])
-        return (lines + [f"labels: {len(ordered)}"]
-                + [f"{a} {self.records[a]}" for a in ordered] + ["end of the list"])
-
-
-ASKED = sorted({a for a, _ in SESSION + [ANOTHER] if len(a) <= LONGEST and "/" not in a}) + NEVER
-ASKING = [f"look {a}" for a in ASKED] + ["count", "list"]
-
-
-def commands(stores):
-    return [f"store {label} {record}" for label, record in stores]
-
-
-def told(labels, stores):
-    """The lines that the bench must answer to the stores, and the labels after them."""
-    labels = labels.copy()
-    return [labels.store(*s)[1] for s in stores], labels
-
-
-class Bench:
-    """The bench with its file in a folder, and the numbers of what was tried and what was
-    wrong."""
-
-    def __init__(self, bench, shim, folder, mistake):
-        self.bench, self.shim, self.mistake = bench, shim, mistake
-        self.file = os.path.join(folder, "labels.trieff")
-        self.trace = os.path.join(folder, "trace")
-        self.stops = self.starts = self.wrong = 0
-
-    def put(self, image):
-        """Makes the file as it is before a session: an image, an empty file, or no file."""
-        for name in (self.file, self.file + ".new"):
-            if os.path.exists(name):
-                os.remove(name)
-        if image is not None:
-            with open(self.file, "wb") as f:
-                f.write(image)
-
-    def held(self):
-        with open(self.file, "rb") as f:
-            return f.read()
-
-    def holds(self, what, labels):
-        image, held = labels.image(), self.held()
-        if held[: len(image)] != image:
-            at = next(i for i in range(len(image)) if held[i : i + 1] != image[i : i + 1])
-            self.report(what, f"byte {at} of the file is {held[at : at + 1].hex()} "
-                              f"instead of {image[at : at + 1].hex()}")
-
-    def run(self, lines, shim=True, **cut):
-        self.starts += 1
-        env = {"PATH": os.environ.get("PATH", "")}
-        if shim:
-            env["LD_PRELOAD"] = self.shim
-            env.update({f"CUT_{name.upper()}": str(value) for name, value in cut.items()})
-            if self.mistake:
-                env["CUT_WRONG"] = self.mistake
-        text = "".join(line + "\n" for line in lines)
-        return subprocess.run([self.bench, self.file], input=text, capture_output=True, text=True,
-                              env=env, timeout=60)
-
-    def report(self, what, why):
-        self.wrong += 1
-        print(f"cuts.py: WRONG {what}: {why}")
-        if self.wrong == 10:
-            self.end("and no more were tried")
-
-    def end(self, words):
-        print(f"cuts.py: {self.stops} stops in {self.starts} starts tried, "
-              f"{self.wrong} wrong {words}".rstrip())
-        sys.exit(1 if self.wrong else 0)
-
-    def expect(self, what, ran, code, lines, mended=None):
-        """Returns whether a run ended and answered as it must; reports it if not."""
-        got = ran.stdout.splitlines()
-        if ran.returncode != code:
-            self.report(what, f"ended with {ran.returncode} instead of {code}: "
-                              f"{ran.stderr.strip()}")
-        elif got != lines:
-            at = next((i for i, (a, b) in enumerate(zip(got, lines)) if a != b),
-                      min(len(got), len(lines)))
-            self.report(what, f"line {at + 1} is {got[at : at + 1]} "
-                              f"instead of {lines[at : at + 1]}")
-        elif mended is not None and mended != ("mended" in ran.stderr):
-            self.report(what, f"mended: {not mended}, instead of {mended}")
+            status = bench.given(commands(TWO) + ASKING).wait()
+            labels = stored_or_refused(
+                bench, Ran(status, bench.text("said"), bench.text("errors"), []), labels, TWO)
+        os.kill(first.pid, signal.SIGCONT)
+        first.wait()
+        ran = Ran(first.returncode, bench.text("said-first"), bench.text("errors-first"), [])
+        if stays:
+            labels = after_both(bench, other, ran, labels)
         else:
-            return True
-        return False
-
-    def goes_on(self, what, labels, rest, mended=None):
-        """A start without a cut. All answers are as the labels say, the rest of the session can
-        be stored, and then the file holds it."""
-        lines, end = told(labels, rest)
-        ran = self.run(ASKING + commands(rest) + ASKING)
-        if self.expect(what, ran, 0, labels.answers(ASKED) + lines + end.answers(ASKED), mended):
-            self.holds(what, end)
-
-    def stop(self, what, stores, done, at, how, seed=0):
-        """A start that is stopped at a write of the session. `done` holds the lines of the stores
-        before it."""
-        self.stops += 1
-        ran = self.run(commands(stores), at=at, how=how, seed=seed)
-        return self.expect(what, ran, TOLD if how in ("full", "short", "sick") else CUT, done)
+            labels = stored_or_refused(bench, ran, labels, ONE)
+        if labels is begun:
+            raise Wrong("both were refused")
+        kept(bench, files, labels)
 
 
-def ways(length):
-    """The ways to stop a write of this length, each with whether the write landed whole."""
-    yield from (("before", 0, False), ("after", 0, True), ("full", 0, False), ("sick", 0, True))
-    if length == WIDTH:
-        yield from (("torn", seed, False) for seed in SEEDS)
-        yield ("short", 0, False)
+def after_both(bench, other, ran, labels):
+    """The labels after a second bench that stayed while the first ran to its end."""
+    if other.said == "":
+        bench.expect(other.end(), REFUSED, [])
+        return stored_or_refused(bench, ran, labels, ONE)
+    heard = other.end(commands(TWO[1:]) + ASKING)
+    lines, labels = told(labels, TWO[:1])
+    labels = stored_or_refused(bench, ran, labels, ONE)
+    more, labels = told(labels, TWO[1:])
+    bench.expect(heard, 0, lines + more + labels.answers())
+    return labels
 
 
-def each_stop(bench, image, labels, stores, counted=0, then=()):
-    """Stops the stores at each write in each way. The start itself has `counted` writes before
-    them. The stores of `then` follow and are not stopped."""
-    lines = []
-    for i, (label, record) in enumerate(stores):
-        after = labels.copy()
-        writes, line = after.store(label, record)
-        for j, (_, length) in enumerate(writes):
-            for how, seed, whole in ways(length):
-                landed = j + whole
-                over = landed == len(writes)
-                what = f"store {label} {record}, write {j + 1} of {len(writes)}, {how} {seed}"
-                bench.put(image)
-                if not bench.stop(what, stores, lines, counted + j + 1, how, seed):
-                    continue
-                # G landed and the link did not
-                mended = len(writes) > 1 and landed == len(writes) - 1
-                bench.goes_on(what, after if over else labels, stores[i + over :] + list(then),
-                              mended)
-        counted += len(writes)
-        lines.append(line)
-        labels = after
+def while_it_waits(bench, tried, title, files, labels):
+    """A second bench that is started while the first waits for a line must be refused."""
+    tried.holds += 1
+    with tried.trying(f"two benches, {title}, the first waits for a line"):
+        bench.put(files)
+        bench.forget()
+        first = bench.waiting()
+        first.tell(commands(ONE)[0])
+        status = bench.given(commands(TWO) + ASKING).wait()
+        heard = first.end(commands(ONE[1:]) + ASKING)
+        bench.expect(Ran(status, bench.text("said"), bench.text("errors"), []), REFUSED, [])
+        lines, labels = told(labels, ONE)
+        bench.expect(heard, 0, lines + labels.answers())
+        kept(bench, files, labels)
 
 
-def each_creation(bench, stores):
-    """Stops the making of the file, where there was no file or an empty one."""
-    for image in (None, b""):
-        written = [(1, how, 0) for how in ("before", "after", "full", "short", "sick")] + [
-            (1, "torn", seed) for seed in SEEDS]
-        for at, how, seed in written + [(2, "before", 0), (2, "after", 0)]:
-            what = f"making the file, write {at}, {how} {seed}"
-            bench.put(image)
-            if bench.stop(what, [], [], at, how, seed):
-                bench.goes_on(what, Labels(), stores, False)
+def the_session(bench, tried):
+    """The whole session with no cut, first without the shim, so with real flushes; then with the
+    shim, whose log must have the writes that the labels give."""
+    lines, end = told(Labels(), SESSION)
+    with tried.trying("the session without the shim"):
+        bench.put({})
+        bench.expect(bench.run(commands(SESSION) + ASKING, shim=False), 0, lines + end.answers(),
+                     False)
+        bench.holds(bench.held(), end, "at the end")
+    with tried.trying("the session"):
+        s = Session("the session", {}, Labels(), SESSION).record(bench)
+        listed = [write for writes in s.writes for write in writes]
+        seen = [(int(call.about[1]), len(call.about[2]) // 2) for call in s.calls[s.start :]
+                if call.kind == "write"]
+        if seen != listed:
+            at = next(i for i in range(len(seen) + 1) if seen[i : i + 1] != listed[i : i + 1])
+            raise Wrong(f"write {at + 1} is {seen[at : at + 1]} instead of {listed[at : at + 1]}")
 
 
-def each_second_stop(bench, image, stores):
-    """Cuts between G and the link, and then a second time: while G is written back, and in the
-    store of another label."""
-    labels, counted = Labels(), 0
-    for i, (label, record) in enumerate(stores):
-        after = labels.copy()
-        writes, _ = after.store(label, record)
-        counted += len(writes)
+def littered(bench):
+    """A fresh image whose spare bytes hold random values, some of them good addresses."""
+    lot = random.Random(1)
+    bench.put({})
+    bench.run([])
+    image = bench.held()[NAME]
+    return image[: FIRST + WIDTH] + bytes(
+        lot.choice((0, 0, 1, 2, lot.randrange(256), 255)) for _ in image[FIRST + WIDTH :])
+
+
+def before_each_link(s):
+    """For each store with new nodes: its number, and the calls before the write of its link."""
+    for n, writes in enumerate(s.writes):
         if len(writes) > 1:
-            what = f"store {label} {record}, cut before its link"
-            bench.put(image)
-            if not bench.stop(what, stores, told(Labels(), stores[:i])[0], counted, "before"):
-                return
-            hit = bench.held()
-            bench.goes_on(what, labels, stores[i:], True)
-            for how, landed in (("before", False), ("after", True), ("full", False),
-                                ("sick", True)):
-                bench.put(hit)
-                if bench.stop(f"{what}, then cut putting G back, {how}", [], [], 1, how):
-                    bench.goes_on(f"{what}, then cut putting G back, {how}", labels, stores[i:],
-                                  not landed)
-            each_stop(bench, hit, labels, [ANOTHER], 1, stores[i:])
-        labels = after
+            yield n, max(k for k in range(len(s.calls))
+                         if s.calls[k].kind == "write" and len(s.answered(k)) == n)
+
+
+def started_again(s, stores):
+    """Sessions after a cut in the start of a session, one for each kind of folder that is left:
+    what the file is, and which other names are there."""
+    kinds = {}
+    for k in range(s.start + 1):
+        for words, left in Disk(s.files, s.calls[:k]).cuts():
+            kind = left.get(NAME), tuple(sorted(left))
+            kinds.setdefault(kind, Session(f"{s.title}, cut after call {k}, {words}, then a start",
+                                           left, Labels(), stores))
+    return list(kinds.values())[:MOST_WRONG]
+
+
+def jobs_of(bench, tried, few):
+    """The list of what is tried: a function with its values."""
+    jobs = []
+
+    def explore(s, ways, calls=None):
+        with tried.trying(s.title):
+            s.record(bench)
+            jobs.extend((at, s, k, ways) for k in range(len(s.calls) + 1)
+                        if calls is None or k <= s.start + calls)
+        return s
+
+    image = littered(bench)
+    made = [("no file", {}), ("an empty file", {NAME: b""})]
+    for title, files in made:
+        s = explore(Session(f"making the file, {title}", files, Labels(), SESSION[3:5],
+                            SESSION[:3]), "cut kill deep fail")
+        for again in started_again(s, [ANOTHER]) if hasattr(s, "calls") else ():
+            explore(again, "cut fail", 0)
+    for title, files in made + [("an image", {NAME: image})]:
+        s = Session(title, files, Labels(), [])
+        with tried.trying(title):
+            jobs.append((while_it_waits, title, files, Labels()))
+            jobs.extend((hold_at, title, files, Labels(), k, stays) for stays in (False, True)
+                        for k in range(1, len(s.record(bench).calls) + 1))
+    main_session = explore(Session("the session", {NAME: image}, Labels(), SESSION),
+                           "cut kill fail")
+    if hasattr(main_session, "calls"):
+        for i, (n, k) in enumerate(before_each_link(main_session)):
+            s = main_session
+            explore(Session(f"store {s.stores[n][0]} {s.stores[n][1]}, cut before its link, then "
+                            f"a start that stores {ANOTHER[0]}",
+                            Disk(s.files, s.calls[:k]).view(), s.labels[n], [ANOTHER],
+                            s.stores[n:]), "cut kill deep fail" if i % 4 == 0 else "cut")
+    return jobs
+
+
+def work(number):
+    """One job, in a process of its own with its own folder."""
+    tried, (function, *values) = Tried(), JOBS[number]
+    starts = BENCH.starts
+    function(BENCH, tried, *values)
+    tried.starts = BENCH.starts - starts
+    return tried
+
+
+def begin(bench, shim, folder, turn):
+    global BENCH
+    with turn.get_lock():
+        turn.value += 1
+        BENCH = Bench(bench, shim, os.path.join(folder, str(turn.value)))
 
 
 def main():
-    folder = sys.argv[3]
-    shutil.rmtree(folder, ignore_errors=True)
-    os.makedirs(folder)
-    bench = Bench(os.path.abspath(sys.argv[1]), os.path.abspath(sys.argv[2]), folder,
-                  (sys.argv[4:] or [""])[0])
-
-    # the whole session with no cut, first without the shim, so with real flushes; then with the
-    # shim, whose trace must have the writes that the labels give
-    lines, end = told(Labels(), SESSION)
-    bench.put(None)
-    bench.expect("the session", bench.run(commands(SESSION) + ASKING, shim=False), 0,
-                 lines + end.answers(ASKED), False)
-    bench.holds("the session", end)
-    bench.put(None)
-    if not bench.expect("the session", bench.run(commands(SESSION), trace=bench.trace), 0, lines):
-        bench.end("and no more were tried")
-    labels, listed = Labels(), []
-    for s in SESSION:
-        listed += labels.store(*s)[0]
-    with open(bench.trace) as f:
-        seen = f.read().splitlines()
-    for i, (got, must) in enumerate(itertools.zip_longest(
-            seen[2:], [f"{place} {length}" for place, length in listed])):
-        if got != must:
-            bench.report("the session", f"write {i + 1} is {got} instead of {must}")
-            break
-
-    # a fresh image whose spare bytes hold random values, some of them good addresses
-    lot = random.Random(1)
-    bench.put(None)
-    bench.run([])
-    image = bench.held()
-    image = image[: FIRST + WIDTH] + bytes(
-        lot.choice((0, 0, 1, 2, lot.randrange(256), 255)) for _ in image[FIRST + WIDTH :])
-
-    each_creation(bench, SESSION)
-    each_second_stop(bench, image, SESSION)
-    each_stop(bench, image, Labels(), SESSION)
-    bench.end("")
+    global JOBS
+    bench, shim, folder, *more = sys.argv[1:]
+    began = time.monotonic()
+    most = 1 if "first" in more else MOST_WRONG
+    tried, alone = Tried(), Bench(bench, shim, os.path.join(folder, "0"))
+    the_session(alone, tried)
+    JOBS = jobs_of(alone, tried, "few" in more)
+    tried.starts = alone.starts
+    turn = multiprocessing.Value("i", 0)
+    shown = 0
+    with multiprocessing.Pool(WORKERS, begin, (bench, shim, folder, turn)) as pool:
+        for done in pool.imap_unordered(work, range(len(JOBS)), 2):
+            tried.add(done)
+            for line in tried.wrong[shown:most]:
+                print(f"cuts.py: WRONG {line}", flush=True)
+            shown = len(tried.wrong)
+            if shown >= most:
+                break
+    if len(tried.wrong) >= most:
+        print("cuts.py: no more were tried")
+    print(f"cuts.py: {tried.stops} stops, {tried.failures} failures, {tried.holds} holds in "
+          f"{tried.starts} starts tried, {len(tried.wrong)} wrong")
+    print(f"{time.monotonic() - began:.1f} s, {len(JOBS)} jobs", file=sys.stderr)
+    sys.exit(1 if tried.wrong else 0)
 
 
-main()
+if __name__ == "__main__":
+    main()
