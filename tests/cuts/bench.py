@@ -3,16 +3,18 @@ and what the file then holds."""
 import os
 import re
 import shutil
+import signal
 import subprocess
+import time
 from collections import namedtuple
 
 from disk import Disk, calls_of
-from labels import ASKING, commands, lines_of, told
+from labels import ANOTHER, ASKING, commands, lines_of, told
 
 NAME = "labels.trieff"
 STOPPED, REFUSED = 77, 1  # exit status: stopped by the shim, or by the bench itself
 
-Ran = namedtuple("Ran", "status said errors calls")  # `said` is the text of the answers
+Ran = namedtuple("Ran", "status said errors")  # `said` is the text of the answers
 
 
 class Wrong(Exception):
@@ -23,20 +25,75 @@ def G(image):
     return int.from_bytes(image[:4], "big")
 
 
-class Bench:
-    """The bench with its folder, and the numbers of what was tried."""
+class Text:
+    """A file in memory that a bench writes to."""
 
-    def __init__(self, bench, shim, place):
+    def __init__(self):
+        self.fd = os.memfd_create("text")
+
+    def text(self):
+        return os.pread(self.fd, os.fstat(self.fd).st_size, 0).decode("ascii", "replace")
+
+    def __del__(self):
+        os.close(self.fd)
+
+
+class Started:
+    """A bench that was started. It is given its lines in a pipe. Its answers go to a file in
+    memory, so the shim can see how much was answered before each call."""
+
+    def __init__(self, bench, at=0, how="", shim=True):
+        self.said, self.errors = Text(), Text()
+        env = {"PATH": os.environ.get("PATH", "")}
+        if shim:
+            env.update(LD_PRELOAD=bench.shim, CUT_FOLDER=bench.folder, CUT_LOG=str(bench.log.fd))
+        if at:
+            env.update(CUT_AT=str(at), CUT_HOW=how)
+        self.process = subprocess.Popen(
+            [bench.bench, os.path.join(bench.folder, NAME)], env=env, stdin=subprocess.PIPE,
+            stdout=self.said.fd, stderr=self.errors.fd, pass_fds=[bench.log.fd], bufsize=0)
+
+    def tell(self, lines):
+        try:
+            self.process.stdin.write("".join(line + "\n" for line in lines).encode())
+        except BrokenPipeError:
+            pass  # it has ended, and its exit status says why
+
+    def is_held(self):
+        """Waits until it is held by the shim, or ends."""
+        _, status = os.waitpid(self.process.pid, os.WUNTRACED)
+        if os.WIFSTOPPED(status):
+            return True
+        self.process.returncode = os.waitstatus_to_exitcode(status)
+        return False
+
+    def let_go(self):
+        os.kill(self.process.pid, signal.SIGCONT)
+
+    def has_answered(self):
+        """Waits until it has answered a line, or ends."""
+        while self.process.poll() is None and "\n" not in self.said.text():
+            time.sleep(0.001)
+        return "\n" in self.said.text()
+
+    def end(self):
+        """Gives it no more lines, and waits for its end."""
+        self.process.stdin.close()
+        status = self.process.wait()
+        return Ran(status, self.said.text(), self.errors.text())
+
+
+class Bench:
+    """The bench with its folder, and the number of its starts."""
+
+    def __init__(self, bench, shim, folder):
         self.bench, self.shim = os.path.abspath(bench), os.path.abspath(shim)
-        shutil.rmtree(place, ignore_errors=True)
-        os.makedirs(os.path.join(place, "folder"))
-        self.folder = os.path.realpath(os.path.join(place, "folder"))
-        self.place = os.path.realpath(place)  # of the log, the commands and the answers
+        shutil.rmtree(folder, ignore_errors=True)
+        os.makedirs(folder)
+        self.folder = os.path.realpath(folder)
+        self.log = Text()
         self.starts = 0
         self.judged = {}
-
-    def path(self, name):
-        return os.path.join(self.place, name)
 
     def put(self, files):
         """Makes the folder hold these files and no others."""
@@ -53,44 +110,23 @@ class Bench:
                 files[name] = f.read()
         return files
 
-    def begin(self, stdin, said, errors="errors", at=0, how="", shim=True):
-        """A start of the bench."""
+    def begin(self, lines, **disturbed):
+        """A start that is given these lines."""
         self.starts += 1
-        env = {"PATH": os.environ.get("PATH", "")}
-        if shim:
-            env.update(LD_PRELOAD=self.shim, CUT_FOLDER=self.folder, CUT_LOG=self.path("log"))
-        if at:
-            env.update(CUT_AT=str(at), CUT_HOW=how)
-        with open(self.path(errors), "wb") as f:
-            return subprocess.Popen([self.bench, os.path.join(self.folder, NAME)], env=env,
-                                    stdin=stdin, stdout=said, stderr=f)
+        started = Started(self, **disturbed)
+        started.tell(lines)
+        return started
 
-    def given(self, lines, said="said", **more):
-        """A start that is given these lines. Its answers go to a file."""
-        asked = self.path(f"{said}-asked")
-        with open(asked, "w") as f:
-            f.write("".join(line + "\n" for line in lines))
-        with open(asked) as stdin, open(self.path(said), "wb") as f:
-            return self.begin(stdin, f, **more)
+    def calls(self):
+        """The calls since this was asked for the last time."""
+        calls = calls_of(self.log.text())
+        self.log = Text()
+        return calls
 
-    def text(self, name):
-        """The text in a file beside the folder."""
-        with open(self.path(name), encoding="ascii", errors="replace") as f:
-            return f.read()
-
-    def forget(self):
-        """Begins a new log."""
-        with open(self.path("log"), "w"):
-            pass
-
-    def log(self):
-        return calls_of(self.text("log"))
-
-    def run(self, lines, at=0, how="", shim=True):
-        """A start that is given these lines and runs to its end."""
-        self.forget()
-        status = self.given(lines, at=at, how=how, shim=shim).wait(None if shim else 60)
-        return Ran(status, self.text("said"), self.text("errors"), self.log())
+    def run(self, lines, **disturbed):
+        """A start that is given these lines and runs to its end, and its calls."""
+        ran = self.begin(lines, **disturbed).end()
+        return ran, self.calls()
 
     def same(self, disk):
         """Compares the folder with what the log says that it holds."""
@@ -138,56 +174,32 @@ class Bench:
     def finished(self, files, labels, rest):
         self.put(files)
         lines, end = told(labels, rest)
-        ran = self.run(ASKING + commands(rest) + ASKING)
+        ran, calls = self.run(ASKING + commands(rest) + ASKING)
         mended = G(files.get(NAME, b"")) > len(labels.nodes) - 1
         self.expect(ran, 0, labels.answers() + lines + end.answers(), mended)
-        disk = Disk(files, ran.calls)
+        disk = Disk(files, calls)
         self.same(disk)
         self.holds(disk.view(), end, "at the end of the session")
         self.holds(disk.cut(), end, "after a cut at the end of the session")
 
     def answers_again(self, files, calls, labels, expected=None):
-        """A start after a kill: it reads what is in the cache, flushed or not. What it answers
-        must still be true after a cut that comes then. `calls` are those since `files` were
-        safe. If `expected` is given, the start is also cut off at each of its calls; it gives
-        what the files that are left must hold."""
-        ran = self.run(ASKING)
-        self.expect(ran, 0, labels.answers())
-        disk = Disk(files, calls + ran.calls)
-        self.same(disk)
-        for words, left in disk.cuts():
-            with also(f"then a start that answers and a cut, {words}"):
-                self.goes_on(left, labels, [])
-        for k in range(len(ran.calls)) if expected else ():
-            for words, left in Disk(files, calls + ran.calls[:k]).cuts():
+        """A start after a kill: it reads what is in the cache, flushed or not, and stores one more
+        label. What it answers must still be true after a cut that comes then, before this store
+        or after it. `calls` are those since `files` were safe. If `expected` is given, the start
+        is also cut at each of its calls; it gives what the files that are left must hold."""
+        ran, more = self.run(ASKING + commands([ANOTHER]) + ASKING)
+        lines, end = told(labels, [ANOTHER])
+        self.expect(ran, 0, labels.answers() + lines + end.answers())
+        self.same(Disk(files, calls + more))
+        start = sum(call.said == 0 for call in more)
+        for k, held, then in ((start, labels, ""), (len(more), end, " and stores")):
+            for words, left in Disk(files, calls + more[:k]).cuts():
+                with also(f"then a start that answers{then} and a cut, {words}"):
+                    self.goes_on(left, held, [])
+        for k in range(start) if expected else ():
+            for words, left in Disk(files, calls + more[:k]).cuts():
                 with also(f"then a start and a cut after its call {k}, {words}"):
                     self.goes_on(left, *expected(left))
-
-    def waiting(self):
-        """A start that waits for lines."""
-        return Waiting(self.begin(subprocess.PIPE, subprocess.PIPE, "errors-waiting"), self)
-
-
-class Waiting:
-    """A bench that is given its lines one after the other."""
-
-    def __init__(self, process, bench):
-        self.process, self.bench, self.said = process, bench, ""
-
-    def tell(self, line):
-        """Gives it a line and waits for the first line of the answer, or for its end."""
-        try:
-            self.process.stdin.write(line.encode() + b"\n")
-            self.process.stdin.flush()
-        except BrokenPipeError:
-            pass
-        self.said += self.process.stdout.readline().decode("ascii", "replace")
-
-    def end(self, lines=()):
-        """Gives it the last lines, and waits for its end."""
-        rest, _ = self.process.communicate("".join(line + "\n" for line in lines).encode())
-        return Ran(self.process.returncode, self.said + rest.decode("ascii", "replace"),
-                   self.bench.text("errors-waiting"), [])
 
 
 class also:

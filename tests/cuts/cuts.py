@@ -1,10 +1,10 @@
 #!/usr/bin/env python3
 """Tries whether a bench that keeps its labels in a file keeps what it answered.
 
-cuts.py BENCH SHIM FOLDER [few] [first]
+cuts.py BENCH SHIM FOLDER [few] [until WORDS]
 
 BENCH is the compiled bench, SHIM the compiled cut_shim.c, FOLDER a folder to work in. `few` tries
-a selection. `first` ends at the first report.
+a selection. After ten reports no more is tried; with `until`, after a report that holds the words.
 
 A session of stores is recorded once. At each of its calls on files
 - the power is cut: disk.py works out what may be left, and the next start is run on it;
@@ -20,14 +20,13 @@ the bytes of the file up to U are those of the plain list in labels.py.
 
 The last line gives the numbers of what was tried. The exit status is 1 if anything was wrong.
 """
+import itertools
 import multiprocessing
 import os
 import random
-import signal
 import sys
-import time
 
-from bench import NAME, REFUSED, STOPPED, Bench, Ran, Wrong, also
+from bench import NAME, REFUSED, STOPPED, Bench, Wrong, also
 from disk import Disk
 from labels import (ANOTHER, ASKING, FIRST, ONE, SESSION, TWO, WIDTH, Labels, commands, lines_of,
                     told)
@@ -92,12 +91,12 @@ class Session:
 
     def record(self, bench):
         bench.put(self.files)
-        ran = bench.run(commands(self.stores))
+        ran, self.calls = bench.run(commands(self.stores))
         bench.expect(ran, 0, self.lines)
-        self.calls, self.said = ran.calls, ran.said
-        bench.same(Disk(self.files, ran.calls))
+        bench.same(Disk(self.files, self.calls))
+        self.said = ran.said
         bench.put(self.files)
-        self.start = len(bench.run([]).calls)  # the calls before the first store
+        self.start = len(bench.run([])[1])  # the calls before the first store
         return self
 
     def answered(self, k):
@@ -139,12 +138,12 @@ def kill_at(bench, tried, s, k, deep):
     with tried.trying(f"{s.title}, killed before {s.words(k)}"):
         lines = s.answered(k - 1)
         bench.put(s.files)
-        ran = bench.run(commands(s.stores), k, "stop")
+        ran, calls = bench.run(commands(s.stores), at=k, how="stop")
         bench.expect(ran, STOPPED, lines)
-        view = Disk(s.files, ran.calls)
-        bench.same(view)
-        labels, _ = s.expected(view.view(), len(lines))
-        bench.answers_again(s.files, ran.calls, labels,
+        disk = Disk(s.files, calls)
+        bench.same(disk)
+        labels, _ = s.expected(disk.view(), len(lines))
+        bench.answers_again(s.files, calls, labels,
                             (lambda left: s.expected(left, len(lines))) if deep else None)
 
 
@@ -153,8 +152,8 @@ def fail_at(bench, tried, s, k, how):
     tried.failures += 1
     with tried.trying(f"{s.title}, {how} at {s.words(k)}"):
         bench.put(s.files)
-        ran = bench.run(commands(s.stores), k, how)
-        disk = Disk(s.files, ran.calls)
+        ran, calls = bench.run(commands(s.stores), at=k, how=how)
+        disk = Disk(s.files, calls)
         bench.same(disk)
         if ran.status == 0 and (how in GOES_ON or s.calls[k - 1].kind == "unlink"):
             bench.expect(ran, 0, s.lines)
@@ -164,7 +163,7 @@ def fail_at(bench, tried, s, k, how):
         lines = s.answered(k - 1)
         bench.expect(ran, REFUSED, lines)
         labels, _ = s.expected(disk.view(), len(lines))
-        bench.answers_again(s.files, ran.calls, labels)
+        bench.answers_again(s.files, calls, labels)
         for words, left in disk.cuts():
             with also(f"then a cut, {words}"):
                 bench.goes_on(left, *s.expected(left, len(lines)))
@@ -193,7 +192,7 @@ def stored_or_refused(bench, ran, labels, stores):
 
 def kept(bench, files, labels):
     """All of these labels must be there at the next start, and after a cut."""
-    calls = bench.log()
+    calls = bench.calls()
     disk = Disk(files, calls)
     bench.same(disk)
     for words, left in disk.cuts():
@@ -210,44 +209,25 @@ def hold_at(bench, tried, title, files, labels, k, stays):
     second = "stays" if stays else "ends"
     with tried.trying(f"two benches, {title}, the first held before call {k}, the second {second}"):
         bench.put(files)
-        bench.forget()
-        first = bench.given(commands(ONE) + ASKING, "said-first", errors="errors-first", at=k,
-                            how="hold")
-        _, status = os.waitpid(first.pid, os.WUNTRACED)
-        if not os.WIFSTOPPED(status):
-            first.returncode = os.waitstatus_to_exitcode(status)
+        first = bench.begin(commands(ONE) + ASKING, at=k, how="hold")
+        if not first.is_held():
             raise Wrong(f"the first does not come to call {k}")
-        begun = labels
+        other = bench.begin(commands(TWO[:1]))
+        stays = stays and other.has_answered()
         if stays:
-            other = bench.waiting()
-            other.tell(commands(TWO)[0])
+            lines, after = told(labels, TWO[:1])
         else:
-            status = bench.given(commands(TWO) + ASKING).wait()
-            labels = stored_or_refused(
-                bench, Ran(status, bench.text("said"), bench.text("errors"), []), labels, TWO)
-        os.kill(first.pid, signal.SIGCONT)
-        first.wait()
-        ran = Ran(first.returncode, bench.text("said-first"), bench.text("errors-first"), [])
+            other.tell(commands(TWO[1:]) + ASKING)
+            lines, after = [], stored_or_refused(bench, other.end(), labels, TWO)
+        first.let_go()
+        after = stored_or_refused(bench, first.end(), after, ONE)
         if stays:
-            labels = after_both(bench, other, ran, labels)
-        else:
-            labels = stored_or_refused(bench, ran, labels, ONE)
-        if labels is begun:
+            other.tell(commands(TWO[1:]) + ASKING)
+            more, after = told(after, TWO[1:])
+            bench.expect(other.end(), 0, lines + more + after.answers())
+        if after is labels:
             raise Wrong("both were refused")
-        kept(bench, files, labels)
-
-
-def after_both(bench, other, ran, labels):
-    """The labels after a second bench that stayed while the first ran to its end."""
-    if other.said == "":
-        bench.expect(other.end(), REFUSED, [])
-        return stored_or_refused(bench, ran, labels, ONE)
-    heard = other.end(commands(TWO[1:]) + ASKING)
-    lines, labels = told(labels, TWO[:1])
-    labels = stored_or_refused(bench, ran, labels, ONE)
-    more, labels = told(labels, TWO[1:])
-    bench.expect(heard, 0, lines + more + labels.answers())
-    return labels
+        kept(bench, files, after)
 
 
 def while_it_waits(bench, tried, title, files, labels):
@@ -255,15 +235,13 @@ def while_it_waits(bench, tried, title, files, labels):
     tried.holds += 1
     with tried.trying(f"two benches, {title}, the first waits for a line"):
         bench.put(files)
-        bench.forget()
-        first = bench.waiting()
-        first.tell(commands(ONE)[0])
-        status = bench.given(commands(TWO) + ASKING).wait()
-        heard = first.end(commands(ONE[1:]) + ASKING)
-        bench.expect(Ran(status, bench.text("said"), bench.text("errors"), []), REFUSED, [])
-        lines, labels = told(labels, ONE)
-        bench.expect(heard, 0, lines + labels.answers())
-        kept(bench, files, labels)
+        first = bench.begin(commands(ONE[:1]))
+        first.has_answered()
+        bench.expect(bench.begin(commands(TWO) + ASKING).end(), REFUSED, [])
+        first.tell(commands(ONE[1:]) + ASKING)
+        lines, after = told(labels, ONE)
+        bench.expect(first.end(), 0, lines + after.answers())
+        kept(bench, files, after)
 
 
 def the_session(bench, tried):
@@ -272,8 +250,8 @@ def the_session(bench, tried):
     lines, end = told(Labels(), SESSION)
     with tried.trying("the session without the shim"):
         bench.put({})
-        bench.expect(bench.run(commands(SESSION) + ASKING, shim=False), 0, lines + end.answers(),
-                     False)
+        ran, _ = bench.run(commands(SESSION) + ASKING, shim=False)
+        bench.expect(ran, 0, lines + end.answers(), False)
         bench.holds(bench.held(), end, "at the end")
     with tried.trying("the session"):
         s = Session("the session", {}, Labels(), SESSION).record(bench)
@@ -351,46 +329,57 @@ def jobs_of(bench, tried, few):
     return jobs
 
 
-def work(number):
-    """One job, in a process of its own with its own folder."""
-    tried, (function, *values) = Tried(), JOBS[number]
-    starts = BENCH.starts
-    function(BENCH, tried, *values)
-    tried.starts = BENCH.starts - starts
-    return tried
+def work(queue, jobs, bench, shim, folder):
+    """The work of one process: its jobs, one after the other, in its own folder."""
+    bench = Bench(bench, shim, folder)
+    for function, *values in jobs:
+        tried, starts = Tried(), bench.starts
+        function(bench, tried, *values)
+        tried.starts = bench.starts - starts
+        queue.put(tried)
+    queue.put(None)
 
 
-def begin(bench, shim, folder, turn):
-    global BENCH
-    with turn.get_lock():
-        turn.value += 1
-        BENCH = Bench(bench, shim, os.path.join(folder, str(turn.value)))
+def each_job(jobs, bench, shim, folder):
+    """What was tried in each job. The jobs are shared out among processes."""
+    queue = multiprocessing.SimpleQueue()
+    workers = [multiprocessing.Process(
+        target=work, args=(queue, jobs[i::WORKERS], bench, shim, os.path.join(folder, str(i))))
+        for i in range(WORKERS)]
+    for worker in workers:
+        worker.start()
+    try:
+        working = WORKERS
+        while working:
+            tried = queue.get()
+            if tried is None:
+                working -= 1
+            else:
+                yield tried
+    finally:
+        for worker in workers:
+            worker.terminate()
 
 
 def main():
-    global JOBS
     bench, shim, folder, *more = sys.argv[1:]
-    began = time.monotonic()
-    most = 1 if "first" in more else MOST_WRONG
-    tried, alone = Tried(), Bench(bench, shim, os.path.join(folder, "0"))
+    words = more[more.index("until") + 1] if "until" in more else None
+    tried, alone = Tried(), Bench(bench, shim, os.path.join(folder, "alone"))
     the_session(alone, tried)
-    JOBS = jobs_of(alone, tried, "few" in more)
+    jobs = jobs_of(alone, tried, "few" in more)
     tried.starts = alone.starts
-    turn = multiprocessing.Value("i", 0)
-    shown = 0
-    with multiprocessing.Pool(WORKERS, begin, (bench, shim, folder, turn)) as pool:
-        for done in pool.imap_unordered(work, range(len(JOBS)), 2):
-            tried.add(done)
-            for line in tried.wrong[shown:most]:
-                print(f"cuts.py: WRONG {line}", flush=True)
-            shown = len(tried.wrong)
-            if shown >= most:
-                break
-    if len(tried.wrong) >= most:
-        print("cuts.py: no more were tried")
+    shown, over = 0, False
+    for done in itertools.chain([Tried()], each_job(jobs, bench, shim, folder)):
+        tried.add(done)
+        for line in tried.wrong[shown:]:
+            print(f"cuts.py: WRONG {line}", flush=True)
+            over = over or (words in line if words else len(tried.wrong) >= MOST_WRONG)
+        shown = len(tried.wrong)
+        if over:
+            print("cuts.py: no more were tried")
+            break
     print(f"cuts.py: {tried.stops} stops, {tried.failures} failures, {tried.holds} holds in "
           f"{tried.starts} starts tried, {len(tried.wrong)} wrong")
-    print(f"{time.monotonic() - began:.1f} s, {len(JOBS)} jobs", file=sys.stderr)
     sys.exit(1 if tried.wrong else 0)
 
 

@@ -105,7 +105,7 @@ class File(Kept):
     def lay(content, change, parts):
         if change.data is None and parts:
             return content[: change.at] + bytes(max(0, change.at - len(content)))
-        for begin, end in parts:
+        for begin, end in [(0, len(change.data))] if parts is change.parts else parts:
             piece = change.data[begin : min(end, len(content) - change.at)]
             content[change.at + begin : change.at + begin + len(piece)] = piece
         return content
