@@ -39,7 +39,13 @@ WAYS = {  # how a call of each kind fails
     "flush": ("eio", "intr"), "rename": ("eio", "part"), "unlink": ("eio",),
     "lock": ("busy", "eio", "intr"), "close": (),
 }
-GOES_ON = ("short", "intr")  # after these a bench may go on
+MADE = [("no file", {}), ("an empty file", {NAME: b""})]  # where a start makes the file
+GOES_ON = ("short", "intr")
+
+
+def may_go_on(call, how):
+    """Whether a bench may go on after such a failure."""
+    return how in GOES_ON or call.kind == "unlink"
 
 
 class Tried:
@@ -96,7 +102,10 @@ class Session:
         bench.same(Disk(self.files, self.calls))
         self.said = ran.said
         bench.put(self.files)
-        self.start = len(bench.run([])[1])  # the calls before the first store
+        _, start = bench.run([])
+        while start[-1].kind == "close":  # at the end a bench may close what it opened
+            start.pop()
+        self.start = len(start)  # the calls before the first store
         return self
 
     def answered(self, k):
@@ -147,6 +156,17 @@ def kill_at(bench, tried, s, k, deep):
                             (lambda left: s.expected(left, len(lines))) if deep else None)
 
 
+def after_failure(bench, s, calls, lines):
+    """The bench has stopped after a failure, with these lines answered. `calls` are those since
+    the session's files were safe. Then a start, or a cut at once."""
+    disk = Disk(s.files, calls)
+    labels, _ = s.expected(disk.view(), len(lines))
+    bench.answers_again(s.files, calls, labels)
+    for words, left in disk.cuts():
+        with also(f"then a cut, {words}"):
+            bench.goes_on(left, *s.expected(left, len(lines)))
+
+
 def fail_at(bench, tried, s, k, how):
     """Call k fails."""
     tried.failures += 1
@@ -155,18 +175,37 @@ def fail_at(bench, tried, s, k, how):
         ran, calls = bench.run(commands(s.stores), at=k, how=how)
         disk = Disk(s.files, calls)
         bench.same(disk)
-        if ran.status == 0 and (how in GOES_ON or s.calls[k - 1].kind == "unlink"):
+        if ran.status == 0 and may_go_on(s.calls[k - 1], how):
             bench.expect(ran, 0, s.lines)
             bench.holds(disk.view(), s.labels[-1], "at the end")
             bench.holds(disk.cut(), s.labels[-1], "after a cut at the end")
-            return
-        lines = s.answered(k - 1)
-        bench.expect(ran, REFUSED, lines)
-        labels, _ = s.expected(disk.view(), len(lines))
-        bench.answers_again(s.files, calls, labels)
-        for words, left in disk.cuts():
-            with also(f"then a cut, {words}"):
-                bench.goes_on(left, *s.expected(left, len(lines)))
+        else:
+            bench.expect(ran, REFUSED, s.answered(k - 1))
+            after_failure(bench, s, calls, s.answered(k - 1))
+
+
+def fail_after_kill(bench, tried, s, k):
+    """The bench is killed before call k, and each call of the next start fails."""
+    before, lines = s.calls[: k - 1], s.answered(k - 1)
+    view = Disk(s.files, before).view()
+    labels, _ = s.expected(view, len(lines))
+    bench.put(view)
+    _, start = bench.run(ASKING)
+    for j, call in enumerate(start, 1):
+        for how in WAYS[call.kind]:
+            tried.failures += 1
+            with tried.trying(f"{s.title}, killed before {s.words(k)}, then a start, {how} at its "
+                              f"call {j} ({call.kind})"):
+                bench.put(view)
+                ran, calls = bench.run(ASKING, at=j, how=how)
+                bench.same(Disk(s.files, before + calls))
+                if ran.status == 0 and may_go_on(call, how):
+                    bench.expect(ran, 0, labels.answers())
+                    for words, left in Disk(s.files, before + calls).cuts():
+                        bench.goes_on(left, labels, [])
+                else:
+                    bench.expect(ran, REFUSED, [])
+                    after_failure(bench, s, before + calls, lines)
 
 
 def at(bench, tried, s, k, ways):
@@ -268,7 +307,7 @@ def littered(bench):
     lot = random.Random(1)
     bench.put({})
     bench.run([])
-    image = bench.held()[NAME]
+    image = bench.held().get(NAME, b"")
     return image[: FIRST + WIDTH] + bytes(
         lot.choice((0, 0, 1, 2, lot.randrange(256), 255)) for _ in image[FIRST + WIDTH :])
 
@@ -293,39 +332,56 @@ def started_again(s, stores):
     return list(kinds.values())[:MOST_WRONG]
 
 
+def making(jobs, explore, few):
+    """The first start, and the start after a cut or a kill in it."""
+    for title, files in MADE:
+        s = explore(Session(f"making the file, {title}", files, Labels(), SESSION[3:5],
+                            SESSION[:3]), "kill fail" if few else "kill deep fail")
+        if s and not few:
+            jobs.extend((fail_after_kill, s, k) for k in range(s.start - 2, s.start + 1))
+            for again in started_again(s, [ANOTHER]):
+                explore(again, "fail", in_start=True)
+
+
+def mending(explore, s, few):
+    """A start after a cut between G and the link, and another store after it."""
+    for i, (n, k) in enumerate(before_each_link(s)):
+        label, record = s.stores[n]
+        if i % 4 == 0 or not few:
+            explore(Session(f"store {label} {record}, cut before its link, then a start that "
+                            f"stores {ANOTHER[0]}", Disk(s.files, s.calls[:k]).view(),
+                            s.labels[n], [ANOTHER], s.stores[n:]),
+                    "kill deep fail" if i % 4 == 0 and not few else "")
+
+
 def jobs_of(bench, tried, few):
     """The list of what is tried: a function with its values."""
     jobs = []
 
-    def explore(s, ways, calls=None):
+    def explore(s, ways, in_start=False, step=1):
         with tried.trying(s.title):
             s.record(bench)
-            jobs.extend((at, s, k, ways) for k in range(len(s.calls) + 1)
-                        if calls is None or k <= s.start + calls)
-        return s
+            jobs.extend((at, s, k, ways) for k in range(0, len(s.calls) + 1, step)
+                        if not in_start or k <= s.start)
+            return s
 
-    image = littered(bench)
-    made = [("no file", {}), ("an empty file", {NAME: b""})]
-    for title, files in made:
-        s = explore(Session(f"making the file, {title}", files, Labels(), SESSION[3:5],
-                            SESSION[:3]), "cut kill deep fail")
-        for again in started_again(s, [ANOTHER]) if hasattr(s, "calls") else ():
-            explore(again, "cut fail", 0)
-    for title, files in made + [("an image", {NAME: image})]:
-        s = Session(title, files, Labels(), [])
-        with tried.trying(title):
+    def together(title, files):
+        with tried.trying(f"two benches, {title}"):
+            calls = Session(title, files, Labels(), []).record(bench).calls
             jobs.append((while_it_waits, title, files, Labels()))
             jobs.extend((hold_at, title, files, Labels(), k, stays) for stays in (False, True)
-                        for k in range(1, len(s.record(bench).calls) + 1))
-    main_session = explore(Session("the session", {NAME: image}, Labels(), SESSION),
-                           "cut kill fail")
-    if hasattr(main_session, "calls"):
-        for i, (n, k) in enumerate(before_each_link(main_session)):
-            s = main_session
-            explore(Session(f"store {s.stores[n][0]} {s.stores[n][1]}, cut before its link, then "
-                            f"a start that stores {ANOTHER[0]}",
-                            Disk(s.files, s.calls[:k]).view(), s.labels[n], [ANOTHER],
-                            s.stores[n:]), "cut kill deep fail" if i % 4 == 0 else "cut")
+                        for k in range(1, len(calls) + 1))
+
+    image = littered(bench)
+    making(jobs, explore, few)
+    for title, files in MADE + [("an image", {NAME: image})]:
+        together(title, files)
+    s = explore(Session("the session", {NAME: image}, Labels(), SESSION), "kill fail",
+                step=3 if few else 1)
+    if s:
+        mending(explore, s, few)
+        jobs.extend((fail_after_kill, s, k + 1) for k in range(s.start, len(s.calls))
+                    if len(s.answered(k)) == 1 and not few)
     return jobs
 
 
