@@ -84,19 +84,23 @@ class Started:
 
 
 class Bench:
-    """The bench with its folder, and the number of its starts."""
+    """The bench with its folder, what runs in it, and the number of its starts."""
 
     def __init__(self, bench, shim, folder):
         self.bench, self.shim = os.path.abspath(bench), os.path.abspath(shim)
         shutil.rmtree(folder, ignore_errors=True)
         os.makedirs(folder)
         self.folder = os.path.realpath(folder)
-        self.log = Text()
-        self.starts = 0
-        self.judged = {}
+        self.log, self.started, self.starts = Text(), [], 0
+        self.judged = {}  # what goes_on() said
 
     def put(self, files):
-        """Makes the folder hold these files and no others."""
+        """Makes the folder hold these files and no others. What still runs is ended, and a new log
+        begins."""
+        for started in self.started:
+            started.process.kill()
+            started.process.wait()
+        self.started, self.log = [], Text()
         for name in os.listdir(self.folder):
             os.remove(os.path.join(self.folder, name))
         for name, content in files.items():
@@ -114,6 +118,7 @@ class Bench:
         """A start that is given these lines."""
         self.starts += 1
         started = Started(self, **disturbed)
+        self.started.append(started)
         started.tell(lines)
         return started
 

@@ -28,11 +28,12 @@ import sys
 
 from bench import NAME, REFUSED, STOPPED, Bench, Wrong, also
 from disk import Disk
-from labels import (ANOTHER, ASKING, FIRST, ONE, SESSION, TWO, WIDTH, Labels, commands, lines_of,
-                    told)
+from labels import ANOTHER, ASKING, FIRST, ONE, SESSION, TWO, WIDTH, Labels, commands, told
+from session import Session, Tried
 
 WORKERS = 2
-MOST_WRONG = 10
+MOST_WRONG = 10  # reports, then no more is tried
+KINDS = 10  # of folders after a cut in the first start; a right bench leaves fewer
 WAYS = {  # how a call of each kind fails
     "open": ("eio", "intr"), "read": ("eio", "short", "intr"),
     "write": ("eio", "full", "part", "short", "intr"), "truncate": ("eio",),
@@ -46,88 +47,6 @@ GOES_ON = ("short", "intr")
 def may_go_on(call, how):
     """Whether a bench may go on after such a failure."""
     return how in GOES_ON or call.kind == "unlink"
-
-
-class Tried:
-    """The numbers of what was tried, and the reports."""
-
-    def __init__(self):
-        self.stops = self.failures = self.holds = self.starts = 0
-        self.wrong = []
-
-    def add(self, other):
-        self.stops += other.stops
-        self.failures += other.failures
-        self.holds += other.holds
-        self.starts += other.starts
-        self.wrong += other.wrong
-
-    def trying(self, words):
-        return Trying(self, words)
-
-
-class Trying:
-    """One thing that is tried. If it is wrong, it is reported, and the next is tried."""
-
-    def __init__(self, tried, words):
-        self.tried, self.words = tried, words
-
-    def __enter__(self):
-        pass
-
-    def __exit__(self, kind, wrong, trace):
-        if kind is Wrong:
-            self.tried.wrong.append(f"{self.words}: {wrong}")
-        return kind is Wrong
-
-
-class Session:
-    """Stores that are given to one start, in a folder where these files are safe. `then` is
-    stored after it, and is not disturbed."""
-
-    def __init__(self, title, files, labels, stores, then=()):
-        self.title, self.files, self.stores, self.then = title, files, stores, list(then)
-        self.labels, self.lines, self.writes = [labels], [], []  # after each store; of each store
-        for store in stores:
-            labels = labels.copy()
-            writes, line = labels.store(*store)
-            self.labels.append(labels)
-            self.writes.append(writes)
-            self.lines.append(line)
-
-    def record(self, bench):
-        bench.put(self.files)
-        ran, self.calls = bench.run(commands(self.stores))
-        bench.expect(ran, 0, self.lines)
-        bench.same(Disk(self.files, self.calls))
-        self.said = ran.said
-        bench.put(self.files)
-        _, start = bench.run([])
-        while start[-1].kind == "close":  # at the end a bench may close what it opened
-            start.pop()
-        self.start = len(start)  # the calls before the first store
-        return self
-
-    def answered(self, k):
-        """The lines that were answered after k calls, before the next."""
-        return lines_of(self.said[: self.calls[k].said] if k < len(self.calls) else self.said)
-
-    def expected(self, files, n):
-        """The labels that must be in the files when n stores were answered, and the stores that
-        are to come. The store that was hit is there if the last write of its list landed."""
-        over = 0
-        if n < len(self.stores) and self.writes[n]:
-            place, length = self.writes[n][-1]
-            after = self.labels[n + 1].image()
-            over = files.get(NAME, b"")[place : place + length] == after[place : place + length]
-        return self.labels[n + over], self.stores[n + over :] + self.then
-
-    def words(self, k):
-        """What call k is, from 1."""
-        call = self.calls[k - 1]
-        about = " ".join(word if len(word) < 40 else f"({len(word) // 2} bytes)"
-                         for word in call.about)
-        return f"call {k} ({call.kind} {about})"
 
 
 def cut_at(bench, tried, s, k):
@@ -246,7 +165,8 @@ def hold_at(bench, tried, title, files, labels, k, stays):
     stays, it stores, waits until the first has ended, and stores again."""
     tried.holds += 1
     second = "stays" if stays else "ends"
-    with tried.trying(f"two benches, {title}, the first held before call {k}, the second {second}"):
+    with tried.trying(f"two benches, {title}, the first held before call {k}, the second "
+                      f"{second}"):
         bench.put(files)
         first = bench.begin(commands(ONE) + ASKING, at=k, how="hold")
         if not first.is_held():
@@ -316,8 +236,8 @@ def before_each_link(s):
     """For each store with new nodes: its number, and the calls before the write of its link."""
     for n, writes in enumerate(s.writes):
         if len(writes) > 1:
-            yield n, max(k for k in range(len(s.calls))
-                         if s.calls[k].kind == "write" and len(s.answered(k)) == n)
+            yield n, max((k for k in range(len(s.calls))
+                          if s.calls[k].kind == "write" and len(s.answered(k)) == n), default=0)
 
 
 def started_again(s, stores):
@@ -329,7 +249,7 @@ def started_again(s, stores):
             kind = left.get(NAME), tuple(sorted(left))
             kinds.setdefault(kind, Session(f"{s.title}, cut after call {k}, {words}, then a start",
                                            left, Labels(), stores))
-    return list(kinds.values())[:MOST_WRONG]
+    return list(kinds.values())[:KINDS]
 
 
 def making(jobs, explore, few):
@@ -390,7 +310,10 @@ def work(queue, jobs, bench, shim, folder):
     bench = Bench(bench, shim, folder)
     for function, *values in jobs:
         tried, starts = Tried(), bench.starts
-        function(bench, tried, *values)
+        try:
+            function(bench, tried, *values)
+        except Exception as wrong:  # a log that disk.py does not understand
+            tried.wrong.append(f"{function.__name__}: {wrong!r}")
         tried.starts = bench.starts - starts
         queue.put(tried)
     queue.put(None)

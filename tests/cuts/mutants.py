@@ -14,10 +14,12 @@ import sys
 SOURCE, INCLUDE = "examples/bench_file.c", "include"
 LIBRARY = "target/staticlib/libtrieff.a"
 
-ANSWER = '''    printf("%s = %u: change %d, writes %u\\n", label, (unsigned)record, (int)heard.change,
+ANSWER = '''\
+    printf("%s = %u: change %d, writes %u\\n", label, (unsigned)record, (int)heard.change,
            (unsigned)heard.length);
 '''
-LAST_FLUSH = '''    if (heard.length > 0)
+LAST_FLUSH = '''\
+    if (heard.length > 0)
         flush(file, fdatasync);
 '''
 FOUND = [  # notes whether the start found a file
