@@ -16,7 +16,8 @@
    No flush reaches the kernel: no power is cut here, so nothing waits for the disk. What a cut
    would leave is worked out from the log, by tests/cuts/disk.py. Calls that are not replaced here
    (writev, mmap and others) are not seen; bench.py compares the folder with the log after every
-   run and reports them. A process that does not end within 20 seconds is ended.
+   run and reports them. fstat and close do not fail here. A process that does not end within 20
+   seconds is ended.
 
      gcc -std=c11 -O2 -shared -fPIC -o target/cut_shim.so tests/cuts/cut_shim.c */
 #define _GNU_SOURCE

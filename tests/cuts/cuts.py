@@ -258,7 +258,7 @@ def making(jobs, explore, few):
         s = explore(Session(f"making the file, {title}", files, Labels(), SESSION[3:5],
                             SESSION[:3]), "kill fail" if few else "kill deep fail")
         if s and not few:
-            jobs.extend((fail_after_kill, s, k) for k in range(s.start - 2, s.start + 1))
+            jobs.extend((fail_after_kill, s, k) for k in range(1, s.start + 1))
             for again in started_again(s, [ANOTHER]):
                 explore(again, "fail", in_start=True)
 

@@ -18,10 +18,8 @@ ANSWER = '''\
     printf("%s = %u: change %d, writes %u\\n", label, (unsigned)record, (int)heard.change,
            (unsigned)heard.length);
 '''
-LAST_FLUSH = '''\
-    if (heard.length > 0)
-        flush(file, fdatasync);
-'''
+WRITE = "        put(image + writes[2 * i], writes[2 * i + 1], writes[2 * i]);\n"
+FLUSHED = "i + 3 >= heard.length"  # the writes of a store that are followed by a flush
 FOUND = [  # notes whether the start found a file
     ("static int file; ", "static bool found;\nstatic int file; "),
     ("    memcpy(head, image, sizeof head);\n",
@@ -50,10 +48,24 @@ MISTAKES = [
         }
     }
     if (memcmp''')]),
+    ("a start flushes the file that it read and goes on in it", "instead of ['B04: record 16']",
+     FOUND + [("    save();\n    if (memcmp", '''    if (!found) {
+        save();
+    } else {
+        file = opened(name, O_RDWR);
+        flush(file, fsync);
+        flush(opened(dirname(named("")), O_RDONLY | O_DIRECTORY), fsync);
+        if (memcmp(g, image, sizeof g) != 0) {
+            put(image, sizeof g, 0);
+            flush(file, fdatasync);
+        }
+    }
+    if (memcmp''')]),
     ("the answer comes before the flush", "cut after call",
-     [(LAST_FLUSH, ""), (ANSWER, ANSWER + "    fflush(stdout);\n" + LAST_FLUSH)]),
+     [(FLUSHED, FLUSHED + " && i + 1 < heard.length"),
+      (ANSWER, ANSWER + "    fflush(stdout);\n    flush(file, fdatasync);\n")]),
     ("a data field is not flushed", "instead of ['B04-117-2: record 2409']",
-     [("    if (heard.length > 0)\n", "    if (heard.length > 1)\n")]),
+     [(FLUSHED, "heard.length > 1 && " + FLUSHED)]),
     ("a failed write is ignored", "eio at call",
      [('            disk_failed("pwrite");', "            return;")]),
     ("a failed flush is ignored", "eio at call",
@@ -65,14 +77,15 @@ MISTAKES = [
     ("a failed rename is ignored", "eio at call",
      [('        disk_failed("rename");', "        errno = 0;")]),
     ("the link is written before G", "refused 6 at",
-     [("        put(image + writes[2 * i], writes[2 * i + 1], writes[2 * i]);",
-       "        uint32_t j = after_nodes ? 2 * heard.length - 3 - i : i;\n"
-       "        put(image + writes[2 * j], writes[2 * j + 1], writes[2 * j]);")]),
-    ("no flush before G", "cut after call", [("i + 2 >= heard.length", "i + 1 == heard.length")]),
+     [(WRITE, """\
+        bool last = heard.length > 1 && i + 2 >= heard.length;
+        uint32_t j = last ? 2 * heard.length - 3 - i : i;
+        put(image + writes[2 * j], writes[2 * j + 1], writes[2 * j]);
+""")]),
+    ("no flush before G", "cut after call", [(FLUSHED, "i + 2 >= heard.length")]),
     ("no flush before the link", "cut after call",
-     [("i + 2 >= heard.length", "i + 2 == heard.length")]),
-    ("one flush for all", "cut after call",
-     [("        if (after_nodes)\n", "        if (after_nodes && false)\n")]),
+     [(FLUSHED, "i + 3 == heard.length || i + 1 == heard.length")]),
+    ("one flush for all", "cut after call", [(FLUSHED, "i + 1 == heard.length")]),
     ("no mending", "count: refused 8 at",
      [("    heard = trieff_mend(ALL(image), ALL(work));\n", "")]),
     ("a lowered G is not put back", "byte 3 of the file is",
@@ -94,10 +107,7 @@ MISTAKES = [
      [("    vfprintf(stderr, why, values);\n", "")]),
     ("a start does not say that it mended", "mended: False, instead of True",
      [("    if (memcmp(g, image, sizeof g) != 0)\n", "    if (false)\n")]),
-    ("a write too many", "the session: write 2 is",
-     [("        put(image + writes[2 * i], writes[2 * i + 1], writes[2 * i]);",
-       "        for (int twice = 0; twice < 2; twice++)\n"
-       "            put(image + writes[2 * i], writes[2 * i + 1], writes[2 * i]);")]),
+    ("a write too many", "the session: write 2 is", [(WRITE, WRITE + WRITE)]),
     ("a write that the shim does not see", "by a call that the shim does not see",
      [("pwrite(file, bytes, length, (off_t)place)",
        "pwritev(file, &(struct iovec){(void *)bytes, length}, 1, (off_t)place)"),
