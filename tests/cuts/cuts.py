@@ -347,6 +347,8 @@ def main():
     the_session(alone, tried)
     jobs = jobs_of(alone, tried, "few" in more)
     tried.starts = alone.starts
+    if words:  # what is looked for may be anywhere
+        random.Random(1).shuffle(jobs)
     shown, over = 0, False
     for done in itertools.chain([Tried()], each_job(jobs, bench, shim, folder)):
         tried.add(done)

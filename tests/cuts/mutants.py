@@ -7,12 +7,14 @@ SHIM is the compiled cut_shim.c, FOLDER a folder to work in. With names, only th
 mistake is a name, words that a report must hold, and replacements: each text must be in the source
 exactly once. The exit status is 1 if a mistake does not fit the source or is not reported.
 """
+import concurrent.futures
 import os
 import subprocess
 import sys
 
 SOURCE, INCLUDE = "examples/bench_file.c", "include"
 LIBRARY = "target/staticlib/libtrieff.a"
+AT_ONCE = 2
 
 ANSWER = '''\
     printf("%s = %u: change %d, writes %u\\n", label, (unsigned)record, (int)heard.change,
@@ -140,25 +142,30 @@ def reported(program, shim, folder, words):
     return "", lines[0].replace("cuts.py: WRONG ", "")
 
 
+def attempt(source, shim, folder, mistake):
+    """Tries one mistake. Returns its line, and whether it was reported."""
+    name, words, replacements = mistake
+    place = os.path.join(folder, name.replace(" ", "-"))
+    os.makedirs(place, exist_ok=True)
+    program, report = os.path.join(place, "bench"), ""
+    wrong = build(source, replacements, program)
+    if not wrong:
+        wrong, report = reported(program, shim, os.path.join(place, "cuts"), words)
+    return (f"FAILED {name} {wrong}", False) if wrong else (f"{name}: {report}", True)
+
+
 def main():
     shim, folder, *names = sys.argv[1:]
-    os.makedirs(folder, exist_ok=True)
     with open(SOURCE) as f:
         source = f.read()
-    tried = failed = 0
-    for name, words, replacements in MISTAKES:
-        if names and name not in names:
-            continue
-        tried += 1
-        program, report = os.path.join(folder, "mutant"), ""
-        wrong = build(source, replacements, program)
-        if not wrong:
-            wrong, report = reported(program, shim, os.path.join(folder, "cuts"), words)
-        failed += wrong != ""
-        print(f"mutants.py: FAILED {name} {wrong}" if wrong else f"mutants.py: {name}: {report}",
-              flush=True)
-    print(f"mutants.py: {tried} mistakes tried, {failed} not reported")
-    sys.exit(1 if failed or not tried else 0)
+    mistakes = [mistake for mistake in MISTAKES if not names or mistake[0] in names]
+    failed = 0
+    with concurrent.futures.ThreadPoolExecutor(AT_ONCE) as pool:
+        for line, well in pool.map(lambda m: attempt(source, shim, folder, m), mistakes):
+            print(f"mutants.py: {line}", flush=True)
+            failed += not well
+    print(f"mutants.py: {len(mistakes)} mistakes tried, {failed} not reported")
+    sys.exit(1 if failed or not mistakes else 0)
 
 
 if __name__ == "__main__":
