@@ -62,8 +62,9 @@
 
    At a start:
    1. Read the kept image into memory.
-   2. Write back all that was read, and flush. This may be left out if the machine was off since
-      the last write: then what was read has landed. Otherwise it may be in a cache alone.
+   2. Write back all that was read, and flush; in a file, write it to a new file, as below. This
+      may be left out if the machine was off since the last write: then what was read has landed.
+      Otherwise it may be in a cache alone.
    3. Call trieff_mend. If it changed the first four bytes, write them back, and flush.
    4. Only now answer and store.
 
@@ -145,8 +146,8 @@ extern "C" {
 #endif
 
 /* The version of this header. It is raised by one whenever a prototype, or the layout of a struct,
-   changes. A program that declares the calls itself, in another language for example, must fit the
-   version of the library. */
+   changes. A program that declares the calls itself, as one in another language does, must follow
+   the header of the library that it links. */
 #define TRIEFF_VERSION 1
 
 /* The limits of an image's length in bytes. The least is the length of the seven fields. */

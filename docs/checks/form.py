@@ -160,8 +160,17 @@ def same_texts():
                                 f"refusal.rs {in_rust.get(number)!r}")
 
 
+def same_version():
+    """The declarations for Rust follow this version of the header."""
+    in_c = re.search(r"#define TRIEFF_VERSION (\d+)$", text(HEADER), re.M)
+    in_rust = re.search(r"pub const VERSION: u32 = (\d+);", text(RAW))
+    if in_c is None or in_rust is None or in_c[1] != in_rust[1]:
+        yield at(RAW, 1, f"VERSION is {in_rust and in_rust[1]}, the header's {in_c and in_c[1]}")
+
+
 def calls():
     yield from same_calls()
+    yield from same_version()
     yield from same_numbers()
     yield from same_orders()
     yield from same_texts()

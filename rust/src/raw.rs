@@ -5,6 +5,9 @@
 //! slice that a call may write to overlaps no other slice of that call. Nobody else changes a
 //! slice during the call.
 
+/// The version of the header that these declarations follow, TRIEFF_VERSION.
+pub const VERSION: u32 = 1;
+
 /// The answer of every call. A field that a call does not use is 0. In a refusal all fields but
 /// `number` and `place` are 0.
 #[repr(C)]
