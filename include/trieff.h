@@ -97,12 +97,12 @@
      go to spare bytes.
    - No byte changes that was not written.
 
-   Bare flash promises none of this: it is erased in blocks, and a cut while a block is erased and
-   written again loses the neighbours. A layer that moves sectors, or a card, promises it if its
-   maker says so. FRAM and EEPROM take single bytes: there the supply must last until a field is
-   written whole. The order in which a call writes to the image in memory is not promised. So do
-   not lend FRAM or memory with a battery as the image: also there keep two images, and go by the
-   list of writes.
+   Bare flash does not promise this: a field can be changed only by erasing its block and writing
+   it again, and a cut meanwhile loses the neighbours. A layer that moves sectors, or a card,
+   promises it if its maker says so. FRAM and EEPROM take single bytes: there the supply must last
+   until a field is written whole. The order in which a call writes to the image in memory is not
+   promised. So do not lend FRAM or memory with a battery as the image: also there keep two images,
+   and go by the list of writes.
 
    With these promises, wherever the cut was, mending answers TRIEFF_DONE if enough working numbers
    are lent. After that, all answers are those from before the store, or all answers are those from
