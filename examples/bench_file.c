@@ -24,10 +24,10 @@
    - After a write or a flush that failed, nothing more is stored or answered. The bench stops, and
      may be started again at once.
 
-   What it depends on: the disk writes a sector whole or not at all, and leaves its neighbours as
-   they are. A flush returns when all is safe from a power cut, or fails. A rename leaves the old
-   file or the new one under the name. In this image no field lies across the end of a sector: a
-   static assertion says so. */
+   What it depends on: the system writes the few bytes of a field whole or not at all. So does the
+   disk with a sector, and it leaves the neighbours as they are. A flush returns when all is safe
+   from a power cut, or fails. A rename leaves the old file or the new one under the name. In this
+   image no field lies across the end of a sector: a static assertion says so. */
 #define _DEFAULT_SOURCE
 #include "trieff.h"
 
@@ -57,7 +57,7 @@ static uint32_t writes[TRIEFF_WRITES_LEN];
 #define ALL(array) (array), sizeof(array) / sizeof *(array)
 
 static const char *name;    /* of the file */
-static int file;            /* open, and locked by this bench */
+static int file;            /* open for writing */
 static const char *storing; /* the label whose writes have begun and are not yet flushed */
 
 /* Stops the bench, with a sentence for the person at it. */
@@ -78,10 +78,10 @@ _Noreturn static void stop(const char *why, ...)
    The next start writes anew all that it reads. */
 _Noreturn static void disk_failed(const char *call)
 {
-    const char *reason = strerror(errno);
     const char *what = errno == ENOSPC ? "the disk is full"
                        : errno == EIO  ? "the disk failed"
                                        : "it cannot be used";
+    const char *reason = strerror(errno);
     if (storing != NULL)
         stop("%s (%s: %s). %s may be stored or not: start again and look it up", what, call,
              reason, storing);

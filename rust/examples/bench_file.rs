@@ -21,15 +21,16 @@
 //! - Every start reads the file, mends the image in memory, and writes all of it to a new file,
 //!   which then takes the name. Nothing is answered before that is flushed. What was read may have
 //!   been in the computer's memory alone: written by a bench that was stopped before its flush, or
-//!   by one whose flush failed. A cut at any step leaves the old file or the new one.
+//!   by one whose flush failed. A cut at any step leaves the old file or the new one. (So the file
+//!   has the rights of a new one, and the name is not a link to a file elsewhere.)
 //! - A store is answered after its last flush. So no store that was answered is lost.
 //! - After a write or a flush that failed, nothing more is stored or answered. The bench stops,
 //!   and may be started again at once.
 //!
-//! What it depends on: the disk writes a sector whole or not at all, and leaves its neighbours as
-//! they are. A flush returns when all is safe from a power cut, or fails. A rename leaves the old
-//! file or the new one under the name. In this image no field lies across the end of a sector: an
-//! assertion below says so.
+//! What it depends on: the system writes the few bytes of a field whole or not at all. So does the
+//! disk with a sector, and it leaves the neighbours as they are. A flush returns when all is safe
+//! from a power cut, or fails. A rename leaves the old file or the new one under the name. In this
+//! image no field lies across the end of a sector: an assertion below says so.
 #![allow(clippy::incompatible_msrv)] // the crate itself needs Rust 1.63
 
 use std::env;

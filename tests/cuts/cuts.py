@@ -1,10 +1,10 @@
 #!/usr/bin/env python3
 """Tries whether a bench that keeps its labels in a file keeps what it answered.
 
-cuts.py BENCH SHIM FOLDER [few] [until WORDS]
+cuts.py BENCH SHIM FOLDER [until WORDS]
 
-BENCH is the compiled bench, SHIM the compiled cut_shim.c, FOLDER a folder to work in. `few` tries
-a selection. After ten reports no more is tried; with `until`, after a report that holds the words.
+BENCH is the compiled bench, SHIM the compiled cut_shim.c, FOLDER a folder to work in. After ten
+reports no more is tried; with `until`, after a report that holds the words.
 
 A session of stores is recorded once. At each of its calls on files
 - the power is cut: disk.py works out what may be left, and the next start is run on it;
@@ -252,36 +252,35 @@ def started_again(s, stores):
     return list(kinds.values())[:KINDS]
 
 
-def making(jobs, explore, few):
+def making(jobs, explore):
     """The first start, and the start after a cut or a kill in it."""
     for title, files in MADE:
         s = explore(Session(f"making the file, {title}", files, Labels(), SESSION[3:5],
-                            SESSION[:3]), "kill fail" if few else "kill deep fail")
-        if s and not few:
+                            SESSION[:3]), "kill deep fail")
+        if s:
             jobs.extend((fail_after_kill, s, k) for k in range(1, s.start + 1))
             for again in started_again(s, [ANOTHER]):
                 explore(again, "fail", in_start=True)
 
 
-def mending(explore, s, few):
+def mending(explore, s):
     """A start after a cut between G and the link, and another store after it."""
     for i, (n, k) in enumerate(before_each_link(s)):
         label, record = s.stores[n]
-        if i % 4 == 0 or not few:
-            explore(Session(f"store {label} {record}, cut before its link, then a start that "
-                            f"stores {ANOTHER[0]}", Disk(s.files, s.calls[:k]).view(),
-                            s.labels[n], [ANOTHER], s.stores[n:]),
-                    "kill deep fail" if i % 4 == 0 and not few else "")
+        explore(Session(f"store {label} {record}, cut before its link, then a start that "
+                        f"stores {ANOTHER[0]}", Disk(s.files, s.calls[:k]).view(),
+                        s.labels[n], [ANOTHER], s.stores[n:]),
+                "kill deep fail" if i % 4 == 0 else "")
 
 
-def jobs_of(bench, tried, few):
+def jobs_of(bench, tried):
     """The list of what is tried: a function with its values."""
     jobs = []
 
-    def explore(s, ways, in_start=False, step=1):
+    def explore(s, ways, in_start=False):
         with tried.trying(s.title):
             s.record(bench)
-            jobs.extend((at, s, k, ways) for k in range(0, len(s.calls) + 1, step)
+            jobs.extend((at, s, k, ways) for k in range(len(s.calls) + 1)
                         if not in_start or k <= s.start)
             return s
 
@@ -293,15 +292,14 @@ def jobs_of(bench, tried, few):
                         for k in range(1, len(calls) + 1))
 
     image = littered(bench)
-    making(jobs, explore, few)
+    making(jobs, explore)
     for title, files in MADE + [("an image", {NAME: image})]:
         together(title, files)
-    s = explore(Session("the session", {NAME: image}, Labels(), SESSION), "kill fail",
-                step=3 if few else 1)
+    s = explore(Session("the session", {NAME: image}, Labels(), SESSION), "kill fail")
     if s:
-        mending(explore, s, few)
+        mending(explore, s)
         jobs.extend((fail_after_kill, s, k + 1) for k in range(s.start, len(s.calls))
-                    if len(s.answered(k)) == 1 and not few)
+                    if len(s.answered(k)) == 1)
     return jobs
 
 
@@ -345,7 +343,7 @@ def main():
     words = more[more.index("until") + 1] if "until" in more else None
     tried, alone = Tried(), Bench(bench, shim, os.path.join(folder, "alone"))
     the_session(alone, tried)
-    jobs = jobs_of(alone, tried, "few" in more)
+    jobs = jobs_of(alone, tried)
     tried.starts = alone.starts
     if words:  # what is looked for may be anywhere
         random.Random(1).shuffle(jobs)

@@ -1,5 +1,6 @@
 -- Lists of writes in groups, with a flush after each group. The groups put together are the list.
--- Of the writes since the last flush, whatever part of them landed, bytes before all of them stay.
+-- Of the writes since the last flush, whatever part of them landed, in however many rounds, bytes
+-- before all of them stay.
 -- A cut that hits one write of a list to spare bytes is one case: the writes before it landed
 -- whole, and those after it not at all.
 use Prim.Native.Nat.{ℕ, zero, suc, _≤_, _<_}
@@ -153,7 +154,7 @@ since-other : (u : ℕ) (lands : ℕ → ℕ → Bool) (l : List ℕ) (w : Write
 unfolding landed landing
 since-other u lands l w h = rw (lt-leb u (w .place) h)
 
--- bytes written before a place are not changed by writing at that place, in either order
+-- a byte that stands before a write may be set before that write or after it
 set-first : (l : List ℕ) (i a at : ℕ) (bs : List ℕ) → i < at
     → set (sets l at bs) i a ≡ sets (set l i a) at bs
 set-first l i a at [] h = refl

@@ -61,7 +61,7 @@ inRounds u [] l ws = l
 inRounds u (lands ∷ rounds) l ws = inRounds u rounds (landed u lands l ws) ws
 
 -- A cut after the first k flushes. What was flushed has landed whole, of the next group anything
--- may have landed, and no write of a later group was issued.
+-- may have landed in each round, and no write of a later group was issued.
 unfoldable pub cutSince : ℕ → List (ℕ → ℕ → Bool) → List ℕ → List (List Write) → List ℕ
 unfolding inRounds carriedOut usedLen headOf
 cutSince k rounds l [] = l
