@@ -46,9 +46,9 @@
 //! At a start:
 //!
 //! 1. Read the kept image into memory.
-//! 2. Write back all that was read, and flush; in a file, write it to a new file, as below. This
-//!    may be left out if the machine was off since the last write: then what was read has landed.
-//!    Otherwise it may be in a cache alone.
+//! 2. Write back all that was read, in whole sectors, and flush; in a file, write it to a new
+//!    file, as below. This may be left out if the machine was off since the last write: then what
+//!    was read has landed. Otherwise it may be in a cache alone.
 //! 3. Call [`mend`]. If it changed the first four bytes, write them back, and flush.
 //! 4. Only now answer and store.
 //!
