@@ -1,38 +1,51 @@
--- A store keeps 01's rules on links. A new node's address is greater than all older ones, so
--- `Rising` holds again; it is the one rule that `Linked` leaves out.
-use Prim.Native.Nat.{ℕ, suc, _+_, _<_}
-use mathlib.Core.List.{List, [], _∷_}
-use mathlib.Core.Logic.{_≢_}
+-- A store keeps the rules on links. Every walk that ended at a node still ends there, so older
+-- nodes are reached as before. A new node is reached through the node whose empty link it fills.
+use Prim.Native.Nat.{ℕ, suc, _+_, _≤_}
+use mathlib.Core.List.{List, [], _∷_, _++_}
+use mathlib.Core.Path.{_≡_, _∙_, ap}
+use native.Mathlib.Decide.{decLe}
 use native.Mathlib.Omega.{arith}
-use Rattle.trie.specs.Table.{Table, LettersBelow, descend, missing}
-use Rattle.trie.specs.Rules.{Framed, Within, Rising, LinkRules, Linked}
+use lib.ListN.{length}
+use Rattle.trie.specs.Table.{Table, LettersBelow, complete, descend, missing}
+use Rattle.trie.specs.Tree.{Reachable}
+use Rattle.trie.specs.Rules.{Framed, Reached, LinkRules, Linked}
 use Rattle.trie.specs.Storing.{put, grow, growPath, stored, added}
-use Rattle.trie.proofs.Walk.{stopped-within}
-use Rattle.trie.proofs.Grow.{Grown, new, old, grown}
+use Rattle.trie.proofs.Put.{put-descend}
+use Rattle.trie.proofs.Grow.{grow-descend, grow-descend-new, Room, room, room-next}
 use Rattle.trie.proofs.Storing.{Store, over, unchanged, longer, store, stored-linked}
 
-grow-rising : (t : Table) (q x c : ℕ) → Rising t → q < c → Rising (grow t q x c)
-grow-rising t q x c r h p i = go (grown t q x c p i)
+grow-reached : (t : Table) (g q x : ℕ) → Reached t g → q ≤ g → t .child q x ≡ 0
+    → Reached (grow t q x (suc g)) (suc g)
+grow-reached t g q x r low e c high = go (decLe c g)
   where
-    go : {y : ℕ} → Grown t q x c p i y → y ≢ 0 → p < y
-    go (new e f) u = omega arith
-    go old u = r p i u
+    go : Dec (c ≤ g) → Reachable (grow t q x (suc g)) c
+    go (yes b) = let (k, f) = r c b in (k, grow-descend t q x (suc g) 0 k e f)
+    go (no b) =
+        let (k, f) = r q low in
+        let same : suc g ≡ c = omega arith in (
+          k ++ (x ∷ []),
+          grow-descend-new t q x (suc g) 0 k e (omega arith) f ∙ ap complete same,
+        )
 
-growPath-rising : (t : Table) (q x : ℕ) (xs : List ℕ) (c : ℕ) → Rising t → q < c
-    → Rising (growPath t q x xs c)
+growPath-reached : {t : Table} {g n q x : ℕ} (xs : List ℕ) → Room t g n q x xs → Reached t g
+    → Reached (growPath t q x xs (suc g)) (g + suc (length xs))
 unfolding growPath
-growPath-rising t q x [] c r h = grow-rising t q x c r h
-growPath-rising t q x (y ∷ ys) c r h =
-    growPath-rising (grow t q x c) c y ys (suc c) (grow-rising t q x c r h) (omega arith)
+growPath-reached {t} {g} {n} {q} {x} [] r all =
+    let e : g + 1 ≡ suc g = omega arith in rw e (grow-reached t g q x all (r .node) (r .empty))
+growPath-reached {t} {g} {n} {q} {x} (y ∷ ys) r all =
+    let e : g + suc (suc (length ys)) ≡ suc g + suc (length ys) = omega arith in
+    rw e (growPath-reached ys (room-next r) (grow-reached t g q x all (r .node) (r .empty)))
 
-rising : {t s : Table} {g g′ v : ℕ} {k : List ℕ} → Within t g → Rising t → Store t g k v s g′
-    → Rising s
-unfolding put
-rising w r (over e) = r
-rising w r (unchanged e) = r
-rising {t} {g = g} {k = k} w r (longer {q} {x} {xs} e) =
-    let h = stopped-within t g k w e in
-    growPath-rising t q x xs (suc g) r (omega arith)
+put-reached : (t : Table) (g q v : ℕ) → Reached t g → Reached (put t q v) g
+put-reached t g q v r c high = let (k, e) = r c high in (k, put-descend t q v 0 k ∙ e)
+
+reached : {t s : Table} {g n g′ v : ℕ} {k : List ℕ} → Linked t g n → LettersBelow n k → Reached t g
+    → Store t g k v s g′ → Reached s g′
+reached {t} {g = g} l letters r (over {q} {v} e) = put-reached t g q v r
+reached l letters r (unchanged e) = r
+reached {t} {g = g} {k = k} l letters r (longer {q} {x} {xs} {v} e) =
+    put-reached (growPath t q x xs (suc g)) (g + suc (length xs)) (g + suc (length xs)) (suc v)
+    (growPath-reached xs (room k l letters e) r)
 
 pub rules-linked : {t : Table} {g n : ℕ} → Framed t g n → LinkRules t g → Linked t g n
 rules-linked f r = record { framed = f; within = r .within; named = r .named; once = r .once }
@@ -41,10 +54,11 @@ pub stored-rules : {t : Table} {g n : ℕ} → Framed t g n → LinkRules t g �
     → LettersBelow n k → (v : ℕ)
     → LinkRules (stored t g k v) (g + added (missing (descend t 0 k)) v)
 stored-rules {t} {g} f r k letters v =
-    let l = stored-linked (rules-linked f r) k letters v in
+    let l = rules-linked f r in
+    let s = stored-linked l k letters v in
     record {
-      within = l .within;
-      rising = rising (r .within) (r .rising) (store t g k v);
-      named = l .named;
-      once = l .once;
+      within = s .within;
+      named = s .named;
+      once = s .once;
+      reached = reached l letters (r .reached) (store t g k v);
     }

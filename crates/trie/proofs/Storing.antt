@@ -80,7 +80,7 @@ module _ {t : Table} {g n : ℕ} (l : Linked t g n) (k : List ℕ) (letters : Le
   pub stored-answer-other : (v : ℕ) (m : List ℕ) → m ≢ k → answer (stored t g k v) m ≡ answer t m
   stored-answer-other v m h = answers-other m h (store t g k v)
 
-  -- the rules on links hold again, `Rising` apart
+  -- the rules on links hold again; that every node is reached is shown in `Rules.antt`
   pub stored-linked : (v : ℕ) → Linked (stored t g k v) (g + added (missing (descend t 0 k)) v) n
   stored-linked v = links (store t g k v)
 

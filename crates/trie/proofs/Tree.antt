@@ -1,7 +1,6 @@
 -- A table that meets the rules on links is a tree as 002 describes it. A node's only parent is
--- the node of the only link that holds its address. By `Rising` the parents of a node lead back
--- to the root, so every node is reached. A node that is its own ancestor would be reached by two
--- keys, which `one-key` excludes: this uses that nodes are reached, and not why.
+-- the node of the only link that holds its address. A node that is its own ancestor would be
+-- reached by two keys, which `one-key` excludes.
 use Prim.Native.Nat.{ℕ, zero, suc, _≤_, _<_}
 use mathlib.Core.Path.{_≡_, refl, sym, _∙_, ap}
 use mathlib.Core.List.{List, [], _∷_, _++_}
@@ -9,7 +8,7 @@ use native.Mathlib.Decide.{ℕ-discrete, decLe}
 use native.Mathlib.Omega.{arith}
 use lib.ListN.{length, length-append}
 use Rattle.trie.specs.Table.{Table, complete, descend}
-use Rattle.trie.specs.Rules.{Framed, Within, Rising, Named, Once, LinkRules}
+use Rattle.trie.specs.Rules.{Framed, Within, Named, Once, LinkRules}
 use Rattle.trie.specs.Tree.{Parent, Ancestor, parent, above, Reachable}
 use Rattle.trie.proofs.Walk.{descend-nil, descend-on, descend-append, one-key}
 
@@ -44,7 +43,7 @@ child-within {q = q} within a = rw (a .link) at (within q (a .letter))
 -- ---- reached
 
 -- one link, and the walk from its node on
-link-on : {t : Table} {q p c : ℕ} (a : Parent t q p) (xs : List ℕ) → descend t p xs ≡ complete c
+pub link-on : {t : Table} {q p c : ℕ} (a : Parent t q p) (xs : List ℕ) → descend t p xs ≡ complete c
     → descend t q (a .letter ∷ xs) ≡ complete c
 link-on {t} {q} a xs e =
     descend-on t q (a .letter) xs (λ z. a .full (sym (a .link) ∙ z))
@@ -57,35 +56,6 @@ reached-on {t} {q} {c} (k, e) a = (
   k ++ (a .letter ∷ []),
   descend-append t 0 k (a .letter ∷ []) e ∙ link-on a [] (descend-nil t c),
 )
-
--- a parent comes before its child
-pub parent-before : {t : Table} {q c : ℕ} → Rising t → Parent t q c → q < c
-parent-before {q = q} rising a =
-    rw (a .link) at (rising q (a .letter) (λ z. a .full (sym (a .link) ∙ z)))
-
--- every node is reached, if its parent is whenever that comes before it
-reached-after : (t : Table) {g c : ℕ} → Named t g → Rising t → c ≤ g
-    → ((q : ℕ) → q < c → Reachable t q)
-    → Reachable t c
-reached-after t {g} {c} named rising high before = go (ℕ-discrete c 0)
-  where
-    go : Dec (c ≡ 0) → Reachable t c
-    go (yes e) = ([], descend-nil t 0 ∙ ap complete (sym e))
-    go (no z) =
-        let (q, a) = has-parent named (omega arith) high in
-        reached-on (before q (parent-before rising a)) a
-
-reached-below : (t : Table) {g : ℕ} → Named t g → Rising t → (m c : ℕ) → c < m → c ≤ g
-    → Reachable t c
-reached-below t named rising zero c low high = absurd (omega arith)
-reached-below t named rising (suc m) c low high =
-    reached-after t named rising high
-    (λ q b. reached-below t named rising m q (omega arith) (omega arith))
-
--- every node is reached from the root
-pub all-reached : {t : Table} {g c : ℕ} → LinkRules t g → c ≤ g → Reachable t c
-all-reached {t} {c = c} r high =
-    reached-below t (r .named) (r .rising) (suc c) c (omega arith) high
 
 -- ---- ancestors
 
@@ -112,4 +82,4 @@ last-parent (above a rest) = last-parent rest
 -- "Node can't be its own ancestor"
 pub not-own-ancestor : {t : Table} {g c : ℕ} → LinkRules t g → ¬ Ancestor t c c
 not-own-ancestor r a =
-    not-around (r .once) (all-reached r (child-within (r .within) (last-parent a .1))) a
+    not-around (r .once) (r .reached _ (child-within (r .within) (last-parent a .1))) a

@@ -1,12 +1,12 @@
--- A table before a last link is written (`grow`). It has every other link, so the rules that
--- hold with this link hold without it, except that the link's address stands in no link.
+-- A table before a last link is written (`grow`). It has every other link, so what the rules say
+-- of a single link or of two holds without it too. The last link's address stands in no link.
 use Prim.Native.Nat.{ℕ, _≤_}
 use mathlib.Core.Path.{_≡_, sym, _∙_}
 use mathlib.Core.Logic.{_≢_}
 use native.Mathlib.Decide.{ℕ-discrete}
 use native.Mathlib.Omega.{arith}
 use Rattle.trie.specs.Table.{Table}
-use Rattle.trie.specs.Rules.{Within, Rising, Named, Once}
+use Rattle.trie.specs.Rules.{Within, Named, Once}
 use Rattle.trie.specs.Storing.{grow}
 use Rattle.trie.proofs.Grow.{Grown, new, old, grown, grow-child, grow-child-full}
 
@@ -21,9 +21,6 @@ module _ (t : Table) (q x c : ℕ) (empty : t .child q x ≡ 0) where
       go : Dec (t .child p i ≡ 0) → t .child p i ≤ g
       go (yes e) = omega arith
       go (no h) = rw (there p i h) at (w p i)
-
-  pub unlinked-rising : Rising (grow t q x c) → Rising t
-  unlinked-rising r p i h = rw (there p i h) at (r p i (rw (there p i h) h))
 
   pub unlinked-once : Once (grow t q x c) → Once t
   unlinked-once once p i r j h e =

@@ -92,6 +92,12 @@ last : {t : Table} {a q : ℕ} (k : List ℕ) (x : ℕ) → Walk t a (k ++ (x �
 last {a = a} [] x (on h end) = (a, end, refl, h)
 last (y ∷ k) x (on h w) = let (p, v, e, f) = last k x w in (p, on h v, e, f)
 
+pub last-link : (t : Table) (a : ℕ) (k : List ℕ) (x : ℕ) {q : ℕ} → descend t a (k ++ (x ∷ []))
+    ≡ complete q
+    → (p : ℕ) × (descend t a k ≡ complete p) × (t .child p x ≡ q) × (q ≢ 0)
+last-link t a k x e =
+    let (p, w, f, h) = last k x (walk t a (k ++ (x ∷ [])) e) in (p, descended w, f, h)
+
 -- two complete walks from the root to one node, with their keys read from the last letter
 unique : {t : Table} {q : ℕ} (k m : List ℕ) → Once t → Walk t 0 (reverse k) (complete q)
     → Walk t 0 (reverse m) (complete q) → k ≡ m

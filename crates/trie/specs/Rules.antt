@@ -1,11 +1,13 @@
--- 01's rules on links ("Links: every link that isn't empty is at most G and greater than the
--- address of the node it stands in. Every address from 1 to G stands in exactly one link"), each
--- by itself and then as one record. `Framed` says that a table has no link outside its nodes and
--- letters, so no rule repeats these bounds. An empty link is 0, which is at most G.
+-- The rules on links, each by itself and then as one record. 01: "every link that isn't empty is
+-- at most G" and "Every address from 1 to G stands in exactly one link". 02, Ask 3: "every node
+-- must be reached from the root", instead of 01's "and greater than the address of the node it
+-- stands in". `Framed` says that a table has no link outside its nodes and letters, so no rule
+-- repeats these bounds. An empty link is 0, which is at most G.
 use Prim.Native.Nat.{ℕ, _≤_, _<_}
 use mathlib.Core.Path.{_≡_}
 use mathlib.Core.Logic.{_≢_}
 use Rattle.trie.specs.Table.{Table}
+use Rattle.trie.specs.Tree.{Reachable}
 
 -- outside the nodes 0..g and the letters below n, all links and data are 0
 pub record Framed (t : Table) (g n : ℕ) : Type 0 where
@@ -17,10 +19,6 @@ pub record Framed (t : Table) (g n : ℕ) : Type 0 where
 abbrev pub Within : Table → ℕ → Type 0
 Within t g = (q i : ℕ) → t .child q i ≤ g
 
--- "and greater than the address of the node it stands in"
-abbrev pub Rising : Table → Type 0
-Rising t = (q i : ℕ) → t .child q i ≢ 0 → q < t .child q i
-
 -- "Every address from 1 to G stands in [..] one link": in at least one
 abbrev pub Named : Table → ℕ → Type 0
 Named t g = (x : ℕ) → 1 ≤ x → x ≤ g → (q : ℕ) × (i : ℕ) × (t .child q i ≡ x)
@@ -29,17 +27,21 @@ Named t g = (x : ℕ) → 1 ≤ x → x ≤ g → (q : ℕ) × (i : ℕ) × (t .
 abbrev pub Once : Table → Type 0
 Once t = (q i p j : ℕ) → t .child q i ≢ 0 → t .child q i ≡ t .child p j → (q ≡ p) × (i ≡ j)
 
+-- "every node must be reached from the root"
+abbrev pub Reached : Table → ℕ → Type 0
+Reached t g = (c : ℕ) → c ≤ g → Reachable t c
+
 -- All the rules, for a table with greatest address g. The table of an accepted image meets them.
 pub record LinkRules (t : Table) (g : ℕ) : Type 0 where
   pub within : Within t g
-  pub rising : Rising t
   pub named : Named t g
   pub once : Once t
+  pub reached : Reached t g
 
 -- What the laws on a store's answers and links require of a table, and what a store keeps. It
--- leaves out `Rising`. Few public laws of trie and passing use that rule: two show it for another
--- table, `trie/proofs/Rules.antt: stored-rules` and `trie/proofs/Unlinked.antt: unlinked-rising`,
--- and by it every node is reached, `trie/proofs/Tree.antt: all-reached`.
+-- leaves out `Reached`, which few laws use: a store keeps it (`trie/proofs/Rules.antt:
+-- stored-rules`), and by it no node is its own ancestor (`trie/proofs/Tree.antt:
+-- not-own-ancestor`).
 pub record Linked (t : Table) (g n : ℕ) : Type 0 where
   pub framed : Framed t g n
   pub within : Within t g
