@@ -1,6 +1,6 @@
 -- Demand 2, "Lent enough working numbers, the check accepts exactly the images that meet the
--- TRIEFF rules as document 01 reads them": 1 to 8 pass exactly where the image is `Accepted`.
--- Each row is a rule negated; 6 to 8 are in `Linking`.
+-- TRIEFF rules as document 01 reads them": 1 to 8 and 16 pass exactly where the image is
+-- `Accepted`. Each row is a rule negated; 6 to 8 and 16 are in `Linking`.
 use Prim.Native.Nat.{ℕ, _+_, _≤_, _<_}
 use mathlib.Core.Path.{_≡_, refl, ap, _∙_}
 use mathlib.Core.Logic.{_↔_}
@@ -45,21 +45,21 @@ accepted-opens {l} a =
     left-4 h (alphabetIn h l) (length l) long (a .head-permitted) unspoilt
     ∙ fits-4 h (length l) (le-leb (usedLen h) (length l) (a .room))
 
--- ---- 1 to 8, of an image and the working numbers lent
+-- ---- 1 to 8 and 16, of an image and the working numbers lent
 
 -- the numbers of a check's refusals
 abbrev pub checkNumbers : List ℕ
-checkNumbers = 1 ∷ 2 ∷ 3 ∷ 4 ∷ 5 ∷ 6 ∷ 7 ∷ 8 ∷ []
+checkNumbers = 1 ∷ 2 ∷ 3 ∷ 4 ∷ 5 ∷ 6 ∷ 7 ∷ 8 ∷ 16 ∷ []
 
 module _ (l work : List ℕ) where
-  -- once 1 to 5 have passed, 6 to 8 decide
+  -- once 1 to 5 have passed, 6 to 8 and 16 decide
   pub left-6 : first (openingRowsOf l) ≡ none → headOf l .g + 1 ≤ length work
       → first (checkOrder l work) ≡ first (linkRows (headOf l) (tableOf (headOf l) l))
   unfolding checkOrder row5
   left-6 e b =
       second-part (openingRowsOf l) _ e ∙ no-row 5 0 _ (le-ltb (length work) (headOf l .g + 1) b)
 
-  -- what is known of an image and the working numbers once 1 to 8 have passed
+  -- what is known of an image and the working numbers once the check has passed
   pub record Checked : Type 0 where
     pub opened : Passed (headOf l) (alphabetIn (headOf l) l) (length l)
     pub lent : headOf l .g + 1 ≤ length work

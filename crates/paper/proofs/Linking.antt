@@ -1,8 +1,8 @@
--- Rows 6 to 8 and 01's rules on links: the rows pass exactly where the rules hold. The rows
+-- Rows 6 to 8 and 16, and the rules on links: the rows pass exactly where the rules hold. The rows
 -- speak of the nodes and letters of the image, the rules of every link; a table has no other
 -- link. In how many links an address stands is a sum, above 0 where one link holds the address.
 use Prim.Native.Nat.{ℕ, zero, suc, _+_, _≤_, _<_}
-use mathlib.Core.Path.{_≡_, refl, sym, _∙_}
+use mathlib.Core.Path.{_≡_, refl, sym, _∙_, subst}
 use mathlib.Core.Bool.{Bool, true, false, not, _&&_, _||_, cond, or-true}
 use mathlib.Core.Logic.{_↔_, _≢_, _⊎_, inl, inr, ⊎-elim}
 use mathlib.Core.Option.{none, some}
@@ -15,73 +15,61 @@ use borrow.Author.Tests.{ltb-true, ltb-false, eqb-true, eqb-false, not-false}
 use Rattle.field.proofs.Range.{both}
 use Rattle.trie.specs.Table.{Table}
 use Rattle.trie.specs.Lowest.{lowest}
-use Rattle.trie.specs.Rules.{Framed, Within, Rising, Named, Once, LinkRules}
+use Rattle.trie.specs.Rules.{Framed, Within, Named, Once, Reached, LinkRules}
+use Rattle.trie.specs.Tree.{Reachable, depthOf}
 use Rattle.trie.specs.Storing.{grow}
+use Rattle.trie.proofs.Depth.{reached-depth, depth-reached}
+use Rattle.trie.proofs.Walk.{descend-nil}
 use Rattle.trie.proofs.Lowest.{NonePasses, lowest-none, none-lowest, lowest-least, lowest-at}
 use Rattle.trie.proofs.Counted.{Sums, one-part, two-parts, some-part, one-at-most}
-use Rattle.trie.proofs.Unlinked.{unlinked-within, unlinked-rising, unlinked-once, unlinked-names}
+use Rattle.trie.proofs.Unlinked.{unlinked-within, unlinked-once, unlinked-names}
 use Rattle.trie.proofs.Unlinked.{unlinked-none}
 use Rattle.head.specs.declared.Head.{Head}
 use Rattle.alphabet.specs.Letters.{among}
 use Rattle.paper.specs.Hearing.{Said, Row, rowWhen, first}
 use Rattle.paper.specs.Answers.{numberAt}
 use Rattle.paper.specs.Rows.{badLink, holdsBad, rowWhenLowest, row6, timesIn, times, row7}
-use Rattle.paper.specs.Rows.{row8}
+use Rattle.paper.specs.Rows.{row8, row16}
 use Rattle.paper.specs.Orders.{linkRows}
 use Rattle.paper.proofs.Hearing.{not-given, is-given, was-false, first-nil, first-none}
 use Rattle.paper.proofs.Hearing.{first-some, passed-row}
-use Rattle.paper.proofs.Numbers.{AllSay, end, _then_, lowest-says, pass-row}
+use Rattle.paper.proofs.Numbers.{AllSay, end, _then_, lowest-says, first-says, one-of}
+use Rattle.paper.proofs.Numbers.{pass-row}
 
 -- ---- a bad link, and a node that holds one
 
-pub not-bad : (g q c : ℕ) → (badLink g q c ≡ false) ↔ ((c ≡ 0) ⊎ ((c ≤ g) × (q < c)))
+pub not-bad : (g c : ℕ) → (badLink g c ≡ false) ↔ (c ≤ g)
 unfolding badLink
-not-bad g q zero = (λ _. inl refl, λ _. refl)
-not-bad g q (suc c) = (to, from)
-  where
-    to : not (leb (suc c) g && ltb q (suc c)) ≡ false → (suc c ≡ 0) ⊎ ((suc c ≤ g) × (q < suc c))
-    to e = let u = both (leb (suc c) g) (ltb q (suc c)) (not-false _ e) in
-        inr (leb-true (suc c) g (u .0), ltb-true q (suc c) (u .1))
-
-    from : (suc c ≡ 0) ⊎ ((suc c ≤ g) × (q < suc c)) → not (leb (suc c) g && ltb q (suc c)) ≡ false
-    from (inl z) = absurd (omega arith)
-    from (inr b) = rw (le-leb (suc c) g (b .0), lt-ltb q (suc c) (b .1))
-
-pub good-link : (g q c : ℕ) → c ≢ 0 → badLink g q c ≡ false → (c ≤ g) × (q < c)
-good-link g q c d e = ⊎-elim (λ z. absurd (d z)) (λ b. b) (not-bad g q c .0 e)
-
-pub link-within : (g q c : ℕ) → badLink g q c ≡ false → c ≤ g
-link-within g q c e = ⊎-elim (λ z. omega arith) (λ b. b .0) (not-bad g q c .0 e)
+not-bad g c = (ltb-false g c, le-ltb g c)
 
 -- a link that is not bad is not bad with a greater G either
-pub milder : (g g′ q c : ℕ) → g ≤ g′ → badLink g q c ≡ false → badLink g′ q c ≡ false
-milder g g′ q c b e =
-    not-bad g′ q c .1 (⊎-elim inl (λ d. inr (omega arith, d .1)) (not-bad g q c .0 e))
+pub milder : (g g′ c : ℕ) → g ≤ g′ → badLink g c ≡ false → badLink g′ c ≡ false
+milder g g′ c b e = not-bad g′ c .1 (omega (arith, not-bad g c .0 e))
 
 module _ (g : ℕ) (t : Table) (q : ℕ) where
-  pub holds-bad : (m : ℕ) {i : ℕ} → i < m → badLink g q (t .child q i) ≡ true → holdsBad g t q m
+  pub holds-bad : (m : ℕ) {i : ℕ} → i < m → badLink g (t .child q i) ≡ true → holdsBad g t q m
       ≡ true
   unfolding holdsBad
   holds-bad zero h e = absurd (omega arith)
   holds-bad (suc m) {i} h e = go (ℕ-discrete i m) (λ b. holds-bad m b e)
     where
       go : Dec (i ≡ m) → (i < m → holdsBad g t q m ≡ true)
-          → (holdsBad g t q m || badLink g q (t .child q m)) ≡ true
-      go (yes s) on = let f : badLink g q (t .child q m) ≡ true = rw (← s) e in
+          → (holdsBad g t q m || badLink g (t .child q m)) ≡ true
+      go (yes s) on = let f : badLink g (t .child q m) ≡ true = rw (← s) e in
           rw f (or-true (holdsBad g t q m))
       go (no d) on = rw (on (omega arith))
 
-  pub holds-none : (m : ℕ) → ((i : ℕ) → i < m → badLink g q (t .child q i) ≡ false)
+  pub holds-none : (m : ℕ) → ((i : ℕ) → i < m → badLink g (t .child q i) ≡ false)
       → holdsBad g t q m ≡ false
   unfolding holdsBad
   holds-none zero good = refl
   holds-none (suc m) good = rw (holds-none m (λ i h. good i (omega arith)), good m (omega arith))
 
-  pub none-held : (m : ℕ) → holdsBad g t q m ≡ false → (i : ℕ) → i < m → badLink g q (t .child q i)
+  pub none-held : (m : ℕ) → holdsBad g t q m ≡ false → (i : ℕ) → i < m → badLink g (t .child q i)
       ≡ false
-  none-held m e i h = go (badLink g q (t .child q i)) refl
+  none-held m e i h = go (badLink g (t .child q i)) refl
     where
-      go : (b : Bool) → badLink g q (t .child q i) ≡ b → b ≡ false
+      go : (b : Bool) → badLink g (t .child q i) ≡ b → b ≡ false
       go true f = sym (holds-bad m h f) ∙ e
       go false f = refl
 
@@ -230,11 +218,27 @@ module _ (h : Head) (t : Table) where
   row8-none f =
       lowest-passed 8 nowhere 1 (h .g) (λ x b c. ne-eqb (count x) 0 (f x b (omega arith)))
 
+  -- row 16: is a node not reached?
+  abbrev pub unreached : ℕ → Bool
+  unreached x = ltb (h .g) (depthOf t (h .n) (h .g) x)
+
+  pub row16-none : ((x : ℕ) → 1 ≤ x → x ≤ h .g → depthOf t (h .n) (h .g) x ≤ h .g)
+      → row16 h t ≡ none
+  unfolding row16
+  row16-none f =
+      lowest-passed 16 unreached 1 (h .g) (λ x b c. le-ltb (h .g) _ (f x b (omega arith)))
+
+  pub none-row16 : row16 h t ≡ none → (x : ℕ) → 1 ≤ x → x ≤ h .g
+      → depthOf t (h .n) (h .g) x ≤ h .g
+  unfolding row16
+  none-row16 e x b c =
+      ltb-false (h .g) _ (passed-lowest 16 unreached 1 (h .g) e x b (omega arith))
+
   pub none-row8 : row8 h t ≡ none → (x : ℕ) → 1 ≤ x → x ≤ h .g → count x ≢ 0
   unfolding row8
   none-row8 e x b c = eqb-false (count x) 0 (passed-lowest 8 nowhere 1 (h .g) e x b (omega arith))
 
--- ---- 6 to 8 pass exactly where the rules on links hold
+-- ---- 6 to 8 and 16 pass exactly where the rules on links hold
 
 module _ (h : Head) (t : Table) (f : Framed t (h .g) (h .n)) where
   -- a link that is not empty is one of a node up to G, for a letter below N
@@ -249,37 +253,19 @@ module _ (h : Head) (t : Table) (f : Framed t (h .g) (h .n)) where
       letter (no b) = omega arith
       letter (yes b) = absurd (d (f .no-letter q i b))
 
-  -- what row 6 asks of a link: it is empty, or at most G and greater than its node's address
-  abbrev Fair : ℕ → ℕ → Type 0
-  Fair q i = (t .child q i ≡ 0) ⊎ ((t .child q i ≤ h .g) × (q < t .child q i))
-
-  unless-empty : (q i : ℕ) → (t .child q i ≢ 0 → Fair q i) → Fair q i
-  unless-empty q i full = go (ℕ-discrete (t .child q i) 0)
-    where
-      go : Dec (t .child q i ≡ 0) → Fair q i
-      go (yes z) = inl z
-      go (no d) = full d
-
-  none-fair : row6 h t ≡ none → (q i : ℕ) → Fair q i
-  none-fair e q i =
-      unless-empty q i
-      (λ d.
-      let (a, b) = inside q i d in
-      not-bad (h .g) q (t .child q i) .0 (none-held (h .g) t q (h .n) (none-row6 h t e q a) i b))
-
   none-within : row6 h t ≡ none → Within t (h .g)
-  none-within e q i = ⊎-elim (λ z. omega arith) (λ b. b .0) (none-fair e q i)
-
-  none-rising : row6 h t ≡ none → Rising t
-  none-rising e q i d = ⊎-elim (λ z. absurd (d z)) (λ b. b .1) (none-fair e q i)
-
-  rules-6 : Within t (h .g) → Rising t → row6 h t ≡ none
-  rules-6 w r =
-      row6-none h t (λ q _. holds-none (h .g) t q (h .n)
-      (λ i _. not-bad (h .g) q (t .child q i) .1 (fair q i)))
+  none-within e q i = go (ℕ-discrete (t .child q i) 0)
     where
-      fair : (q i : ℕ) → Fair q i
-      fair q i = unless-empty q i (λ d. inr (w q i, r q i d))
+      go : Dec (t .child q i ≡ 0) → t .child q i ≤ h .g
+      go (yes z) = omega arith
+      go (no d) =
+          let (a, b) = inside q i d in
+          not-bad (h .g) (t .child q i) .0 (none-held (h .g) t q (h .n) (none-row6 h t e q a) i b)
+
+  rules-6 : Within t (h .g) → row6 h t ≡ none
+  rules-6 w =
+      row6-none h t (λ q _. holds-none (h .g) t q (h .n)
+      (λ i _. not-bad (h .g) (t .child q i) .1 (w q i)))
 
   none-once : Within t (h .g) → row7 h t ≡ none → Once t
   none-once w e q i p j d s =
@@ -301,41 +287,54 @@ module _ (h : Head) (t : Table) (f : Framed t (h .g) (h .n)) where
       let (a, b′) = inside q i (omega arith) in
       omega (arith, counted t x (h .n) {q = q} {i = i} {k = h .g + 1} (omega arith) b′ e))
 
-  -- 6 to 8 for a table, in both directions
+  none-reached : row16 h t ≡ none → Reached t (h .g)
+  none-reached e c high = go (ℕ-discrete c 0)
+    where
+      go : Dec (c ≡ 0) → Reachable t c
+      go (yes z) = rw z ([], descend-nil t 0)
+      go (no d) = depth-reached t (h .n) (h .g) c (none-row16 h t e c (omega arith) high)
+
+  rules-16 : Reached t (h .g) → row16 h t ≡ none
+  rules-16 reached =
+      row16-none h t (λ x b c. reached-depth t (h .n) (h .g) f x c (reached x c))
+
+  -- 6 to 8 and 16 for a table, in both directions
   pub rules-pass : LinkRules t (h .g) → first (linkRows h t) ≡ none
   unfolding linkRows
   rules-pass r =
-      first-none _ _ (rules-6 (r .within) (r .rising))
+      first-none _ _ (rules-6 (r .within))
       ∙ first-none _ _ (rules-7 (r .once))
       ∙ first-none _ _ (rules-8 (r .named))
+      ∙ first-none _ _ (rules-16 (r .reached))
       ∙ first-nil
 
   pub passed-rules : first (linkRows h t) ≡ none → LinkRules t (h .g)
   unfolding linkRows
   passed-rules e =
-      let after6 = passed-row (row6 h t) (row7 h t ∷ row8 h t ∷ []) e in
-      let after7 = passed-row (row7 h t) (row8 h t ∷ []) (after6 .1) in
-      let none-8 = passed-row (row8 h t) [] (after7 .1) .0 in
+      let after6 = passed-row (row6 h t) (row7 h t ∷ row8 h t ∷ row16 h t ∷ []) e in
+      let after7 = passed-row (row7 h t) (row8 h t ∷ row16 h t ∷ []) (after6 .1) in
+      let after8 = passed-row (row8 h t) (row16 h t ∷ []) (after7 .1) in
+      let none-16 = passed-row (row16 h t) [] (after8 .1) .0 in
       let within : Within t (h .g) = none-within (after6 .0) in
       record {
         within = within;
-        rising = none-rising (after6 .0);
-        named = none-named none-8;
+        named = none-named (after8 .0);
         once = none-once within (after7 .0);
+        reached = none-reached none-16;
       }
 
--- a link that meets 01's rules is not bad
-pub ruled-link : {t : Table} {g : ℕ} → LinkRules t g → (q i : ℕ) → t .child q i ≢ 0
-    → badLink g q (t .child q i) ≡ false
-ruled-link {t} {g} r q i d = not-bad g q (t .child q i) .1 (inr (r .within q i, r .rising q i d))
+-- a link that meets the rules is not bad
+pub ruled-link : {t : Table} {g : ℕ} → LinkRules t g → (q i : ℕ) → badLink g (t .child q i) ≡ false
+ruled-link {t} {g} r q i = not-bad g (t .child q i) .1 (r .within q i)
 
--- 6 to 8 give no other number
-pub linking-says : (h : Head) (t : Table) → AllSay (6 ∷ 7 ∷ 8 ∷ []) (linkRows h t)
-unfolding linkRows row6 row7 row8 among
+-- 6 to 8 and 16 give no other number
+pub linking-says : (h : Head) (t : Table) → AllSay (6 ∷ 7 ∷ 8 ∷ 16 ∷ []) (linkRows h t)
+unfolding linkRows row6 row7 row8 row16 among
 linking-says h t =
     lowest-says 6 (holds h t) 0 (h .g + 1) refl
     then lowest-says 7 (twice h t) 1 (h .g) refl
     then lowest-says 8 (nowhere h t) 1 (h .g) refl
+    then lowest-says 16 (unreached h t) 1 (h .g) refl
     then end
 
 -- ---- what is known where 8 is given
@@ -355,20 +354,26 @@ lowest-said number test a k {s} e = go (ltb (lowest test a k) (a + k)) refl e
 
 pub eight-place : (h : Head) (t : Table) {s : Said} → first (linkRows h t) ≡ some s → s .number ≡ 8
     → (1 ≤ s .place) × (s .place ≤ h .g)
-unfolding linkRows row6 row7 row8 among first
-eight-place h t e n =
+unfolding linkRows row6 row7 row8 row16 among first
+eight-place h t {s} e n =
     let after6 =
-    pass-row (row7 h t ∷ row8 h t ∷ []) 8
+    pass-row (row7 h t ∷ row8 h t ∷ row16 h t ∷ []) 8
     (lowest-says {numbers = 6 ∷ []} 6 (holds h t) 0 (h .g + 1) refl) refl n e in
     let after7 =
-    pass-row (row8 h t ∷ []) 8 (lowest-says {numbers = 7 ∷ []} 7 (twice h t) 1 (h .g) refl)
+    pass-row (row8 h t ∷ row16 h t ∷ []) 8
+    (lowest-says {numbers = 7 ∷ []} 7 (twice h t) 1 (h .g) refl)
     refl n (after6 .1) in
-    let b = lowest-said 8 (nowhere h t) 1 (h .g) (only (row8 h t) (after7 .1)) in
+    let b = lowest-said 8 (nowhere h t) 1 (h .g) (eighth (row8 h t) refl (after7 .1)) in
     (b .0, omega (arith, b .1))
   where
-    only : (r : Row) {s : Said} → first (r ∷ []) ≡ some s → r ≡ some s
-    only none f = let z : _≡_ {A = ℕ} 0 1 = cc in absurd (omega arith)
-    only (some s) f = f
+    eighth : (r : Row) → row8 h t ≡ r → first (r ∷ row16 h t ∷ []) ≡ some s → r ≡ some s
+    eighth none _ f =
+        let says = first-says
+        (lowest-says {numbers = 16 ∷ []} 16 (unreached h t) 1 (h .g) refl then end) in
+        let said : among 8 (16 ∷ []) ≡ true =
+        subst (λ (m : ℕ). among m (16 ∷ []) ≡ true) n (one-of says f) in
+        let z : _≡_ {A = ℕ} 0 1 = cc in absurd (omega arith)
+    eighth (some s) _ f = f
 
 -- ---- a table that lacks one link: 8 is given at the address that the link would hold, and no
 -- row before it is given
@@ -412,7 +417,6 @@ module _ (h : Head) (t : Table) (f : Framed t (h .g) (h .n)) {q x c : ℕ}
   unfolding linkRows
   unlinked-8 =
       first-none _ _
-      (rules-6 h t f (unlinked-within t q x c (u .empty) (u .rules .within))
-      (unlinked-rising t q x c (u .empty) (u .rules .rising)))
+      (rules-6 h t f (unlinked-within t q x c (u .empty) (u .rules .within)))
       ∙ first-none _ _ (rules-7 h t f (unlinked-once t q x c (u .empty) (u .rules .once)))
-      ∙ first-some _ [] said-8
+      ∙ first-some _ _ said-8

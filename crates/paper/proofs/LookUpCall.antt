@@ -41,7 +41,7 @@ use Rattle.paper.proofs.Opening.{Passed, passed, opening-says, unspoilt
 use Rattle.paper.proofs.Opening.{alphabet-whole}
 use Rattle.paper.proofs.Keying.{some-found, letters-fit, text-fit, given-says-key}
 use Rattle.paper.proofs.Named.{named-letters}
-use Rattle.paper.proofs.Linking.{good-link}
+use Rattle.paper.proofs.Linking.{not-bad}
 
 -- ---- 002's reads and the table
 
@@ -95,7 +95,7 @@ module _ (h : Head) (l : List ℕ) where
       go (no e) =
           let on = fault-none (badLink (h .g)) (tableOf h l) q x xs refl e f in
           value-on (tableOf h l) q x xs refl e
-          ∙ next c (good-link (h .g) q c e (on .0) .0) (s .1) (on .1)
+          ∙ next c (not-bad (h .g) c .0 (on .0)) (s .1) (on .1)
           ∙ sym (follow-on c 0 (λ p. queryFrom h l p xs) e)
 
   agree : (q : ℕ) (k : List ℕ) → Agree q k

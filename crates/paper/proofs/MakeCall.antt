@@ -13,7 +13,7 @@ use lib.Seq.{sets, sets-eq, length-sets, take-at, drop-at}
 use Rattle.field.specs.Field.{cleared}
 use Rattle.field.proofs.Sets.{sets-append}
 use Rattle.field.proofs.Range.{between-true}
-use Rattle.trie.specs.Table.{Table, answer}
+use Rattle.trie.specs.Table.{complete, Table, answer}
 use Rattle.trie.proofs.Walk.{descend-nil, descend-empty, answer-complete, answer-stopped}
 use Rattle.trie.proofs.Count.{blank-keys}
 use Rattle.head.specs.declared.Head.{Head}
@@ -189,10 +189,12 @@ module _ {h : Head} {alphabet image : List ℕ} (m : Made h alphabet image) wher
         links =
             record {
               within = λ q i. omega (arith, fresh-child q i);
-              rising = λ q i full. absurd (full (fresh-child q i));
               named =
                   λ x low high. absurd (omega (arith, ap (λ (k : Head). k .g) e, m .root-alone));
               once = λ q i p j full same. absurd (full (fresh-child q i));
+              reached = λ c high.
+                  let z : c ≡ 0 = omega (arith, ap (λ (k : Head). k .g) e, m .root-alone) in
+                  ([], descend-nil _ 0 ∙ ap complete (sym z));
             };
       }
 

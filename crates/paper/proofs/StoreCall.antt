@@ -232,14 +232,14 @@ module _ {l : List ℕ} (a : Accepted l) where
       c : ℕ
       c = tableIn l .child q x
 
-      bad : ℕ → ℕ → Bool
+      bad : ℕ → Bool
       bad = badLink (headOf l .g)
 
       go : Dec (c ≡ 0) → fault bad (tableIn l) c xs ≡ none → fault bad (tableIn l) q (x ∷ xs)
           ≡ none
       go (yes e) rest = fault-empty bad (tableIn l) q x xs e
       go (no e) rest =
-          fault-on bad (tableIn l) q x xs refl e (ruled-link (a .links) q x e) ∙ rest
+          fault-on bad (tableIn l) q x xs refl e (ruled-link (a .links) q x) ∙ rest
 
   pub looks-up-accepted : (given : Given) → lookUpOf l given ≡ heard (first (keyRows l given)) []
       (telling (answer (tableIn l) (keyIn l given)))
@@ -370,7 +370,7 @@ module _ (h : Head) where
 
 -- the numbers of its refusals
 abbrev pub storeNumbers : List ℕ
-storeNumbers = 1 ∷ 2 ∷ 3 ∷ 4 ∷ 5 ∷ 6 ∷ 7 ∷ 8 ∷ 9 ∷ 10 ∷ 11 ∷ 12 ∷ 13 ∷ []
+storeNumbers = 1 ∷ 2 ∷ 3 ∷ 4 ∷ 5 ∷ 6 ∷ 7 ∷ 8 ∷ 16 ∷ 9 ∷ 10 ∷ 11 ∷ 12 ∷ 13 ∷ []
 
 -- 11, 12 and 13 for a key and a value
 abbrev pub valued : List ℕ → List ℕ → ℕ → List Row

@@ -1,4 +1,5 @@
--- 01: "Prove those marked P, together, as a single tabulated fact about the written rules". Each
+-- 01: "Prove those marked P, together, as a single tabulated fact about the written rules", with
+-- cases of 02's Ask 3. Each
 -- call of the table leaves what the table says, and each image that is left has the G, W and U
 -- that the table says; the checker computes both.
 use mathlib.Core.Path.{_≡_, refl}
@@ -9,7 +10,8 @@ use Rattle.utf8.specs.Text.{charAt, inFront, charsFrom, chars}
 use Rattle.trie.specs.Table.{follow, descend, valueAt, answer, missing, fault}
 use Rattle.trie.specs.Keys.{present, ownKey, byLetter, keysUnder, before, meets, firstMeeting}
 use Rattle.trie.specs.Storing.{added, changeOf}
-use Rattle.trie.specs.Lowest.{lowest}
+use Rattle.trie.specs.Lowest.{lowest, anyBelow}
+use Rattle.trie.specs.Tree.{holdsAddress, atDepth, depthOf}
 use Rattle.head.specs.Fields.{headOf, headBytes, permitted, nodeWidth, nodePlace, usedLen}
 use Rattle.alphabet.specs.Letters.{among, allDifferent, isAlphabet, goodAlphabet, orEmpty, letters}
 use Rattle.alphabet.specs.Letters.{letterOf, withLetter, lettersOfChars, keyOfChars, keyOfText}
@@ -20,7 +22,7 @@ use Rattle.paper.specs.Hearing.{rowWhen, first, refusedNumbers, doneNumb
 use Rattle.paper.specs.Rows.{row1, row2, row3, row4, row5, badLink, holdsBad, rowWhenLowest}
 use Rattle.paper.specs.Rows.{row6, timesIn, times, row7, row8, row9, row9next, allBelow}
 use Rattle.paper.specs.Rows.{row10, isNone, row10text, row11, row12, row13, row14, row15}
-use Rattle.paper.specs.Rows.{row6At, row6path}
+use Rattle.paper.specs.Rows.{row6At, row6path, row16}
 use Rattle.paper.specs.Given.{alphabetIn, meantBy, meantIn, keyIn}
 use Rattle.paper.specs.Orders.{openingRows, openingRowsOf, linkRows, checkOrder, lettersRows}
 use Rattle.paper.specs.Orders.{textRows, keyRowsBy, keyRows, nextRows, lookUpOrder}
@@ -35,7 +37,7 @@ pub tabulated :
     × (map (λ (s : Sized). figuresOf (s .image)) sizes ≡ map (λ (s : Sized). s .figures) sizes)
 unfolding fieldAt digits inRange inRanges fitsRow lengthBy charLen charAt inFront charsFrom chars
     follow descend valueAt answer missing fault present ownKey byLetter keysUnder before meets
-    firstMeeting added changeOf lowest headOf permitted nodeWidth nodePlace usedLen among
+    firstMeeting added changeOf lowest anyBelow holdsAddress atDepth depthOf row16 headOf permitted nodeWidth nodePlace usedLen among
     allDifferent isAlphabet goodAlphabet orEmpty letters letterOf withLetter lettersOfChars
     keyOfChars keyOfText linkPlace dataPlace tableOf carriedOut lastNode pathNode newNodes
     totalWrite linkWrite dataWrite storeWrites rowWhen first refusedNumbers doneNumbers heard row1

@@ -6,7 +6,7 @@ use Prim.Native.Nat.{ℕ}
 use Rattle.trie.specs.Table.{Table}
 use Rattle.trie.specs.Tree.{Parent, Ancestor, parent, above}
 use Rattle.trie.proofs.Tree.{has-parent, one-parent, root-parentless, parent-within, child-within}
-use Rattle.trie.proofs.Tree.{all-reached, not-own-ancestor}
+use Rattle.trie.proofs.Tree.{not-own-ancestor}
 use Rattle.head.specs.Fields.{headOf}
 use Rattle.paper.specs.Calls.{tableIn}
 use Rattle.paper.specs.Accepted.{Accepted, TrieffTree}
@@ -31,5 +31,5 @@ trieff-tree {l} a =
         λ e. not-own-ancestor r (rw e at (parent b)),
         λ d. not-own-ancestor r (above b d),
       );
-      all-reached = λ c high. all-reached r high;
+      all-reached = r .reached;
     }

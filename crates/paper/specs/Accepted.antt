@@ -27,12 +27,12 @@ pub record Accepted (l : List ℕ) : Type 0 where
   pub alphabet-good : 0 < headOf l .f → goodAlphabet (headOf l .n) (alphabetIn (headOf l) l) ≡ true
   -- U is at most the image's length: "The lent image may be longer"
   pub room : usedLen (headOf l) ≤ length l
-  -- "every link that isn't empty is at most G and greater than the address of the node it stands
-  -- in. Every address from 1 to G stands in exactly one link."
+  -- "every link that isn't empty is at most G", "Every address from 1 to G stands in exactly one
+  -- link", and, of 02's Ask 3, "every node must be reached from the root"
   pub links : LinkRules (tableIn l) (headOf l .g)
 
 -- 002, sections Node and Node address: the nodes of an image of these bytes, which are 0 to G,
--- are a tree. 01 asks more: a link is also greater than the address of its node.
+-- are a tree.
 pub record TrieffTree (l : List ℕ) : Type 0 where
   -- "every node except the root node has exactly one parent"
   pub exactly-one : (c : ℕ) → 1 ≤ c → c ≤ headOf l .g

@@ -1,8 +1,8 @@
--- 01, "Cases from one small file": those marked P, as one table: of calls and of what each must
--- leave, and of the images that are left and of their G, W and U. N = 3, A = 1, D = 1, letters
+-- 01, "Cases from one small file": those marked P, and cases of 02's Ask 3, as one table: of calls
+-- and of what each must leave, and of the images that are left and of their G, W and U. N = 3, A = 1, D = 1, letters
 -- ABC, min 1, max 3. The lent buffers hold rubbish (AA in images and key buffers, 7 in working
 -- numbers), so that the table shows what a call keeps and what it changes.
-use Prim.Native.Nat.{ℕ}
+use Prim.Native.Nat.{ℕ, _+_}
 use mathlib.Core.Bool.{true, false}
 use mathlib.Core.List.{List, [], _∷_, _++_}
 use lib.ListN.{replicate}
@@ -109,15 +109,24 @@ finds given value = record { call = lookUpOf file3 given; leaves = done 0 (pos 0
 abbrev turnsAway : Given → ℕ → Case
 turnsAway given number = record { call = lookUpOf file3 given; leaves = refused number 0 [] }
 
--- a check of the file with G = 1 and this body: it is refused and clears two working numbers
-abbrev checks : List ℕ → ℕ → ℕ → Case
-checks body number place =
+-- a check of the file with this G and this body, lent one working number more than it needs: it
+-- is refused and clears the others
+abbrev checks : ℕ → List ℕ → ℕ → ℕ → Case
+checks g body number place =
     record {
-      call = checkOf (file 1 body 0) work;
-      leaves = refused number place ((0 ∷ 0 ∷ 7 ∷ []) ∷ []);
+      call = checkOf (file g body 0) (replicate (g + 2) 7);
+      leaves = refused number place ((replicate (g + 1) 0 ++ (7 ∷ [])) ∷ []);
     }
 
--- P1 to P12
+-- P11's body: node 1 has a link to itself
+abbrev body11 : List ℕ
+body11 = 0 ∷ 1 ∷ 0 ∷ 0 ∷ 0 ∷ 1 ∷ 0 ∷ 0 ∷ []
+
+-- P3's file with its nodes renumbered: B is node 2, and BA is node 1
+abbrev lower3 : List ℕ
+lower3 = file 2 (0 ∷ 2 ∷ 0 ∷ 0 ∷ 0 ∷ 0 ∷ 0 ∷ 9 ∷ 1 ∷ 0 ∷ 0 ∷ 5 ∷ []) 0
+
+-- P1 to P12, and Ask 3
 abbrev pub cases : List Case
 cases =
     -- P1: "fresh in 35 bytes .. With 34 bytes, 4"
@@ -174,11 +183,31 @@ cases =
       call = storeOf (file 2 body3 12) work (asLetters (2 ∷ 2 ∷ 2 ∷ [])) 1;
       leaves = done 0 (pos 1) 0 (file7 ∷ cleared ∷ []);
     }
-    -- P8 to P11: "7 at 1", "6 at 0", "8 at 1", "6 at 1"
-    ∷ checks (0 ∷ 1 ∷ 1 ∷ 0 ∷ 0 ∷ 0 ∷ 0 ∷ 0 ∷ []) 7 1
-    ∷ checks (0 ∷ 2 ∷ 0 ∷ 0 ∷ 0 ∷ 0 ∷ 0 ∷ 0 ∷ []) 6 0
-    ∷ checks (0 ∷ 0 ∷ 0 ∷ 0 ∷ 0 ∷ 0 ∷ 0 ∷ 0 ∷ []) 8 1
-    ∷ checks (0 ∷ 1 ∷ 0 ∷ 0 ∷ 0 ∷ 1 ∷ 0 ∷ 0 ∷ []) 6 1
+    -- P8 to P10: "7 at 1", "6 at 0", "8 at 1"
+    ∷ checks 1 (0 ∷ 1 ∷ 1 ∷ 0 ∷ 0 ∷ 0 ∷ 0 ∷ 0 ∷ []) 7 1
+    ∷ checks 1 (0 ∷ 2 ∷ 0 ∷ 0 ∷ 0 ∷ 0 ∷ 0 ∷ 0 ∷ []) 6 0
+    ∷ checks 1 (0 ∷ 0 ∷ 0 ∷ 0 ∷ 0 ∷ 0 ∷ 0 ∷ 0 ∷ []) 8 1
+    -- P11, by Ask 3: "P11 now answers 7 at 1". A look up of BBB goes round and ends with its key.
+    ∷ checks 1 body11 7 1
+    ∷ record {
+      call = lookUpOf (file 1 body11 0) (asLetters (1 ∷ 1 ∷ 1 ∷ []));
+      leaves = done 0 (pos 0) 0 [];
+    }
+    -- Ask 3: "G = 2 with body `00000000 02000000 01000000` answers 16 at 1"
+    ∷ checks 2 (0 ∷ 0 ∷ 0 ∷ 0 ∷ 2 ∷ 0 ∷ 0 ∷ 0 ∷ 1 ∷ 0 ∷ 0 ∷ 0 ∷ []) 16 1
+    -- Ask 3, "place the lowest": node 1 is reached, 3 and 4 are a cycle, and 2 hangs under 3
+    ∷ checks 4
+    (1 ∷ 0 ∷ 0 ∷ 0 ∷ 0 ∷ 0 ∷ 0 ∷ 0 ∷ 0 ∷ 0 ∷ 0 ∷ 0 ∷ 4 ∷ 2 ∷ 0 ∷ 0 ∷ 3 ∷ 0 ∷ 0 ∷ 0 ∷ []) 16 2
+    -- Ask 3: P3's file renumbered is accepted, BA is found in it and follows B
+    ∷ record { call = checkOf lower3 work; leaves = done 0 (pos 0) 0 (cleared ∷ []) }
+    ∷ record {
+      call = lookUpOf lower3 (asLetters (1 ∷ 0 ∷ []));
+      leaves = done 0 (pos 0) 9 [];
+    }
+    ∷ record {
+      call = nextKeyOf lower3 work (1 ∷ []) true buffer;
+      leaves = done 2 (pos 0) 9 (cleared ∷ (1 ∷ 0 ∷ 0xAA ∷ []) ∷ []);
+    }
     -- P12: "after P3, next at or after the empty key is B; after B is BA; after BA gives 15"
     ∷ record {
       call = nextKeyOf file3 work [] false buffer;

@@ -1,4 +1,5 @@
--- 01, "What the bench may hear": the table, one definition for each row, in the table's words.
+-- 01, "What the bench may hear": the table, one definition for each row, in the table's words,
+-- and 16 of 02.
 -- Each takes what its row speaks of, and says when the row is given and with which place.
 use Prim.Native.Nat.{ℕ, zero, suc, _+_, _-_, _*_, _^_}
 use mathlib.Core.Bool.{Bool, true, false, not, _&&_, _||_, cond}
@@ -9,6 +10,7 @@ use lib.Dec.{leb, ltb, eqb}
 use Rattle.field.specs.Range.{between}
 use Rattle.trie.specs.Table.{Table, fault}
 use Rattle.trie.specs.Lowest.{lowest}
+use Rattle.trie.specs.Tree.{depthOf}
 use Rattle.head.specs.declared.Head.{Head}
 use Rattle.head.specs.Fields.{shortestImage, longestImage, permitted, nodeWidth, usedLen}
 use Rattle.alphabet.specs.Letters.{goodAlphabet}
@@ -42,17 +44,15 @@ unfoldable pub row5 : Head → ℕ → Row
 unfolding rowWhen
 row5 h lent = rowWhen 5 0 (ltb lent (h .g + 1))
 
--- does link c of node q break the first link rule? "every link that isn't empty is at most G and
--- greater than the address of the node it stands in"
-unfoldable pub badLink : ℕ → ℕ → ℕ → Bool
-badLink g q zero = false
-badLink g q (suc c) = not (leb (suc c) g && ltb q (suc c))
+-- does link c break the first link rule? 02, Ask 3: "6, in lookups too, means only a link above G"
+unfoldable pub badLink : ℕ → ℕ → Bool
+badLink g c = ltb g c
 
 -- does one of the first m links of node q break it?
 unfoldable pub holdsBad : ℕ → Table → ℕ → ℕ → Bool
 unfolding badLink
 holdsBad g t q zero = false
-holdsBad g t q (suc m) = holdsBad g t q m || badLink g q (t .child q m)
+holdsBad g t q (suc m) = holdsBad g t q m || badLink g (t .child q m)
 
 -- a row whose place is the lowest of the numbers a..a+k-1 that passes the test; it is not given
 -- where none passes
@@ -86,6 +86,12 @@ row7 h t = rowWhenLowest 7 (λ x. leb 2 (times t (h .n) x (h .g + 1))) 1 (h .g)
 unfoldable pub row8 : Head → Table → Row
 unfolding rowWhenLowest times
 row8 h t = rowWhenLowest 8 (λ x. eqb (times t (h .n) x (h .g + 1)) 0) 1 (h .g)
+
+-- 16, of 02's Ask 3: "a node unreached, place the lowest". The root is reached; a node is not if
+-- no number of links up to G leads to it.
+unfoldable pub row16 : Head → Table → Row
+unfolding rowWhenLowest depthOf
+row16 h t = rowWhenLowest 16 (λ x. ltb (h .g) (depthOf t (h .n) (h .g) x)) 1 (h .g)
 
 -- 9: "key length outside min..max"
 unfoldable pub row9 : Head → List ℕ → Row

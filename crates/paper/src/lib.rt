@@ -4,7 +4,7 @@ ghost use mathlib.Core.Path.{_≡_};
 ghost use Rattle.paper.specs.Answers.{saidOf};
 ghost use Rattle.paper.specs.Rows.{badLink};
 
-// The refusals of 01's table, and 25 of 02. A refusal whose place is a node or an address carries
+// The refusals of 01's table, and 16 and 25 of 02. A refusal whose place is a node or an address carries
 // it; every other place is 0.
 pub enum Refusal {
     // 1: the image is shorter than 28 or longer than 16,777,216 bytes.
@@ -17,7 +17,7 @@ pub enum Refusal {
     ImageRoom,
     // 5: too few working numbers, or counts, are lent.
     TooFewNumbers,
-    // 6: a link is above G, or not above the node that holds it. The place is that node.
+    // 6: a link is above G. The place is the node that holds it.
     Link(u32),
     // 7: an address stands in two links or more. The place is the lowest such address.
     LinkedTwice(u32),
@@ -37,12 +37,14 @@ pub enum Refusal {
     ShortBuffer,
     // 15: no stored key meets the request.
     NoKey,
+    // 16: a node is not reached from the root. The place is the lowest such node.
+    NotReached(u32),
     // 25: a count is not the fresh one. The place is the lowest such node.
     CountsDiffer(u32),
 }
 
 impl Refusal {
-    // The number that 01's table has for it; 25 is 02's.
+    // The number that 01's table has for it; 16 and 25 are 02's.
     pub fn number(self) -> u32
         ensures { λ r. ⌜ r ≡ saidOf self .number ⌝ }
     {
@@ -62,6 +64,7 @@ impl Refusal {
             Refusal::NoRoom => 13,
             Refusal::ShortBuffer => 14,
             Refusal::NoKey => 15,
+            Refusal::NotReached(_) => 16,
             Refusal::CountsDiffer(_) => 25,
         }
     }
@@ -74,6 +77,7 @@ impl Refusal {
             Refusal::Link(node) => node,
             Refusal::LinkedTwice(address) => address,
             Refusal::NotLinked(address) => address,
+            Refusal::NotReached(node) => node,
             Refusal::CountsDiffer(node) => node,
             Refusal::ImageLength => 0,
             Refusal::HeadField => 0,
@@ -91,12 +95,12 @@ impl Refusal {
     }
 }
 
-// Does link c of node q break 01's first link rule, in an image whose greatest address is g? The
-// check asks it of every link, a lookup of the links on the key's path.
-pub fn bad_link(g: u32, q: u32, c: u32) -> bool
-    ensures { λ r. ⌜ r ≡ badLink g q c ⌝ }
+// Does link c break the first link rule, in an image whose greatest address is g? The check asks
+// it of every link, a lookup of the links on the key's path.
+pub fn bad_link(g: u32, c: u32) -> bool
+    ensures { λ r. ⌜ r ≡ badLink g c ⌝ }
 {
-    (c != 0) & ((g < c) | (c <= q))
+    g < c
 }
 
 // The outcome of a part of an order.

@@ -11,7 +11,7 @@ use Rattle.trie.specs.Table.{Table, descend, valueAt, fault}
 use Rattle.trie.proofs.Walk.{follow-empty, follow-on, descend-nil, descend-empty}
 use Rattle.trie.proofs.Walk.{descend-on}
 
-module _ (bad : ℕ → ℕ → Bool) (t : Table) (q : ℕ) where
+module _ (bad : ℕ → Bool) (t : Table) (q : ℕ) where
   pub fault-nil : fault bad t q [] ≡ none
   unfolding fault
   fault-nil = refl
@@ -20,28 +20,28 @@ module _ (bad : ℕ → ℕ → Bool) (t : Table) (q : ℕ) where
     pub fault-empty : t .child q x ≡ 0 → fault bad t q (x ∷ xs) ≡ none
     unfolding fault
     fault-empty e =
-        follow-empty (t .child q x) none (λ c. cond (bad q c) (some q) (fault bad t c xs)) e
+        follow-empty (t .child q x) none (λ c. cond (bad c) (some q) (fault bad t c xs)) e
 
     -- a link that is not empty
-    tested : {c : ℕ} → t .child q x ≡ c → c ≢ 0 → fault bad t q (x ∷ xs) ≡ cond (bad q c) (some q)
+    tested : {c : ℕ} → t .child q x ≡ c → c ≢ 0 → fault bad t q (x ∷ xs) ≡ cond (bad c) (some q)
         (fault bad t c xs)
     unfolding fault
-    tested {c} e h = rw e (follow-on c none (λ c. cond (bad q c) (some q) (fault bad t c xs)) h)
+    tested {c} e h = rw e (follow-on c none (λ c. cond (bad c) (some q) (fault bad t c xs)) h)
 
-    pub fault-bad : {c : ℕ} → t .child q x ≡ c → c ≢ 0 → bad q c ≡ true → fault bad t q (x ∷ xs)
+    pub fault-bad : {c : ℕ} → t .child q x ≡ c → c ≢ 0 → bad c ≡ true → fault bad t q (x ∷ xs)
         ≡ some q
     fault-bad e h b = tested e h ∙ rw b
 
-    pub fault-on : {c : ℕ} → t .child q x ≡ c → c ≢ 0 → bad q c ≡ false → fault bad t q (x ∷ xs)
+    pub fault-on : {c : ℕ} → t .child q x ≡ c → c ≢ 0 → bad c ≡ false → fault bad t q (x ∷ xs)
         ≡ fault bad t c xs
     fault-on e h b = tested e h ∙ rw b
 
     -- a link that is not empty, on a path without bad links
     pub fault-none : {c : ℕ} → t .child q x ≡ c → c ≢ 0 → fault bad t q (x ∷ xs) ≡ none
-        → (bad q c ≡ false) × (fault bad t c xs ≡ none)
-    fault-none {c} e h f = go (bad q c) refl
+        → (bad c ≡ false) × (fault bad t c xs ≡ none)
+    fault-none {c} e h f = go (bad c) refl
       where
-        go : (b : Bool) → bad q c ≡ b → (bad q c ≡ false) × (fault bad t c xs ≡ none)
+        go : (b : Bool) → bad c ≡ b → (bad c ≡ false) × (fault bad t c xs ≡ none)
         go true b = let w : some q ≡ none = sym (fault-bad e h b) ∙ f in let z : _≡_ {A = ℕ} 0 1 =
             cc in absurd (omega arith)
         go false b = (b, sym (fault-on e h b) ∙ f)

@@ -37,7 +37,7 @@ module _ {s t : Table} {g : ℕ} (same : Agree s t g) (within : Within s g) wher
   answer-alike k = walk-alike 0 k (omega arith)
 
   -- a path without a bad link in s has none in t, if every link that is bad for t is bad for s
-  pub fault-alike : (bad worse : ℕ → ℕ → Bool) → ((q c : ℕ) → bad q c ≡ false → worse q c ≡ false)
+  pub fault-alike : (bad worse : ℕ → Bool) → ((c : ℕ) → bad c ≡ false → worse c ≡ false)
       → (q : ℕ) (k : List ℕ) → q ≤ g → fault bad s q k ≡ none → fault worse t q k ≡ none
   fault-alike bad worse milder q [] b e = fault-nil worse t q
   fault-alike bad worse milder q (x ∷ xs) b e =
@@ -54,4 +54,4 @@ module _ {s t : Table} {g : ℕ} (same : Agree s t g) (within : Within s g) wher
       go (yes z) rest = fault-empty worse t q x xs (there ∙ z)
       go (no h) rest =
           let (fair, on) = fault-none bad s q x xs refl h e in
-          fault-on worse t q x xs there h (milder q c fair) ∙ rest on
+          fault-on worse t q x xs there h (milder c fair) ∙ rest on

@@ -53,8 +53,8 @@ missing (stopped q x xs) = suc (length xs)
 -- "the first refusal met on the way down is the answer, and its place is the node that holds
 -- that link": the node that holds the first bad link on the key's path, if there is one. An
 -- empty link ends the path.
-unfoldable pub fault : (ℕ → ℕ → Bool) → Table → ℕ → List ℕ → Option ℕ
+unfoldable pub fault : (ℕ → Bool) → Table → ℕ → List ℕ → Option ℕ
 unfolding follow
 fault bad t q [] = none
 fault bad t q (x ∷ xs) =
-    follow (t .child q x) none (λ c. cond (bad q c) (some q) (fault bad t c xs))
+    follow (t .child q x) none (λ c. cond (bad c) (some q) (fault bad t c xs))
