@@ -42,9 +42,9 @@ use Rattle.reasons.proofs.FirstReason.{parts-tell, when-tells, heard-te
 use Rattle.reasons.proofs.KeyReasons.{ten-fits, key-fits}
 use Rattle.paper.proofs.Opening.{spoilt}
 use Rattle.reasons.proofs.OpeningReasons.{opening-fits, make-fits}
-use Rattle.reasons.proofs.LinkReasons.{six-fits, seven-fits, eight-fits, placeless}
-use Rattle.reasons.proofs.LinkReasons.{six-tells}
-use Rattle.reasons.proofs.LinkReasons.{seven-tells, eight-tells}
+use Rattle.reasons.proofs.LinkReasons.{six-fits, seven-fits, eight-fits, sixteen-fits}
+use Rattle.reasons.proofs.LinkReasons.{placeless, six-tells, seven-tells, eight-tells}
+use Rattle.reasons.proofs.LinkReasons.{sixteen-tells}
 use Rattle.reasons.proofs.PathReasons.{path-fits, path-tells}
 use Rattle.paper.proofs.StoreCall.{valued}
 use Rattle.paper.proofs.NextKeyCall.{stored-exactly}
@@ -94,11 +94,11 @@ module _ (image : List ℕ) (n a d : ℕ) (alphabet : List ℕ) (least most : �
 -- 6 to 8
 link-fits : (l : List ℕ) → AllFit (linkRows (headOf l) (tableOf (headOf l) l)) (linkReasons l)
 unfolding linkRows linkReasons
-link-fits l = (six-fits l, (seven-fits l, (eight-fits l, tt)))
+link-fits l = (six-fits l, (seven-fits l, (eight-fits l, (sixteen-fits l, tt))))
 
 link-tells : (l : List ℕ) → AllTell (RightPlace l) (linkRows (headOf l) (tableOf (headOf l) l))
 unfolding linkRows
-link-tells l = (six-tells l, (seven-tells l, (eight-tells l, tt)))
+link-tells l = (six-tells l, (seven-tells l, (eight-tells l, (sixteen-tells l, tt))))
 
 module _ (l work : List ℕ) where
   -- 5 to 8
@@ -265,10 +265,10 @@ module _ (l work : List ℕ) (given : Given) (value : ℕ) where
   store-any-tells =
       parts-tell (RightPlace l) (checkOrder l work) from-nine (check-tells l work)
       (parts-tell (RightPlace l) (keyRows l given) (valued l (keyIn l given) value)
-      (key-tells (RightPlace l) l given (placeless l 9 (inr (omega arith)))
-      (placeless l 10 (inr (omega arith))))
-      (value-tells (RightPlace l) l (keyIn l given) value (placeless l 11 (inr (omega arith)))
-      (placeless l 12 (inr (omega arith))) (placeless l 13 (inr (omega arith)))))
+      (key-tells (RightPlace l) l given (placeless l 9 (inr (omega arith, omega arith)))
+      (placeless l 10 (inr (omega arith, omega arith))))
+      (value-tells (RightPlace l) l (keyIn l given) value (placeless l 11 (inr (omega arith, omega arith)))
+      (placeless l 12 (inr (omega arith, omega arith))) (placeless l 13 (inr (omega arith, omega arith)))))
 
   pub store-any-place :
       RightPlace l (storeOf l work given value .numbers .number)
@@ -392,16 +392,16 @@ module _ (l work key : List ℕ) (after : Bool) (buffer : List ℕ) where
   unfolding nextRows row9next row10 row14 row15
   asked-tells = (
     when-tells (RightPlace l) 9 0 (ltb (headOf l .max) (length key))
-        (placeless l 9 (inr (omega arith))),
+        (placeless l 9 (inr (omega arith, omega arith))),
     (
       when-tells (RightPlace l) 10 0 (not (allBelow (headOf l .n) key))
-          (placeless l 10 (inr (omega arith))),
+          (placeless l 10 (inr (omega arith, omega arith))),
       (
         when-tells (RightPlace l) 14 0 (ltb (length buffer) (headOf l .max))
-            (placeless l 14 (inr (omega arith))),
+            (placeless l 14 (inr (omega arith, omega arith))),
         (
           when-tells (RightPlace l) 15 0 (isNone (nextIn l key after))
-              (placeless l 15 (inr (omega arith))),
+              (placeless l 15 (inr (omega arith, omega arith))),
           tt,
         ),
       ),

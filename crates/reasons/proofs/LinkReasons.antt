@@ -1,32 +1,36 @@
--- 6 to 8: each row is given exactly where its reason applies, and its place is the lowest node or
+-- 6 to 8 and 16: each row is given exactly where its reason applies, and its place is the lowest node or
 -- address that the reason speaks of. An address that is counted twice stands in two links: in two
 -- of one node, or in one of each of two nodes.
 use Prim.Native.Nat.{ℕ, zero, suc, _+_, _≤_, _<_}
 use mathlib.Core.Path.{_≡_, refl, sym, _∙_}
 use mathlib.Core.Logic.{_↔_, _≢_, _⊎_, inl, inr, ⊎-elim}
 use mathlib.Core.Bool.{Bool, true, false, true≢false, false≢true}
-use mathlib.Core.List.{List}
-use native.Mathlib.Decide.{decLe, decLt}
+use mathlib.Core.List.{List, []}
+use native.Mathlib.Decide.{ℕ-discrete, decLe}
 use native.Mathlib.Omega.{arith}
 use lib.Dec.{ltb}
-use borrow.Author.Tests.{ltb-true, ltb-false, leb-true, le-leb, eqb-true, eq-eqb}
+use borrow.Author.Tests.{lt-ltb, ltb-true, ltb-false, leb-true, le-leb, eqb-true, eq-eqb}
 use Rattle.trie.specs.Table.{Table}
 use Rattle.trie.specs.Lowest.{lowest}
+use Rattle.trie.specs.Tree.{depthOf}
+use Rattle.trie.proofs.Walk.{descend-nil}
+use Rattle.trie.proofs.Depth.{reached-depth, depth-reached}
 use Rattle.trie.proofs.Lowest.{lowest-least, none-lowest, lowest-found}
 use Rattle.trie.proofs.Counted.{Sums, some-part}
 use Rattle.head.specs.declared.Head.{Head}
 use Rattle.head.specs.Fields.{headOf}
 use Rattle.node.specs.Image.{tableOf}
+use Rattle.node.proofs.Tables.{framed}
 use Rattle.paper.specs.Hearing.{Row, rowWhen}
 use Rattle.paper.specs.Rows.{badLink, holdsBad, rowWhenLowest, row6, timesIn, times, row7}
-use Rattle.paper.specs.Rows.{row8}
+use Rattle.paper.specs.Rows.{row8, row16}
 use Rattle.paper.specs.Calls.{tableIn}
 use Rattle.reasons.specs.Reasons.{_when_}
 use Rattle.reasons.specs.CheckReasons.{Breaks, HoldsBreaking, StandsIn, InTwo, InNone}
-use Rattle.reasons.specs.CheckReasons.{LowestOf, RightPlace}
+use Rattle.reasons.specs.CheckReasons.{Unreached, LowestOf, RightPlace}
 use Rattle.reasons.proofs.FirstReason.{Fits, Tells, tell-alike}
-use Rattle.paper.proofs.Linking.{not-bad, holds-bad, one-hit, hit-most, in-node, in-nodes}
-use Rattle.paper.proofs.Linking.{counted, counted-once, holds, count, twice, nowhere}
+use Rattle.paper.proofs.Linking.{holds-bad, one-hit, hit-most, in-node, in-nodes}
+use Rattle.paper.proofs.Linking.{counted, counted-once, holds, count, twice, nowhere, unreached}
 
 -- ---- rows with a place
 
@@ -80,38 +84,20 @@ module _ (number : ℕ) (test : ℕ → Bool) (a k : ℕ) {one : ℕ → Type 0}
 -- ---- 6
 
 -- the test for a bad link, as a statement
-pub bad-breaks : (g q c : ℕ) → (badLink g q c ≡ true) ↔ Breaks g q c
-bad-breaks g q c = (λ e. (full e, over e (decLt g c) (decLe c q)), from)
-  where
-    full : badLink g q c ≡ true → c ≢ 0
-    full e z = true≢false (sym e ∙ not-bad g q c .1 (inl z))
-
-    over : badLink g q c ≡ true → Dec (g < c) → Dec (c ≤ q) → (g < c) ⊎ (c ≤ q)
-    over e (yes b) _ = inl b
-    over e (no _) (yes d) = inr d
-    over e (no b) (no d) =
-        absurd (true≢false (sym e ∙ not-bad g q c .1 (inr (omega arith, omega arith))))
-
-    from : Breaks g q c → badLink g q c ≡ true
-    from s = go (badLink g q c) refl
-      where
-        go : (b : Bool) → badLink g q c ≡ b → b ≡ true
-        go true e = refl
-        go false e =
-            absurd (⊎-elim (s .0)
-            (λ f. ⊎-elim (λ b. omega (arith, f .0)) (λ b. omega (arith, f .1)) (s .1))
-            (not-bad g q c .0 e))
+pub bad-breaks : (g c : ℕ) → (badLink g c ≡ true) ↔ Breaks g c
+unfolding badLink
+bad-breaks g c = (ltb-true g c, lt-ltb g c)
 
 -- a node that holds a bad link, and the link
 bad-held : (g : ℕ) (t : Table) (q m : ℕ) → holdsBad g t q m ≡ true
-    → (i : ℕ) × (i < m) × (badLink g q (t .child q i) ≡ true)
+    → (i : ℕ) × (i < m) × (badLink g (t .child q i) ≡ true)
 unfolding holdsBad
 bad-held g t q zero e = absurd (false≢true e)
 bad-held g t q (suc m) e = go (holdsBad g t q m) refl (bad-held g t q m)
   where
     go : (b : Bool) → holdsBad g t q m ≡ b
-        → (holdsBad g t q m ≡ true → (i : ℕ) × (i < m) × (badLink g q (t .child q i) ≡ true))
-        → (i : ℕ) × (i < suc m) × (badLink g q (t .child q i) ≡ true)
+        → (holdsBad g t q m ≡ true → (i : ℕ) × (i < m) × (badLink g (t .child q i) ≡ true))
+        → (i : ℕ) × (i < suc m) × (badLink g (t .child q i) ≡ true)
     go true f rest = let (i, b, s) = rest f in (i, omega arith, s)
     go false f rest = (m, omega arith, rw f at e)
 
@@ -195,7 +181,7 @@ module _ (t : Table) (x n k : ℕ) where
             λ same. apart (same .0),
           )
 
--- ---- 6 to 8 of an image
+-- ---- 6 to 8 and 16 of an image
 
 module _ (l : List ℕ) where
   abbrev head : Head
@@ -208,7 +194,7 @@ module _ (l : List ℕ) where
   unfolding tableIn
   six-to q low high e =
       let (i, b, s) = bad-held (head .g) table q (head .n) e in
-      (omega arith, i, b, bad-breaks (head .g) q (table .child q i) .0 s)
+      (omega arith, i, b, bad-breaks (head .g) (table .child q i) .0 s)
 
   six-from : (q : ℕ) → HoldsBreaking l q
       → (0 ≤ q) × (q < 0 + (head .g + 1)) × (holds head table q ≡ true)
@@ -218,7 +204,7 @@ module _ (l : List ℕ) where
         omega arith,
         omega arith,
         holds-bad (head .g) table q (head .n) b
-            (bad-breaks (head .g) q (table .child q i) .1 breaks),
+            (bad-breaks (head .g) (table .child q i) .1 breaks),
       )
 
   stands-in : {x q i : ℕ} → Inside table x (head .n) (head .g + 1) q i → StandsIn l x q i
@@ -275,6 +261,37 @@ module _ (l : List ℕ) where
           let (q, i, there) = one-link table x (head .n) (head .g + 1) b in
           absurd (s .1 q i (stands-in there))
 
+  sixteen-to : (x : ℕ) → 1 ≤ x → x < 1 + head .g → unreached head table x ≡ true → Unreached l x
+  unfolding tableIn
+  sixteen-to x low high e = (
+    omega arith,
+    λ r. omega (
+      arith,
+      ltb-true (head .g) (depthOf table (head .n) (head .g) x) e,
+      reached-depth table (head .n) (head .g) (framed head l) x (omega arith) r,
+    ),
+  )
+
+  sixteen-from : (x : ℕ) → Unreached l x
+      → (1 ≤ x) × (x < 1 + head .g) × (unreached head table x ≡ true)
+  unfolding tableIn
+  sixteen-from x s = (
+    above (ℕ-discrete x 0),
+    omega (arith, s .0),
+    lt-ltb (head .g) depth (deep (decLe depth (head .g))),
+  )
+    where
+      depth : ℕ
+      depth = depthOf table (head .n) (head .g) x
+
+      above : Dec (x ≡ 0) → 1 ≤ x
+      above (yes z) = absurd (s .1 (rw z ([], descend-nil table 0)))
+      above (no d) = omega arith
+
+      deep : Dec (depth ≤ head .g) → head .g < depth
+      deep (yes b) = absurd (s .1 (depth-reached table (head .n) (head .g) x b))
+      deep (no b) = omega arith
+
   pub six-fits : Fits (row6 head table) (6 when ((q : ℕ) × HoldsBreaking l q))
   unfolding row6
   six-fits = lowest-fits 6 (holds head table) 0 (head .g + 1) six-to six-from
@@ -287,16 +304,21 @@ module _ (l : List ℕ) where
   unfolding row8
   eight-fits = lowest-fits 8 (nowhere head table) 1 (head .g) eight-to eight-from
 
+  pub sixteen-fits : Fits (row16 head table) (16 when ((x : ℕ) × Unreached l x))
+  unfolding row16
+  sixteen-fits = lowest-fits 16 (unreached head table) 1 (head .g) sixteen-to sixteen-from
+
   -- ---- their places
 
   -- a number without a place
-  pub placeless : (n : ℕ) → (n ≤ 5) ⊎ (9 ≤ n) → RightPlace l n 0
+  pub placeless : (n : ℕ) → (n ≤ 5) ⊎ ((9 ≤ n) × (n ≤ 15)) → RightPlace l n 0
   placeless n far =
       record {
         six = λ e. absurd (⊎-elim (λ b. omega arith) (λ b. omega arith) far);
         seven = λ e. absurd (⊎-elim (λ b. omega arith) (λ b. omega arith) far);
         eight = λ e. absurd (⊎-elim (λ b. omega arith) (λ b. omega arith) far);
-        others = λ _ _ _. refl;
+        sixteen = λ e. absurd (⊎-elim (λ b. omega arith) (λ b. omega arith) far);
+        others = λ _ _ _ _. refl;
       }
 
   six-right : (n place : ℕ) → (n ≡ 6) × LowestOf (HoldsBreaking l) place → RightPlace l n place
@@ -305,7 +327,8 @@ module _ (l : List ℕ) where
         six = λ _. s .1;
         seven = λ e. absurd (omega (arith, s .0));
         eight = λ e. absurd (omega (arith, s .0));
-        others = λ d _ _. absurd (d (s .0));
+        sixteen = λ e. absurd (omega (arith, s .0));
+        others = λ d _ _ _. absurd (d (s .0));
       }
 
   seven-right : (n place : ℕ) → (n ≡ 7) × LowestOf (InTwo l) place → RightPlace l n place
@@ -314,7 +337,8 @@ module _ (l : List ℕ) where
         six = λ e. absurd (omega (arith, s .0));
         seven = λ _. s .1;
         eight = λ e. absurd (omega (arith, s .0));
-        others = λ _ d _. absurd (d (s .0));
+        sixteen = λ e. absurd (omega (arith, s .0));
+        others = λ _ d _ _. absurd (d (s .0));
       }
 
   eight-right : (n place : ℕ) → (n ≡ 8) × LowestOf (InNone l) place → RightPlace l n place
@@ -323,7 +347,18 @@ module _ (l : List ℕ) where
         six = λ e. absurd (omega (arith, s .0));
         seven = λ e. absurd (omega (arith, s .0));
         eight = λ _. s .1;
-        others = λ _ _ d. absurd (d (s .0));
+        sixteen = λ e. absurd (omega (arith, s .0));
+        others = λ _ _ d _. absurd (d (s .0));
+      }
+
+  sixteen-right : (n place : ℕ) → (n ≡ 16) × LowestOf (Unreached l) place → RightPlace l n place
+  sixteen-right n place s =
+      record {
+        six = λ e. absurd (omega (arith, s .0));
+        seven = λ e. absurd (omega (arith, s .0));
+        eight = λ e. absurd (omega (arith, s .0));
+        sixteen = λ _. s .1;
+        others = λ _ _ _ d. absurd (d (s .0));
       }
 
   pub six-tells : Tells (RightPlace l) (row6 head table)
@@ -340,3 +375,8 @@ module _ (l : List ℕ) where
   unfolding row8
   eight-tells = tell-alike (row8 head table) eight-right
       (lowest-tells 8 (nowhere head table) 1 (head .g) eight-to eight-from)
+
+  pub sixteen-tells : Tells (RightPlace l) (row16 head table)
+  unfolding row16
+  sixteen-tells = tell-alike (row16 head table) sixteen-right
+      (lowest-tells 16 (unreached head table) 1 (head .g) sixteen-to sixteen-from)

@@ -31,7 +31,7 @@ module _ (g : ℕ) (t : Table) where
     rest : List ℕ
     spelt : key ≡ before ++ (letter ∷ rest)
     walked : descend t a before ≡ complete q
-    breaks : Breaks g q (t .child q letter)
+    breaks : Breaks g (t .child q letter)
 
   none-left : (a : ℕ) (before : List ℕ) (q : ℕ) → ¬ BreaksFrom a [] before q
   none-left a before q s =
@@ -39,7 +39,7 @@ module _ (g : ℕ) (t : Table) where
 
   -- it breaks at the first letter
   at-first : (a x : ℕ) (xs : List ℕ) (q : ℕ) → BreaksFrom a (x ∷ xs) [] q
-      → (q ≡ a) × Breaks g a (t .child a x)
+      → (q ≡ a) × Breaks g (t .child a x)
   at-first a x xs q s =
       let arrived : complete a ≡ complete q = sym (descend-nil t a) ∙ s .walked in
       let here : q ≡ a = cc in
@@ -78,14 +78,14 @@ module _ (g : ℕ) (t : Table) where
   -- nothing breaks on an empty link, nor where neither the first link nor a later one does
   stops : (a x : ℕ) (xs before : List ℕ) (q : ℕ) → t .child a x ≡ 0
       → ¬ BreaksFrom a (x ∷ xs) before q
-  stops a x xs [] q e s = at-first a x xs q s .1 .0 e
+  stops a x xs [] q e s = omega (arith, at-first a x xs q s .1)
   stops a x xs (y ∷ ys) q e s = later a x xs y ys q s .0 e
 
-  leads-on : (a x : ℕ) (xs before : List ℕ) (q : ℕ) → badLink g a (t .child a x) ≡ false
+  leads-on : (a x : ℕ) (xs before : List ℕ) (q : ℕ) → badLink g (t .child a x) ≡ false
       → ((ys : List ℕ) → length ys < length before → ¬ BreaksFrom (t .child a x) xs ys q)
       → ¬ BreaksFrom a (x ∷ xs) before q
   leads-on a x xs [] q good rest s =
-      true≢false (sym (bad-breaks g a (t .child a x) .1 (at-first a x xs q s .1)) ∙ good)
+      true≢false (sym (bad-breaks g (t .child a x) .1 (at-first a x xs q s .1)) ∙ good)
   leads-on a x xs (y ∷ ys) q good rest s = rest ys (omega arith) (later a x xs y ys q s .1)
 
   -- the first link that breaks the rule is at node q
@@ -100,7 +100,7 @@ module _ (g : ℕ) (t : Table) where
   Judged a key none = (before : List ℕ) (q : ℕ) → ¬ BreaksFrom a key before q
   Judged a key (some q) = Earliest a key q
 
-  first-here : (a x : ℕ) (xs : List ℕ) → badLink g a (t .child a x) ≡ true
+  first-here : (a x : ℕ) (xs : List ℕ) → badLink g (t .child a x) ≡ true
       → Earliest a (x ∷ xs) a
   first-here a x xs e =
       record {
@@ -110,13 +110,13 @@ module _ (g : ℕ) (t : Table) where
           rest = xs;
           spelt = refl;
           walked = descend-nil t a;
-          breaks = bad-breaks g a (t .child a x) .0 e;
+          breaks = bad-breaks g (t .child a x) .0 e;
         };
         first = λ earlier p b. absurd (omega arith);
       }
 
   led-on : (a x : ℕ) (xs : List ℕ) (o : Option ℕ) → t .child a x ≢ 0
-      → badLink g a (t .child a x) ≡ false → Judged (t .child a x) xs o
+      → badLink g (t .child a x) ≡ false → Judged (t .child a x) xs o
       → Judged a (x ∷ xs) o
   led-on a x xs none full good j = λ before q. leads-on a x xs before q good (λ ys _. j ys q)
   led-on a x xs (some p) full good j =
@@ -136,10 +136,10 @@ module _ (g : ℕ) (t : Table) where
 
   judged : (key : List ℕ) (a : ℕ) → Judged a key (fault (badLink g) t a key)
   judged [] a = rw (fault-nil (badLink g) t a) (λ before q. none-left a before q)
-  judged (x ∷ xs) a = go (ℕ-discrete (t .child a x) 0) (badLink g a (t .child a x)) refl
+  judged (x ∷ xs) a = go (ℕ-discrete (t .child a x) 0) (badLink g (t .child a x)) refl
       (judged xs (t .child a x))
     where
-      go : Dec (t .child a x ≡ 0) → (b : Bool) → badLink g a (t .child a x) ≡ b
+      go : Dec (t .child a x ≡ 0) → (b : Bool) → badLink g (t .child a x) ≡ b
           → Judged (t .child a x) xs (fault (badLink g) t (t .child a x) xs)
           → Judged a (x ∷ xs) (fault (badLink g) t a (x ∷ xs))
       go (yes z) b e rest =

@@ -12,6 +12,7 @@ use lib.ListN.{length}
 use Rattle.utf8.specs.Text.{chars}
 use Rattle.trie.specs.Table.{complete, descend, answer}
 use Rattle.trie.specs.Keys.{meets}
+use Rattle.trie.specs.Tree.{Reachable}
 use Rattle.head.specs.declared.Head.{Head}
 use Rattle.head.specs.Fields.{mostLinks, mostLinkBytes, mostDataBytes, mostAlphabet, mostLetters}
 use Rattle.head.specs.Fields.{fieldsLen, shortestImage, longestImage, headOf, usedLen}
@@ -84,18 +85,18 @@ makeReasons image n a d alphabet least most =
     ∷ 4 when (length image < usedLen (freshHead n a d alphabet least most))
     ∷ []
 
--- ---- 6 to 8
+-- ---- 6 to 8 and 16
 
--- "every link that isn't empty is at most G and greater than the address of the node it stands
--- in": the link c in node q breaks this
-abbrev pub Breaks : ℕ → ℕ → ℕ → Type 0
-Breaks g q c = (c ≢ 0) × ((g < c) ⊎ (c ≤ q))
+-- "every link that isn't empty is at most G": the link c breaks this. 02, Ask 3: "6, in lookups
+-- too, means only a link above G"
+abbrev pub Breaks : ℕ → ℕ → Type 0
+Breaks g c = g < c
 
 -- 6: node q holds a link that "breaks the first link rule"
 abbrev pub HoldsBreaking : List ℕ → ℕ → Type 0
 HoldsBreaking l q =
     (q ≤ headOf l .g)
-    × (i : ℕ) × (i < headOf l .n) × Breaks (headOf l .g) q (tableIn l .child q i)
+    × (i : ℕ) × (i < headOf l .n) × Breaks (headOf l .g) (tableIn l .child q i)
 
 -- x stands in link i of node q
 pub record StandsIn (l : List ℕ) (x q i : ℕ) : Type 0 where
@@ -119,15 +120,20 @@ InTwo l x =
 abbrev pub InNone : List ℕ → ℕ → Type 0
 InNone l x = Address l x × ((q i : ℕ) → ¬ StandsIn l x q i)
 
--- 6 to 8 for an image
+-- 16, of 02's Ask 3: "a node unreached", where "every node must be reached from the root"
+abbrev pub Unreached : List ℕ → ℕ → Type 0
+Unreached l x = (x ≤ headOf l .g) × (¬ Reachable (tableIn l) x)
+
+-- 6 to 8 and 16 for an image; 16 stands "right after 8"
 unfoldable pub linkReasons : List ℕ → List Reason
 linkReasons l =
     6 when ((q : ℕ) × HoldsBreaking l q)
     ∷ 7 when ((x : ℕ) × InTwo l x)
     ∷ 8 when ((x : ℕ) × InNone l x)
+    ∷ 16 when ((x : ℕ) × Unreached l x)
     ∷ []
 
--- "check and number of keys: 1 to 8"; 5: "fewer than G+1 working numbers lent"
+-- "check and number of keys: 1 to 8", and 16; 5: "fewer than G+1 working numbers lent"
 unfoldable pub checkReasons : List ℕ → List ℕ → List Reason
 unfolding openingReasons linkReasons
 checkReasons l work =
@@ -138,12 +144,13 @@ abbrev pub LowestOf : (ℕ → Type 0) → ℕ → Type 0
 LowestOf one x = one x × ((y : ℕ) → y < x → ¬ one y)
 
 -- the column of places, for the calls that check: for 6 "lowest node that holds one", for the next
--- two "lowest such address", and "A place not named is 0"
+-- two "lowest such address", for 16 "place the lowest", and "A place not named is 0"
 pub record RightPlace (l : List ℕ) (number place : ℕ) : Type 0 where
   pub six : number ≡ 6 → LowestOf (HoldsBreaking l) place
   pub seven : number ≡ 7 → LowestOf (InTwo l) place
   pub eight : number ≡ 8 → LowestOf (InNone l) place
-  pub others : number ≢ 6 → number ≢ 7 → number ≢ 8 → place ≡ 0
+  pub sixteen : number ≡ 16 → LowestOf (Unreached l) place
+  pub others : number ≢ 6 → number ≢ 7 → number ≢ 8 → number ≢ 16 → place ≡ 0
 
 -- ---- look up
 
@@ -154,7 +161,7 @@ pub record BreaksAfter (l key before : List ℕ) (q : ℕ) : Type 0 where
   pub rest : List ℕ
   pub spelt : key ≡ before ++ (letter ∷ rest)
   pub walked : descend (tableIn l) 0 before ≡ complete q
-  pub breaks : Breaks (headOf l .g) q (tableIn l .child q letter)
+  pub breaks : Breaks (headOf l .g) (tableIn l .child q letter)
 
 -- 6: "In a lookup, 6 speaks only of the links on the key's path"
 abbrev pub BreaksOnPath : List ℕ → List ℕ → Type 0
@@ -181,7 +188,7 @@ pub record PathPlace (l key : List ℕ) (number place : ℕ) : Type 0 where
 
 -- ---- store and next key
 
--- "store: 1 to 8, 9, 10, 11, 12, 13"
+-- "store: 1 to 8, 9, 10, 11, 12, 13", with 16 after 8
 unfoldable pub storeAnyReasons : List ℕ → List ℕ → Given → ℕ → List Reason
 unfolding checkReasons keyReasons valueReasons newOf keyIn
 storeAnyReasons l work given value =
@@ -204,7 +211,7 @@ askedReasons l key after buffer =
     ∷ 15 when ((k : List ℕ) → StoredKey l k → ¬ (meets after key k ≡ true))
     ∷ []
 
--- "next key: 1 to 8, 9, 10, 14, 15"
+-- "next key: 1 to 8, 9, 10, 14, 15", with 16 after 8
 unfoldable pub nextKeyReasons : List ℕ → List ℕ → List ℕ → Bool → List ℕ → List Reason
 unfolding checkReasons askedReasons
 nextKeyReasons l work key after buffer = checkReasons l work ++ askedReasons l key after buffer
