@@ -151,9 +151,9 @@ module _ (l work : List ℕ) (e : canMend l (checkOf l work .numbers) ≡ true) 
   within = subst (λ (k : Head). Within (tableIn m) (k .g)) heads (again .links .within)
 
   -- a link that is not bad with the lower G is not bad with the old one
-  milder-here : (q c : ℕ) → badLink (headOf m .g) q c ≡ false → badLink (h .g) q c ≡ false
-  milder-here q c f = let g : headOf m .g ≡ low = ap (λ (k : Head). k .g) heads in
-      milder (headOf m .g) (h .g) q c (omega (arith, below)) f
+  milder-here : (c : ℕ) → badLink (headOf m .g) c ≡ false → badLink (h .g) c ≡ false
+  milder-here c f = let g : headOf m .g ≡ low = ap (λ (k : Head). k .g) heads in
+      milder (headOf m .g) (h .g) c (omega (arith, below)) f
 
   same-letters : alphabetIn (headOf m) m ≡ alphabetIn h l
   unfolding alphabetIn

@@ -323,10 +323,6 @@ module _ (h : Head) (t : Table) (f : Framed t (h .g) (h .n)) where
         reached = none-reached none-16;
       }
 
--- a link that meets the rules is not bad
-pub ruled-link : {t : Table} {g : ℕ} → LinkRules t g → (q i : ℕ) → badLink g (t .child q i) ≡ false
-ruled-link {t} {g} r q i = not-bad g (t .child q i) .1 (r .within q i)
-
 -- 6 to 8 and 16 give no other number
 pub linking-says : (h : Head) (t : Table) → AllSay (6 ∷ 7 ∷ 8 ∷ 16 ∷ []) (linkRows h t)
 unfolding linkRows row6 row7 row8 row16 among

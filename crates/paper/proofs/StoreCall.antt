@@ -60,7 +60,7 @@ use Rattle.paper.proofs.Opening.{alphabet-same}
 use Rattle.paper.proofs.Keying.{keyNumbers, given-meant, fit-given, given-says-key}
 use Rattle.paper.proofs.CheckCall.{accepted-opens, check-accepts, accepted-checks}
 use Rattle.paper.proofs.CheckCall.{checking-says, checked, accepted-linked}
-use Rattle.paper.proofs.Linking.{ruled-link}
+use Rattle.paper.proofs.Linking.{not-bad}
 use Rattle.paper.proofs.LookUpCall.{given-fit}
 
 -- ---- the head and the table after a store
@@ -239,7 +239,7 @@ module _ {l : List ℕ} (a : Accepted l) where
           ≡ none
       go (yes e) rest = fault-empty bad (tableIn l) q x xs e
       go (no e) rest =
-          fault-on bad (tableIn l) q x xs refl e (ruled-link (a .links) q x) ∙ rest
+          fault-on bad (tableIn l) q x xs refl e (not-bad (headOf l .g) c .1 (a .links .within q x)) ∙ rest
 
   pub looks-up-accepted : (given : Given) → lookUpOf l given ≡ heard (first (keyRows l given)) []
       (telling (answer (tableIn l) (keyIn l given)))

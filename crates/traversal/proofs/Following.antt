@@ -9,12 +9,13 @@ use mathlib.Core.Path.{_≡_, refl, sym, _∙_, ap}
 use lib.ListN.{length, getD, take, set, length-set}
 use lib.Seq.{take-suc, take-suc-set, getD-set-same}
 use Rattle.trie.specs.Table.{LettersBelow}
+use Rattle.trie.specs.Rules.{Within}
 use Rattle.trie.proofs.LettersBelow.{letters-at}
 use Rattle.head.specs.declared.Head.{Head}
 use Rattle.node.specs.Image.{tableOf}
 use Rattle.walk.specs.declared.Position.{Position}
 use Rattle.walk.specs.declared.Step.{Step}
-use Rattle.walk.specs.Descent.{atRoot, onTo, GoodLinks, stepOf}
+use Rattle.walk.specs.Descent.{atRoot, onTo, stepOf}
 use Rattle.walk.proofs.Descents.{step-led, step-stayed}
 use Rattle.traversal.specs.Search.{PathRoom, Along, Followed}
 use Rattle.traversal.proofs.Paths.{room-kept, along-none, along-more}
@@ -66,15 +67,15 @@ module _ {h : Head} {l k path₀ nodes₀ path nodes : List ℕ} {here : Positio
     met : link ≡ tableOf h l .child (getD nodes (here .depth) 0) x
     met = rw (← f .node) refl
 
-    -- to no position: no link is bad, so it is empty
-    pub following-stop : GoodLinks (h .g) (tableOf h l) → ((next : Position) → s ≢ Step.At next)
+    -- to no position: no link is above G, so it is empty
+    pub following-stop : Within (tableOf h l) (h .g) → ((next : Position) → s ≢ Step.At next)
         → Followed h l k path nodes (here .depth)
-    following-stop good stays =
+    following-stop within stays =
         record {
           short = f .short;
           letters = f .same;
           along = f .along;
-          stops = λ low. rw letter (sym met ∙ step-stayed _ _ _ _ step good stays);
+          stops = λ low. rw letter (sym met ∙ step-stayed _ _ _ _ step within stays);
         }
 
     module _ (low : here .depth < length k) (deep : length k ≤ h .max)

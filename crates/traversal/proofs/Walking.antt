@@ -19,19 +19,17 @@ use Rattle.head.specs.declared.Head.{Head}
 use Rattle.node.specs.Image.{Open, tableOf}
 use Rattle.paper.specs.Calls.{tableIn}
 use Rattle.paper.specs.Accepted.{Accepted}
-use Rattle.paper.proofs.Linking.{ruled-link}
-use Rattle.walk.specs.Descent.{GoodLinks}
 use Rattle.depths.proofs.Walkable.{Walkable, short}
 use Rattle.traversal.specs.declared.Search.{Search}
 use Rattle.traversal.specs.Search.{PathRoom, Along, nextStored, searchOf, SearchTells}
 use Rattle.traversal.proofs.Searching.{was-missing, was-found}
 
--- no link of an accepted image is bad
-pub accepted-good : {h : Head} {l : List ℕ} → Accepted l → h ≡ headOf l
-    → GoodLinks (h .g) (tableOf h l)
+-- no link of an accepted image is above G
+pub accepted-within : {h : Head} {l : List ℕ} → Accepted l → h ≡ headOf l
+    → Within (tableOf h l) (h .g)
 unfolding tableIn
-accepted-good {l = l} a e =
-    subst (λ (k : Head). GoodLinks (k .g) (tableOf k l)) (sym e) (ruled-link (a .links))
+accepted-within {l = l} a e =
+    subst (λ (k : Head). Within (tableOf k l) (k .g)) (sym e) (a .links .within)
 
 -- the path is that of a key of n letters, which was found
 pub record Met (h : Head) (l path nodes : List ℕ) (n : ℕ) : Type 0 where

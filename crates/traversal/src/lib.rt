@@ -8,9 +8,9 @@ ghost use Prim.Native.Nat.{ℕ, _≤_, _<_};
 ghost use lib.ListN.{length, getD, take};
 ghost use Rattle.trie.specs.Rules.{Within};
 ghost use Rattle.trie.specs.Beyond.{firstOf};
+ghost use Rattle.trie.specs.Rules.{Within};
 ghost use Rattle.node.specs.Image.{Open, Masks, tableOf};
 ghost use Rattle.key.specs.Hand.{Ready, lettersOf};
-ghost use Rattle.walk.specs.Descent.{GoodLinks};
 ghost use Rattle.depths.specs.Depths.{ownValue};
 ghost use Rattle.traversal.specs.Search.{ahead, coming, PathRoom, Along, PathKept, Followed};
 ghost use Rattle.traversal.specs.Search.{nextStored, SearchTells};
@@ -37,7 +37,7 @@ pub fn next(
     path: &mut [u8],
     nodes: &mut [u32],
 ) -> Search
-    requires { ⌜ Open h (now image) ⌝ ∗ ⌜ GoodLinks (h .g) (tableOf h (now image)) ⌝ }
+    requires { ⌜ Open h (now image) ⌝ ∗ ⌜ Within (tableOf h (now image)) (h .g) ⌝ }
     requires { ⌜ Ready h key ⌝ ∗ ⌜ key .len ≤ h .max ⌝ ∗ ⌜ PathRoom h (now path) (now nodes) ⌝ }
     ensures { λ r. ⌜ SearchTells h (now (image .entry))
         (nextStored h (now (image .entry)) after (lettersOf key)) r (now (path .exit))
@@ -100,7 +100,7 @@ pub fn start(image: &[u8], h: Head, nodes: &mut [u32]) -> u64
 // how many letters it followed. No link is bad, so a step that leads to no position met an empty
 // link.
 fn along(image: &[u8], h: Head, mask: u32, key: Key, path: &mut [u8], nodes: &mut [u32]) -> usize
-    requires { ⌜ Open h (now image) ⌝ ∗ ⌜ GoodLinks (h .g) (tableOf h (now image)) ⌝
+    requires { ⌜ Open h (now image) ⌝ ∗ ⌜ Within (tableOf h (now image)) (h .g) ⌝
         ∗ ⌜ Masks h mask ⌝ }
     requires { ⌜ Ready h key ⌝ ∗ ⌜ key .len ≤ h .max ⌝ ∗ ⌜ PathRoom h (now path) (now nodes) ⌝ }
     ensures { λ r. ⌜ Followed h (now (image .entry)) (lettersOf key) (now (path .exit))

@@ -20,18 +20,18 @@ use Rattle.paper.specs.declared.Looked.{Looked}
 use Rattle.paper.specs.declared.Refusal.{Refusal}
 use Rattle.paper.specs.declared.Refusal.the-variants.{Link}
 use Rattle.paper.specs.Rows.{badLink}
-use Rattle.paper.proofs.Linking.{good-link}
+use Rattle.paper.proofs.Linking.{not-bad}
 use Rattle.walk.specs.declared.Position.{Position}
 use Rattle.walk.specs.declared.Step.{Step}
 use Rattle.walk.specs.declared.Walked.{Walked}
-use Rattle.walk.specs.Descent.{atRoot, onTo, GoodLinks, stepOf, stepTaken, walkedFrom}
+use Rattle.walk.specs.Descent.{atRoot, onTo, stepOf, stepTaken, walkedFrom}
 use Rattle.walk.specs.Descent.{lookedBy, lookedIn}
 
 -- ---- one letter
 
 -- the step by a link that is not empty
 abbrev stepBy : ℕ → Position → ℕ → Step
-stepBy g p c = cond (badLink g (p .node) c) (Step.Bad (p .node)) (Step.At (onTo p c))
+stepBy g p c = cond (badLink g c) (Step.Bad (p .node)) (Step.At (onTo p c))
 
 -- c is the link that was met
 module _ (g : ℕ) (t : Table) (p : Position) (x : ℕ) {c : ℕ} (e : c ≡ t .child (p .node) x) where
@@ -43,27 +43,27 @@ module _ (g : ℕ) (t : Table) (p : Position) (x : ℕ) {c : ℕ} (e : c ≡ t .
   unfolding stepOf
   judged h = rw (← e) (follow-on c Step.Empty (stepBy g p) h)
 
-  pub step-bad : c ≢ 0 → badLink g (p .node) c ≡ true → stepOf g t p x ≡ Step.Bad (p .node)
+  pub step-bad : c ≢ 0 → badLink g c ≡ true → stepOf g t p x ≡ Step.Bad (p .node)
   step-bad h b = judged h ∙ rw b
 
-  pub step-on : c ≢ 0 → badLink g (p .node) c ≡ false → stepOf g t p x ≡ Step.At (onTo p c)
+  pub step-on : c ≢ 0 → badLink g c ≡ false → stepOf g t p x ≡ Step.At (onTo p c)
   step-on h b = judged h ∙ rw b
 
 -- what is known of the link c, given where one letter led
 data Met (g : ℕ) (p : Position) (c : ℕ) : Step → Type 0 where
   empty : c ≡ 0 → Met g p c Step.Empty
-  bad : c ≢ 0 → badLink g (p .node) c ≡ true → Met g p c (Step.Bad (p .node))
-  on : c ≢ 0 → badLink g (p .node) c ≡ false → Met g p c (Step.At (onTo p c))
+  bad : c ≢ 0 → badLink g c ≡ true → Met g p c (Step.Bad (p .node))
+  on : c ≢ 0 → badLink g c ≡ false → Met g p c (Step.At (onTo p c))
 
 met : (g : ℕ) (t : Table) (p : Position) (x : ℕ) {s : Step} → stepOf g t p x ≡ s
     → Met g p (t .child (p .node) x) s
 met g t p x e =
-    subst (λ (s : Step). Met g p c s) e (go (ℕ-discrete c 0) (badLink g (p .node) c) refl)
+    subst (λ (s : Step). Met g p c s) e (go (ℕ-discrete c 0) (badLink g c) refl)
   where
     c : ℕ
     c = t .child (p .node) x
 
-    go : Dec (c ≡ 0) → (b : Bool) → badLink g (p .node) c ≡ b → Met g p c (stepOf g t p x)
+    go : Dec (c ≡ 0) → (b : Bool) → badLink g c ≡ b → Met g p c (stepOf g t p x)
     go (yes e) b f = rw (step-empty g t p x refl e) (empty e)
     go (no h) true f = rw (step-bad g t p x refl h f) (bad h f)
     go (no h) false f = rw (step-on g t p x refl h f) (on h f)
@@ -79,24 +79,16 @@ module _ (g : ℕ) (t : Table) (p : Position) (x : ℕ) {s : Step} (is : s ≡ s
           → (t .child (p .node) x ≢ 0) × (next ≡ onTo p (t .child (p .node) x))
       go (on h b) = (h, refl)
 
-  -- to no position, in a table without a bad link: the link is empty
-  pub step-stayed : GoodLinks g t → ((next : Position) → s ≢ Step.At next)
+  -- to no position, in a table without a link above G: the link is empty
+  pub step-stayed : Within t g → ((next : Position) → s ≢ Step.At next)
       → t .child (p .node) x ≡ 0
-  step-stayed good stays = go (met g t p x (sym is)) stays
+  step-stayed within stays = go (met g t p x (sym is)) stays
     where
       go : {s : Step} → Met g p (t .child (p .node) x) s → ((next : Position) → s ≢ Step.At next)
           → t .child (p .node) x ≡ 0
       go (empty z) stays = z
-      go (bad h b) stays = absurd (true≢false (sym b ∙ good (p .node) x h))
+      go (bad h b) stays = absurd (true≢false (sym b ∙ not-bad g _ .1 (within (p .node) x)))
       go (on h b) stays = absurd (stays _ refl)
-
--- in a table without a bad link every link is at most the greatest address
-pub good-within : (g : ℕ) (t : Table) → GoodLinks g t → Within t g
-good-within g t good q i = go (ℕ-discrete (t .child q i) 0)
-  where
-    go : Dec (t .child q i ≡ 0) → t .child q i ≤ g
-    go (yes z) = omega arith
-    go (no h) = good-link g q (t .child q i) h (good q i h) .0
 
 pub walked-nil : (g : ℕ) (t : Table) (p : Position) → walkedFrom g t p [] ≡ Walked.Complete
     (p .node)
@@ -215,7 +207,7 @@ module _ {g : ℕ} {t : Table} {k : List ℕ} {here : Position} (w : Walking g t
   walking-bad o e = walk-left (sym o ∙ e)
 
   faulted : t .child (here .node) x ≢ 0
-      → badLink g (here .node) (t .child (here .node) x) ≡ true
+      → badLink g (t .child (here .node) x) ≡ true
       → Faulted g t k (Link (here .node))
   faulted h b =
       record {
@@ -238,7 +230,7 @@ module _ {g : ℕ} {t : Table} {k : List ℕ} {here : Position} (w : Walking g t
           ∙ ap (fault (badLink g) t (t .child (here .node) x)) (sym rest);
       descents = descent-left ∙ descend-on t (here .node) x xs c
           ∙ ap (descend t (t .child (here .node) x)) (sym rest);
-      within = good-link g (here .node) (t .child (here .node) x) c b .0;
+      within = not-bad g (t .child (here .node) x) .0 b;
       deep = omega (arith, further);
     },
     refl,

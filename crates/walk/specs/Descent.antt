@@ -24,17 +24,12 @@ atRoot = record { node = 0; depth = 0 }
 abbrev pub onTo : Position → ℕ → Position
 onTo p c = record { node = c; depth = p .depth + 1 }
 
--- no link breaks the first link rule, so no letter leads to a bad link: a table whose links have
--- been checked
-abbrev pub GoodLinks : ℕ → Table → Type 0
-GoodLinks g t = (q i : ℕ) → t .child q i ≢ 0 → badLink g q (t .child q i) ≡ false
-
 -- where one letter leads, in a table whose greatest address is g
 unfoldable pub stepOf : ℕ → Table → Position → ℕ → Step
 unfolding follow badLink
 stepOf g t p x =
     follow (t .child (p .node) x) Step.Empty
-    (λ c. cond (badLink g (p .node) c) (Step.Bad (p .node)) (Step.At (onTo p c)))
+    (λ c. cond (badLink g c) (Step.Bad (p .node)) (Step.At (onTo p c)))
 
 -- the walk after a step: it goes on from the next position, it stops at this one, or it is
 -- refused: 6, with the node that holds the bad link

@@ -50,7 +50,7 @@ impl Position {
         if c == 0 {
             return Step::Empty;
         }
-        if paper::bad_link(h.g, node, c) {
+        if paper::bad_link(h.g, c) {
             return Step::Bad(node);
         }
         Step::At(Position {

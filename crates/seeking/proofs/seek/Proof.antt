@@ -4,7 +4,7 @@ use mathlib.Core.Path.{refl}
 use native.Mathlib.Omega.{arith}
 use borrow.Author.Needs.{needs}
 use Rattle.depths.proofs.Walkable.{short}
-use Rattle.traversal.proofs.Walking.{accepted-good, has-room, met}
+use Rattle.traversal.proofs.Walking.{accepted-within, has-room, met}
 use Rattle.seeking.proofs.Seeking.{head-permitted, AfterCheck, after-check, found-within}
 use Rattle.seeking.proofs.Seeking.{found-front, found-room}
 use Rattle.seeking.proofs.Seeking.{seek-unkeyed, seek-short, seek-missing, seek-found}
@@ -50,8 +50,8 @@ slice-aggregate-next-2 c = search needs
 next-requires : tie.Need-next-requires
 next-requires c κs =
     let k = known (c .before .before .before .before) in
-    let good = accepted-good (k .accepted) (k .same) in
-    (k .walk .opened, (good, (k .ready, (k .short, has-room (k .walk) refl refl))))
+    let within = accepted-within (k .accepted) (k .same) in
+    (k .walk .opened, (within, (k .ready, (k .short, has-room (k .walk) refl refl))))
 
 enum-told-2 : tie.Need-enum-told-2
 enum-told-2 c = search needs

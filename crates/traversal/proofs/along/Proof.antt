@@ -17,7 +17,6 @@ use Rattle.key.specs.Hand.{lettersOf}
 use Rattle.key.proofs.Hand.{letters-count, letter-below}
 use Rattle.walk.specs.declared.Position.{Position}
 use Rattle.walk.specs.declared.Step.{Step}
-use Rattle.walk.proofs.Descents.{good-within}
 use Rattle.walk.proofs.Step.{the-type}
 use Rattle.traversal.proofs.Paths.{along-within}
 use Rattle.traversal.proofs.Following.{Following, following-start, following-end}
@@ -117,7 +116,7 @@ step-requires c κs =
     let a = start .args in
     let p = start .pre in
     let f = at .loop .inv in
-    let within = good-within (a .h .g) (tableOf (a .h) (a .image .now)) (p .1 .0) in (
+    let within = p .1 .0 in (
       p .0,
       (
         p .1 .1 .0,

@@ -17,7 +17,6 @@ use Rattle.head.proofs.Permitted.{bounds}
 use Rattle.node.specs.Image.{tableOf}
 use Rattle.key.specs.Hand.{lettersOf}
 use Rattle.key.proofs.Hand.{letters-count, letter-below}
-use Rattle.walk.proofs.Descents.{good-within}
 use Rattle.traversal.specs.Search.{coming, PathRoom, nextStored}
 use Rattle.traversal.proofs.Paths.{room-kept, along-within}
 use Rattle.traversal.proofs.Searching.{told-same}
@@ -35,7 +34,7 @@ count c = letters-count (c .args .key) (whole c) (c .pre .1 .1 .0 .short)
 
 -- no link is above G
 within : (c : tie.Start) → Within (tableOf (c .args .h) (c .args .image .now)) (c .args .h .g)
-within c = good-within (c .args .h .g) (tableOf (c .args .h) (c .args .image .now)) (c .pre .1 .0)
+within c = c .pre .1 .0
 
 -- the lists are still long enough, and the path is no deeper than max
 room : (c : tie.After-along)
