@@ -1,0 +1,63 @@
+-- 02, Ask 3: which nodes are "reached from the root by links", as a search over the working
+-- numbers finds them, and what holds while it runs.
+use Prim.Native.Nat.{ℕ, zero, suc, _+_, _≤_, _<_}
+use mathlib.Core.Path.{_≡_}
+use mathlib.Core.Logic.{_≢_, _⊎_}
+use mathlib.Core.Bool.{cond}
+use mathlib.Core.List.{List, [], _∷_, List·Memᴰ}
+use lib.Dec.{eqb}
+use lib.ListN.{length, getD, drop}
+use Rattle.trie.specs.Table.{Table}
+use Rattle.trie.specs.Tree.{Reachable}
+use Rattle.head.specs.declared.Head.{Head}
+use Rattle.node.specs.Image.{tableOf}
+
+-- the list of working numbers keeps its length, and from G+1 on what it held
+pub record RestKept (g : ℕ) (work work′ : List ℕ) : Type 0 where
+  pub long : length work′ ≡ length work
+  pub rest : drop (g + 1) work′ ≡ drop (g + 1) work
+
+-- node x has been met
+abbrev pub Met : List ℕ → ℕ → Type 0
+Met work x = getD work x 0 ≢ 0
+
+-- the nodes that are reached, and how many were met
+pub record Searched (h : Head) (l work : List ℕ) (met : ℕ) (work′ : List ℕ) : Type 0 where
+  -- a node whose number is not 0 is reached from the root, and no other node is
+  pub marked : (x : ℕ) → x ≤ h .g → Met work′ x → Reachable (tableOf h l) x
+  pub unmarked : (x : ℕ) → x ≤ h .g → getD work′ x 0 ≡ 0 → ¬ Reachable (tableOf h l) x
+  -- where as many nodes are met as there are, each is
+  pub all : met ≡ h .g + 1 → (x : ℕ) → x ≤ h .g → Met work′ x
+  pub kept : RestKept (h .g) work work′
+
+-- ---- while the search runs
+
+-- the stack from its top on: the working number of each node names the next, and that of the last
+-- is `end`
+abbrev pub Stack : List ℕ → ℕ → ℕ → List ℕ → Type 0
+Stack work end top [] = top ≡ end
+Stack work end top (x ∷ rest) =
+    (top ≡ x) × (1 ≤ x) × (x < end) × Stack work end (getD work x 0) rest
+
+-- how many of the first m working numbers are 0
+unfoldable pub vacant : List ℕ → ℕ → ℕ
+vacant work zero = 0
+vacant work (suc m) = vacant work m + cond (eqb (getD work m 0) 0) 1 0
+
+-- The search, while it follows the first i of the n links of node q. Each node that has been met
+-- is reached. It is on the stack, or its links have been followed, so its children have been met.
+pub record Searching (t : Table) (g n q i : ℕ) (followed top : ℕ) (work : List ℕ) : Type 0 where
+  pub pending : List ℕ
+  pub stack : Stack work (g + 1) top pending
+  pub root : Met work 0
+  pub reached : (x : ℕ) → x ≤ g → Met work x → Reachable t x
+  pub closed : (x : ℕ) → x ≤ g → Met work x → List·Memᴰ x pending
+      ⊎ ((j : ℕ) → j < n → (x ≡ q → j < i) → Met work (t .child x j))
+  pub counted : followed + length pending + vacant work (g + 1) ≡ g + 1
+
+-- the links of node q have been followed
+pub record Spread (h : Head) (l : List ℕ) (q top : ℕ) (work : List ℕ) (top′ : ℕ) (work′ : List ℕ)
+    : Type 0 where
+  pub on : (followed : ℕ) → Searching (tableOf h l) (h .g) (h .n) q 0 followed top work
+      → Searching (tableOf h l) (h .g) (h .n) q (h .n) followed top′ work′
+  pub kept : RestKept (h .g) work work′
