@@ -1,0 +1,3 @@
+pub mod Vacant
+pub mod Searching
+pub mod Spreading

@@ -44,15 +44,21 @@ unfoldable pub vacant : List ℕ → ℕ → ℕ
 vacant work zero = 0
 vacant work (suc m) = vacant work m + cond (eqb (getD work m 0) 0) 1 0
 
--- The search, while it follows the first i of the n links of node q. Each node that has been met
--- is reached. It is on the stack, or its links have been followed, so its children have been met.
+-- the links of node x have been followed, or the first i of them if x is q: the nodes that they
+-- lead to have been met
+abbrev pub Followed : Table → ℕ → ℕ → ℕ → List ℕ → ℕ → Type 0
+Followed t n q i work x = (j : ℕ) → j < n → (x ≡ q → j < i) → Met work (t .child x j)
+
+-- The search, once it has followed the first i of the n links of node q. A node that has been met
+-- is reached, and it is on the stack or its links have been followed. Each node is counted once:
+-- as followed, as on the stack, or as not met.
 pub record Searching (t : Table) (g n q i : ℕ) (followed top : ℕ) (work : List ℕ) : Type 0 where
   pub pending : List ℕ
   pub stack : Stack work (g + 1) top pending
   pub root : Met work 0
+  pub here : Met work q
   pub reached : (x : ℕ) → x ≤ g → Met work x → Reachable t x
-  pub closed : (x : ℕ) → x ≤ g → Met work x → List·Memᴰ x pending
-      ⊎ ((j : ℕ) → j < n → (x ≡ q → j < i) → Met work (t .child x j))
+  pub closed : (x : ℕ) → x ≤ g → Met work x → List·Memᴰ x pending ⊎ Followed t n q i work x
   pub counted : followed + length pending + vacant work (g + 1) ≡ g + 1
 
 -- the links of node q have been followed

@@ -1,0 +1,261 @@
+-- The search from the root, link by link.
+use Prim.Native.Nat.{ℕ, zero, suc, _+_, _≤_, _<_}
+use mathlib.Core.Path.{_≡_, refl, sym, _∙_, ap}
+use mathlib.Core.Logic.{_≢_, _⊎_, inl, inr}
+use mathlib.Core.List.{List, [], _∷_, _++_, List·Memᴰ, List·Memᴰ·head, List·Memᴰ·tail}
+use mathlib.Core.List.{List·Memᴰ·not-nil}
+use native.Mathlib.Decide.{ℕ-discrete, decLt}
+use native.Mathlib.Omega.{arith}
+use lib.ListN.{length, getD, set, drop, replicate, length-set, length-replicate, getD-replicate}
+use lib.ListN.{List·getD-append}
+use lib.Seq.{getD-set-same, getD-set-other, drop-set-lt}
+use Rattle.trie.specs.Table.{Table, complete, descend}
+use Rattle.trie.specs.Rules.{Within, Framed}
+use Rattle.trie.specs.Tree.{Parent, Reachable}
+use Rattle.trie.proofs.Walk.{Walk, end, on, walk, descend-nil}
+use Rattle.trie.proofs.Tree.{reached-on}
+use Rattle.head.specs.declared.Head.{Head}
+use Rattle.node.specs.Image.{tableOf}
+use Rattle.node.proofs.Tables.{framed}
+use Rattle.reaching.specs.Reaching.{RestKept, Met, Searched, Stack, vacant, Followed}
+use Rattle.reaching.specs.Reaching.{Searching, Spread}
+use Rattle.reaching.proofs.Vacant.{vacant-all, vacant-none, vacant-set}
+
+-- ---- the working numbers from G+1 on
+
+pub kept-none : (g : ℕ) (work : List ℕ) → RestKept g work work
+kept-none g work = record { long = refl; rest = refl }
+
+pub kept-more : {g : ℕ} {work work′ work″ : List ℕ} → RestKept g work work′
+    → RestKept g work′ work″ → RestKept g work work″
+kept-more a b = record { long = b .long ∙ a .long; rest = b .rest ∙ a .rest }
+
+pub kept-set : {g x : ℕ} (work : List ℕ) (v : ℕ) → x ≤ g → RestKept g work (set work x v)
+kept-set {g} {x} work v h =
+    record { long = length-set work x v; rest = drop-set-lt (g + 1) work x v (omega arith) }
+
+-- ---- a node that is met
+
+module _ (work : List ℕ) {c v : ℕ} (room : c < length work) (full : v ≢ 0) where
+  met-now : Met (set work c v) c
+  met-now z = full (sym (getD-set-same work c v 0 room) ∙ z)
+
+  met-still : (x : ℕ) → Met work x → Met (set work c v) x
+  met-still x m = go (ℕ-discrete x c)
+    where
+      go : Dec (x ≡ c) → Met (set work c v) x
+      go (yes e) = rw e met-now
+      go (no e) = λ z. m (sym (getD-set-other work c x v 0 e) ∙ z)
+
+  met-before : (x : ℕ) → x ≢ c → Met (set work c v) x → Met work x
+  met-before x e m z = m (getD-set-other work c x v 0 e ∙ z)
+
+-- ---- the stack
+
+-- its top is not the root, so the number of a node on the stack is not 0
+stack-top : (work : List ℕ) (top last : ℕ) (p : List ℕ) → Stack work (last + 1) top p → top ≢ 0
+stack-top work top last [] s z = omega arith
+stack-top work top last (x ∷ p) (e, low, high, s) z = omega arith
+
+-- a number that is 0 is not on it
+stack-set : (work : List ℕ) (top last : ℕ) (p : List ℕ) (c v : ℕ) → getD work c 0 ≡ 0
+    → Stack work (last + 1) top p → Stack (set work c v) (last + 1) top p
+stack-set work top last [] c v z s = s
+stack-set work top last (x ∷ p) c v z (e, low, high, s) =
+    let other : x ≢ c = λ w. stack-top work (getD work x 0) last p s (rw w z) in (
+      e,
+      low,
+      high,
+      rw (getD-set-other work c x v 0 other) (stack-set work (getD work x 0) last p c v z s),
+    )
+
+-- ---- the search
+
+-- the root is met, and no other node
+pub searching-start : (t : Table) (g n : ℕ) (work : List ℕ) → g + 1 ≤ length work
+    → work ≡ replicate (g + 1) 0 ++ drop (g + 1) work
+    → Searching t g n 0 0 1 (g + 1) (set work 0 (g + 1))
+searching-start t g n work room e =
+    record {
+      pending = [];
+      stack = refl;
+      root = met-now work (omega arith) (λ z. omega arith);
+      here = met-now work (omega arith) (λ z. omega arith);
+      reached = λ x b m. go x b m (ℕ-discrete x 0);
+      closed = λ x b m. inr (λ j c f. absurd (stop x b m f (ℕ-discrete x 0)));
+      counted = omega (arith, vacant-all work (g + 1) clear, vacant-set work (g + 1) 0 (g + 1)
+          (omega arith) (clear 0 (omega arith)) (λ z. omega arith) (omega arith));
+    }
+  where
+    clear : (x : ℕ) → x < g + 1 → getD work x 0 ≡ 0
+    clear x b =
+        ap (λ (w : List ℕ). getD w x 0) e
+        ∙ List·getD-append (replicate (g + 1) 0) (drop (g + 1) work) 0 x
+        (omega (arith, length-replicate {A = ℕ} (g + 1) 0))
+        ∙ getD-replicate (g + 1) x 0 0 b
+
+    only : (x : ℕ) → x ≤ g → Met (set work 0 (g + 1)) x → x ≢ 0 → ⊥
+    only x b m f = m (getD-set-other work 0 x (g + 1) 0 f ∙ clear x (omega arith))
+
+    go : (x : ℕ) → x ≤ g → Met (set work 0 (g + 1)) x → Dec (x ≡ 0) → Reachable t x
+    go x b m (yes z) = ([], descend-nil t 0 ∙ ap complete (sym z))
+    go x b m (no f) = absurd (only x b m f)
+
+    stop : {j : ℕ} (x : ℕ) → x ≤ g → Met (set work 0 (g + 1)) x → (x ≡ 0 → j < 0) → Dec (x ≡ 0) → ⊥
+    stop x b m f (yes z) = let y = f z in omega arith
+    stop x b m f (no z) = only x b m z
+
+module _ {t : Table} {g n q i followed top : ℕ} {work : List ℕ}
+    (s : Searching t g n q i followed top work) where
+  -- the link for letter i leads to a node that has been met
+  pub searching-met : Met work (t .child q i) → Searching t g n q (i + 1) followed top work
+  searching-met m =
+      record {
+        pending = s .pending;
+        stack = s .stack;
+        root = s .root;
+        here = s .here;
+        reached = s .reached;
+        closed = λ x b d. wider x (s .closed x b d);
+        counted = s .counted;
+      }
+    where
+      at : (x j : ℕ) → j < n → Followed t n q i work x → (x ≡ q → j < i + 1) → Dec (x ≡ q) → Dec (j ≡ i) → Met work (t .child x j)
+      at x j b f h (no e) d = f j b (λ w. absurd (e w))
+      at x j b f h (yes e) (no d) = f j b (λ w. let y = h e in omega arith)
+      at x j b f h (yes e) (yes d) = rw (e, d) m
+
+      wider : (x : ℕ) → List·Memᴰ x (s .pending) ⊎ Followed t n q i work x
+          → List·Memᴰ x (s .pending) ⊎ Followed t n q (i + 1) work x
+      wider x (inl a) = inl a
+      wider x (inr f) = inr (λ j b h. at x j b f h (ℕ-discrete x q) (ℕ-discrete j i))
+
+  -- the link for letter i leads to a node that has not been met: it is put on the stack
+  push : {c : ℕ} → g + 1 ≤ length work → q ≤ g → c ≤ g → c ≡ t .child q i
+      → getD work c 0 ≡ 0
+      → Searching t g n q i followed c (set work c top)
+  push {c} room low high link z =
+      record {
+        pending = c ∷ s .pending;
+        stack = (
+          refl,
+          omega (arith, not-root),
+          omega arith,
+          rw (getD-set-same work c top 0 inside)
+              (stack-set work top g (s .pending) c top z (s .stack)),
+        );
+        root = still 0 (s .root);
+        here = still q (s .here);
+        reached = λ x b m. go x b m (ℕ-discrete x c);
+        closed = λ x b m. again x b m (ℕ-discrete x c);
+        counted = omega (arith, s .counted, vacant-set work (g + 1) c top inside z full
+            (omega arith));
+      }
+    where
+      not-root : c ≢ 0
+      not-root e = s .root (rw e at z)
+
+      inside : c < length work
+      inside = omega arith
+
+      full : top ≢ 0
+      full = stack-top work top g (s .pending) (s .stack)
+
+      still : (x : ℕ) → Met work x → Met (set work c top) x
+      still = met-still work inside full
+
+      go : (x : ℕ) → x ≤ g → Met (set work c top) x → Dec (x ≡ c) → Reachable t x
+      go x b m (yes e) =
+          reached-on (s .reached q low (s .here))
+          (record { letter = i; link = sym (e ∙ link); full = λ w. not-root (sym e ∙ w) })
+      go x b m (no e) = s .reached x b (met-before work inside full x e m)
+
+      more : (x : ℕ) → List·Memᴰ x (s .pending) ⊎ Followed t n q i work x
+          → List·Memᴰ x (c ∷ s .pending) ⊎ Followed t n q i (set work c top) x
+      more x (inl a) = inl (List·Memᴰ·tail a)
+      more x (inr f) = inr (λ j b h. still (t .child x j) (f j b h))
+
+      again : (x : ℕ) → x ≤ g → Met (set work c top) x → Dec (x ≡ c)
+          → List·Memᴰ x (c ∷ s .pending) ⊎ Followed t n q i (set work c top) x
+      again x b m (yes e) = inl (List·Memᴰ·head e)
+      again x b m (no e) = more x (s .closed x b (met-before work inside full x e m))
+
+pub searching-new : {t : Table} {g n q i followed top : ℕ} {work : List ℕ} {c : ℕ}
+    → Searching t g n q i followed top work → g + 1 ≤ length work → q ≤ g → c ≤ g
+    → c ≡ t .child q i → getD work c 0 ≡ 0
+    → Searching t g n q (i + 1) followed c (set work c top)
+searching-new {g = g} {top = top} {work = work} s room low high link z =
+    searching-met (push s room low high link z)
+    (rw (← link) (met-now work (omega arith) (stack-top work top g (s .pending) (s .stack))))
+
+module _ {t : Table} {g n q followed top : ℕ} {work : List ℕ}
+    (s : Searching t g n q n followed top work) where
+  -- the node at the top of the stack is the next whose links are followed
+  pub searching-pop : top < g + 1 → Searching t g n top 0 (followed + 1) (getD work top 0) work
+  searching-pop below = go (s .pending) (s .stack) (s .closed) (s .counted)
+    where
+      less : (y x : ℕ) (p : List ℕ) → top ≡ y → List·Memᴰ x (y ∷ p) ⊎ Followed t n q n work x
+          → List·Memᴰ x p ⊎ Followed t n top 0 work x
+      less y x p e (inl (List·Memᴰ·head d)) =
+          inr (λ j b f. let w = f (d ∙ sym e) in absurd (omega arith))
+      less y x p e (inl (List·Memᴰ·tail m)) = inl m
+      less y x p e (inr f) = inr (λ j b h. f j b (λ w. b))
+
+      go : (p : List ℕ) → Stack work (g + 1) top p
+          → ((x : ℕ) → x ≤ g → Met work x → List·Memᴰ x p ⊎ Followed t n q n work x)
+          → followed + length p + vacant work (g + 1) ≡ g + 1
+          → Searching t g n top 0 (followed + 1) (getD work top 0) work
+      go [] e closed counted = absurd (omega arith)
+      go (y ∷ p) (e, low, high, rest) closed counted =
+          record {
+            pending = p;
+            stack = rw e rest;
+            root = s .root;
+            here = rw e (stack-top work (getD work y 0) g p rest);
+            reached = s .reached;
+            closed = λ x b m. less y x p e (closed x b m);
+            counted = omega (arith, counted);
+          }
+
+  -- no more nodes have been followed than there are
+  pub searching-room : top < g + 1 → followed < g + 1
+  searching-room below = omega (arith, searching-pop below .counted)
+
+  -- the stack is empty, so every node that is met has had its links followed
+  all-followed : g + 1 ≤ top → (x : ℕ) → x ≤ g → Met work x → Followed t n q n work x
+  all-followed high x b m = go (s .pending) (s .stack) (s .closed x b m)
+    where
+      go : (p : List ℕ) → Stack work (g + 1) top p → List·Memᴰ x p ⊎ Followed t n q n work x
+          → Followed t n q n work x
+      go [] e (inl a) = absurd (List·Memᴰ·not-nil a)
+      go [] e (inr f) = f
+      go (y ∷ p) (e, low, below, rest) d = absurd (omega arith)
+
+  -- so a walk from a node that is met leads to such nodes alone
+  met-on : Framed t g n → Within t g → g + 1 ≤ top → {a x : ℕ} {k : List ℕ} → a ≤ g → Met work a
+      → Walk t a k (complete x) → Met work x
+  met-on frame within high b m end = m
+  met-on frame within high b m (on {q = a} {x = j} full w) =
+      met-on frame within high (within a j) (go (decLt j n)) w
+    where
+      go : Dec (j < n) → Met work (t .child a j)
+      go (yes c) = all-followed high a b m j c (λ _. c)
+      go (no c) = absurd (full (frame .no-letter a j (omega arith)))
+
+  none-vacant : followed ≡ g + 1 → vacant work (g + 1) ≡ 0
+  none-vacant e = omega (arith, s .counted)
+
+-- ---- the answer
+
+pub searched : {h : Head} {l work work′ : List ℕ} {q followed top : ℕ}
+    → Searching (tableOf h l) (h .g) (h .n) q (h .n) followed top work′
+    → Within (tableOf h l) (h .g) → h .g + 1 ≤ top → RestKept (h .g) work work′
+    → Searched h l work followed work′
+searched {h} {l} {work} {work′} s within high kept =
+    record {
+      marked = s .reached;
+      unmarked = λ x b z (k, e).
+          met-on s (framed h l) within high (omega arith) (s .root) (walk (tableOf h l) 0 k e) z;
+      all = λ e x b. vacant-none work′ (h .g + 1) x (none-vacant s e) (omega arith);
+      kept = kept;
+    }
