@@ -1,3 +1,4 @@
 pub mod Vacant
 pub mod Searching
 pub mod Spreading
+pub mod Reaching

@@ -83,8 +83,12 @@ searching-start t g n work room e =
       here = met-now work (omega arith) (λ z. omega arith);
       reached = λ x b m. go x b m (ℕ-discrete x 0);
       closed = λ x b m. inr (λ j c f. absurd (stop x b m f (ℕ-discrete x 0)));
-      counted = omega (arith, vacant-all work (g + 1) clear, vacant-set work (g + 1) 0 (g + 1)
-          (omega arith) (clear 0 (omega arith)) (λ z. omega arith) (omega arith));
+      counted = omega (
+        arith,
+        vacant-all work (g + 1) clear,
+        vacant-set work (g + 1) 0 (g + 1)
+            (omega arith) (clear 0 (omega arith)) (λ z. omega arith) (omega arith),
+      );
     }
   where
     clear : (x : ℕ) → x < g + 1 → getD work x 0 ≡ 0
@@ -148,8 +152,12 @@ module _ {t : Table} {g n q i followed top : ℕ} {work : List ℕ}
         here = still q (s .here);
         reached = λ x b m. go x b m (ℕ-discrete x c);
         closed = λ x b m. again x b m (ℕ-discrete x c);
-        counted = omega (arith, s .counted, vacant-set work (g + 1) c top inside z full
-            (omega arith));
+        counted = omega (
+          arith,
+          s .counted,
+          vacant-set work (g + 1) c top inside z full
+              (omega arith),
+        );
       }
     where
       not-root : c ≢ 0

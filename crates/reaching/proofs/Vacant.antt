@@ -70,14 +70,30 @@ vacant-set work (suc m) c v room z full b =
     other : c ≢ m → Dec (getD work m 0 ≡ 0) → vacant work m ≡ vacant (set work c v) m + 1
         → vacant work (suc m) ≡ vacant (set work c v) (suc m) + 1
     other s (yes y) rest =
-        omega (arith, rest, one-more work m y, one-more (set work c v) m
-        (getD-set-other work c m v 0 (λ w. s (sym w)) ∙ y))
+        omega (
+          arith,
+          rest,
+          one-more work m y,
+          one-more (set work c v) m
+              (getD-set-other work c m v 0 (λ w. s (sym w)) ∙ y),
+        )
     other s (no y) rest =
-        omega (arith, rest, no-more work m y, no-more (set work c v) m
-        (λ w. y (sym (getD-set-other work c m v 0 (λ u. s (sym u))) ∙ w)))
+        omega (
+          arith,
+          rest,
+          no-more work m y,
+          no-more (set work c v) m
+              (λ w. y (sym (getD-set-other work c m v 0 (λ u. s (sym u))) ∙ w)),
+        )
+
     go : Dec (c ≡ m) → (c < m → vacant work m ≡ vacant (set work c v) m + 1) → vacant work (suc m)
         ≡ vacant (set work c v) (suc m) + 1
     go (yes s) rest =
-        omega (arith, before work m c v (omega arith), one-more work m (rw s at z), no-more (set work c v) m
-        (λ w. full (sym (getD-set-same work c v 0 room) ∙ ap (λ (k : ℕ). getD (set work c v) k 0) s ∙ w)))
+        omega (
+          arith,
+          before work m c v (omega arith),
+          one-more work m (rw s at z),
+          no-more (set work c v) m
+              (λ w. full (sym (getD-set-same work c v 0 room) ∙ ap (λ (k : ℕ). getD (set work c v) k 0) s ∙ w)),
+        )
     go (no s) rest = other s (ℕ-discrete (getD work m 0) 0) (rest (omega arith))
