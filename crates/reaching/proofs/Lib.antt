@@ -1,3 +1,4 @@
+pub mod Kept
 pub mod Vacant
 pub mod Searching
 pub mod Spreading

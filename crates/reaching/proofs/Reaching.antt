@@ -1,6 +1,6 @@
 -- The invariant of the loop over the stack: the links of some node have been followed last, and
 -- the stack holds what is left. Each turn follows one node more, so there are at most G+1 turns.
-use Prim.Native.Nat.{ℕ, _+_, _*_, _^_, _≤_, _<_}
+use Prim.Native.Nat.{ℕ, _+_, _^_, _≤_, _<_}
 use mathlib.Core.Path.{_≡_}
 use mathlib.Core.List.{List, _++_}
 use native.Mathlib.Nat.{mul-le-mul}
@@ -13,8 +13,9 @@ use Rattle.head.proofs.Permitted.{bounds}
 use Rattle.head.proofs.Places.{width-least, used}
 use Rattle.node.specs.Image.{Open, tableOf}
 use Rattle.reaching.specs.Reaching.{RestKept, Searched, Searching, Spread}
-use Rattle.reaching.proofs.Searching.{kept-none, kept-more, kept-set, searching-start}
-use Rattle.reaching.proofs.Searching.{searching-pop, searching-room, searched}
+use Rattle.reaching.proofs.Kept.{kept-none, kept-more, kept-set}
+use Rattle.reaching.proofs.Searching.{searching-start, searching-pop, searching-room}
+use Rattle.reaching.proofs.Searching.{searched}
 
 -- an image has fewer nodes than bytes, so G+1 fits a working number
 pub nodes-fit : {h : Head} {l : List ℕ} → Open h l → length l ≤ longestImage → h .g + 1 < 2 ^ 32

@@ -1,38 +1,28 @@
--- The search from the root, link by link.
-use Prim.Native.Nat.{ℕ, zero, suc, _+_, _≤_, _<_}
+-- What holds while the search runs, from its start to its end. A node whose number is 0 is not on
+-- the stack, since the numbers there name nodes from 1 on, or G+1. So it can be put there, and the
+-- stack below it stays. At the end the stack is empty: the nodes that have been met hold the root
+-- and are closed under links, so no walk from the root leaves them.
+use Prim.Native.Nat.{ℕ, _+_, _≤_, _<_}
 use mathlib.Core.Path.{_≡_, refl, sym, _∙_, ap}
 use mathlib.Core.Logic.{_≢_, _⊎_, inl, inr}
 use mathlib.Core.List.{List, [], _∷_, _++_, List·Memᴰ, List·Memᴰ·head, List·Memᴰ·tail}
 use mathlib.Core.List.{List·Memᴰ·not-nil}
 use native.Mathlib.Decide.{ℕ-discrete, decLt}
 use native.Mathlib.Omega.{arith}
-use lib.ListN.{length, getD, set, drop, replicate, length-set, length-replicate, getD-replicate}
+use lib.ListN.{length, getD, set, drop, replicate, length-replicate, getD-replicate}
 use lib.ListN.{List·getD-append}
-use lib.Seq.{getD-set-same, getD-set-other, drop-set-lt}
-use Rattle.trie.specs.Table.{Table, complete, descend}
+use lib.Seq.{getD-set-same, getD-set-other}
+use Rattle.trie.specs.Table.{Table, complete}
 use Rattle.trie.specs.Rules.{Within, Framed}
-use Rattle.trie.specs.Tree.{Parent, Reachable}
+use Rattle.trie.specs.Tree.{Reachable}
 use Rattle.trie.proofs.Walk.{Walk, end, on, walk, descend-nil}
 use Rattle.trie.proofs.Tree.{reached-on}
 use Rattle.head.specs.declared.Head.{Head}
 use Rattle.node.specs.Image.{tableOf}
 use Rattle.node.proofs.Tables.{framed}
 use Rattle.reaching.specs.Reaching.{RestKept, Met, Searched, Stack, vacant, Followed}
-use Rattle.reaching.specs.Reaching.{Searching, Spread}
+use Rattle.reaching.specs.Reaching.{Searching}
 use Rattle.reaching.proofs.Vacant.{vacant-all, vacant-none, vacant-set}
-
--- ---- the working numbers from G+1 on
-
-pub kept-none : (g : ℕ) (work : List ℕ) → RestKept g work work
-kept-none g work = record { long = refl; rest = refl }
-
-pub kept-more : {g : ℕ} {work work′ work″ : List ℕ} → RestKept g work work′
-    → RestKept g work′ work″ → RestKept g work work″
-kept-more a b = record { long = b .long ∙ a .long; rest = b .rest ∙ a .rest }
-
-pub kept-set : {g x : ℕ} (work : List ℕ) (v : ℕ) → x ≤ g → RestKept g work (set work x v)
-kept-set {g} {x} work v h =
-    record { long = length-set work x v; rest = drop-set-lt (g + 1) work x v (omega arith) }
 
 -- ---- a node that is met
 
@@ -52,12 +42,12 @@ module _ (work : List ℕ) {c v : ℕ} (room : c < length work) (full : v ≢ 0)
 
 -- ---- the stack
 
--- its top is not the root, so the number of a node on the stack is not 0
+-- its top is not 0, so neither is the number of a node on the stack
 stack-top : (work : List ℕ) (top last : ℕ) (p : List ℕ) → Stack work (last + 1) top p → top ≢ 0
 stack-top work top last [] s z = omega arith
 stack-top work top last (x ∷ p) (e, low, high, s) z = omega arith
 
--- a number that is 0 is not on it
+-- a node whose number is 0 is not on it, so the stack stays when that number is set
 stack-set : (work : List ℕ) (top last : ℕ) (p : List ℕ) (c v : ℕ) → getD work c 0 ≡ 0
     → Stack work (last + 1) top p → Stack (set work c v) (last + 1) top p
 stack-set work top last [] c v z s = s
@@ -83,12 +73,7 @@ searching-start t g n work room e =
       here = met-now work (omega arith) (λ z. omega arith);
       reached = λ x b m. go x b m (ℕ-discrete x 0);
       closed = λ x b m. inr (λ j c f. absurd (stop x b m f (ℕ-discrete x 0)));
-      counted = omega (
-        arith,
-        vacant-all work (g + 1) clear,
-        vacant-set work (g + 1) 0 (g + 1)
-            (omega arith) (clear 0 (omega arith)) (λ z. omega arith) (omega arith),
-      );
+      counted = omega (arith, vacant-all work (g + 1) clear, one-less);
     }
   where
     clear : (x : ℕ) → x < g + 1 → getD work x 0 ≡ 0
@@ -97,6 +82,11 @@ searching-start t g n work room e =
         ∙ List·getD-append (replicate (g + 1) 0) (drop (g + 1) work) 0 x
         (omega (arith, length-replicate {A = ℕ} (g + 1) 0))
         ∙ getD-replicate (g + 1) x 0 0 b
+
+    one-less : vacant work (g + 1) ≡ vacant (set work 0 (g + 1)) (g + 1) + 1
+    one-less =
+        vacant-set work (g + 1) 0 (g + 1) (omega arith) (clear 0 (omega arith)) (λ z. omega arith)
+        (omega arith)
 
     only : (x : ℕ) → x ≤ g → Met (set work 0 (g + 1)) x → x ≢ 0 → ⊥
     only x b m f = m (getD-set-other work 0 x (g + 1) 0 f ∙ clear x (omega arith))
@@ -124,7 +114,8 @@ module _ {t : Table} {g n q i followed top : ℕ} {work : List ℕ}
         counted = s .counted;
       }
     where
-      at : (x j : ℕ) → j < n → Followed t n q i work x → (x ≡ q → j < i + 1) → Dec (x ≡ q) → Dec (j ≡ i) → Met work (t .child x j)
+      at : (x j : ℕ) → j < n → Followed t n q i work x → (x ≡ q → j < i + 1) → Dec (x ≡ q)
+          → Dec (j ≡ i) → Met work (t .child x j)
       at x j b f h (no e) d = f j b (λ w. absurd (e w))
       at x j b f h (yes e) (no d) = f j b (λ w. let y = h e in omega arith)
       at x j b f h (yes e) (yes d) = rw (e, d) m
@@ -134,9 +125,8 @@ module _ {t : Table} {g n q i followed top : ℕ} {work : List ℕ}
       wider x (inl a) = inl a
       wider x (inr f) = inr (λ j b h. at x j b f h (ℕ-discrete x q) (ℕ-discrete j i))
 
-  -- the link for letter i leads to a node that has not been met: it is put on the stack
-  push : {c : ℕ} → g + 1 ≤ length work → q ≤ g → c ≤ g → c ≡ t .child q i
-      → getD work c 0 ≡ 0
+  -- it leads to a node that has not been met, which is put on the stack
+  push : {c : ℕ} → g + 1 ≤ length work → q ≤ g → c ≤ g → c ≡ t .child q i → getD work c 0 ≡ 0
       → Searching t g n q i followed c (set work c top)
   push {c} room low high link z =
       record {
@@ -152,12 +142,7 @@ module _ {t : Table} {g n q i followed top : ℕ} {work : List ℕ}
         here = still q (s .here);
         reached = λ x b m. go x b m (ℕ-discrete x c);
         closed = λ x b m. again x b m (ℕ-discrete x c);
-        counted = omega (
-          arith,
-          s .counted,
-          vacant-set work (g + 1) c top inside z full
-              (omega arith),
-        );
+        counted = omega (arith, s .counted, one-less);
       }
     where
       not-root : c ≢ 0
@@ -168,6 +153,9 @@ module _ {t : Table} {g n q i followed top : ℕ} {work : List ℕ}
 
       full : top ≢ 0
       full = stack-top work top g (s .pending) (s .stack)
+
+      one-less : vacant work (g + 1) ≡ vacant (set work c top) (g + 1) + 1
+      one-less = vacant-set work (g + 1) c top inside z full (omega arith)
 
       still : (x : ℕ) → Met work x → Met (set work c top) x
       still = met-still work inside full
@@ -188,6 +176,7 @@ module _ {t : Table} {g n q i followed top : ℕ} {work : List ℕ}
       again x b m (yes e) = inl (List·Memᴰ·head e)
       again x b m (no e) = more x (s .closed x b (met-before work inside full x e m))
 
+-- the search after such a link
 pub searching-new : {t : Table} {g n q i followed top : ℕ} {work : List ℕ} {c : ℕ}
     → Searching t g n q i followed top work → g + 1 ≤ length work → q ≤ g → c ≤ g
     → c ≡ t .child q i → getD work c 0 ≡ 0
@@ -229,7 +218,7 @@ module _ {t : Table} {g n q followed top : ℕ} {work : List ℕ}
   pub searching-room : top < g + 1 → followed < g + 1
   searching-room below = omega (arith, searching-pop below .counted)
 
-  -- the stack is empty, so every node that is met has had its links followed
+  -- at the end the stack is empty, so the links of every node that has been met were followed
   all-followed : g + 1 ≤ top → (x : ℕ) → x ≤ g → Met work x → Followed t n q n work x
   all-followed high x b m = go (s .pending) (s .stack) (s .closed x b m)
     where
@@ -239,7 +228,7 @@ module _ {t : Table} {g n q followed top : ℕ} {work : List ℕ}
       go [] e (inr f) = f
       go (y ∷ p) (e, low, below, rest) d = absurd (omega arith)
 
-  -- so a walk from a node that is met leads to such nodes alone
+  -- so a walk from such a node leads to such nodes alone
   met-on : Framed t g n → Within t g → g + 1 ≤ top → {a x : ℕ} {k : List ℕ} → a ≤ g → Met work a
       → Walk t a k (complete x) → Met work x
   met-on frame within high b m end = m
@@ -250,6 +239,7 @@ module _ {t : Table} {g n q followed top : ℕ} {work : List ℕ}
       go (yes c) = all-followed high a b m j c (λ _. c)
       go (no c) = absurd (full (frame .no-letter a j (omega arith)))
 
+  -- where as many nodes were followed as there are, none is left
   none-vacant : followed ≡ g + 1 → vacant work (g + 1) ≡ 0
   none-vacant e = omega (arith, s .counted)
 

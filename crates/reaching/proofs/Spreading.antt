@@ -1,6 +1,7 @@
--- The invariant of the loop over a node's links.
-use Prim.Native.Nat.{ℕ, zero, suc, _+_, _^_, _≤_, _<_}
-use mathlib.Core.Path.{_≡_, refl, sym, _∙_, ap}
+-- The invariant of the loop over a node's links. It speaks of every number of nodes followed so
+-- far, since the loop does not know that number: whatever held of the search before, holds after.
+use Prim.Native.Nat.{ℕ, zero, suc, _+_, _≤_, _<_}
+use mathlib.Core.Path.{_≡_}
 use mathlib.Core.List.{List}
 use native.Mathlib.Numerals.{add-one}
 use native.Mathlib.Omega.{arith}
@@ -10,8 +11,8 @@ use Rattle.trie.specs.Rules.{Within}
 use Rattle.head.specs.declared.Head.{Head}
 use Rattle.node.specs.Image.{tableOf}
 use Rattle.reaching.specs.Reaching.{RestKept, Met, Searching, Spread}
-use Rattle.reaching.proofs.Searching.{kept-none, kept-more, kept-set, searching-met}
-use Rattle.reaching.proofs.Searching.{searching-new}
+use Rattle.reaching.proofs.Kept.{kept-none, kept-more, kept-set}
+use Rattle.reaching.proofs.Searching.{searching-met, searching-new}
 
 -- the first i of n links of node q have been followed
 pub record Spreading (t : Table) (g n q top : ℕ) (work : List ℕ) (i top′ : ℕ) (work′ : List ℕ)
