@@ -1,5 +1,5 @@
--- 02, Ask 3: which nodes are "reached from the root by links", as a search over the working
--- numbers finds them, and what holds while it runs.
+-- 02, Ask 3: "every node must be reached from the root". Here is what a search over the working
+-- numbers finds, and what holds while it runs.
 use Prim.Native.Nat.{ℕ, zero, suc, _+_, _≤_, _<_}
 use mathlib.Core.Path.{_≡_}
 use mathlib.Core.Logic.{_≢_, _⊎_}

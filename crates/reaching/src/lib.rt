@@ -12,8 +12,9 @@ ghost use Rattle.node.specs.Image.{Open, Masks, tableOf};
 ghost use Rattle.reaching.specs.Reaching.{Searched, Spread};
 use head::Head;
 
-// Meets every node that is reached from the root, and answers how many there are. The first G+1
-// working numbers are 0 before; afterwards that of a node is 0 where it is not reached.
+// Meets the nodes that are reached from the root, and answers how many there are. The first G+1
+// working numbers are 0 before. Afterwards the number of a node is 0 if it is not reached. Of the
+// answer the contract covers only G+1: then every node is reached.
 pub fn reach(image: &[u8], h: Head, work: &mut [u32]) -> u32
     requires { ⌜ Open h (now image) ⌝ }
     requires { ⌜ length (now image) ≤ longestImage ⌝ }

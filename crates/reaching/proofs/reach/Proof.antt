@@ -22,7 +22,9 @@ mask-requires c κs = search needs
 
 add-nodes : tie.Need-add-nodes Inv-loop μ-loop
 add-nodes c =
-    let pre = c .before .before .before .before .pre in omega (arith, nodes-fit (pre .0) (pre .1 .0))
+    let pre = c .before .before .before .before .pre in
+    let fit = nodes-fit (pre .0) (pre .1 .0) in
+    omega (arith, fit)
 
 slice-write-work : tie.Need-slice-write-work Inv-loop μ-loop
 slice-write-work c = omega arith
