@@ -29,9 +29,8 @@ pub enum Refusal {
     /// 5: fewer than G+1 working numbers, or fewer than G+1 counts, are lent. A store with counts
     /// also gives it after 13: if fewer than G+k+1 counts are lent, for k new nodes.
     TooFewNumbers,
-    /// 6: a link that is not empty is above G, or is not above the address of the node that holds
-    /// it. Place: the lowest node that holds such a link; in a lookup, the node that holds the
-    /// first one on the key's path.
+    /// 6: a link is above G. Place: the lowest node that holds such a link; in a lookup, the node
+    /// that holds the first one on the key's path.
     Link(u32),
     /// 7: an address stands in two links or more. Place: the lowest such address.
     LinkedTwice(u32),
@@ -52,10 +51,13 @@ pub enum Refusal {
     ShortBuffer,
     /// 15: no stored key meets the request.
     NoKey,
+    /// 16: a node is not reached from the root by links. Since 7 and 8 come first, it is on a cycle
+    /// of links or under one. Place: the lowest such node.
+    NotReached(u32),
     /// 25: a count differs from the fresh one. Place: the lowest such node.
     CountsDiffer(u32),
     /// A number that this crate does not know, with its place. The library that the crate was
-    /// written for is proved to answer only 0 to 15 and 25, so only a newer `libtrieff.a` can give
+    /// written for is proved to answer only 0 to 16 and 25, so only a newer `libtrieff.a` can give
     /// another number. The crate passes it on: firmware should not stop because of it, and should
     /// not take it for another refusal.
     Unknown {
@@ -86,6 +88,7 @@ impl Refusal {
             13 => Refusal::NoRoom,
             14 => Refusal::ShortBuffer,
             15 => Refusal::NoKey,
+            16 => Refusal::NotReached(place),
             25 => Refusal::CountsDiffer(place),
             _ => Refusal::Unknown { number, place },
         })
@@ -109,6 +112,7 @@ impl Refusal {
             Refusal::NoRoom => 13,
             Refusal::ShortBuffer => 14,
             Refusal::NoKey => 15,
+            Refusal::NotReached(_) => 16,
             Refusal::CountsDiffer(_) => 25,
             Refusal::Unknown { number, .. } => number,
         }
@@ -120,6 +124,7 @@ impl Refusal {
             Refusal::Link(place)
             | Refusal::LinkedTwice(place)
             | Refusal::NotLinked(place)
+            | Refusal::NotReached(place)
             | Refusal::CountsDiffer(place)
             | Refusal::Unknown { place, .. } => place,
             _ => 0,
@@ -133,7 +138,7 @@ impl Refusal {
             Refusal::Alphabet => "the alphabet is not N different well-formed characters",
             Refusal::ImageRoom => "U exceeds the image's length",
             Refusal::TooFewNumbers => "too few working numbers or counts lent",
-            Refusal::Link(_) => "a link breaks the first link rule",
+            Refusal::Link(_) => "a link is above G",
             Refusal::LinkedTwice(_) => "an address stands in two links or more",
             Refusal::NotLinked(_) => "an address in 1..G stands in no link",
             Refusal::KeyLength => "key length outside min..max",
@@ -143,6 +148,7 @@ impl Refusal {
             Refusal::NoRoom => "U + k*W exceeds the image's length, with k new nodes",
             Refusal::ShortBuffer => "key buffer shorter than max",
             Refusal::NoKey => "no stored key meets the request",
+            Refusal::NotReached(_) => "a node is not reached from the root",
             Refusal::CountsDiffer(_) => "a count is not the fresh one",
             Refusal::Unknown { .. } => "a number that this crate does not know",
         }
@@ -180,8 +186,8 @@ mod tests {
     fn every_number_keeps_its_number_and_place() {
         assert_eq!(Refusal::of(0, 0), None);
         for number in 1..=40 {
-            let unknown = number > 15 && number != 25;
-            let place = if unknown || [6, 7, 8, 25].contains(&number) { 77 } else { 0 };
+            let unknown = number > 16 && number != 25;
+            let place = if unknown || [6, 7, 8, 16, 25].contains(&number) { 77 } else { 0 };
             let refusal = Refusal::of(number, place).unwrap();
             assert_eq!((refusal.number(), refusal.place()), (number, place));
             assert_eq!(matches!(refusal, Refusal::Unknown { .. }), unknown);
