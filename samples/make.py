@@ -1,8 +1,9 @@
 #!/usr/bin/env python3
 """Makes images with its own store, independent of the library.
 
-make.py                 writes the samples p3.trieff and season.trieff beside this file, and what
-                        `list` must write for each of them: p3.txt and season.txt
+make.py                 writes the samples p3.trieff, season.trieff and renumbered.trieff beside
+                        this file, and what `list` must write for each of them: p3.txt, season.txt
+                        and renumbered.txt
 make.py bench FOLDER    writes the images that bench/run measures
 """
 import os
@@ -88,6 +89,24 @@ def season():
     return image
 
 
+def renumbered(image):
+    """The same nodes under other addresses, as a tool numbers them that does not go from parent to
+    child. The root stays node 0."""
+    nodes = image.g + 1
+    new = [old * 407 % nodes for old in range(nodes)]
+    if sorted(new) != list(range(nodes)):
+        raise SystemExit("two nodes have one address")
+    before = bytes(image.bytes)
+    for old in range(nodes):
+        node = bytearray(before[image.first + old * image.width:][:image.width])
+        for at in range(0, image.n * image.a, image.a):
+            child = int.from_bytes(node[at:at + image.a], "big")
+            node[at:at + image.a] = new[child].to_bytes(image.a, "big")
+        place = image.first + new[old] * image.width
+        image.bytes[place:place + image.width] = node
+    return image
+
+
 def numbered(room, most):
     """At most `most` labels of nine digits in base 16, counted up from 0. Their values have six
     digits."""
@@ -112,7 +131,8 @@ def write(folder, name, data):
 
 
 def samples(folder):
-    for name, image in (("p3", p3()), ("season", season())):
+    for name, image in (("p3", p3()), ("season", season()),
+                        ("renumbered", renumbered(season()))):
         write(folder, name + ".trieff", image.used())
         write(folder, name + ".txt", image.listing())
 
