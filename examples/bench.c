@@ -1,7 +1,8 @@
 /* What a bench's firmware does with the library. It keeps the labels of buckets in an image, each
-   with its record number. It meets every refusal at least once, mends an image after a cut, and
-   jumps by position in samples/season.trieff. All memory is static. (bench_file.c keeps its image
-   in a file.) From the repository's root, after `rt staticlib trieff`:
+   with its record number. It meets every refusal at least once, mends an image after a cut, jumps
+   by position in samples/season.trieff, and does so in the same labels as another tool numbers
+   their nodes. All memory is static. (bench_file.c keeps its image in a file.) From the
+   repository's root, after `rt staticlib trieff`:
 
      gcc -std=c11 -O2 -Iinclude -o target/bench-c examples/bench.c \
          target/staticlib/libtrieff.a && target/bench-c
@@ -26,8 +27,8 @@ static uint32_t work[NODES];
 /* What the bench shows for an answer. After 9 to 11 the worker taps again. 12 and 13 need a
    greater image. 5 and 14 are mistakes of the firmware. 15 is the end of the list. 8 may come from
    a cut, and then mending helps. After 25 the counts are worked out afresh. After any other
-   refusal the bench cannot go on with the image and loads its copy. The place says where to
-   look. */
+   refusal, and after an 8 of mending, the bench cannot go on with the image and loads its copy.
+   The place says where to look. */
 static void show(const char *asked, trieff_answer heard)
 {
     printf("%s: ", asked);
@@ -48,6 +49,7 @@ static void show(const char *asked, trieff_answer heard)
     case TRIEFF_NO_ROOM: printf("image full, lend more memory"); break;
     case TRIEFF_SHORT_BUFFER: printf("lend a key buffer of max letters"); break;
     case TRIEFF_NO_KEY: printf("no more labels"); break;
+    case TRIEFF_NOT_REACHED: printf("no way to node %u", (unsigned)heard.place); break;
     case TRIEFF_COUNTS_DIFFER: printf("wrong count at node %u", (unsigned)heard.place); break;
     default: printf("a number that this firmware does not know"); break;
     }
@@ -134,7 +136,14 @@ static void refused_images(void)
     small[33] = 2;
     show("root and node 1 link to node 2", trieff_check(ALL(small), ALL(work)));
     small[33] = 0;
-    show("both bytes mended", trieff_check(ALL(small), ALL(work)));
+    /* the root's link to node 1 moves to node 2: a cycle, and mending does not help */
+    small[32] = 0;
+    small[39] = 1;
+    show("nodes 1 and 2 link to each other", trieff_check(ALL(small), ALL(work)));
+    show("mend", trieff_mend(ALL(small), ALL(work)));
+    small[32] = 1;
+    small[39] = 0;
+    show("all bytes as before", trieff_check(ALL(small), ALL(work)));
 }
 
 static void refused_keys(void)
@@ -199,17 +208,18 @@ static void cut_off(void)
 }
 
 /* A season of labels, in an image with the same alphabet and with room for more nodes. The counts
-   are a list beside it, one for each node. */
+   are a list beside it, one for each node. In renumbered.trieff the same nodes have other
+   addresses: many a child has a lower one than its parent. */
 enum { SEASON_A = 3, SEASON_NODES = 700 };
 static uint8_t season[TRIEFF_LENGTH(SEASON_NODES, N, SEASON_A, D, sizeof alphabet - 1)];
 static uint32_t season_work[SEASON_NODES], counts[SEASON_NODES];
 #define SEASON ALL(season), ALL(season_work)
 
-static int read_season(void)
+static int read_season(const char *path)
 {
-    FILE *file = fopen("samples/season.trieff", "rb");
+    FILE *file = fopen(path, "rb");
     if (file == NULL) {
-        fprintf(stderr, "no samples/season.trieff: start this in the repository's root\n");
+        fprintf(stderr, "no %s: start this in the repository's root\n", path);
         return 0;
     }
     size_t read = fread(season, 1, sizeof season, file);
@@ -258,6 +268,17 @@ static void jump(void)
     show("check with counts", trieff_check_counts(SEASON, ALL(counts)));
 }
 
+/* What the bench does with a file from elsewhere: it checks it before it goes by it. */
+static void from_elsewhere(void)
+{
+    show("check the renumbered season", trieff_check(SEASON));
+    show("work the counts out", trieff_counts(SEASON, ALL(counts)));
+    label_at(199);
+    show("store A01-100-1 = 2400",
+         trieff_store_text_counts(SEASON, TEXT("A01-100-1"), 2400, ALL(counts)));
+    position_of("B03-145-1");
+}
+
 int main(void)
 {
     show("make the labels' image", trieff_make(ALL(image), N, A, D, TEXT(alphabet), MIN, MAX));
@@ -275,8 +296,11 @@ int main(void)
     refused_keys();
     refused_address();
     cut_off();
-    if (!read_season())
+    if (!read_season("samples/season.trieff"))
         return 1;
     jump();
+    if (!read_season("samples/renumbered.trieff"))
+        return 1;
+    from_elsewhere();
     return 0;
 }
