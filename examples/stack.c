@@ -67,14 +67,24 @@ static void call_position_text(void)
 }
 static void call_nothing(void) { heard = (trieff_answer){0}; }
 
-/* The image before the call. whole: with the key stored. cut: as a store that was cut between G
-   and the link leaves it; the link is the second of the root's two. whole_counted: with its
-   counts, the key stored, so that comparing them goes down all levels, and the empty key stored
-   too, so that the long key has position 1. */
+/* The image before the call. whole: with the key stored. lower: the same key, but each child of a
+   node other than the root has a lower address, so that the check must follow the links from the
+   root. cut: as a store that was cut between G and the link leaves it; the link is the second of
+   the root's two. whole_counted: with its counts, the key stored, so that comparing them goes down
+   all levels, and the empty key stored too, so that the long key has position 1. */
 static void whole(void)
 {
     call_make();
     call_store();
+}
+static void lower(void)
+{
+    whole();
+    for (size_t node = 0; node <= DEEP; node++) {
+        uint8_t *bytes = image + TRIEFF_LENGTH(node, 2, 1, 1, 2);
+        bytes[1] = (uint8_t)(node == 0 ? DEEP : node - 1);
+        bytes[2] = node == 1 ? 7 : 0;
+    }
 }
 static void cut(void)
 {
@@ -121,10 +131,12 @@ int main(void)
         {"store_text_writes", call_make, call_store_text_writes, MOST, TRIEFF_WRITES_MOST, 0},
         {"mend", cut, call_mend, MOST, 0, 0},
         {"check", whole, call_check, MOST, 0, 0},
+        {"check, lower", lower, call_check, MOST, 0, 0},
         {"look_up", whole, call_look_up, MOST, 0, 7},
         {"look_up_text", whole, call_look_up_text, MOST, 0, 7},
         {"count", whole, call_count, COUNT_MOST, 0, 1},
         {"next_key", whole, call_next_key, NEXT_MOST, DEEP, 7},
+        {"next_key, lower", lower, call_next_key, NEXT_MOST, DEEP, 7},
         {"counts", whole, call_counts, COUNTS_MOST, 0, 0},
         {"check_counts", whole_counted, call_check_counts, COUNTS_MOST, 0, 0},
         {"store_counts", whole_counted, call_store_counts, COUNTS_MOST, 0, 0},

@@ -1,7 +1,7 @@
 //! What a bench's firmware does with the library, in short. It stores, finds, lists and deletes
-//! labels. It meets refusals: wrong labels, too little memory, a damaged image. It mends an image
-//! after a cut, and finds a label by its position. rust/examples/bench.txt holds what it must
-//! print.
+//! labels. It meets refusals: wrong labels, too little memory, damaged images. It mends an image
+//! after a cut, and finds a label by its position, also in a file that another tool has
+//! renumbered. rust/examples/bench.txt holds what it must print.
 //!
 //! ```sh
 //! cargo run --manifest-path rust/Cargo.toml --example bench
@@ -18,6 +18,8 @@ const NODES: usize = 30;
 /// A season's labels, in an image made with the same numbers but A = 3. `jump` adds room for more
 /// nodes.
 const SEASON: &[u8] = include_bytes!("../../samples/season.trieff");
+/// The same labels. Many a node has a lower address than its parent.
+const RENUMBERED: &[u8] = include_bytes!("../../samples/renumbered.trieff");
 const SEASON_NODES: usize = 700;
 
 /// What the bench does after a refusal. The match names all refusals, so the program does not
@@ -32,7 +34,7 @@ fn advice(refusal: Refusal) -> &'static str {
             "load the copy"
         }
         Refusal::NotLinked(_) => "mend it, or load the copy",
-        Refusal::Link(_) | Refusal::LinkedTwice(_) => "load the copy",
+        Refusal::Link(_) | Refusal::LinkedTwice(_) | Refusal::NotReached(_) => "load the copy",
         Refusal::CountsDiffer(_) => "work the counts out afresh",
         Refusal::Unknown { .. } => "call the maker",
     }
@@ -79,8 +81,8 @@ fn cut_off(image: &[u8], label: &str, record: u32, cut: usize) -> Result<(), Ref
 
 /// Finds labels of a season by position. The counts are worked out once, and a store with counts
 /// keeps them right. A store without counts does not, so they are worked out afresh after it.
-fn jump() -> Result<(), Refusal> {
-    let mut image = SEASON.to_vec();
+fn jump(season: &[u8]) -> Result<(), Refusal> {
+    let mut image = season.to_vec();
     image.resize(Shape { a: 3, ..SHAPE }.length(SEASON_NODES, ALPHABET.len()), 0);
     let (mut work, mut numbers) = ([0; SEASON_NODES], [0; SEASON_NODES]);
     let mut counts = Counts::new(&mut numbers);
@@ -121,7 +123,8 @@ fn main() {
     for cut in 1..=3 {
         show("cut", cut_off(&image, "B04-118", 2412, cut));
     }
-    show("jump", jump());
+    show("jump", jump(SEASON));
+    show("jump in the renumbered season", jump(RENUMBERED));
 
     show("look up B04/117", look_up_text(&image, b"B04/117"));
     show("look up 13 letters", look_up_text(&image, b"0123456789ABC"));
@@ -131,4 +134,12 @@ fn main() {
     show("check, cut off", check(&image[..100], &mut work));
     image[SHAPE.length(5, ALPHABET.len()) + 1] = 200;
     show("check, a link torn in node 5", check(&image, &mut work));
+
+    // BA = 9, then the root's link to node 1 moves to node 2: the two link to each other
+    let mut small = [0; 43];
+    show("make ABC", make(&mut small, Shape { n: 3, a: 1, d: 1, min: 1, max: 3 }, b"ABC"));
+    show("store BA = 9", store_text(&mut small, &mut work, b"BA", 9));
+    (small[32], small[39]) = (0, 1);
+    show("check, a cycle", check(&small, &mut work));
+    show("mend", mend(&mut small, &mut work));
 }

@@ -1,7 +1,10 @@
 //! Every cut of a list of writes, in memory. After mending, the answers are those from after the
 //! store if the last write landed, else those from before it.
 
-use trieff::{check, count, keys, look_up, make, mend, store_writes, Shape, Stored, Writes};
+use trieff::{
+    check, count, keys, look_up, make, mend, store_text_writes, store_writes, Refusal, Shape,
+    Stored, Writes,
+};
 
 const SHAPE: Shape = Shape { n: 3, a: 2, d: 3, min: 0, max: 3 };
 const ROOM: usize = SHAPE.length(20, 0);
@@ -70,6 +73,32 @@ fn after_any_cut_the_store_is_whole_or_has_not_been() {
         lists.push(list.len());
     }
     assert_eq!(lists, [4, 1, 5, 1, 1, 0, 1, 3, 5]);
+}
+
+/// Also in an image that another tool has renumbered, a cut leaves an accepted image, or 8 at the
+/// old G+1 where G landed and the link did not.
+#[test]
+fn a_cut_in_a_renumbered_image() {
+    const USED: &[u8] = include_bytes!("../../samples/renumbered.trieff");
+    let mut image = [USED, &[0xA5; 52 * 20]].concat();
+    let before = image.clone();
+    let mut work = [0; 700];
+    let mut writes = Writes::new();
+    store_text_writes(&mut image, &mut work, b"E01-100-1", 2400, &mut writes).unwrap();
+    assert_eq!(writes.len(), 11);
+    for cut in 0..=11 {
+        let mut kept = before.clone();
+        for write in writes.iter().take(cut) {
+            kept[write.clone()].copy_from_slice(&image[write]);
+        }
+        let heard = if cut == 10 { Err(Refusal::NotLinked(659)) } else { Ok(()) };
+        assert_eq!(check(&kept, &mut work), heard);
+        assert_eq!(mend(&mut kept, &mut work), Ok(()));
+        match cut {
+            11 => assert_eq!(kept, image),
+            _ => assert_eq!(kept[..USED.len()], *USED),
+        }
+    }
 }
 
 #[test]

@@ -3,6 +3,7 @@
 use trieff::{keys, keys_from, make, next_key, store, Found, Keys, Refusal, Shape};
 
 const SEASON: &[u8] = include_bytes!("../../samples/season.trieff");
+const RENUMBERED: &[u8] = include_bytes!("../../samples/renumbered.trieff");
 const NODES: usize = 659;
 const DEEP: Shape = Shape { n: 2, a: 1, d: 4, min: 0, max: 64 };
 
@@ -46,6 +47,14 @@ fn a_season_key_by_key() {
         );
     }
     assert_eq!(agree(SEASON, NODES, all[200].letters(), true), (193, Refusal::NoKey));
+}
+
+#[test]
+fn a_renumbered_season_has_the_same_keys() {
+    assert_eq!(agree(RENUMBERED, NODES, &[], false), (394, Refusal::NoKey));
+    let (mut work, mut other) = ([0; NODES], [0; NODES]);
+    assert!(keys(RENUMBERED, &mut work).eq(keys(SEASON, &mut other)));
+    assert_ne!(RENUMBERED, SEASON);
 }
 
 #[test]
