@@ -51,8 +51,8 @@ pub enum Refusal {
     ShortBuffer,
     /// 15: no stored key meets the request.
     NoKey,
-    /// 16: a node is not reached from the root by links. Since 7 and 8 come first, it is on a cycle
-    /// of links or under one. Place: the lowest such node.
+    /// 16: a node is not reached from the root by links. Since 7 and 8 come first, it is on a
+    /// cycle of links or under one. Place: the lowest such node.
     NotReached(u32),
     /// 25: a count differs from the fresh one. Place: the lowest such node.
     CountsDiffer(u32),
