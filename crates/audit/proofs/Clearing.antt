@@ -4,9 +4,11 @@ use mathlib.Core.Path.{_≡_, refl, sym, ap, _∙_}
 use mathlib.Core.List.{List, _++_}
 use Prim.Native.Nat.{ℕ, _+_, _≤_, _<_}
 use native.Mathlib.Omega.{arith}
-use lib.ListN.{length, set, drop, replicate, length-replicate, length-set}
+use lib.ListN.{length, set, drop, replicate, length-append, length-drop, length-replicate}
+use lib.ListN.{length-set}
 use lib.Seq.{drop-at}
 use borrow.Author.Fill.{fill-none, fill-more}
+use Rattle.reaching.specs.Reaching.{RestKept}
 
 -- the first i of n are 0
 pub record Filling (work : List ℕ) (n : ℕ) (work′ : List ℕ) (i : ℕ) : Type 0 where
@@ -41,3 +43,15 @@ module _ (n : ℕ) (work : List ℕ) {work′ : List ℕ} (e : work′ ≡ repli
 
   pub cleared-again : work′ ≡ replicate n 0 ++ drop n work′
   cleared-again = e ∙ ap (λ (w : List ℕ). replicate n 0 ++ w) (sym cleared-rest)
+
+-- the numbers from G+1 on are kept
+pub kept-cleared : (g : ℕ) (work : List ℕ) {work′ : List ℕ}
+    → work′ ≡ replicate (g + 1) 0 ++ drop (g + 1) work → g + 1 ≤ length work → RestKept g work work′
+kept-cleared g work e room =
+    record {
+      long =
+          ap length e
+          ∙ length-append (replicate (g + 1) 0) (drop (g + 1) work)
+          ∙ omega (arith, length-replicate {A = ℕ} (g + 1) 0, length-drop (g + 1) work);
+      rest = cleared-rest (g + 1) work e;
+    }

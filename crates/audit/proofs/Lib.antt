@@ -1,4 +1,5 @@
 pub mod Clearing
+pub mod EachReached
 pub mod LowestFound
 pub mod Tallying
 pub mod Verdicts

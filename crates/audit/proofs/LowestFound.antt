@@ -8,11 +8,15 @@ use native.Mathlib.Numerals.{add-one}
 use native.Mathlib.Decide.{ℕ-discrete}
 use native.Mathlib.Omega.{arith}
 use mathlib.Core.List.{List}
+use mathlib.Core.Option.{none, some}
 use lib.Dec.{eqb}
 use lib.ListN.{getD}
-use borrow.Author.Tests.{eqb-true}
+use borrow.Author.Tests.{lt-ltb, le-ltb, eqb-true}
 use Rattle.trie.specs.Lowest.{lowest}
 use Rattle.field.proofs.Range.{both}
+use Rattle.paper.specs.Answers.{numberAt}
+use Rattle.paper.specs.Rows.{rowWhenLowest}
+use Rattle.paper.proofs.Hearing.{is-given, not-given}
 use Rattle.audit.specs.Audit.{AllOnce}
 
 -- of the k numbers from a on, those below x are passed over
@@ -55,6 +59,17 @@ lowest-same p r a (suc k) h =
       lowest-same p r (suc a) k
           (λ x low high. h x (omega arith) (omega arith)),
     )
+
+-- the row for the lowest number that passes, from that number
+pub given-at : (number : ℕ) (test : ℕ → Bool) (a k : ℕ) {x : ℕ} → x ≡ lowest test a k → x < a + k
+    → rowWhenLowest number test a k ≡ some (numberAt number x)
+unfolding rowWhenLowest
+given-at number test a k e b = rw (← e) (is-given number _ (lt-ltb _ _ b))
+
+pub given-nowhere : (number : ℕ) (test : ℕ → Bool) (a k : ℕ) {x : ℕ} → x ≡ lowest test a k → a + k ≤ x
+    → rowWhenLowest number test a k ≡ none
+unfolding rowWhenLowest
+given-nowhere number test a k e b = rw (← e) (not-given number _ (le-ltb _ _ b))
 
 -- the loop of `all_once`: if the answer is true, the working numbers from 1 on, below x, are 1
 pub record Sole (work : List ℕ) (once : Bool) (x : ℕ) : Type 0 where

@@ -13,39 +13,35 @@ use lib.ListN.{length, getD, drop, replicate}
 use borrow.Author.Tests.{lt-ltb, le-ltb, le-leb, lt-leb, eq-eqb, ne-eqb}
 use Rattle.trie.specs.Table.{Table}
 use Rattle.trie.specs.Lowest.{lowest}
+use Rattle.trie.specs.Rules.{Within, Named}
 use Rattle.trie.proofs.Lowest.{lowest-none}
+use Rattle.trie.proofs.Depth.{reached-depth}
 use Rattle.head.specs.declared.Head.{Head}
 use Rattle.head.specs.Fields.{headOf}
 use Rattle.node.specs.Image.{tableOf}
+use Rattle.node.proofs.Tables.{framed}
 use Rattle.paper.specs.declared.Refusal.{Refusal}
 use Rattle.paper.specs.declared.Verdict.{Verdict}
 use Rattle.paper.specs.Hearing.{Row, first}
 use Rattle.paper.specs.Answers.{numberAt, rowOf}
-use Rattle.paper.specs.Rows.{rowWhenLowest, row5, row6, row7, row8, times}
+use Rattle.paper.specs.Rows.{row5, row6, row7, row8, row16, times}
 use Rattle.paper.specs.Orders.{openingRowsOf, linkRows, checkOrder}
 use Rattle.paper.specs.Calls.{clearedBy, workAfter}
 use Rattle.paper.specs.Accepted.{Accepted}
 use Rattle.paper.proofs.Hearing.{is-given, not-given, first-nil, first-some, first-none}
 use Rattle.paper.proofs.Hearing.{first-part, second-part, told-refused, told-passed}
 use Rattle.paper.proofs.CheckCall.{check-accepts}
+use Rattle.paper.proofs.Linking.{none-within, none-named, row16-none}
+use Rattle.reaching.proofs.Kept.{kept-more}
 use Rattle.opening.specs.declared.Opened.{Opened}
 use Rattle.opening.specs.Opened.{Opens}
-use Rattle.audit.specs.Audit.{Checked, Audited, LinksJudged, BadFrom, Tally, AllOnce}
-use Rattle.audit.specs.Audit.{FoundFrom}
-use Rattle.audit.proofs.Clearing.{cleared-rest}
-use Rattle.audit.proofs.LowestFound.{lowest-same}
+use Rattle.audit.specs.Audit.{Checked, Audited, LinksJudged, ReachedJudged, BadFrom}
+use Rattle.audit.specs.Audit.{Tally, AllOnce, FoundFrom}
+use Rattle.audit.proofs.Clearing.{cleared-rest, kept-cleared}
+use Rattle.audit.proofs.LowestFound.{lowest-same, given-at, given-nowhere}
+use Rattle.audit.proofs.EachReached.{upward-reached}
 
--- ---- 6 to 8
-
-given-at : (number : ℕ) (test : ℕ → Bool) (a k : ℕ) {x : ℕ} → x ≡ lowest test a k → x < a + k
-    → rowWhenLowest number test a k ≡ some (numberAt number x)
-unfolding rowWhenLowest
-given-at number test a k e b = rw (← e) (is-given number _ (lt-ltb _ _ b))
-
-given-nowhere : (number : ℕ) (test : ℕ → Bool) (a k : ℕ) {x : ℕ} → x ≡ lowest test a k → a + k ≤ x
-    → rowWhenLowest number test a k ≡ none
-unfolding rowWhenLowest
-given-nowhere number test a k e b = rw (← e) (not-given number _ (le-ltb _ _ b))
+-- ---- 6 to 8 and 16
 
 -- the tests of 7 and of 8 on a number that stops at 2
 twice : (m : ℕ) → eqb (min 2 m) 2 ≡ leb 2 m
@@ -103,7 +99,8 @@ module _ {h : Head} {l work work′ : List ℕ} {bad : ℕ} (b : BadFrom h l wor
         }
 
     module _ (none-twice : h .g + 1 ≤ x) {y : ℕ} (missed : FoundFrom work′ (h .g + 1) 0 y) where
-      past-7 : first (linkRows h (tableOf h l)) ≡ first (row8 h (tableOf h l) ∷ [])
+      past-7 : first (linkRows h (tableOf h l))
+          ≡ first (row8 h (tableOf h l) ∷ row16 h (tableOf h l) ∷ [])
       unfolding linkRows row7
       past-7 =
           first-none _ _ past-6 ∙ first-none _ _ (given-nowhere 7 _ 1 (h .g) seventh (omega arith))
@@ -121,27 +118,63 @@ module _ {h : Head} {l work work′ : List ℕ} {bad : ℕ} (b : BadFrom h l wor
             kept = b .kept;
           }
 
-      pub linked-all : h .g + 1 ≤ y → LinksJudged h l work Verdict.Passed work′
-      unfolding rowOf row8
-      linked-all none-missing =
-          record {
-            verdict =
-                sym (past-7 ∙ first-none _ _ (given-nowhere 8 _ 1 (h .g) eighth (omega arith))
-                ∙ first-nil);
-            kept = b .kept;
-          }
+      module _ (none-missing : h .g + 1 ≤ y) where
+        none-8 : row8 h (tableOf h l) ≡ none
+        unfolding row8
+        none-8 = given-nowhere 8 _ 1 (h .g) eighth (omega arith)
 
-  -- where each address has the tally 1, the searches would find none and are left out
-  pub linked-once : h .g + 1 ≤ bad → AllOnce work′ (h .g + 1)
-      → LinksJudged h l work Verdict.Passed work′
-  linked-once high once = linked-all high (nowhere 2 (λ e. omega arith)) (omega arith)
-      (nowhere 0 (λ e. omega arith)) (omega arith)
-    where
-      nowhere : (v : ℕ) → (1 ≡ v → ⊥) → FoundFrom work′ (h .g + 1) v (h .g + 1)
-      nowhere v other =
-          let k : 1 + (h .g + 1 - 1) ≡ h .g + 1 = omega arith in
-          sym (lowest-none (λ x. eqb (getD work′ x 0) v) 1 (h .g + 1 - 1)
-          (λ x low below. rw (once x low (omega arith)) (ne-eqb 1 v other)) ∙ k)
+        past-8 : first (linkRows h (tableOf h l)) ≡ first (row16 h (tableOf h l) ∷ [])
+        past-8 = past-7 ∙ first-none _ _ none-8
+
+        -- the numbers are cleared, and 16 is judged
+        pub linked-reached : {clear last : List ℕ} {r : Verdict}
+            → clear ≡ replicate (h .g + 1) 0 ++ drop (h .g + 1) work′ → h .g + 1 ≤ length work′
+            → ReachedJudged h l clear r last → LinksJudged h l work r last
+        linked-reached e room k =
+            record {
+              verdict = k .verdict ∙ sym past-8;
+              kept = kept-more (b .kept) (kept-more (kept-cleared (h .g) work′ e room) (k .kept));
+            }
+
+  -- no link is above G
+  pub linked-within : h .g + 1 ≤ bad → Within (tableOf h l) (h .g)
+  unfolding row6
+  linked-within high =
+      none-within h (tableOf h l) (framed h l)
+      (given-nowhere 6 _ 0 (h .g + 1) (b .lowest-bad) (omega arith))
+
+  -- where each address has the tally 1, the searches would find none and are left out; and where
+  -- each link leads upward, every node is reached
+  module _ (high : h .g + 1 ≤ bad) (once : AllOnce work′ (h .g + 1)) where
+    nowhere : (v : ℕ) → (1 ≡ v → ⊥) → FoundFrom work′ (h .g + 1) v (h .g + 1)
+    nowhere v other =
+        let k : 1 + (h .g + 1 - 1) ≡ h .g + 1 = omega arith in
+        sym (lowest-none (λ x. eqb (getD work′ x 0) v) 1 (h .g + 1 - 1)
+        (λ x low below. rw (once x low (omega arith)) (ne-eqb 1 v other)) ∙ k)
+
+    pub linked-once : getD work′ 0 0 ≡ 0 → LinksJudged h l work Verdict.Passed work′
+    unfolding rowOf
+    linked-once z =
+        record {
+          verdict = sym (passed ∙ first-none _ _ (row16-none h (tableOf h l)
+              (λ x low h′. reached-depth (tableOf h l) (h .n) (h .g) (framed h l) x h′
+              (upward-reached (framed h l) named (λ q q′. b .upward (omega arith) q q′ z) x h′)))
+              ∙ first-nil);
+          kept = b .kept;
+        }
+      where
+        no-two : FoundFrom work′ (h .g + 1) 2 (h .g + 1)
+        no-two = nowhere 2 (λ e. omega arith)
+
+        no-none : FoundFrom work′ (h .g + 1) 0 (h .g + 1)
+        no-none = nowhere 0 (λ e. omega arith)
+
+        passed : first (linkRows h (tableOf h l)) ≡ first (row16 h (tableOf h l) ∷ [])
+        passed = past-8 high no-two (omega arith) no-none (omega arith)
+
+        named : Named (tableOf h l) (h .g)
+        named = none-named h (tableOf h l) (framed h l)
+            (none-8 high no-two (omega arith) no-none (omega arith))
 
 -- ---- 5
 
@@ -176,7 +209,7 @@ audited-linked {h} {l} {work} enough e k f =
 abbrev fifth : List ℕ → List ℕ → List Row
 fifth l work = row5 (headOf l) (length work) ∷ []
 
--- after 1 to 4: 5 to 8
+-- after 1 to 4: 5 to 8 and 16
 abbrev others : List ℕ → List ℕ → List Row
 others l work = row5 (headOf l) (length work) ∷ linkRows (headOf l) (tableOf (headOf l) l)
 

@@ -1,11 +1,12 @@
--- 01, "What the bench may hear", 1 to 8: what the check of an image answers, and how it leaves
--- the working numbers.
+-- 01, "What the bench may hear", 1 to 8, and 02's 16: what the check of an image answers, and how
+-- it leaves the working numbers.
 use Prim.Native.Nat.{ℕ, _+_, _-_, _≤_, _<_, min}
 use mathlib.Core.Path.{_≡_}
+use mathlib.Core.Logic.{_≢_}
 use mathlib.Core.Bool.{Bool, true, false}
 use mathlib.Core.Option.{none}
 use mathlib.Core.List.{List, [], _∷_}
-use lib.ListN.{length, getD, drop}
+use lib.ListN.{length, getD}
 use lib.Dec.{eqb}
 use Rattle.trie.specs.Table.{Table}
 use Rattle.trie.specs.Lowest.{lowest}
@@ -17,32 +18,37 @@ use Rattle.paper.specs.Hearing.{first}
 use Rattle.paper.specs.Answers.{rowOf}
 use Rattle.paper.specs.Given.{alphabetIn}
 use Rattle.paper.specs.Orders.{linkRows, checkOrder}
-use Rattle.paper.specs.Rows.{row5, holdsBad, timesIn, times}
+use Rattle.paper.specs.Rows.{row5, row16, holdsBad, timesIn, times}
 use Rattle.paper.specs.Calls.{clearedBy, workAfter}
 use Rattle.opening.specs.declared.Opened.{Opened}
 use Rattle.opening.specs.Opened.{Decoded}
+use Rattle.reaching.specs.Reaching.{RestKept}
 
--- 1 to 8 for an image, and its head and letters where none is given
+-- 1 to 8 and 16 for an image, and its head and letters where none is given
 pub record Checked (l work : List ℕ) (r : Opened) (work′ codes : List ℕ) : Type 0 where
   pub verdict : rowOf (r .verdict) ≡ first (checkOrder l work)
   pub numbers : work′ ≡ workAfter l work
   pub head : rowOf (r .verdict) ≡ none → r .head ≡ headOf l
   pub decoded : rowOf (r .verdict) ≡ none → Decoded (alphabetIn (headOf l) l) r codes
 
--- 5 to 8 for an opened image
+-- 5 to 8 and 16 for an opened image
 pub record Audited (h : Head) (l work : List ℕ) (r : Verdict) (work′ : List ℕ) : Type 0 where
   pub verdict : rowOf r ≡ first (row5 h (length work) ∷ linkRows h (tableOf h l))
   pub numbers : work′ ≡ clearedBy (first (row5 h (length work) ∷ [])) (h .g + 1) work
 
--- the list of working numbers keeps its length, and from G+1 on what it held
-pub record RestKept (g : ℕ) (work work′ : List ℕ) : Type 0 where
-  pub long : length work′ ≡ length work
-  pub rest : drop (g + 1) work′ ≡ drop (g + 1) work
-
--- 6 to 8
+-- 6 to 8 and 16
 pub record LinksJudged (h : Head) (l work : List ℕ) (r : Verdict) (work′ : List ℕ) : Type 0 where
   pub verdict : rowOf r ≡ first (linkRows h (tableOf h l))
   pub kept : RestKept (h .g) work work′
+
+-- 16
+pub record ReachedJudged (h : Head) (l work : List ℕ) (r : Verdict) (work′ : List ℕ) : Type 0 where
+  pub verdict : rowOf r ≡ first (row16 h (tableOf h l) ∷ [])
+  pub kept : RestKept (h .g) work work′
+
+-- if number 0 is still 0, each of the first i links of node q leads to a greater address
+abbrev pub Upward : Table → ℕ → ℕ → List ℕ → Type 0
+Upward t q i work = getD work 0 0 ≡ 0 → (j : ℕ) → j < i → t .child q j ≢ 0 → q < t .child q j
 
 -- the tally of the addresses 1 to g over the first k nodes: how many links hold each, up to 2
 abbrev pub Tally : Table → ℕ → ℕ → ℕ → List ℕ → Type 0
@@ -52,14 +58,17 @@ Tally t n g k work = (x : ℕ) → 1 ≤ x → x ≤ g → getD work x 0 ≡ min
 pub record BadFrom (h : Head) (l work : List ℕ) (bad : ℕ) (work′ : List ℕ) : Type 0 where
   pub lowest-bad : bad ≡ lowest (λ q. holdsBad (h .g) (tableOf h l) q (h .n)) 0 (h .g + 1)
   pub tally : h .g < bad → Tally (tableOf h l) (h .n) (h .g) (h .g + 1) work′
+  pub upward : h .g < bad → (q : ℕ) → q ≤ h .g → Upward (tableOf h l) q (h .n) work′
   pub kept : RestKept (h .g) work work′
 
--- the first i links of node q are counted: none is bad, and the tally of each address has grown
--- by the links that hold it
+-- the first i links of node q are counted: none is bad, the tally of each address has grown by
+-- the links that hold it, and number 0 is 0 only if it was and these links lead upward
 pub record LinksCounted (g : ℕ) (t : Table) (q i : ℕ) (work work′ : List ℕ) : Type 0 where
   pub good : holdsBad g t q i ≡ false
   pub met : (x m : ℕ) → 1 ≤ x → x ≤ g → getD work x 0 ≡ min 2 m
       → getD work′ x 0 ≡ min 2 (m + timesIn t x q i)
+  pub upward : Upward t q i work′
+  pub still : getD work′ 0 0 ≡ 0 → getD work 0 0 ≡ 0
 
 -- the links of a node are all counted, or one is bad
 pub record Tallied (h : Head) (l : List ℕ) (q : ℕ) (work : List ℕ) (r : Bool) (work′ : List ℕ)

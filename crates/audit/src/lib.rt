@@ -1,20 +1,23 @@
-// The check of an image over lent working numbers: 1 to 8. It takes time linear in the image and
-// does not recurse, since a chain of links may be as long as the image. Working number x counts
-// the links met so far that hold the address x, and stops at 2.
+// The check of an image over lent working numbers: 1 to 8 and 16. It takes time linear in the
+// image and does not recurse, since a chain of links may be as long as the image. Working number x
+// counts the links met so far that hold the address x, and stops at 2. Number 0 is 0 while each
+// link met leads to a greater address; then every node is reached, and no search for 16 is needed.
 ghost use mathlib.Core.Path.{_≡_};
 ghost use mathlib.Core.Bool.{true};
 ghost use Prim.Native.Nat.{_≤_, _+_};
 ghost use mathlib.Core.List.{_++_};
 ghost use lib.ListN.{length, drop, replicate};
-ghost use Rattle.node.specs.Image.{Open, Masks};
-ghost use Rattle.audit.specs.Audit.{Checked, Audited, LinksJudged, BadFrom, Tallied};
-ghost use Rattle.audit.specs.Audit.{AllOnce, FoundFrom};
+ghost use Rattle.trie.specs.Rules.{Within};
+ghost use Rattle.head.specs.Fields.{longestImage};
+ghost use Rattle.node.specs.Image.{Open, Masks, tableOf};
+ghost use Rattle.audit.specs.Audit.{Checked, Audited, LinksJudged, ReachedJudged, BadFrom};
+ghost use Rattle.audit.specs.Audit.{Tallied, AllOnce, FoundFrom};
 use head::Head;
 use opening::Opened;
 use paper::Refusal;
 use paper::Verdict;
 
-// Checks an image, and answers its head and letters as opening does. Refusals: 1 to 8.
+// Checks an image, and answers its head and letters as opening does. Refusals: 1 to 8 and 16.
 pub fn check(image: &[u8], work: &mut [u32], codes: &mut [u32; Head::N_MOST as usize]) -> Opened
     ensures { λ r. ⌜ Checked (now (image .entry)) (now (work .entry)) r (now (work .exit))
         (now (codes .exit)) ⌝ }
@@ -34,10 +37,10 @@ pub fn check(image: &[u8], work: &mut [u32], codes: &mut [u32; Head::N_MOST as u
     }
 }
 
-// Judges 5 to 8. Once 5 is passed, the first G+1 working numbers are 0 when it returns, and the
+// Judges 5 to 8 and 16. Once 5 is passed, the first G+1 working numbers are 0 when it returns, and the
 // rest keep what they held; at 5 all keep it.
 fn audit(image: &[u8], h: Head, work: &mut [u32]) -> Verdict
-    requires { ⌜ Open h (now image) ⌝ }
+    requires { ⌜ Open h (now image) ⌝ ∗ ⌜ length (now image) ≤ longestImage ⌝ }
     ensures { λ r. ⌜ Audited h (now (image .entry)) (now (work .entry)) r (now (work .exit)) ⌝ }
 {
     let nodes = (h.g as usize) + 1;
@@ -50,9 +53,9 @@ fn audit(image: &[u8], h: Head, work: &mut [u32]) -> Verdict
     verdict
 }
 
-// Judges 6 to 8, with working numbers whose first G+1 are 0.
+// Judges 6 to 8 and 16, with working numbers whose first G+1 are 0.
 fn links(image: &[u8], h: Head, work: &mut [u32]) -> Verdict
-    requires { ⌜ Open h (now image) ⌝ }
+    requires { ⌜ Open h (now image) ⌝ ∗ ⌜ length (now image) ≤ longestImage ⌝ }
     requires { ⌜ h .g + 1 ≤ length (now work) ⌝ }
     requires { ⌜ now work ≡ replicate (h .g + 1) 0 ++ drop (h .g + 1) (now work) ⌝ }
     ensures { λ r. ⌜ LinksJudged h (now (image .entry)) (now (work .entry)) r
@@ -63,7 +66,7 @@ fn links(image: &[u8], h: Head, work: &mut [u32]) -> Verdict
     if bad < nodes {
         return Verdict::Refused(Refusal::Link(bad as u32));
     }
-    if all_once(work, nodes) {
+    if all_once(work, nodes) & (work[0] == 0) {
         return Verdict::Passed;
     }
     let twice = first_holding(work, nodes, 2);
@@ -73,6 +76,28 @@ fn links(image: &[u8], h: Head, work: &mut [u32]) -> Verdict
     let missing = first_holding(work, nodes, 0);
     if missing < nodes {
         return Verdict::Refused(Refusal::NotLinked(missing as u32));
+    }
+    clear(work, nodes);
+    reached(image, h, work)
+}
+
+// Judges 16, where no link is above G, with working numbers whose first G+1 are 0.
+fn reached(image: &[u8], h: Head, work: &mut [u32]) -> Verdict
+    requires { ⌜ Open h (now image) ⌝ ∗ ⌜ length (now image) ≤ longestImage ⌝ }
+    requires { ⌜ Within (tableOf h (now image)) (h .g) ⌝ }
+    requires { ⌜ h .g + 1 ≤ length (now work) ⌝ }
+    requires { ⌜ now work ≡ replicate (h .g + 1) 0 ++ drop (h .g + 1) (now work) ⌝ }
+    ensures { λ r. ⌜ ReachedJudged h (now (image .entry)) (now (work .entry)) r
+        (now (work .exit)) ⌝ }
+{
+    let nodes = (h.g as usize) + 1;
+    let met = reaching::reach(image, h, work);
+    if met as usize == nodes {
+        return Verdict::Passed;
+    }
+    let unreached = first_holding(work, nodes, 0);
+    if unreached < nodes {
+        return Verdict::Refused(Refusal::NotReached(unreached as u32));
     }
     Verdict::Passed
 }
@@ -98,7 +123,7 @@ fn first_bad_node(image: &[u8], h: Head, work: &mut [u32]) -> usize
 }
 
 // Counts the links of node q in the working numbers and answers true, or stops at its first bad
-// link and answers false. A node that `childless` finds without links is passed over at once.
+// link and answers false. A link that does not lead to a greater address sets number 0. A node that `childless` finds without links is passed over at once.
 fn tally(image: &[u8], h: Head, mask: u32, q: u32, work: &mut [u32]) -> bool
     requires { ⌜ Open h (now image) ⌝ }
     requires { ⌜ Masks h mask ⌝ }
@@ -116,8 +141,11 @@ fn tally(image: &[u8], h: Head, mask: u32, q: u32, work: &mut [u32]) -> bool
         if c == 0 {
             continue;
         }
-        if paper::bad_link(h.g, q, c) {
+        if paper::bad_link(h.g, c) {
             return false;
+        }
+        if c <= q {
+            work[0] = 1;
         }
         let times = work[c as usize];
         if times < 2 {

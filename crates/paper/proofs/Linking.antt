@@ -253,7 +253,7 @@ module _ (h : Head) (t : Table) (f : Framed t (h .g) (h .n)) where
       letter (no b) = omega arith
       letter (yes b) = absurd (d (f .no-letter q i b))
 
-  none-within : row6 h t ≡ none → Within t (h .g)
+  pub none-within : row6 h t ≡ none → Within t (h .g)
   none-within e q i = go (ℕ-discrete (t .child q i) 0)
     where
       go : Dec (t .child q i ≡ 0) → t .child q i ≤ h .g
@@ -278,7 +278,7 @@ module _ (h : Head) (t : Table) (f : Framed t (h .g) (h .n)) where
   rules-7 : Once t → row7 h t ≡ none
   rules-7 once = row7-none h t (λ x b _. stands-once t x (h .n) (h .g + 1) b once)
 
-  none-named : row8 h t ≡ none → Named t (h .g)
+  pub none-named : row8 h t ≡ none → Named t (h .g)
   none-named e x b c = stands t x (h .n) (h .g + 1) (omega (arith, none-row8 h t e x b c))
 
   rules-8 : Named t (h .g) → row8 h t ≡ none

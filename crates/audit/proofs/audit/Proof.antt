@@ -23,11 +23,14 @@ clear-requires c κs = search needs
 links-requires : tie.Need-links-requires
 links-requires c κs =
     let s = c .before .before .before .before .before .before .before .before .before in (
-      s .pre,
+      s .pre .0,
       (
-        omega arith,
-        cleared-again (s .args .h .g + 1) (s .args .work .now)
-            (c .before .before .before .clear .ensures),
+        s .pre .1,
+        (
+          omega arith,
+          cleared-again (s .args .h .g + 1) (s .args .work .now)
+              (c .before .before .before .clear .ensures),
+        ),
       ),
     )
 

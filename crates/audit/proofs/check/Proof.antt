@@ -16,8 +16,10 @@ enum-told-2 : tie.Need-enum-told-2
 enum-told-2 c = search needs
 
 audit-requires : tie.Need-audit-requires
-audit-requires c κs = known-opened (c .before .before .before .before .«open» .ensures)
-    (c .before .before .enum-told2 .given .1) .image
+audit-requires c κs =
+    let k = known-opened (c .before .before .before .before .«open» .ensures)
+    (c .before .before .enum-told2 .given .1) in
+    (k .image, k .short)
 
 returns : tie.Need-returns
 returns c = checked-refused (c .before .before .«open» .ensures) _ (c .enum-told .given .1)

@@ -1,8 +1,14 @@
 -- `audit::links` meets its contract: each way out has its law, from what the search for a bad
--- link, `all_once` and the two searches in the working numbers returned. Assumes nothing.
+-- link, `all_once`, the two searches in the working numbers and the judging of 16 returned.
+-- Assumes nothing.
+use Prim.Native.Nat.{_+_}
+use native.Mathlib.Omega.{arith}
 use borrow.Author.Needs.{needs}
+use borrow.Author.Tests.{eqb-true}
+use Rattle.field.proofs.Range.{both}
+use Rattle.audit.proofs.Clearing.{cleared-again, kept-cleared}
 use Rattle.audit.proofs.Verdicts.{linked-bad, linked-once, linked-twice, linked-missing}
-use Rattle.audit.proofs.Verdicts.{linked-all}
+use Rattle.audit.proofs.Verdicts.{linked-within, linked-reached}
 use Rattle.audit.proofs.links.Statement.{statement}
 use Rattle.audit.proofs.links.Tie as tie
 
@@ -27,35 +33,39 @@ returns c = linked-bad (c .before .before .before .first-bad-node .ensures) (c .
 all-once-requires : tie.Need-all-once-requires
 all-once-requires c κs = search needs
 
+slice-read-if2 : tie.Need-slice-read-if2
+slice-read-if2 c = search needs
+
 same-length-2 : tie.Need-same-length-2
 same-length-2 c = search needs
 
 returns-2 : tie.Need-returns-2
 returns-2 c =
-    let b = c .before .before .before in
+    let b = c .before .before .before .before in
+    let t = both _ _ (c .if2 .taken) in
     linked-once (b .before .before .before .first-bad-node .ensures) (b .if1 .left)
-    (c .before .all-once .ensures (c .if2 .taken))
+    (c .before .before .all-once .ensures (t .0)) (eqb-true _ 0 (t .1))
 
 first-holding-requires : tie.Need-first-holding-requires
 first-holding-requires c κs = search needs
 
-cast-t19 : tie.Need-cast-t19
-cast-t19 c = search needs
+cast-t22 : tie.Need-cast-t22
+cast-t22 c = search needs
 
 same-length-3 : tie.Need-same-length-3
 same-length-3 c = search needs
 
 returns-3 : tie.Need-returns-3
 returns-3 c =
-    let b = c .before .before .before .before .before .before in
+    let b = c .before .before .before .before .before .before .before in
     linked-twice (b .before .before .before .first-bad-node .ensures) (b .if1 .left)
     (c .before .first-holding .ensures) (c .if3 .taken)
 
 first-holding-requires-2 : tie.Need-first-holding-requires-2
 first-holding-requires-2 c κs = search needs
 
-cast-t23 : tie.Need-cast-t23
-cast-t23 c = search needs
+cast-t26 : tie.Need-cast-t26
+cast-t26 c = search needs
 
 same-length-4 : tie.Need-same-length-4
 same-length-4 c = search needs
@@ -63,21 +73,48 @@ same-length-4 c = search needs
 returns-4 : tie.Need-returns-4
 returns-4 c =
     let d = c .before .before .before in
-    let b = d .before .before .before .before .before .before in
+    let b = d .before .before .before .before .before .before .before in
     linked-missing (b .before .before .before .first-bad-node .ensures) (b .if1 .left)
     (d .before .first-holding .ensures) (d .if3 .left)
     (c .before .first-holding2 .ensures) (c .if4 .taken)
+
+clear-requires : tie.Need-clear-requires
+clear-requires c κs = search needs
+
+reached-requires : tie.Need-reached-requires
+reached-requires c κs =
+    let b = c .before .before .before .before .before .before .before .before .before .before .before .before .before .before .before in
+    let f = b .before .before .before .first-bad-node .ensures in
+    let s = b .before .before .before .before .before .before .before .before in
+    let e = c .before .before .before .clear .ensures in
+    let room = kept-cleared (s .args .h .g) _ e (omega (arith, f .kept .long, s .pre .1 .1 .0)) in (
+      s .pre .0,
+      (
+        s .pre .1 .0,
+        (
+          linked-within f (b .if1 .left),
+          (
+            omega (arith, room .long, f .kept .long, s .pre .1 .1 .0),
+            cleared-again (s .args .h .g + 1) _ e,
+          ),
+        ),
+      ),
+    )
 
 same-length-5 : tie.Need-same-length-5
 same-length-5 c = search needs
 
 returns-5 : tie.Need-returns-5
 returns-5 c =
-    let d = c .before .before .before in
-    let b = d .before .before .before .before .before .before in
-    linked-all (b .before .before .before .first-bad-node .ensures) (b .if1 .left)
-    (d .before .first-holding .ensures) (d .if3 .left)
-    (c .before .first-holding2 .ensures) (c .if4 .left)
+    let e = c .before .before .before .before .before .before .before .before in
+    let d = e .before .before .before in
+    let b = d .before .before .before .before .before .before .before in
+    let f = b .before .before .before .first-bad-node .ensures in
+    let s = b .before .before .before .before .before .before .before .before in
+    linked-reached f (b .if1 .left) (d .before .first-holding .ensures) (d .if3 .left)
+    (e .before .first-holding2 .ensures) (e .if4 .left)
+    (c .before .before .before .before .before .before .clear .ensures) (omega (arith, f .kept .long, s .pre .1 .1 .0))
+    (c .before .before .reached .ensures)
 
 pub links-spec : {M : Type 1} → statement M
 links-spec =
@@ -90,15 +127,18 @@ links-spec =
     same-length
     returns
     all-once-requires
+    slice-read-if2
     same-length-2
     returns-2
     first-holding-requires
-    cast-t19
+    cast-t22
     same-length-3
     returns-3
     first-holding-requires-2
-    cast-t23
+    cast-t26
     same-length-4
     returns-4
+    clear-requires
+    reached-requires
     same-length-5
     returns-5)

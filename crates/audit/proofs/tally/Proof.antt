@@ -1,12 +1,13 @@
 -- `audit::tally` meets its contract: a node without links adds nothing; else each turn counts
 -- one more link, or stops at a bad one. The measure is how many links are left. Assumes nothing.
 use mathlib.Core.Path.{sym, _∙_}
+use mathlib.Core.Logic.{⊎-elim}
 use Prim.Native.Nat.{_-_}
 use native.Mathlib.Omega.{arith}
 use borrow.Author.Needs.{needs}
 use Rattle.node.specs.Image.{tableOf}
 use Rattle.audit.proofs.Tallying.{Counting, counting-none, counting-empty, counting-full}
-use Rattle.audit.proofs.Tallying.{counting-more, counting-room}
+use Rattle.audit.proofs.Tallying.{counting-more, counting-room, Noted, noted-lower, noted-upward}
 use Rattle.audit.proofs.Tallying.{tallied-all, tallied-bad, tallied-childless}
 use Rattle.audit.proofs.tally.Statement.{statement}
 use Rattle.audit.proofs.tally.Tie as tie
@@ -51,6 +52,25 @@ returns-2 c =
     tallied-bad (n .before .before .before .loop .inv) (omega arith) (n .link .ensures)
     (sym (c .before .bad-link .ensures) ∙ c .if4 .taken)
 
+slice-write-work : tie.Need-slice-write-work Inv-loop μ-loop
+slice-write-work c =
+    let a = c .before .before .before .before .before .before .before in
+    omega (arith, a .loop .inv .kept .long, a .before .before .before .before .before .pre .1 .1 .1)
+
+-- whether the link leads upward is noted in number 0
+noted : (c : tie.Joined5 Inv-loop μ-loop)
+    → Noted
+    (c .before .before .before .before .before .before .before .before .before .before .before .before
+    .args .h .g)
+    (c .before .before .before .before .before .before .before .before .before .before .before .before
+    .args .q)
+    (c .before .before .before .before .link .result)
+    (c .before .before .before .before .before .before .before .loop .work) (c .if5 .work)
+noted c =
+    ⊎-elim (λ w. rw (w .1) (noted-lower _ (slice-write-work (record { before = c .before; if5 = w .0 }))))
+    (λ w. rw (w .1) (noted-upward _ (omega (arith, w .0 .left))))
+    (c .if5 .came)
+
 cast-times : tie.Need-cast-times Inv-loop μ-loop
 cast-times c = omega arith
 
@@ -59,9 +79,14 @@ mul-times c = omega arith
 
 slice-read-times : tie.Need-slice-read-times Inv-loop μ-loop
 slice-read-times c =
-    let a = c .before .before .before .before .before .before .before in
-    counting-room (a .loop .inv) (a .before .before .before .before .before .pre .1 .1 .1)
-    (sym (c .before .before .bad-link .ensures) ∙ c .before .if4 .left)
+    let n = c .before in
+    let a = n .before .before .before .before .before .before .before in
+    omega (
+      arith,
+      noted n .kept .long,
+      counting-room (a .loop .inv) (a .before .before .before .before .before .pre .1 .1 .1)
+          (sym (n .before .before .bad-link .ensures) ∙ n .before .if4 .left),
+    )
 
 add-work : tie.Need-add-work Inv-loop μ-loop
 add-work c = omega arith
@@ -72,29 +97,30 @@ cast-work c = omega arith
 mul-work : tie.Need-mul-work Inv-loop μ-loop
 mul-work c = omega arith
 
-slice-write-work : tie.Need-slice-write-work Inv-loop μ-loop
-slice-write-work c = slice-read-times (c .before)
+slice-write-work-2 : tie.Need-slice-write-work-2 Inv-loop μ-loop
+slice-write-work-2 c = slice-read-times (c .before)
 
 loop-less-2 : tie.Need-loop-less-2 Inv-loop μ-loop
 loop-less-2 c = omega arith
 
 loop-again-2 : tie.Need-loop-again-2 Inv-loop μ-loop
 loop-again-2 c =
-    let b = c .before .before .before in
-    counting-more (b .before .before .before .before .before .loop .inv) (omega arith)
-    (b .before .before .link .ensures)
-    (sym (b .bad-link .ensures) ∙ c .before .before .if4 .left) (slice-read-times (c .before))
-    (omega arith)
+    let n = c .before .before in
+    let link = n .before .before .before .before in
+    counting-more (link .before .before .before .loop .inv) (omega arith) (link .link .ensures)
+    (sym (n .before .before .bad-link .ensures) ∙ n .before .if4 .left) (noted n)
+    (n .before .before .before .if3 .left) (slice-read-times (c .before)) (omega arith)
 
 loop-less-3 : tie.Need-loop-less-3 Inv-loop μ-loop
 loop-less-3 c = omega arith
 
 loop-again-3 : tie.Need-loop-again-3 Inv-loop μ-loop
 loop-again-3 c =
-    let b = c .before .before .before in
-    counting-full (b .before .before .before .before .before .loop .inv) (omega arith)
-    (b .before .before .link .ensures)
-    (sym (b .bad-link .ensures) ∙ c .before .before .if4 .left) (omega arith)
+    let n = c .before .before in
+    let link = n .before .before .before .before in
+    counting-full (link .before .before .before .loop .inv) (omega arith) (link .link .ensures)
+    (sym (n .before .before .bad-link .ensures) ∙ n .before .if4 .left) (noted n)
+    (omega arith)
 
 same-length-2 : tie.Need-same-length-2 Inv-loop μ-loop
 same-length-2 c = c .before .before .loop .inv .kept .long
@@ -118,13 +144,14 @@ tally-spec =
     bad-link-requires
     same-length
     returns-2
+    slice-write-work
     cast-times
     mul-times
     slice-read-times
     add-work
     cast-work
     mul-work
-    slice-write-work
+    slice-write-work-2
     loop-less-2
     loop-again-2
     loop-less-3
