@@ -186,7 +186,7 @@ def status():
             _, by, said = cells
             spans = re.findall(r"`([^`]+)`", by)
             used = re.findall(r"(?<![*\w])\*([^*]+)\*(?![*\w])", re.sub(r"`[^`]*`", "", by))
-            if said not in ("proved", "in part", "tested", "open", "asks nothing"):
+            if said not in ("proved", "in part", "tested", "replaced", "open", "asks nothing"):
                 yield at(page, line, f"no status: {said}")
             for name in used:
                 if name.lower() not in known:
@@ -194,6 +194,8 @@ def status():
             named = any(name.lower() in known for name in used)
             if said in ("proved", "in part") and not named and not any(map(proves, spans)):
                 yield at(page, line, f"{said}, and it cites no name of a file in proofs/ or src/")
+            if said == "replaced" and not re.search(r"\]\(promises/\d\d-[a-z]+\.md\)", by):
+                yield at(page, line, "replaced, and it links to no page of promises/")
             if said == "tested" and not any(map(tests, spans)):
                 yield at(page, line, "tested, and it cites no test, example, sample or program")
     return f"{read:,} rows"

@@ -1,6 +1,6 @@
--- The key's part at each return of the code: a row before the key is given, or the key is
--- judged. The laws hold for any rows before the key: 1 to 8, or 1 to 8 and 25. The check
--- promises what they need of the part before the key (`checked-front`).
+-- The key's part at each return of the code: a row before the key is given, or the key is judged.
+-- The laws hold for any rows before the key: the check's rows, or these and 25. The check promises
+-- what they need of the part before the key (`checked-front`).
 use Prim.Native.Nat.{ℕ}
 use mathlib.Core.Path.{_≡_, refl, sym, _∙_, ap}
 use mathlib.Core.Option.{Option, none}

@@ -1,6 +1,6 @@
--- 01, "store: 1 to 8, 9, 10, 11, 12, 13": the part before 11. It answers the first of these
--- refusals that applies or, if none does, the head and the key in hand. It leaves the working
--- numbers as the whole call does.
+-- 01, "store: 1 to 8, 9, 10, 11, 12, 13", with 02's 16 after 8: the part before 11. It answers the
+-- first of these refusals that applies or, if none does, the head and the key in hand. It leaves
+-- the working numbers as the whole call does.
 use Prim.Native.Nat.{ℕ, _≤_}
 use mathlib.Core.Path.{_≡_}
 use mathlib.Core.Bool.{true}
@@ -33,7 +33,7 @@ pub record AsksAfter (rows : List Row) (left l : List ℕ) (given : Given) (r : 
   pub numbers : work′ ≡ left
   pub allowed : rowOf (r .verdict) ≡ none → Admitted l (keyIn l given) r
 
--- with 1 to 8 before the key
+-- with the check's rows before the key
 abbrev pub Asks : List ℕ → List ℕ → Given → Asked → List ℕ → Type 0
 Asks l work given r work′ = AsksAfter (checkOrder l work) (workAfter l work) l given r work′
 

@@ -1,6 +1,6 @@
-// What every store judges before 11: 1 to 8, then 9 and 10 of the key given. `by_letters` and
-// `by_text` are the key's part alone, after any part of an order that has judged the head
-// (`Judgeable`). `ask` and `ask_text` require nothing.
+// What every store judges before 11: the check's rows, then 9 and 10 of the key given.
+// `by_letters` and `by_text` are the key's part alone, after any part of an order that has judged
+// the head (`Judgeable`). `ask` and `ask_text` require nothing.
 ghost use mathlib.Core.Path.{_≡_};
 ghost use mathlib.Core.List.{List};
 ghost use Prim.Native.Nat.{ℕ};
@@ -20,7 +20,7 @@ pub struct Asked {
     pub key: Key,
 }
 
-// Judges 1 to 8, then 9 and 10 of a key given by its letters.
+// Judges the check's rows, then 9 and 10 of a key given by its letters.
 pub fn ask(image: &[u8], work: &mut [u32], letters: &[u8]) -> Asked
     ensures { λ r. ⌜ Asks (now (image .entry)) (now (work .entry))
         (asLetters (now (letters .entry))) r (now (work .exit)) ⌝ }
@@ -30,7 +30,7 @@ pub fn ask(image: &[u8], work: &mut [u32], letters: &[u8]) -> Asked
     by_letters(front, letters)
 }
 
-// Judges 1 to 8, then 10 and 9 of a key given as text.
+// Judges the check's rows, then 10 and 9 of a key given as text.
 pub fn ask_text(image: &[u8], work: &mut [u32], text: &[u8]) -> Asked
     ensures { λ r. ⌜ Asks (now (image .entry)) (now (work .entry)) (asText (now (text .entry))) r
         (now (work .exit)) ⌝ }

@@ -8,7 +8,7 @@ use Rattle.position.specs.Calls.{workLeft}
 use Rattle.asking.specs.declared.Asked.{Asked}
 use Rattle.asking.specs.Asked.{AsksAfter}
 
--- 1 to 8, 25, then 9 and 10 of the key
+-- the check's rows, 25, then 9 and 10 of the key
 abbrev pub AsksCounts : List ℕ → List ℕ → List ℕ → Given → Asked → List ℕ → Type 0
 AsksCounts l work counts given r work′ =
     AsksAfter (checkCountsOrder l work counts) (workLeft l work counts) l given r work′

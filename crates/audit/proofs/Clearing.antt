@@ -46,7 +46,8 @@ module _ (n : ℕ) (work : List ℕ) {work′ : List ℕ} (e : work′ ≡ repli
 
 -- the numbers from G+1 on are kept
 pub kept-cleared : (g : ℕ) (work : List ℕ) {work′ : List ℕ}
-    → work′ ≡ replicate (g + 1) 0 ++ drop (g + 1) work → g + 1 ≤ length work → RestKept g work work′
+    → work′ ≡ replicate (g + 1) 0 ++ drop (g + 1) work → g + 1 ≤ length work
+    → RestKept g work work′
 kept-cleared g work e room =
     record {
       long =

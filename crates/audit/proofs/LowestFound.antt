@@ -66,7 +66,8 @@ pub given-at : (number : ℕ) (test : ℕ → Bool) (a k : ℕ) {x : ℕ} → x 
 unfolding rowWhenLowest
 given-at number test a k e b = rw (← e) (is-given number _ (lt-ltb _ _ b))
 
-pub given-nowhere : (number : ℕ) (test : ℕ → Bool) (a k : ℕ) {x : ℕ} → x ≡ lowest test a k → a + k ≤ x
+pub given-nowhere : (number : ℕ) (test : ℕ → Bool) (a k : ℕ) {x : ℕ} → x ≡ lowest test a k
+    → a + k ≤ x
     → rowWhenLowest number test a k ≡ none
 unfolding rowWhenLowest
 given-nowhere number test a k e b = rw (← e) (not-given number _ (le-ltb _ _ b))

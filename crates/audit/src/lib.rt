@@ -37,8 +37,8 @@ pub fn check(image: &[u8], work: &mut [u32], codes: &mut [u32; Head::N_MOST as u
     }
 }
 
-// Judges 5 to 8 and 16. Once 5 is passed, the first G+1 working numbers are 0 when it returns, and the
-// rest keep what they held; at 5 all keep it.
+// Judges 5 to 8 and 16. Once 5 is passed, the first G+1 working numbers are 0 when it returns, and
+// the rest keep what they held; at 5 all keep it.
 fn audit(image: &[u8], h: Head, work: &mut [u32]) -> Verdict
     requires { ⌜ Open h (now image) ⌝ ∗ ⌜ length (now image) ≤ longestImage ⌝ }
     ensures { λ r. ⌜ Audited h (now (image .entry)) (now (work .entry)) r (now (work .exit)) ⌝ }
@@ -123,7 +123,8 @@ fn first_bad_node(image: &[u8], h: Head, work: &mut [u32]) -> usize
 }
 
 // Counts the links of node q in the working numbers and answers true, or stops at its first bad
-// link and answers false. A link that does not lead to a greater address sets number 0. A node that `childless` finds without links is passed over at once.
+// link and answers false. A link that does not lead to a greater address sets number 0. A node
+// that `childless` finds without links is passed over at once.
 fn tally(image: &[u8], h: Head, mask: u32, q: u32, work: &mut [u32]) -> bool
     requires { ⌜ Open h (now image) ⌝ }
     requires { ⌜ Masks h mask ⌝ }

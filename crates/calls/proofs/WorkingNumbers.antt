@@ -164,7 +164,7 @@ with-same l w work ws list (some s) change image a b = go (eqb (s .number) 0) re
     go false f = rw f (record { numbers = refl; others = refl })
 
 module _ (l w work : List ℕ) (e : length w ≡ length work) where
-  -- 1 to 8 are judged by the length of the working numbers alone
+  -- the check's rows are judged by the length of the working numbers alone
   checks-same : checkOrder l w ≡ checkOrder l work
   unfolding checkOrder
   checks-same = ap (λ (n : ℕ). openingRowsOf l

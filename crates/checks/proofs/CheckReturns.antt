@@ -1,5 +1,5 @@
 -- The outcome of the calls that begin with the check, at each return of the code. The audit's
--- verdict is the first row of 1 to 8 that is given, and an image that has passed them can be
+-- verdict is the first of the check's rows that is given, and an image that has passed them can be
 -- walked through.
 use Prim.Native.Nat.{ℕ}
 use mathlib.Core.Path.{_≡_, sym, _∙_, ap}

@@ -18,7 +18,7 @@ use Rattle.position.specs.Calls.{workLeft}
 use Rattle.opening.specs.declared.Opened.{Opened}
 use Rattle.opening.specs.Opened.{Decoded}
 
--- 1 to 8, when no more than the first `lent` working numbers are lent to the check
+-- the check's rows, when no more than the first `lent` working numbers are lent to the check
 pub record CheckedBoth (l work : List ℕ) (lent : ℕ) (r : Opened) (work′ codes : List ℕ)
     : Type 0 where
   pub verdict : rowOf (r .verdict) ≡ first (checkOrder l (take lent work))
@@ -26,7 +26,7 @@ pub record CheckedBoth (l work : List ℕ) (lent : ℕ) (r : Opened) (work′ co
   pub head : rowOf (r .verdict) ≡ none → r .head ≡ headOf l
   pub decoded : rowOf (r .verdict) ≡ none → Decoded (alphabetIn (headOf l) l) r codes
 
--- 1 to 8, then 25
+-- the check's rows, then 25
 pub record Compared (l work counts : List ℕ) (r : Opened) (work′ codes : List ℕ) : Type 0 where
   pub verdict : rowOf (r .verdict) ≡ first (checkCountsOrder l work counts)
   pub numbers : work′ ≡ workLeft l work counts

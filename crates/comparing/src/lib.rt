@@ -1,5 +1,5 @@
-// The check of an image with counts beside it: 1 to 8, with 5 for either list, and 25. The
-// public functions have no `requires`.
+// The check of an image with counts beside it: the check's rows, with 5 for either list, and 25.
+// The public functions have no `requires`.
 ghost use mathlib.Core.Path.{_≡_};
 ghost use mathlib.Core.Bool.{true, not};
 ghost use Prim.Native.Nat.{_+_, _^_, _≤_, min};
@@ -14,8 +14,8 @@ use opening::Opened;
 use paper::Refusal;
 use paper::Verdict;
 
-// Judges 1 to 8 of an image with `lent` counts beside it. The check is lent no more working
-// numbers than there are counts, so that 5 is given for either list.
+// Judges the check's rows of an image with `lent` counts beside it. The check is lent no more
+// working numbers than there are counts, so that 5 is given for either list.
 pub fn check_both(
     image: &[u8],
     work: &mut [u32],
@@ -35,8 +35,8 @@ fn lesser(a: usize, b: usize) -> usize
     if a < b { a } else { b }
 }
 
-// Judges 1 to 8, then 25. The fresh counts are worked out in the working numbers and compared
-// with the counts lent.
+// Judges the check's rows, then 25. The fresh counts are worked out in the working numbers and
+// compared with the counts lent.
 pub fn compare(
     image: &[u8],
     work: &mut [u32],

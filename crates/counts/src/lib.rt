@@ -9,8 +9,7 @@ use paper::Done;
 use paper::Stored;
 use paper::Verdict;
 
-// Works the counts out afresh, at the front of the list. Refusals: 1 to 8, with 5 for either
-// list.
+// Works the counts out afresh, at the front of the list. Refusals: 1 to 8 (5 for either list), 16.
 pub fn counts(image: &[u8], work: &mut [u32], list: &mut [u32]) -> Done
     ensures { λ r. ⌜ WorksOut (now (image .entry)) (now (work .entry)) (now (list .entry))
         (doneOf r) (now (work .exit)) (now (list .exit)) ⌝ }
@@ -27,8 +26,8 @@ pub fn counts(image: &[u8], work: &mut [u32], list: &mut [u32]) -> Done
     }
 }
 
-// Checks an image and compares its counts with fresh ones. Refusals: 1 to 8, with 5 for either
-// list, 25.
+// Checks an image and compares its counts with fresh ones. Refusals: 1 to 8 (5 for either list),
+// 16, 25.
 pub fn check_counts(image: &[u8], work: &mut [u32], list: &[u32]) -> Done
     ensures { λ r. ⌜ ChecksCounts (now (image .entry)) (now (work .entry)) (now (list .entry))
         (doneOf r) (now (work .exit)) ⌝ }
@@ -42,8 +41,8 @@ pub fn check_counts(image: &[u8], work: &mut [u32], list: &[u32]) -> Done
     }
 }
 
-// As `stores::store`, and keeps the counts right. Refusals: 1 to 8, with 5 for either list, 25,
-// 9, 10, 11, 12, 13, then 5 again if the list has no number for a new node.
+// As `stores::store`, and keeps the counts right. Refusals: 1 to 8 (5 for either list), 16, 25, 9,
+// 10, 11, 12, 13, then 5 again if the list has no number for a new node.
 pub fn store_counts(
     image: &mut [u8],
     work: &mut [u32],
@@ -64,7 +63,7 @@ pub fn store_counts(
     }
 }
 
-// The same for a key given as text. Refusals: 1 to 8, with 5 for either list, 25, 10, 9, 11, 12,
+// The same for a key given as text. Refusals: 1 to 8 (5 for either list), 16, 25, 10, 9, 11, 12,
 // 13, then 5 again.
 pub fn store_text_counts(
     image: &mut [u8],

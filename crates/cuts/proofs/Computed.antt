@@ -69,8 +69,8 @@ pub computed : (map left cuts ≡ expected)
     × (noted (writesIn before (2 ∷ 2 ∷ 2 ∷ []) 1) ≡ 43 ∷ 4 ∷ 47 ∷ 4 ∷ 51 ∷ 4 ∷ 0 ∷ 4 ∷ 33 ∷ 1 ∷ [])
     × (readBack (left 5) (noted (writesIn before (2 ∷ 2 ∷ 2 ∷ []) 1)) ≡ writesIn before
     (2 ∷ 2 ∷ 2 ∷ []) 1)
-unfolding row1 row2 row3 row4 row6 row7 row8 row16 cutAfter mendedImage mendOf storedImage readBack noted
-    storeWrites tableIn
+unfolding row1 row2 row3 row4 row6 row7 row8 row16 cutAfter mendedImage mendOf storedImage readBack
+    noted storeWrites tableIn
 computed = (refl, refl, refl, refl, refl)
 
 -- ---- with three flushes
@@ -126,8 +126,8 @@ pub computed-flushes : (map noted (groupsIn before (2 ∷ 2 ∷ 2 ∷ []) 1)
     × (mendOf sparse work ≡ done sparse (0 ∷ 0 ∷ 0 ∷ 7 ∷ 7 ∷ 7 ∷ 7 ∷ []))
     × (map storedKeys (before ∷ sparse ∷ striped ∷ grown 2 0 ∷ [])
     ≡ replicate 4 ((1 ∷ []) ∷ (1 ∷ 0 ∷ []) ∷ []))
-unfolding row1 row2 row3 row4 row6 row7 row8 row16 flushed cutSince mendedImage mendOf noted storeWrites
-    tableIn descend storedKeys keysUnder
+unfolding row1 row2 row3 row4 row6 row7 row8 row16 flushed cutSince mendedImage mendOf noted
+    storeWrites tableIn descend storedKeys keysUnder
 computed-flushes = (refl, refl, refl, refl, refl, refl, refl, refl, refl, refl)
 
 -- the second node landed in the store, and the bytes at odd places when a start wrote back; G
@@ -137,8 +137,8 @@ pub computed-rounds : (leftIn 0 (second ∷ odds ∷ []) ≡ both)
     × (storedKeys both ≡ (1 ∷ []) ∷ (1 ∷ 0 ∷ []) ∷ [])
     × (leftIn 1 (nothing ∷ odds ∷ all ∷ []) ≡ grown 5 0)
     × (leftIn 2 (all ∷ all ∷ []) ≡ grown 5 3)
-unfolding row1 row2 row3 row4 row6 row7 row8 row16 flushed cutSince mendedImage mendOf noted storeWrites
-    tableIn descend storedKeys keysUnder
+unfolding row1 row2 row3 row4 row6 row7 row8 row16 flushed cutSince mendedImage mendOf noted
+    storeWrites tableIn descend storedKeys keysUnder
 computed-rounds = (refl, refl, refl, refl, refl)
 
 -- the store with no flush until all writes were issued: of write i all or nothing landed

@@ -19,7 +19,7 @@ use Rattle.position.specs.Orders.{checkCountsOrder}
 use Rattle.position.specs.Calls.{workLeft}
 use Rattle.position.specs.Promises.{GivesKey}
 
--- the key at a position, once 1 to 8 and 25 have passed
+-- the key at a position, once the check's rows and 25 have passed
 abbrev pub TellsKey : List ℕ → ℕ → List ℕ → Found → List ℕ → Type 0
 TellsKey l position buffer r buffer′ =
     (work counts : List ℕ) → first (checkCountsOrder l work counts) ≡ none

@@ -22,7 +22,7 @@ use paper::Verdict;
 use ranking::Ranked;
 
 // The stored key at a position, from 0: its letters at the front of the key buffer, its length and
-// its value. Refusals: 1 to 8, with 5 for either list, 25, 14, 15 for a position past the end.
+// its value. Refusals: 1 to 8 (5 for either list), 16, 25, 14, 15 for a position past the end.
 pub fn key_at(
     image: &[u8],
     work: &mut [u32],
@@ -42,7 +42,7 @@ pub fn key_at(
     }
 }
 
-// The position of a stored key given by its letters. Refusals: 1 to 8, with 5 for either list, 25,
+// The position of a stored key given by its letters. Refusals: 1 to 8 (5 for either list), 16, 25,
 // 9, 10, 15 for a key that is not stored.
 pub fn position(image: &[u8], work: &mut [u32], counts: &[u32], letters: &[u8]) -> Placed
     ensures { λ r. ⌜ GivesPosition (now (image .entry)) (now (work .entry)) (now (counts .entry))
@@ -57,7 +57,7 @@ pub fn position(image: &[u8], work: &mut [u32], counts: &[u32], letters: &[u8]) 
     }
 }
 
-// The same for a key given as text. Refusals: 1 to 8, with 5 for either list, 25, 10, 9, 15.
+// The same for a key given as text. Refusals: 1 to 8 (5 for either list), 16, 25, 10, 9, 15.
 pub fn position_text(image: &[u8], work: &mut [u32], counts: &[u32], text: &[u8]) -> Placed
     ensures { λ r. ⌜ GivesPosition (now (image .entry)) (now (work .entry)) (now (counts .entry))
         (asText (now (text .entry))) (placedOf r) (now (work .exit)) ⌝ }

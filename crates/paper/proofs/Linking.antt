@@ -15,7 +15,7 @@ use borrow.Author.Tests.{ltb-true, ltb-false, eqb-true, eqb-false, not-false}
 use Rattle.field.proofs.Range.{both}
 use Rattle.trie.specs.Table.{Table}
 use Rattle.trie.specs.Lowest.{lowest}
-use Rattle.trie.specs.Rules.{Framed, Within, Named, Once, Reached, LinkRules}
+use Rattle.trie.specs.Rules.{Framed, Within, Named, Once, AllReached, LinkRules}
 use Rattle.trie.specs.Tree.{Reachable, depthOf}
 use Rattle.trie.specs.Storing.{grow}
 use Rattle.trie.proofs.Depth.{reached-depth, depth-reached}
@@ -287,14 +287,14 @@ module _ (h : Head) (t : Table) (f : Framed t (h .g) (h .n)) where
       let (a, b′) = inside q i (omega arith) in
       omega (arith, counted t x (h .n) {q = q} {i = i} {k = h .g + 1} (omega arith) b′ e))
 
-  none-reached : row16 h t ≡ none → Reached t (h .g)
+  none-reached : row16 h t ≡ none → AllReached t (h .g)
   none-reached e c high = go (ℕ-discrete c 0)
     where
       go : Dec (c ≡ 0) → Reachable t c
       go (yes z) = rw z ([], descend-nil t 0)
       go (no d) = depth-reached t (h .n) (h .g) c (none-row16 h t e c (omega arith) high)
 
-  rules-16 : Reached t (h .g) → row16 h t ≡ none
+  rules-16 : AllReached t (h .g) → row16 h t ≡ none
   rules-16 reached =
       row16-none h t (λ x b c. reached-depth t (h .n) (h .g) f x c (reached x c))
 

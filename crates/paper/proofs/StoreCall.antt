@@ -239,7 +239,8 @@ module _ {l : List ℕ} (a : Accepted l) where
           ≡ none
       go (yes e) rest = fault-empty bad (tableIn l) q x xs e
       go (no e) rest =
-          fault-on bad (tableIn l) q x xs refl e (not-bad (headOf l .g) c .1 (a .links .within q x)) ∙ rest
+          fault-on bad (tableIn l) q x xs refl e
+          (not-bad (headOf l .g) c .1 (a .links .within q x)) ∙ rest
 
   pub looks-up-accepted : (given : Given) → lookUpOf l given ≡ heard (first (keyRows l given)) []
       (telling (answer (tableIn l) (keyIn l given)))

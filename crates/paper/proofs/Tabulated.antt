@@ -37,14 +37,14 @@ pub tabulated :
     × (map (λ (s : Sized). figuresOf (s .image)) sizes ≡ map (λ (s : Sized). s .figures) sizes)
 unfolding fieldAt digits inRange inRanges fitsRow lengthBy charLen charAt inFront charsFrom chars
     follow descend valueAt answer missing fault present ownKey byLetter keysUnder before meets
-    firstMeeting added changeOf lowest anyBelow holdsAddress atDepth depthOf row16 headOf permitted nodeWidth nodePlace usedLen among
-    allDifferent isAlphabet goodAlphabet orEmpty letters letterOf withLetter lettersOfChars
-    keyOfChars keyOfText linkPlace dataPlace tableOf carriedOut lastNode pathNode newNodes
-    totalWrite linkWrite dataWrite storeWrites rowWhen first refusedNumbers doneNumbers heard row1
-    row2 row3 row4 row5 badLink holdsBad rowWhenLowest row6 timesIn times row7 row8 row9 row9next
-    allBelow row10 isNone row10text row11 row12 row13 row14 row15 row6At row6path alphabetIn
-    meantBy meantIn keyIn openingRows openingRowsOf linkRows checkOrder lettersRows textRows
-    keyRowsBy keyRows nextRows lookUpOrder addingRows newOf storeOrder nextKeyOrder tableIn
-    clearedBy workAfter freshHead headBytes freshImage makeOf checkOf storedKeys countOf lookUpOf
-    storedImage storeOf nextIn foundIn nextKeyOf
+    firstMeeting added changeOf lowest anyBelow holdsAddress atDepth depthOf headOf permitted
+    nodeWidth nodePlace usedLen among allDifferent isAlphabet goodAlphabet orEmpty letters letterOf
+    withLetter lettersOfChars keyOfChars keyOfText linkPlace dataPlace tableOf carriedOut lastNode
+    pathNode newNodes totalWrite linkWrite dataWrite storeWrites rowWhen first refusedNumbers
+    doneNumbers heard row1 row2 row3 row4 row5 badLink holdsBad rowWhenLowest row6 timesIn times
+    row7 row8 row9 row9next allBelow row10 isNone row10text row11 row12 row13 row14 row15 row16
+    row6At row6path alphabetIn meantBy meantIn keyIn openingRows openingRowsOf linkRows checkOrder
+    lettersRows textRows keyRowsBy keyRows nextRows lookUpOrder addingRows newOf storeOrder
+    nextKeyOrder tableIn clearedBy workAfter freshHead headBytes freshImage makeOf checkOf
+    storedKeys countOf lookUpOf storedImage storeOf nextIn foundIn nextKeyOf
 tabulated = (refl, refl)

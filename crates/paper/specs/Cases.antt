@@ -1,7 +1,7 @@
 -- 01, "Cases from one small file": those marked P, and cases of 02's Ask 3, as one table: of calls
--- and of what each must leave, and of the images that are left and of their G, W and U. N = 3, A = 1, D = 1, letters
--- ABC, min 1, max 3. The lent buffers hold rubbish (AA in images and key buffers, 7 in working
--- numbers), so that the table shows what a call keeps and what it changes.
+-- and of what each must leave, and of the images that are left and of their G, W and U. N = 3, A =
+-- 1, D = 1, letters ABC, min 1, max 3. The lent buffers hold rubbish (AA in images and key
+-- buffers, 7 in working numbers), so that the table shows what a call keeps and what it changes.
 use Prim.Native.Nat.{ℕ, _+_}
 use mathlib.Core.Bool.{true, false}
 use mathlib.Core.List.{List, [], _∷_, _++_}

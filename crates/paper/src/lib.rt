@@ -4,8 +4,8 @@ ghost use mathlib.Core.Path.{_≡_};
 ghost use Rattle.paper.specs.Answers.{saidOf};
 ghost use Rattle.paper.specs.Rows.{badLink};
 
-// The refusals of 01's table, and 16 and 25 of 02. A refusal whose place is a node or an address carries
-// it; every other place is 0.
+// The refusals of 01's table, and 16 and 25 of 02. A refusal whose place is a node or an address
+// carries it; every other place is 0.
 pub enum Refusal {
     // 1: the image is shorter than 28 or longer than 16,777,216 bytes.
     ImageLength,

@@ -123,7 +123,7 @@ module _ (l counts : List ℕ) where
 -- ---- the calls
 
 module _ (l work counts : List ℕ) where
-  -- in an accepted image, with lists that are long enough, 1 to 8 pass
+  -- in an accepted image, with lists that are long enough, the check's rows pass
   pub works-out : Accepted l → headOf l .g + 1 ≤ length work → headOf l .g + 1 ≤ length counts
       → first (countsOrder l work counts) ≡ none
   unfolding countsOrder

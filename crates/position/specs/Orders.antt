@@ -21,7 +21,7 @@ use Rattle.position.specs.Counts.{row25, row5again}
 unfoldable pub usable : List ℕ → List ℕ → List ℕ
 usable work counts = take (length counts) work
 
--- working out the counts: 1 to 8, where 5 is given for either list; never 25
+-- working out the counts: the check's rows, where 5 is given for either list; never 25
 unfoldable pub countsOrder : List ℕ → List ℕ → List ℕ → List Row
 unfolding checkOrder usable
 countsOrder l work counts = checkOrder l (usable work counts)

@@ -1,5 +1,5 @@
 pub mod Kept
 pub mod Vacant
-pub mod Searching
+pub mod OnStack
 pub mod Spreading
 pub mod Reaching

@@ -14,8 +14,8 @@ use Rattle.head.proofs.Places.{width-least, used}
 use Rattle.node.specs.Image.{Open, tableOf}
 use Rattle.reaching.specs.Reaching.{RestKept, Searched, Searching, Spread}
 use Rattle.reaching.proofs.Kept.{kept-none, kept-more, kept-set}
-use Rattle.reaching.proofs.Searching.{searching-start, searching-pop, searching-room}
-use Rattle.reaching.proofs.Searching.{searched}
+use Rattle.reaching.proofs.OnStack.{searching-start, searching-pop, searching-room}
+use Rattle.reaching.proofs.OnStack.{searched}
 
 -- an image has fewer nodes than bytes, so G+1 fits a working number
 pub nodes-fit : {h : Head} {l : List ℕ} → Open h l → length l ≤ longestImage → h .g + 1 < 2 ^ 32

@@ -12,7 +12,7 @@ use Rattle.head.specs.declared.Head.{Head}
 use Rattle.node.specs.Image.{tableOf}
 use Rattle.reaching.specs.Reaching.{RestKept, Met, Searching, Spread}
 use Rattle.reaching.proofs.Kept.{kept-none, kept-more, kept-set}
-use Rattle.reaching.proofs.Searching.{searching-met, searching-new}
+use Rattle.reaching.proofs.OnStack.{searching-met, searching-new}
 
 -- the first i of n links of node q have been followed
 pub record Spreading (t : Table) (g n q top : ℕ) (work : List ℕ) (i top′ : ℕ) (work′ : List ℕ)

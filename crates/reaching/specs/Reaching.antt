@@ -46,8 +46,8 @@ vacant work (suc m) = vacant work m + cond (eqb (getD work m 0) 0) 1 0
 
 -- the links of node x have been followed, or the first i of them if x is q: the nodes that they
 -- lead to have been met
-abbrev pub Followed : Table → ℕ → ℕ → ℕ → List ℕ → ℕ → Type 0
-Followed t n q i work x = (j : ℕ) → j < n → (x ≡ q → j < i) → Met work (t .child x j)
+abbrev pub LinksMet : Table → ℕ → ℕ → ℕ → List ℕ → ℕ → Type 0
+LinksMet t n q i work x = (j : ℕ) → j < n → (x ≡ q → j < i) → Met work (t .child x j)
 
 -- The search, once it has followed the first i of the n links of node q. A node that has been met
 -- is reached, and it is on the stack or its links have been followed. Each node is counted once:
@@ -58,7 +58,7 @@ pub record Searching (t : Table) (g n q i : ℕ) (followed top : ℕ) (work : Li
   pub root : Met work 0
   pub here : Met work q
   pub reached : (x : ℕ) → x ≤ g → Met work x → Reachable t x
-  pub closed : (x : ℕ) → x ≤ g → Met work x → List·Memᴰ x pending ⊎ Followed t n q i work x
+  pub closed : (x : ℕ) → x ≤ g → Met work x → List·Memᴰ x pending ⊎ LinksMet t n q i work x
   pub counted : followed + length pending + vacant work (g + 1) ≡ g + 1
 
 -- the links of node q have been followed

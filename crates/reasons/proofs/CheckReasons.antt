@@ -91,7 +91,7 @@ module _ (image : List ℕ) (n a d : ℕ) (alphabet : List ℕ) (least most : �
 
 -- ---- check and number of keys
 
--- 6 to 8
+-- 6 to 8 and 16
 link-fits : (l : List ℕ) → AllFit (linkRows (headOf l) (tableOf (headOf l) l)) (linkReasons l)
 unfolding linkRows linkReasons
 link-fits l = (six-fits l, (seven-fits l, (eight-fits l, (sixteen-fits l, tt))))
@@ -101,7 +101,7 @@ unfolding linkRows
 link-tells l = (six-tells l, (seven-tells l, (eight-tells l, (sixteen-tells l, tt))))
 
 module _ (l work : List ℕ) where
-  -- 5 to 8
+  -- 5 to 8 and 16
   abbrev from-five : List Row
   from-five = row5 (headOf l) (length work) ∷ linkRows (headOf l) (tableOf (headOf l) l)
 
@@ -112,14 +112,14 @@ module _ (l work : List ℕ) where
       (5 when (length work < headOf l .g + 1) ∷ linkReasons l) (opening-fits l)
       (five-fits (length work) (headOf l .g + 1), link-fits l)
 
-  -- "check .. : 1 to 8", each exactly when the table says, for any image
+  -- "check .. : 1 to 8", and 16, each exactly when the table says, for any image
   pub check-number-exactly : (n : ℕ) → (checkOf l work .numbers .number ≡ n)
       ↔ FirstApplies (checkReasons l work) n
   unfolding checkOf doneNumbers
   check-number-exactly n =
       heard-exactly (checkOrder l work) (checkReasons l work) _ _ refl check-fits refl n
 
-  -- "check and number of keys: 1 to 8"
+  -- "check and number of keys: 1 to 8", and 16
   pub count-number-exactly : (n : ℕ) → (countOf l work .numbers .number ≡ n)
       ↔ FirstApplies (checkReasons l work) n
   unfolding countOf doneNumbers
@@ -252,7 +252,7 @@ module _ (l work : List ℕ) (given : Given) (value : ℕ) where
       (parts-fit (keyRows l given) (valued l (keyIn l given) value) (keyReasons l given) _
       (key-fits l given) (value-fits l (keyIn l given) value))
 
-  -- "store: 1 to 8, 9, 10, 11, 12, 13", for any image
+  -- "store: 1 to 8, 9, 10, 11, 12, 13", with 16 after 8, for any image
   pub store-any-number-exactly : (n : ℕ) → (storeOf l work given value .numbers .number ≡ n)
       ↔ FirstApplies (storeAnyReasons l work given value) n
   unfolding storeOf doneNumbers
@@ -267,8 +267,10 @@ module _ (l work : List ℕ) (given : Given) (value : ℕ) where
       (parts-tell (RightPlace l) (keyRows l given) (valued l (keyIn l given) value)
       (key-tells (RightPlace l) l given (placeless l 9 (inr (omega arith, omega arith)))
       (placeless l 10 (inr (omega arith, omega arith))))
-      (value-tells (RightPlace l) l (keyIn l given) value (placeless l 11 (inr (omega arith, omega arith)))
-      (placeless l 12 (inr (omega arith, omega arith))) (placeless l 13 (inr (omega arith, omega arith)))))
+      (value-tells (RightPlace l) l (keyIn l given) value
+      (placeless l 11 (inr (omega arith, omega arith)))
+      (placeless l 12 (inr (omega arith, omega arith)))
+      (placeless l 13 (inr (omega arith, omega arith)))))
 
   pub store-any-place :
       RightPlace l (storeOf l work given value .numbers .number)
@@ -380,7 +382,7 @@ module _ (l work key : List ℕ) (after : Bool) (buffer : List ℕ) where
       parts-fit (checkOrder l work) asked (checkReasons l work) (askedReasons l key after buffer)
       (check-fits l work) asked-fits
 
-  -- "next key: 1 to 8, 9, 10, 14, 15", for any image
+  -- "next key: 1 to 8, 9, 10, 14, 15", with 16 after 8, for any image
   pub next-key-number-exactly : (n : ℕ)
       → (nextKeyOf l work key after buffer .numbers .number ≡ n)
       ↔ FirstApplies (nextKeyReasons l work key after buffer) n

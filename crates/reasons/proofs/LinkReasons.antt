@@ -1,6 +1,6 @@
--- 6 to 8 and 16: each row is given exactly where its reason applies, and its place is the lowest node or
--- address that the reason speaks of. An address that is counted twice stands in two links: in two
--- of one node, or in one of each of two nodes.
+-- 6 to 8 and 16: each row is given exactly where its reason applies, and its place is the lowest
+-- node or address that the reason speaks of. An address that is counted twice stands in two links:
+-- in two of one node, or in one of each of two nodes.
 use Prim.Native.Nat.{ℕ, zero, suc, _+_, _≤_, _<_}
 use mathlib.Core.Path.{_≡_, refl, sym, _∙_}
 use mathlib.Core.Logic.{_↔_, _≢_, _⊎_, inl, inr, ⊎-elim}

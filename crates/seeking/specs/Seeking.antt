@@ -1,6 +1,6 @@
--- 01, "next key: 1 to 8, 9, 10, 14, 15": the part after 8. If the check of an image has passed,
--- this part answers and leaves in the buffer what the whole call does, whatever working numbers
--- were lent.
+-- 01, "next key: 1 to 8, 9, 10, 14, 15": the part after the check. If the check of an image has
+-- passed, this part answers and leaves in the buffer what the whole call does, whatever working
+-- numbers were lent.
 use mathlib.Core.Path.{_≡_}
 use Prim.Native.Nat.{ℕ}
 use mathlib.Core.Bool.{Bool}

@@ -165,7 +165,8 @@ module _ (t : Table) (n g : ℕ) where
         go (yes s) on = (x, rw s f)
         go (no d) on =
             let (q, b, a, e) = parent-at k x (f .at) in
-            on q (record { node = b; at = e; least = λ i h. earlier q a i h (atDepth t n g i q) refl })
+            on q
+            (record { node = b; at = e; least = λ i h. earlier q a i h (atDepth t n g i q) refl })
             j (omega arith)
           where
             earlier : (q : ℕ) → Parent t q x → (i : ℕ) → i < k → (b : Bool)

@@ -8,14 +8,14 @@ use native.Mathlib.Omega.{arith}
 use lib.ListN.{length}
 use Rattle.trie.specs.Table.{Table, LettersBelow, complete, descend, missing}
 use Rattle.trie.specs.Tree.{Reachable}
-use Rattle.trie.specs.Rules.{Framed, Reached, LinkRules, Linked}
+use Rattle.trie.specs.Rules.{Framed, AllReached, LinkRules, Linked}
 use Rattle.trie.specs.Storing.{put, grow, growPath, stored, added}
 use Rattle.trie.proofs.Put.{put-descend}
 use Rattle.trie.proofs.Grow.{grow-descend, grow-descend-new, Room, room, room-next}
 use Rattle.trie.proofs.Storing.{Store, over, unchanged, longer, store, stored-linked}
 
-grow-reached : (t : Table) (g q x : ℕ) → Reached t g → q ≤ g → t .child q x ≡ 0
-    → Reached (grow t q x (suc g)) (suc g)
+grow-reached : (t : Table) (g q x : ℕ) → AllReached t g → q ≤ g → t .child q x ≡ 0
+    → AllReached (grow t q x (suc g)) (suc g)
 grow-reached t g q x r low e c high = go (decLe c g)
   where
     go : Dec (c ≤ g) → Reachable (grow t q x (suc g)) c
@@ -27,8 +27,8 @@ grow-reached t g q x r low e c high = go (decLe c g)
           grow-descend-new t q x (suc g) 0 k e (omega arith) f ∙ ap complete same,
         )
 
-growPath-reached : {t : Table} {g n q x : ℕ} (xs : List ℕ) → Room t g n q x xs → Reached t g
-    → Reached (growPath t q x xs (suc g)) (g + suc (length xs))
+growPath-reached : {t : Table} {g n q x : ℕ} (xs : List ℕ) → Room t g n q x xs → AllReached t g
+    → AllReached (growPath t q x xs (suc g)) (g + suc (length xs))
 unfolding growPath
 growPath-reached {t} {g} {n} {q} {x} [] r all =
     let e : g + 1 ≡ suc g = omega arith in rw e (grow-reached t g q x all (r .node) (r .empty))
@@ -36,11 +36,12 @@ growPath-reached {t} {g} {n} {q} {x} (y ∷ ys) r all =
     let e : g + suc (suc (length ys)) ≡ suc g + suc (length ys) = omega arith in
     rw e (growPath-reached ys (room-next r) (grow-reached t g q x all (r .node) (r .empty)))
 
-put-reached : (t : Table) (g q v : ℕ) → Reached t g → Reached (put t q v) g
+put-reached : (t : Table) (g q v : ℕ) → AllReached t g → AllReached (put t q v) g
 put-reached t g q v r c high = let (k, e) = r c high in (k, put-descend t q v 0 k ∙ e)
 
-reached : {t s : Table} {g n g′ v : ℕ} {k : List ℕ} → Linked t g n → LettersBelow n k → Reached t g
-    → Store t g k v s g′ → Reached s g′
+reached : {t s : Table} {g n g′ v : ℕ} {k : List ℕ} → Linked t g n → LettersBelow n k
+    → AllReached t g → Store t g k v s g′
+    → AllReached s g′
 reached {t} {g = g} l letters r (over {q} {v} e) = put-reached t g q v r
 reached l letters r (unchanged e) = r
 reached {t} {g = g} {k = k} l letters r (longer {q} {x} {xs} {v} e) =

@@ -43,7 +43,8 @@ child-within {q = q} within a = rw (a .link) at (within q (a .letter))
 -- ---- reached
 
 -- one link, and the walk from its node on
-pub link-on : {t : Table} {q p c : ℕ} (a : Parent t q p) (xs : List ℕ) → descend t p xs ≡ complete c
+pub link-on : {t : Table} {q p c : ℕ} (a : Parent t q p) (xs : List ℕ)
+    → descend t p xs ≡ complete c
     → descend t q (a .letter ∷ xs) ≡ complete c
 link-on {t} {q} a xs e =
     descend-on t q (a .letter) xs (λ z. a .full (sym (a .link) ∙ z))

@@ -28,18 +28,18 @@ abbrev pub Once : Table → Type 0
 Once t = (q i p j : ℕ) → t .child q i ≢ 0 → t .child q i ≡ t .child p j → (q ≡ p) × (i ≡ j)
 
 -- "every node must be reached from the root"
-abbrev pub Reached : Table → ℕ → Type 0
-Reached t g = (c : ℕ) → c ≤ g → Reachable t c
+abbrev pub AllReached : Table → ℕ → Type 0
+AllReached t g = (c : ℕ) → c ≤ g → Reachable t c
 
 -- All the rules, for a table with greatest address g. The table of an accepted image meets them.
 pub record LinkRules (t : Table) (g : ℕ) : Type 0 where
   pub within : Within t g
   pub named : Named t g
   pub once : Once t
-  pub reached : Reached t g
+  pub reached : AllReached t g
 
 -- What the laws on a store's answers and links require of a table, and what a store keeps. It
--- leaves out `Reached`, which few laws use: a store keeps it (`trie/proofs/Rules.antt:
+-- leaves out `AllReached`, which few laws use: a store keeps it (`trie/proofs/Rules.antt:
 -- stored-rules`), and by it no node is its own ancestor (`trie/proofs/Tree.antt:
 -- not-own-ancestor`).
 pub record Linked (t : Table) (g n : ℕ) : Type 0 where

@@ -1,4 +1,4 @@
--- `asking::ask` meets its contract: the check judges 1 to 8, then the key is judged by 9 and 10.
+-- `asking::ask` meets its contract: the check judges its rows, then the key is judged by 9 and 10.
 -- Assumes nothing.
 use borrow.Author.Needs.{needs}
 use Rattle.asking.proofs.Asking.{checked-front, front-judgeable}

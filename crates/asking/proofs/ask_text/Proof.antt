@@ -1,4 +1,4 @@
--- `asking::ask_text` meets its contract: the check judges 1 to 8, then the text is judged by 10
+-- `asking::ask_text` meets its contract: the check judges its rows, then the text is judged by 10
 -- and 9. Assumes nothing.
 use borrow.Author.Needs.{needs}
 use Rattle.asking.proofs.Asking.{checked-front, front-judgeable}

@@ -1,5 +1,5 @@
--- `asking_counts::ask_text` meets its contract: the comparison judges 1 to 8 and 25, then the
--- text is judged by 10 and 9. Assumes nothing.
+-- `asking_counts::ask_text` meets its contract: the comparison judges the check's rows and 25,
+-- then the text is judged by 10 and 9. Assumes nothing.
 use borrow.Author.Needs.{needs}
 use Rattle.asking.proofs.Asking.{front-judgeable}
 use Rattle.asking_counts.proofs.AskingCounts.{compared-front}

@@ -83,11 +83,13 @@ clear-requires c κs = search needs
 
 reached-requires : tie.Need-reached-requires
 reached-requires c κs =
-    let b = c .before .before .before .before .before .before .before .before .before .before .before .before .before .before .before in
+    let d = c .before .before .before .before .before .before .before .before in
+    let b = d .before .before .before .before .before .before .before in
     let f = b .before .before .before .first-bad-node .ensures in
     let s = b .before .before .before .before .before .before .before .before in
     let e = c .before .before .before .clear .ensures in
-    let room = kept-cleared (s .args .h .g) _ e (omega (arith, f .kept .long, s .pre .1 .1 .0)) in (
+    let room =
+    kept-cleared (s .args .h .g) _ e (omega (arith, f .kept .long, s .pre .1 .1 .0)) in (
       s .pre .0,
       (
         s .pre .1 .0,
@@ -113,7 +115,8 @@ returns-5 c =
     let s = b .before .before .before .before .before .before .before .before in
     linked-reached f (b .if1 .left) (d .before .first-holding .ensures) (d .if3 .left)
     (e .before .first-holding2 .ensures) (e .if4 .left)
-    (c .before .before .before .before .before .before .clear .ensures) (omega (arith, f .kept .long, s .pre .1 .1 .0))
+    (c .before .before .before .before .before .before .clear .ensures)
+    (omega (arith, f .kept .long, s .pre .1 .1 .0))
     (c .before .before .reached .ensures)
 
 pub links-spec : {M : Type 1} → statement M

@@ -1,5 +1,5 @@
--- `audit::reached` meets its contract: the search has met every node, or the lowest one that it has
--- not met is the place of 16. Assumes nothing.
+-- `audit::reached` meets its contract: the search has met every node, or the lowest one that it
+-- has not met is the place of 16. Assumes nothing.
 use native.Mathlib.Omega.{arith}
 use borrow.Author.Needs.{needs}
 use Rattle.audit.proofs.EachReached.{reached-all, reached-not, reached-found}
@@ -35,14 +35,16 @@ same-length-2 c = search needs
 
 returns-2 : tie.Need-returns-2
 returns-2 c =
-    reached-not (c .before .before .before .before .before .before .reach .ensures) (c .before .first-holding .ensures) (omega arith)
+    reached-not (c .before .before .before .before .before .before .reach .ensures)
+    (c .before .first-holding .ensures) (omega arith)
 
 same-length-3 : tie.Need-same-length-3
 same-length-3 c = search needs
 
 returns-3 : tie.Need-returns-3
 returns-3 c =
-    reached-found (c .before .before .before .before .before .before .reach .ensures) (c .before .first-holding .ensures) (omega arith)
+    reached-found (c .before .before .before .before .before .before .reach .ensures)
+    (c .before .first-holding .ensures) (omega arith)
 
 pub reached-spec : {M : Type 1} → statement M
 reached-spec =

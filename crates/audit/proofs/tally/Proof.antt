@@ -7,8 +7,9 @@ use native.Mathlib.Omega.{arith}
 use borrow.Author.Needs.{needs}
 use Rattle.node.specs.Image.{tableOf}
 use Rattle.audit.proofs.Tallying.{Counting, counting-none, counting-empty, counting-full}
-use Rattle.audit.proofs.Tallying.{counting-more, counting-room, Noted, noted-lower, noted-upward}
-use Rattle.audit.proofs.Tallying.{tallied-all, tallied-bad, tallied-childless}
+use Rattle.audit.proofs.Tallying.{counting-more, counting-room, Noted, noted-lower}
+use Rattle.audit.proofs.Tallying.{noted-upward, tallied-all, tallied-bad}
+use Rattle.audit.proofs.Tallying.{tallied-childless}
 use Rattle.audit.proofs.tally.Statement.{statement}
 use Rattle.audit.proofs.tally.Tie as tie
 
@@ -55,19 +56,23 @@ returns-2 c =
 slice-write-work : tie.Need-slice-write-work Inv-loop μ-loop
 slice-write-work c =
     let a = c .before .before .before .before .before .before .before in
-    omega (arith, a .loop .inv .kept .long, a .before .before .before .before .before .pre .1 .1 .1)
+    let s = a .before .before .before .before .before in
+    omega (arith, a .loop .inv .kept .long, s .pre .1 .1 .1)
 
 -- whether the link leads upward is noted in number 0
 noted : (c : tie.Joined5 Inv-loop μ-loop)
     → Noted
-    (c .before .before .before .before .before .before .before .before .before .before .before .before
-    .args .h .g)
-    (c .before .before .before .before .before .before .before .before .before .before .before .before
-    .args .q)
+    (c .before .before .before .before .before .before .before .before .before .before .before
+    .before .args .h .g)
+    (c .before .before .before .before .before .before .before .before .before .before .before
+    .before .args .q)
     (c .before .before .before .before .link .result)
     (c .before .before .before .before .before .before .before .loop .work) (c .if5 .work)
 noted c =
-    ⊎-elim (λ w. rw (w .1) (noted-lower _ (slice-write-work (record { before = c .before; if5 = w .0 }))))
+    ⊎-elim
+    (λ w.
+    let room = slice-write-work (record { before = c .before; if5 = w .0 }) in
+    rw (w .1) (noted-lower _ room))
     (λ w. rw (w .1) (noted-upward _ (omega (arith, w .0 .left))))
     (c .if5 .came)
 

@@ -1,5 +1,5 @@
--- `checks::check` meets its contract: the audit gives the first of 1 to 8 that applies, and
--- leaves the working numbers as 01 says. Assumes nothing.
+-- `checks::check` meets its contract: the audit gives the first of the check's rows that applies,
+-- and leaves the working numbers as 01 says. Assumes nothing.
 use borrow.Author.Needs.{needs}
 use Rattle.checks.proofs.CheckReturns.{checks-refused, checks-done}
 use Rattle.checks.proofs.check.Statement.{statement}

@@ -1,5 +1,6 @@
--- `checks::count` meets its contract: the audit judges 1 to 8, and an image that has passed them
--- has at most as many stored keys as nodes, so their number fits 32 bits. Assumes nothing.
+-- `checks::count` meets its contract: the audit judges the check's rows, and an image that has
+-- passed them has at most as many stored keys as nodes, so their number fits 32 bits. Assumes
+-- nothing.
 use borrow.Author.Needs.{needs}
 use Rattle.checks.proofs.CheckReturns.{checked-walkable, counts-refused, counts-done}
 use Rattle.checks.proofs.count.Statement.{statement}

@@ -1,5 +1,5 @@
--- `checks::next_key` meets its contract: the audit judges 1 to 8, and `seeking` does the rest.
--- Assumes nothing.
+-- `checks::next_key` meets its contract: the audit judges the check's rows, and `seeking` does the
+-- rest. Assumes nothing.
 use borrow.Author.Needs.{needs}
 use Rattle.audit.proofs.Verdicts.{checked-accepted, checked-head}
 use Rattle.checks.proofs.CheckReturns.{nexts-refused, nexts-seek}

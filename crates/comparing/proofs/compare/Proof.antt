@@ -1,5 +1,5 @@
 -- `comparing::compare` meets its contract: the check, lent a part of the working numbers, gives
--- 1 to 8, and the fresh counts give 25. Assumes nothing.
+-- the check's rows, and the fresh counts give 25. Assumes nothing.
 use Prim.Native.Nat.{_+_}
 use mathlib.Core.Path.{ap}
 use native.Mathlib.Omega.{arith}

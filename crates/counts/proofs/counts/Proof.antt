@@ -1,4 +1,4 @@
--- `counts::counts` meets its contract: the check judges 1 to 8, with 5 for either list; if it
+-- `counts::counts` meets its contract: the check judges its rows, with 5 for either list; if it
 -- has passed, `weighing` works the counts out. Assumes nothing.
 use borrow.Author.Needs.{needs}
 use Rattle.counts.proofs.CountsReturns.{counts-refused, weigh-asks, counts-done}

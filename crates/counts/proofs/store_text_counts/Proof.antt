@@ -1,5 +1,5 @@
--- `counts::store_text_counts` meets its contract: `asking_counts` judges 1 to 8, 25, 10 and 9,
--- and `tracking` does the rest. Assumes nothing.
+-- `counts::store_text_counts` meets its contract: `asking_counts` judges the check's rows, 25, 10
+-- and 9, and `tracking` does the rest. Assumes nothing.
 use borrow.Author.Needs.{needs}
 use Rattle.counts.proofs.StoreCountsReturns.{store-counts-refused, store-counted-asks}
 use Rattle.counts.proofs.StoreCountsReturns.{store-counts-passed}

@@ -1,5 +1,5 @@
--- `jumps::key_at` meets its contract: the comparison judges 1 to 8 and 25, and `tell_key` does
--- the rest. Assumes nothing.
+-- `jumps::key_at` meets its contract: the comparison judges the check's rows and 25, and
+-- `tell_key` does the rest. Assumes nothing.
 use borrow.Author.Needs.{needs}
 use Rattle.jumps.proofs.KeyAtReturns.{spot-asks, gives-key-refused, gives-key-spotted}
 use Rattle.jumps.proofs.key_at.Statement.{statement}

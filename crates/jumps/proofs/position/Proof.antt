@@ -1,4 +1,4 @@
--- `jumps::position` meets its contract: `asking_counts` judges 1 to 8, 25, 9 and 10, and
+-- `jumps::position` meets its contract: `asking_counts` judges the check's rows, 25, 9 and 10, and
 -- `tell_position` gives 15 or the position. Assumes nothing.
 use borrow.Author.Needs.{needs}
 use Rattle.jumps.proofs.PositionReturns.{place-asks, gives-position-refused}

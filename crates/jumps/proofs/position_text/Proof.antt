@@ -1,5 +1,5 @@
--- `jumps::position_text` meets its contract: `asking_counts` judges 1 to 8, 25, 10 and 9, and
--- `tell_position` gives 15 or the position. Assumes nothing.
+-- `jumps::position_text` meets its contract: `asking_counts` judges the check's rows, 25, 10 and
+-- 9, and `tell_position` gives 15 or the position. Assumes nothing.
 use borrow.Author.Needs.{needs}
 use Rattle.jumps.proofs.PositionReturns.{place-asks, gives-position-refused}
 use Rattle.jumps.proofs.PositionReturns.{gives-position-placed}

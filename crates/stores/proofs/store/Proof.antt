@@ -1,5 +1,5 @@
--- `stores::store` meets its contract: `asking` judges 1 to 8, 9 and 10, and `storing` does the
--- rest. Assumes nothing.
+-- `stores::store` meets its contract: `asking` judges the check's rows, 9 and 10, and `storing`
+-- does the rest. Assumes nothing.
 use borrow.Author.Needs.{needs}
 use Rattle.asking.proofs.Asking.{store-asks}
 use Rattle.stores.proofs.StoreReturns.{stores-refused, stores-passed}

@@ -1,5 +1,5 @@
--- `stores::store_text` meets its contract: `asking` judges 1 to 8, 10 and 9, and `storing` does
--- the rest. Assumes nothing.
+-- `stores::store_text` meets its contract: `asking` judges the check's rows, 10 and 9, and
+-- `storing` does the rest. Assumes nothing.
 use borrow.Author.Needs.{needs}
 use Rattle.asking.proofs.Asking.{store-asks}
 use Rattle.stores.proofs.StoreReturns.{stores-refused, stores-passed}

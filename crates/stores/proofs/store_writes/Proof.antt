@@ -1,5 +1,5 @@
--- `stores::store_writes` meets its contract: `asking` judges 1 to 8, 9 and 10, and `noting` does
--- the rest. Assumes nothing.
+-- `stores::store_writes` meets its contract: `asking` judges the check's rows, 9 and 10, and
+-- `noting` does the rest. Assumes nothing.
 use borrow.Author.Needs.{needs}
 use Rattle.asking.proofs.Asking.{store-asks}
 use Rattle.stores.proofs.StoreReturns.{stores-writes-refused, stores-writes-passed}

@@ -20,7 +20,7 @@ use Rattle.trie.proofs.Tree.{reached-on}
 use Rattle.head.specs.declared.Head.{Head}
 use Rattle.node.specs.Image.{tableOf}
 use Rattle.node.proofs.Tables.{framed}
-use Rattle.reaching.specs.Reaching.{RestKept, Met, Searched, Stack, vacant, Followed}
+use Rattle.reaching.specs.Reaching.{RestKept, Met, Searched, Stack, vacant, LinksMet}
 use Rattle.reaching.specs.Reaching.{Searching}
 use Rattle.reaching.proofs.Vacant.{vacant-all, vacant-none, vacant-set}
 
@@ -114,14 +114,14 @@ module _ {t : Table} {g n q i followed top : ℕ} {work : List ℕ}
         counted = s .counted;
       }
     where
-      at : (x j : ℕ) → j < n → Followed t n q i work x → (x ≡ q → j < i + 1) → Dec (x ≡ q)
+      at : (x j : ℕ) → j < n → LinksMet t n q i work x → (x ≡ q → j < i + 1) → Dec (x ≡ q)
           → Dec (j ≡ i) → Met work (t .child x j)
       at x j b f h (no e) d = f j b (λ w. absurd (e w))
       at x j b f h (yes e) (no d) = f j b (λ w. let y = h e in omega arith)
       at x j b f h (yes e) (yes d) = rw (e, d) m
 
-      wider : (x : ℕ) → List·Memᴰ x (s .pending) ⊎ Followed t n q i work x
-          → List·Memᴰ x (s .pending) ⊎ Followed t n q (i + 1) work x
+      wider : (x : ℕ) → List·Memᴰ x (s .pending) ⊎ LinksMet t n q i work x
+          → List·Memᴰ x (s .pending) ⊎ LinksMet t n q (i + 1) work x
       wider x (inl a) = inl a
       wider x (inr f) = inr (λ j b h. at x j b f h (ℕ-discrete x q) (ℕ-discrete j i))
 
@@ -166,13 +166,13 @@ module _ {t : Table} {g n q i followed top : ℕ} {work : List ℕ}
           (record { letter = i; link = sym (e ∙ link); full = λ w. not-root (sym e ∙ w) })
       go x b m (no e) = s .reached x b (met-before work inside full x e m)
 
-      more : (x : ℕ) → List·Memᴰ x (s .pending) ⊎ Followed t n q i work x
-          → List·Memᴰ x (c ∷ s .pending) ⊎ Followed t n q i (set work c top) x
+      more : (x : ℕ) → List·Memᴰ x (s .pending) ⊎ LinksMet t n q i work x
+          → List·Memᴰ x (c ∷ s .pending) ⊎ LinksMet t n q i (set work c top) x
       more x (inl a) = inl (List·Memᴰ·tail a)
       more x (inr f) = inr (λ j b h. still (t .child x j) (f j b h))
 
       again : (x : ℕ) → x ≤ g → Met (set work c top) x → Dec (x ≡ c)
-          → List·Memᴰ x (c ∷ s .pending) ⊎ Followed t n q i (set work c top) x
+          → List·Memᴰ x (c ∷ s .pending) ⊎ LinksMet t n q i (set work c top) x
       again x b m (yes e) = inl (List·Memᴰ·head e)
       again x b m (no e) = more x (s .closed x b (met-before work inside full x e m))
 
@@ -191,15 +191,15 @@ module _ {t : Table} {g n q followed top : ℕ} {work : List ℕ}
   pub searching-pop : top < g + 1 → Searching t g n top 0 (followed + 1) (getD work top 0) work
   searching-pop below = go (s .pending) (s .stack) (s .closed) (s .counted)
     where
-      less : (y x : ℕ) (p : List ℕ) → top ≡ y → List·Memᴰ x (y ∷ p) ⊎ Followed t n q n work x
-          → List·Memᴰ x p ⊎ Followed t n top 0 work x
+      less : (y x : ℕ) (p : List ℕ) → top ≡ y → List·Memᴰ x (y ∷ p) ⊎ LinksMet t n q n work x
+          → List·Memᴰ x p ⊎ LinksMet t n top 0 work x
       less y x p e (inl (List·Memᴰ·head d)) =
           inr (λ j b f. let w = f (d ∙ sym e) in absurd (omega arith))
       less y x p e (inl (List·Memᴰ·tail m)) = inl m
       less y x p e (inr f) = inr (λ j b h. f j b (λ w. b))
 
       go : (p : List ℕ) → Stack work (g + 1) top p
-          → ((x : ℕ) → x ≤ g → Met work x → List·Memᴰ x p ⊎ Followed t n q n work x)
+          → ((x : ℕ) → x ≤ g → Met work x → List·Memᴰ x p ⊎ LinksMet t n q n work x)
           → followed + length p + vacant work (g + 1) ≡ g + 1
           → Searching t g n top 0 (followed + 1) (getD work top 0) work
       go [] e closed counted = absurd (omega arith)
@@ -219,11 +219,11 @@ module _ {t : Table} {g n q followed top : ℕ} {work : List ℕ}
   searching-room below = omega (arith, searching-pop below .counted)
 
   -- at the end the stack is empty, so the links of every node that has been met were followed
-  all-followed : g + 1 ≤ top → (x : ℕ) → x ≤ g → Met work x → Followed t n q n work x
+  all-followed : g + 1 ≤ top → (x : ℕ) → x ≤ g → Met work x → LinksMet t n q n work x
   all-followed high x b m = go (s .pending) (s .stack) (s .closed x b m)
     where
-      go : (p : List ℕ) → Stack work (g + 1) top p → List·Memᴰ x p ⊎ Followed t n q n work x
-          → Followed t n q n work x
+      go : (p : List ℕ) → Stack work (g + 1) top p → List·Memᴰ x p ⊎ LinksMet t n q n work x
+          → LinksMet t n q n work x
       go [] e (inl a) = absurd (List·Memᴰ·not-nil a)
       go [] e (inr f) = f
       go (y ∷ p) (e, low, below, rest) d = absurd (omega arith)
