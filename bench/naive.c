@@ -73,11 +73,6 @@ static uint32_t data_of(const uint8_t *image, const struct head *h, uint32_t nod
     return field(image + data_place(h, node), h->d);
 }
 
-static bool bad_link(const struct head *h, uint32_t node, uint32_t link)
-{
-    return link != 0 && (link > h->g || link <= node);
-}
-
 /* ---- 1 to 4 */
 
 static const uint8_t ROWS[9][5] = {
@@ -153,7 +148,7 @@ static uint32_t open_image(const uint8_t *image, size_t len, struct head *h)
     return 0;
 }
 
-/* ---- 5 to 8 */
+/* ---- 5 to 8, and 16 */
 
 /* 6 to 8, with working numbers that are 0 at first. Each then counts the links in which its
    address stands. */
@@ -162,7 +157,7 @@ static trieff_answer judge_links(const uint8_t *image, const struct head *h, uin
     for (uint32_t node = 0; node <= h->g; node++)
         for (uint32_t i = 0; i < h->n; i++) {
             uint32_t link = link_of(image, h, node, i);
-            if (bad_link(h, node, link))
+            if (link > h->g)
                 return refusal(6, node);
             if (link != 0)
                 work[link]++;
@@ -176,7 +171,32 @@ static trieff_answer judge_links(const uint8_t *image, const struct head *h, uin
     return valued(0);
 }
 
-/* 1 to 8. It is not inlined, so that what a call takes beyond it can be measured. */
+/* 16, with working numbers that are 0 at first. The nodes that are met and wait for their links to
+   be followed are a stack: the working number of each is the node under it, and that of the last
+   is G+1. So 0 means that a node is not met. No address stands in two links, so that each node
+   waits once. The root stands in no link. */
+static trieff_answer judge_reach(const uint8_t *image, const struct head *h, uint32_t *work)
+{
+    uint32_t none = h->g + 1, top = 0;
+    work[0] = none;
+    while (top != none) {
+        uint32_t node = top;
+        top = work[node];
+        for (uint32_t i = 0; i < h->n; i++) {
+            uint32_t link = link_of(image, h, node, i);
+            if (link == 0)
+                continue;
+            work[link] = top;
+            top = link;
+        }
+    }
+    for (uint32_t x = 1; x <= h->g; x++)
+        if (work[x] == 0)
+            return refusal(16, x);
+    return valued(0);
+}
+
+/* 1 to 8, and 16. It is not inlined, so that what a call takes beyond it can be measured. */
 __attribute__((noinline)) static trieff_answer check(
     const uint8_t *image, size_t len, uint32_t *work, size_t work_len, struct head *h)
 {
@@ -189,6 +209,10 @@ __attribute__((noinline)) static trieff_answer check(
     memset(work, 0, nodes * sizeof *work);
     trieff_answer answer = judge_links(image, h, work);
     memset(work, 0, nodes * sizeof *work);
+    if (answer.number == 0) {
+        answer = judge_reach(image, h, work);
+        memset(work, 0, nodes * sizeof *work);
+    }
     return answer;
 }
 
@@ -256,7 +280,7 @@ static trieff_answer look(const uint8_t *image, const struct head *h, const stru
         uint32_t link = link_of(image, h, node, key->letters[i]);
         if (link == 0)
             return valued(0);
-        if (bad_link(h, node, link))
+        if (link > h->g)
             return refusal(6, node);
         node = link;
     }
@@ -593,8 +617,8 @@ trieff_answer naive_counts(const uint8_t *image, size_t image_len, uint32_t *wor
     return valued(0);
 }
 
-/* 1 to 8, where 5 is for the counts too, and 25. The fresh counts are in the working numbers while
-   they are compared. */
+/* 1 to 8, where 5 is for the counts too, 16 and 25. The fresh counts are in the working numbers
+   while they are compared. */
 __attribute__((noinline)) static trieff_answer compare(
     const uint8_t *image, size_t len, uint32_t *work, size_t work_len, const uint32_t *counts,
     size_t counts_len, struct head *h)
