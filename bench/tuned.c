@@ -1,7 +1,7 @@
 /* The calls in C, tuned by hand for speed: masked loads of four bytes, 32 bytes of empty links at
-   a time, one pass for the check. It uses what document 01 gives, such as that a child's address
-   is above its node's. The calls with counts do not use that. No vector instruction is written by
-   hand. */
+   a time, one pass for the check. Where every child's address is above its node's, as our own
+   stores leave it, no node needs to be searched for from the root. No vector instruction is
+   written by hand. */
 #include "calls.h"
 #include <string.h>
 #include <unistd.h>
@@ -216,48 +216,62 @@ static uint32_t open_image(const uint8_t *image, size_t len, struct opened *o, s
     return len < 28 + o->f + ((size_t)o->g + 1) * o->width ? 4 : 0;
 }
 
-/* ---- 5 to 8 */
+/* ---- 5 to 8, and 16 */
 
 /* The results of one pass over all links. Once x has been met in a link, working number x holds
-   the depth of x. */
+   the node of that link, plus 1. */
 struct pass {
-    uint32_t bad;   /* the lowest node that holds a bad link; above G if there is none */
+    uint32_t bad;   /* the lowest node that holds a link above G; above G if there is none */
     uint32_t links; /* the number of links that are not empty */
     uint32_t twice; /* not 0 if an address was met again */
-    uint64_t keys;  /* the number of stored keys, if they are counted */
+    uint32_t falls; /* 1 if a link is not above its node */
 };
 
-/* The depth of a node is known when the pass comes to it, since its address is above that of the
-   node that links to it. */
-static inline struct pass pass_links(const struct opened *o, uint32_t *work, bool counting)
+/* One test finds both a link above G and one that is not above its node. */
+static inline struct pass pass_links(const struct opened *o, uint32_t *work)
 {
     struct pass p = {.bad = o->g + 1};
     const uint8_t *node = o->nodes;
     uint32_t g = o->g, a = o->a, n = o->n, mask = o->link_mask;
     for (uint32_t q = 0; q <= g; q++, node += o->width) {
-        if (counting && work[q] - o->min <= o->max - o->min)
-            p.keys += data_of(o, node) != 0;
         if (childless(o, node))
             continue;
         const uint8_t *end = node + a;
-        uint32_t depth = work[q] + 1;
         for (uint32_t i = 0; i < n; i++, end += a) {
             uint32_t link = field(end, mask);
             if (link == 0)
                 continue;
             if (link - q - 1 >= g - q) {
-                p.bad = q;
-                return p;
+                if (link > g) {
+                    p.bad = q;
+                    return p;
+                }
+                p.falls = 1;
             }
             p.twice |= work[link];
-            work[link] = depth;
+            work[link] = q + 1;
             p.links++;
         }
     }
     return p;
 }
 
-/* 8, for an image that has no 6 and no 7: the lowest address that was met in no link. */
+/* 7, for an image that has one and no link above G. Counts the links in which each address
+   stands. */
+static trieff_answer linked_twice(const struct opened *o, uint32_t *work)
+{
+    memset(work, 0, ((size_t)o->g + 1) * sizeof *work);
+    for (uint32_t q = 0; q <= o->g; q++)
+        for (uint32_t i = 0; i < o->n; i++)
+            work[link_of(o, node_at(o, q), i)]++;
+    uint32_t x = 1;
+    while (work[x] < 2)
+        x++;
+    return refusal(7, x);
+}
+
+/* 8, for an image that has one, no link above G and no 7: the lowest address that was met in no
+   link. */
 static trieff_answer not_linked(const uint32_t *work)
 {
     uint32_t x = 1;
@@ -266,65 +280,67 @@ static trieff_answer not_linked(const uint32_t *work)
     return refusal(8, x);
 }
 
-/* 7 or 8, for an image that has one of them and no bad link. Counts the links in which each
-   address stands. */
-static trieff_answer blame(const struct opened *o, uint32_t *work)
+#define CLIMBED 0x80000000u
+
+/* 16, or done, for an image that passes 6 to 8. Climbs from each address x, by the nodes in the
+   working numbers, to a node that is reached: one below x, or one that an earlier climb came
+   through. A climb leaves x, marked, in the working numbers on its way. If it comes to its own
+   mark, it ends in a ring, and no address below x does so. Each node is passed once. */
+static trieff_answer climb(uint32_t g, uint32_t *work)
 {
-    memset(work, 0, ((size_t)o->g + 1) * sizeof *work);
-    for (uint32_t q = 0; q <= o->g; q++)
-        for (uint32_t i = 0; i < o->n; i++)
-            work[link_of(o, node_at(o, q), i)]++;
-    uint32_t x = 1;
-    while (x <= o->g && work[x] < 2)
-        x++;
-    return x <= o->g ? refusal(7, x) : not_linked(work);
+    for (uint32_t x = 1; x <= g; x++) {
+        uint32_t y = x, above = work[y];
+        while (above > x) {
+            if (above >= CLIMBED) {
+                if (above == (CLIMBED | x))
+                    return refusal(16, x);
+                break;
+            }
+            work[y] = CLIMBED | x;
+            y = above - 1;
+            above = work[y];
+        }
+    }
+    return (trieff_answer){.number = 0};
 }
 
-/* 5 to 8. If keys are counted, the answer's value is the number of stored keys. `*links` is the
-   number of links that are not empty, unless 5 or 6 is given. */
+/* 5 to 8, and 16. `*p` is what the pass found, unless 5 is given. */
 static inline trieff_answer judge_links(const struct opened *o, uint32_t *work, size_t work_len,
-                                        bool counting, uint32_t *links)
+                                        struct pass *p)
 {
     size_t nodes = (size_t)o->g + 1;
     if (work_len < nodes)
         return refusal(5, 0);
     memset(work, 0, nodes * sizeof *work);
-    struct pass p = pass_links(o, work, counting);
-    trieff_answer answer = {.value = p.keys};
-    if (links != NULL)
-        *links = p.links;
-    if (p.bad <= o->g)
-        answer = refusal(6, p.bad);
-    else if (!counting && p.twice == 0 && p.links != o->g)
-        answer = not_linked(work); /* if keys are counted, this would cost the pass a register */
-    else if (p.links != o->g || p.twice != 0)
-        answer = blame(o, work);
+    *p = pass_links(o, work);
+    trieff_answer answer = {.number = 0};
+    if (p->bad <= o->g)
+        answer = refusal(6, p->bad);
+    else if (p->twice != 0)
+        answer = linked_twice(o, work);
+    else if (p->links != o->g)
+        answer = not_linked(work);
+    else if (p->falls != 0)
+        answer = climb(o->g, work);
     memset(work, 0, nodes * sizeof *work);
     return answer;
 }
 
-/* 1 to 8. It is not inlined, so that what a call takes beyond it can be measured. */
+/* 1 to 8, and 16. It is not inlined, so that what a call takes beyond it can be measured. */
 __attribute__((noinline)) static trieff_answer check(
     const uint8_t *image, size_t len, uint32_t *work, size_t work_len, struct opened *o,
-    struct alphabet *al, uint32_t *links)
+    struct alphabet *al)
 {
+    struct pass p;
     uint32_t number = open_image(image, len, o, al);
-    return number != 0 ? refusal(number, 0) : judge_links(o, work, work_len, false, links);
+    return number != 0 ? refusal(number, 0) : judge_links(o, work, work_len, &p);
 }
 
 trieff_answer tuned_check(const uint8_t *image, size_t image_len, uint32_t *work, size_t work_len)
 {
     struct opened o;
     struct alphabet al;
-    return check(image, image_len, work, work_len, &o, &al, NULL);
-}
-
-trieff_answer tuned_count(const uint8_t *image, size_t image_len, uint32_t *work, size_t work_len)
-{
-    struct opened o;
-    struct alphabet al;
-    uint32_t number = open_image(image, image_len, &o, &al);
-    return number != 0 ? refusal(number, 0) : judge_links(&o, work, work_len, true, NULL);
+    return check(image, image_len, work, work_len, &o, &al);
 }
 
 /* ---- keys: 9 and 10 */
@@ -381,7 +397,7 @@ static inline trieff_answer look(const struct opened *o, const uint8_t *letters,
         uint32_t link = link_of(o, node, letters[i]);
         if (link == 0)
             return (trieff_answer){.value = 0};
-        if (link - q - 1 >= o->g - q)
+        if (link > o->g)
             return refusal(6, q);
         q = link;
         node = node_at(o, q);
@@ -513,7 +529,7 @@ trieff_answer tuned_store(uint8_t *image, size_t image_len, uint32_t *work, size
 {
     struct opened o;
     struct alphabet al;
-    trieff_answer answer = check(image, image_len, work, work_len, &o, &al, NULL);
+    trieff_answer answer = check(image, image_len, work, work_len, &o, &al);
     if (answer.number != 0)
         return answer;
     uint32_t number = judge_key(&o, letters, letters_len);
@@ -528,7 +544,7 @@ trieff_answer tuned_store_text(uint8_t *image, size_t image_len, uint32_t *work,
     struct alphabet al;
     uint8_t letters[KEY_MOST];
     size_t len;
-    trieff_answer answer = check(image, image_len, work, work_len, &o, &al, NULL);
+    trieff_answer answer = check(image, image_len, work, work_len, &o, &al);
     if (answer.number != 0)
         return answer;
     uint32_t number = judge_text(&o, &al, text, text_len, letters, &len);
@@ -542,7 +558,7 @@ trieff_answer tuned_store_writes(uint8_t *image, size_t image_len, uint32_t *wor
 {
     struct opened o;
     struct alphabet al;
-    trieff_answer answer = check(image, image_len, work, work_len, &o, &al, NULL);
+    trieff_answer answer = check(image, image_len, work, work_len, &o, &al);
     if (answer.number != 0)
         return answer;
     uint32_t number = judge_key(&o, letters, letters_len);
@@ -559,7 +575,7 @@ trieff_answer tuned_store_text_writes(uint8_t *image, size_t image_len, uint32_t
     struct alphabet al;
     uint8_t letters[KEY_MOST];
     size_t len;
-    trieff_answer answer = check(image, image_len, work, work_len, &o, &al, NULL);
+    trieff_answer answer = check(image, image_len, work, work_len, &o, &al);
     if (answer.number != 0)
         return answer;
     uint32_t number = judge_text(&o, &al, text, text_len, letters, &len);
@@ -582,19 +598,26 @@ static uint32_t links_from(const struct opened *o, uint32_t q)
     return links;
 }
 
-/* If 8 at p is given, no address stands in two links, and each address from 1 to p - 1 stands in a
-   link of a node below p. So the image is accepted with p nodes exactly if these hold p - 1 links,
-   and no second pass over them is needed. */
+/* If 8 at p is given, each address from 1 to p - 1 stands in exactly one link. Where all links
+   rise, it is a link of a node below p. Then the image is accepted with p nodes exactly if these
+   hold p - 1 links, and no second pass over them is needed. */
 trieff_answer tuned_mend(uint8_t *image, size_t image_len, uint32_t *work, size_t work_len)
 {
     struct opened o;
     struct alphabet al;
-    uint32_t links;
-    trieff_answer answer = check(image, image_len, work, work_len, &o, &al, &links);
-    if (answer.number != 8 || links - links_from(&o, answer.place) != answer.place - 1)
+    struct pass p, trial;
+    uint32_t number = open_image(image, image_len, &o, &al);
+    if (number != 0)
+        return refusal(number, 0);
+    trieff_answer answer = judge_links(&o, work, work_len, &p);
+    if (answer.number != 8)
         return answer;
-    put_field(image + 4, 0xFFFFFFFF, answer.place - 1);
-    return (trieff_answer){.value = 0};
+    uint32_t links_below = p.links - links_from(&o, answer.place);
+    o.g = answer.place - 1;
+    if (p.falls == 0 ? links_below != o.g : judge_links(&o, work, work_len, &trial).number != 0)
+        return answer;
+    put_field(image + 4, 0xFFFFFFFF, o.g);
+    return (trieff_answer){.number = 0};
 }
 
 /* ---- the next key */
@@ -668,7 +691,7 @@ trieff_answer tuned_next_key(const uint8_t *image, size_t image_len, uint32_t *w
     struct opened o;
     struct alphabet al;
     struct path p;
-    trieff_answer answer = check(image, image_len, work, work_len, &o, &al, NULL);
+    trieff_answer answer = check(image, image_len, work, work_len, &o, &al);
     if (answer.number != 0)
         return answer;
     if (letters_len > o.max)
@@ -685,7 +708,7 @@ trieff_answer tuned_next_key(const uint8_t *image, size_t image_len, uint32_t *w
     return (trieff_answer){.length = (uint32_t)p.depth, .value = value};
 }
 
-/* ---- counts */
+/* ---- the number of keys, and counts */
 
 /* Are all links of a node empty? Fewer than eight bytes are read together with the bytes in front
    of them. */
@@ -702,12 +725,13 @@ static inline bool leaf_of_64(const uint8_t *node, size_t len)
 }
 
 /* A walk from the root that judges the links on its way and leaves each node's count, plus 1, in
-   its working number. So 0 means that a node was not met. It does not use that addresses rise. */
+   its working number. So 0 means that a node was not met. It goes by links alone, so children may
+   have lower addresses. */
 struct tally {
     const struct opened *o;
     uint32_t *work;
     uint32_t met;  /* the number of nodes that were met, without the root */
-    uint32_t odd;  /* not 0: a bad link, an address met again, or nodes deeper than max */
+    uint32_t odd;  /* not 0: a link above G, an address met again, or nodes deeper than max */
     uint32_t deep; /* 1 if nodes deeper than max are odd */
 };
 
@@ -721,14 +745,14 @@ __attribute__((always_inline)) static inline uint32_t tally_in(
 {
     const struct opened *o = t->o;
     size_t a = o->a, width = o->width, len = o->links_len;
-    uint32_t *work = t->work, mask = o->link_mask, room = o->g - q, odd = 0, keys = own, met = 0;
+    uint32_t *work = t->work, mask = o->link_mask, g = o->g, odd = 0, keys = own, met = 0;
     uint32_t data_mask = o->min <= ++depth ? __builtin_bswap32(o->data_mask) : 0;
     const uint8_t *nodes = o->nodes, *end = node_at(o, q) + a, *last = end + len;
     for (; end != last; end += a) {
         uint32_t link = field(end, mask);
         if (link == 0)
             continue;
-        if (link + ~q >= room) {
+        if (link > g) {
             odd = 1;
             continue;
         }
@@ -777,28 +801,56 @@ static struct tally tally(const struct opened *o, uint32_t *work, uint32_t deep)
     return t;
 }
 
-/* 1 to 8, where 5 is for the counts too. When it is done, every working number is a count plus 1.
-   If the walk meets every node and nothing odd, the image is accepted. Otherwise the check
-   decides. An image that it then accepts has nodes deeper than max, whose counts are 0. */
+/* 5 to 8, and 16. When it is done, the answer's value is the number of stored keys, and every
+   working number is a count plus 1. If the walk meets every node and nothing odd, the image is
+   accepted. Otherwise the check decides. An image that it then accepts has nodes deeper than max,
+   whose counts are 0. */
+static trieff_answer judge_by_walk(const struct opened *o, uint32_t *work, size_t work_len)
+{
+    size_t nodes = (size_t)o->g + 1;
+    if (work_len < nodes)
+        return refusal(5, 0);
+    memset(work, 0, nodes * sizeof *work);
+    struct tally t = tally(o, work, 1);
+    if (t.odd != 0 || t.met != o->g) {
+        struct pass p;
+        trieff_answer answer = judge_links(o, work, work_len, &p);
+        if (answer.number != 0)
+            return answer;
+        tally(o, work, 0);
+        for (size_t x = 0; x < nodes; x++)
+            work[x] += work[x] == 0;
+    }
+    return (trieff_answer){.value = work[0] - 1};
+}
+
+/* The same, and then the working numbers become 0. */
+static trieff_answer keys_of(const struct opened *o, uint32_t *work, size_t work_len)
+{
+    trieff_answer answer = judge_by_walk(o, work, work_len);
+    if (answer.number == 0)
+        memset(work, 0, ((size_t)o->g + 1) * sizeof *work);
+    return answer;
+}
+
+trieff_answer tuned_count(const uint8_t *image, size_t image_len, uint32_t *work, size_t work_len)
+{
+    struct opened o;
+    struct alphabet al;
+    uint32_t number = open_image(image, image_len, &o, &al);
+    return number != 0 ? refusal(number, 0) : keys_of(&o, work, work_len);
+}
+
+/* 1 to 8, where 5 is for the counts too, and 16. When it is done, every working number is a count
+   plus 1. */
 static trieff_answer fresh(const uint8_t *image, size_t len, uint32_t *work, size_t work_len,
                            size_t counts_len, struct opened *o, struct alphabet *al)
 {
     uint32_t number = open_image(image, len, o, al);
     if (number != 0)
         return refusal(number, 0);
-    size_t nodes = (size_t)o->g + 1;
-    if (work_len < nodes || counts_len < nodes)
-        return refusal(5, 0);
-    memset(work, 0, nodes * sizeof *work);
-    struct tally t = tally(o, work, 1);
-    if (t.odd == 0 && t.met == o->g)
-        return (trieff_answer){.number = 0};
-    trieff_answer answer = judge_links(o, work, work_len, false, NULL);
-    if (answer.number != 0)
-        return answer;
-    tally(o, work, 0);
-    for (size_t x = 0; x < nodes; x++)
-        work[x] += work[x] == 0;
+    trieff_answer answer = judge_by_walk(o, work, work_len < counts_len ? work_len : counts_len);
+    answer.value = 0;
     return answer;
 }
 
@@ -850,7 +902,7 @@ trieff_answer tuned_counts(const uint8_t *image, size_t image_len, uint32_t *wor
     return answer;
 }
 
-/* 1 to 8 and 25. It is not inlined, so that what a call takes beyond it can be measured. */
+/* 1 to 8, 16 and 25. It is not inlined, so that what a call takes beyond it can be measured. */
 __attribute__((noinline)) static trieff_answer compare(
     const uint8_t *image, size_t len, uint32_t *work, size_t work_len, const uint32_t *counts,
     size_t counts_len, struct opened *o, struct alphabet *al)
@@ -1046,7 +1098,7 @@ uint64_t tuned_walk(const uint8_t *image, size_t image_len, uint32_t *work, size
     struct alphabet al;
     uint8_t letters[KEY_MOST];
     uint64_t keys = 0;
-    if (check(image, image_len, work, work_len, &o, &al, NULL).number == 0 && o.max > 0)
+    if (check(image, image_len, work, work_len, &o, &al).number == 0 && o.max > 0)
         walk_below(&o, o.nodes, 0, letters, add_key, &keys);
     return keys;
 }
@@ -1125,8 +1177,7 @@ void tuned_list(const uint8_t *image, size_t image_len, uint32_t *work, size_t w
     struct alphabet al;
     uint8_t letters[KEY_MOST];
     uint32_t number = open_image(image, image_len, &o, &al);
-    trieff_answer answer =
-        number != 0 ? refusal(number, 0) : judge_links(&o, work, work_len, true, NULL);
+    trieff_answer answer = number != 0 ? refusal(number, 0) : keys_of(&o, work, work_len);
     char *to = add_text(out.text, answer.number != 0 ? "refused " : "entries ");
     to = add_number(to, answer.number != 0 ? answer.number : answer.value);
     if (answer.number != 0)
