@@ -1,9 +1,8 @@
 /* Compares the three versions on random small images and calls. The images are whole or damaged,
-   the arguments are near the limits of 9 to 15, and the lists of counts are right, wrong or too
-   short. The answers of naive C to the calls with counts are compared with its other calls too.
-   The run fails unless each number from 0 to 15 and 25 is answered, some images are mended and
-   some stay at 8, some store finds its list of counts too short for its new nodes, and every call
-   is done at least once.
+   with addresses that rise from node to child or not, the arguments are near the limits of 9 to
+   15, and the lists of counts are right, wrong or too short. The answers of naive C to the calls
+   with counts are compared with its other calls too. The run fails unless each number from 0 to 16
+   and 25 is answered, every call is done at least once, and each case of `struct heard` is met.
    Usage: random SEED IMAGES */
 #include "calls.h"
 #include <stdio.h>
@@ -37,6 +36,8 @@ static bool one_in(uint32_t many)
 struct small {
     uint32_t g, n, a, d, f, min, max;
     size_t len;
+    bool accepted; /* the check answers 0 */
+    bool falls;    /* the check answers 0 or 8, and a link is not above its node */
     uint8_t bytes[ROOM];
 };
 
@@ -106,8 +107,44 @@ static void write_head(struct small *s)
         put_field(s->bytes + 4 * i, 4, fields[i]);
 }
 
+/* The link of a node for a letter. */
+static uint8_t *link_at(struct small *s, uint32_t node, uint32_t letter)
+{
+    return node_of(s, node) + letter * s->a;
+}
+
+/* The link that holds an address; NULL if there is none. */
+static uint8_t *link_to(struct small *s, uint32_t address)
+{
+    for (uint32_t q = 0; q <= s->g; q++)
+        for (uint32_t i = 0; i < s->n; i++)
+            if (get_field(link_at(s, q, i), s->a) == address)
+                return link_at(s, q, i);
+    return NULL;
+}
+
+/* Gives the nodes the addresses 1 to G in another order. The root stays. */
+static void renumber(struct small *s)
+{
+    static uint8_t was[ROOM];
+    uint32_t to[NODES_MOST] = {0}, width = s->n * s->a + s->d;
+    for (uint32_t x = 1; x <= s->g; x++) {
+        uint32_t other = 1 + any_below(x);
+        to[x] = to[other];
+        to[other] = x;
+    }
+    memcpy(was, node_of(s, 0), (size_t)(s->g + 1) * width);
+    for (uint32_t x = 0; x <= s->g; x++) {
+        memcpy(node_of(s, to[x]), was + (size_t)x * width, width);
+        for (uint32_t i = 0; i < s->n; i++) {
+            uint8_t *link = link_at(s, to[x], i);
+            put_field(link, s->a, to[get_field(link, s->a)]);
+        }
+    }
+}
+
 /* A whole image of some nodes, with rubbish in its spare bytes. Now and then A is 1 and nearly all
-   addresses are in use. */
+   addresses are in use. Half of the images are renumbered. */
 static void make_whole(struct small *s)
 {
     memset(s, 0, sizeof *s);
@@ -131,6 +168,8 @@ static void make_whole(struct small *s)
     for (uint32_t q = 0; q <= s->g; q++)
         if (!one_in(3))
             put_field(node_of(s, q) + s->n * s->a, s->d, any_below(0xFFFFFFFF));
+    if (one_in(2))
+        renumber(s);
     write_head(s);
     s->len = (size_t)(node_of(s, s->g + 1) - s->bytes);
     size_t spare = one_in(3) ? 0 : any_below(4 * (s->n * s->a + s->d));
@@ -143,21 +182,40 @@ static void make_whole(struct small *s)
    mending changes nothing. */
 static void lose_link(struct small *s)
 {
-    uint32_t lost = s->g - any_below(3);
-    for (uint32_t q = 0; q <= s->g; q++)
-        for (uint32_t i = 0; i < s->n; i++) {
-            uint8_t *link = node_of(s, q) + i * s->a;
-            if (get_field(link, s->a) == lost)
-                put_field(link, s->a, 0);
-        }
+    if (s->g == 0)
+        return;
+    uint32_t lost = one_in(2) ? s->g : s->g - any_below(s->g < 3 ? s->g : 3);
+    for (uint8_t *link = link_to(s, lost); link != NULL; link = link_to(s, lost))
+        put_field(link, s->a, 0);
+}
+
+/* Moves the link to some node into that node, or into one under it, where a link is empty. No
+   address then stands in two links or in none, but the node is on a ring that no link from outside
+   leads to. What hangs under the ring may have lower addresses than the ring. */
+static void make_ring(struct small *s)
+{
+    uint32_t node = s->g == 0 ? 0 : 1 + any_below(s->g), end = node;
+    uint8_t *from = node == 0 ? NULL : link_to(s, node), *to = NULL;
+    for (uint32_t steps = any_below(4); steps > 0; steps--) {
+        uint32_t link = get_field(link_at(s, end, any_below(s->n)), s->a);
+        if (0 < link && link <= s->g)
+            end = link;
+    }
+    for (uint32_t i = 0; i < s->n && to == NULL; i++)
+        if (get_field(link_at(s, end, i), s->a) == 0)
+            to = link_at(s, end, i);
+    if (from == NULL || to == NULL)
+        return;
+    put_field(from, s->a, 0);
+    put_field(to, s->a, node);
 }
 
 /* Swaps two links, or copies one over the other. The result may be a tree whose addresses do not
    rise, a ring that no link from outside leads to, or an address in two links, at any depth. */
 static void entangle(struct small *s)
 {
-    uint8_t *one = node_of(s, any_below(s->g + 1)) + any_below(s->n) * s->a;
-    uint8_t *other = node_of(s, any_below(s->g + 1)) + any_below(s->n) * s->a;
+    uint8_t *one = link_at(s, any_below(s->g + 1), any_below(s->n));
+    uint8_t *other = link_at(s, any_below(s->g + 1), any_below(s->n));
     uint32_t to = get_field(one, s->a);
     if (one_in(2))
         put_field(one, s->a, get_field(other, s->a));
@@ -165,19 +223,18 @@ static void entangle(struct small *s)
 }
 
 /* Does one harm: to a head field, a link, two links, any byte, G or the length; or a link is
-   missing. */
+   missing, or there is a ring. */
 static void harm(struct small *s)
 {
     static const uint32_t ODD[] = {0, 1, 2, 4, 5, 64, 65, 256, 257, 1024, 1025, 0xFFFFFFFF};
     static const uint32_t GREAT[] = {0xFFFFFFFF, 0x7FFFFFFF, 0x3FFFFFFF, 0x00FFFFFF};
-    switch (any_below(11)) {
+    switch (any_below(14)) {
     case 0:
         put_field(s->bytes + 4 * any_below(7), 4, ODD[any_below(sizeof ODD / sizeof *ODD)]);
         break;
     case 1:
     case 2:
-        put_field(node_of(s, any_below(s->g + 1)) + any_below(s->n) * s->a, s->a,
-                  any_below(s->g + 2));
+        put_field(link_at(s, any_below(s->g + 1), any_below(s->n)), s->a, any_below(s->g + 2));
         break;
     case 3:
         s->bytes[any_below((uint32_t)s->len)] = (uint8_t)any_below(256);
@@ -193,9 +250,60 @@ static void harm(struct small *s)
     case 8:
         entangle(s);
         break;
+    case 9:
+    case 10:
+        make_ring(s);
+        break;
+    case 11:
+        make_ring(s);
+        lose_link(s);
+        break;
     default:
         lose_link(s);
     }
+}
+
+/* The links of an image that has passed 1 to 6, by its own head: for each node the one that links
+   to it, or the node itself if none does. If two do, it is the last. Returns true if a link is not
+   above its node. */
+static bool parents_of(const uint8_t *image, uint32_t *parents)
+{
+    uint32_t g = get_field(image, 4), n = get_field(image + 4, 4), a = get_field(image + 8, 4);
+    const uint8_t *node = image + 28 + get_field(image + 16, 4);
+    bool falls = false;
+    for (uint32_t q = 0; q <= g; q++)
+        parents[q] = q;
+    for (uint32_t q = 0; q <= g; q++, node += n * a + get_field(image + 12, 4))
+        for (uint32_t i = 0; i < n; i++) {
+            uint32_t link = get_field(node + i * a, a);
+            if (link == 0)
+                continue;
+            falls = falls || link <= q;
+            parents[link] = q;
+        }
+    return falls;
+}
+
+/* Does a climb from a node of an image that passes 1 to 8 come back to it? */
+static bool on_ring(const uint8_t *image, uint32_t node)
+{
+    uint32_t parents[NODES_MOST], g = get_field(image, 4), at = node;
+    parents_of(image, parents);
+    for (uint32_t steps = 0; steps <= g; steps++) {
+        at = parents[at];
+        if (at == node)
+            return true;
+    }
+    return false;
+}
+
+/* Notes what the check says of an image. */
+static void judge(struct small *s)
+{
+    static uint32_t work[NODES_MOST], parents[NODES_MOST];
+    uint32_t number = naive_check(s->bytes, s->len, work, NODES_MOST).number;
+    s->accepted = number == 0;
+    s->falls = (number == 0 || number == 8) && parents_of(s->bytes, parents);
 }
 
 /* ---- calls */
@@ -218,7 +326,7 @@ static size_t any_path(struct small *s, uint8_t *key)
         uint32_t from = any_below(s->n), link = 0;
         for (uint32_t i = 0; i < s->n && link == 0; i++) {
             key[len] = (uint8_t)((from + i) % s->n);
-            link = get_field(node_of(s, node) + key[len] * s->a, s->a);
+            link = get_field(link_at(s, node, key[len]), s->a);
         }
         if (link == 0 || link > s->g)
             break;
@@ -383,28 +491,63 @@ static bool held(const char *name, const struct lent *lent)
 
 /* ---- a call */
 
-/* How often each number was answered, how often each call was done, how many images with an
-   address in no link were mended and how many were left, and how many stores found their list of
-   counts too short for the new nodes. */
+/* What must be met at least once. An image falls if a link in it is not above its node. */
+enum {
+    MENDED,       /* an image at 8 is mended .. */
+    MENDED_FALLS, /* .. that falls */
+    LEFT,         /* mending leaves an image at 8 .. */
+    LEFT_FALLS,   /* .. that falls */
+    LEFT_RING,    /* .. since with G lowered the check answers 16 */
+    NO_COUNTS,    /* a store finds its list of counts too short for its new nodes */
+    DONE_FALLS,   /* a call is done on an accepted image that falls .. */
+    NODES_FALL,   /* .. and writes new nodes there */
+    ON_RING,      /* 16 at a node that is on a ring */
+    UNDER_RING,   /* 16 at a node that is under a ring */
+    CASES
+};
+static const char *const CASE_NAMES[CASES] = {
+    "mended", "mended that fall", "left at 8", "left that fall", "left at 8 for 16",
+    "too few counts for new nodes", "done on images that fall", "new nodes in images that fall",
+    "16 on a ring", "16 under a ring"};
+
+/* How often each number was answered, each call was done, and each case was met. */
 struct heard {
-    uint64_t numbers[NUMBERS], done[CALLS_MOST];
-    uint64_t mended, left, no_counts;
+    uint64_t numbers[NUMBERS], done[CALLS_MOST], cases[CASES];
 };
 
+/* Is 16 what mending finds in an image that it leaves at 8? */
+static bool ring_below(const struct lent *lent, uint32_t place)
+{
+    static uint8_t image[ROOM];
+    static uint32_t work[NODES_MOST];
+    memcpy(image, lent->image, lent->image_len);
+    put_field(image, 4, place - 1);
+    return naive_check(image, lent->image_len, work, NODES_MOST).number == 16;
+}
+
 /* Notes an answer. The image is as it was before the call. */
-static void note(struct heard *heard, size_t place, const struct lent *lent, trieff_answer answer)
+static void note(struct heard *heard, size_t place, const struct small *s, const struct lent *lent,
+                 trieff_answer answer)
 {
     const char *name = call_at(place)->name;
-    uint32_t g = lent->image_len < 4 ? 0 : get_field(lent->image, 4);
-    heard->numbers[answer.number]++;
-    heard->done[place] += answer.number == 0;
-    if (answer.number == 5 && lent->work_len > g && lent->counts_len > g)
-        heard->no_counts++;
+    uint32_t g = lent->image_len < 4 ? 0 : get_field(lent->image, 4), number = answer.number;
+    uint64_t *cases = heard->cases;
+    heard->numbers[number]++;
+    heard->done[place] += number == 0;
+    cases[NO_COUNTS] += number == 5 && lent->work_len > g && lent->counts_len > g;
+    cases[DONE_FALLS] += number == 0 && s->accepted && s->falls;
+    if (strstr(name, "_writes") != NULL && s->falls)
+        cases[NODES_FALL] += number == 0 && answer.length > 1;
+    if (number == 16)
+        cases[on_ring(lent->image, answer.place) ? ON_RING : UNDER_RING]++;
     if (strcmp(name, "mend") != 0)
         return;
-    uint32_t was = naive_check(lent->image, lent->image_len, lent->work, lent->work_len).number;
-    heard->left += answer.number == 8;
-    heard->mended += answer.number == 0 && was == 8;
+    bool mended = number == 0 && !s->accepted;
+    cases[MENDED] += mended;
+    cases[MENDED_FALLS] += mended && s->falls;
+    cases[LEFT] += number == 8;
+    cases[LEFT_FALLS] += number == 8 && s->falls;
+    cases[LEFT_RING] += number == 8 && ring_below(lent, answer.place);
 }
 
 /* Makes a random call on an image and compares it. Its answer is noted. */
@@ -432,27 +575,30 @@ static bool try_call(struct small *s, struct heard *heard)
     trieff_answer answer;
     if (!agree(call, &lent, &answer))
         return false;
-    note(heard, place, &lent, answer);
+    note(heard, place, s, &lent, answer);
     if (answer.number != 0 || held(call->name, &lent))
         return true;
     fprintf(stderr, "%s: naive C does not agree with its other calls\n", call->name);
     return false;
 }
 
-/* Was everything answered that must be? Prints how often. */
+/* Was everything met that must be? Prints how often. */
 static bool all_heard(const struct heard *heard)
 {
-    bool all = heard->mended > 0 && heard->left > 0 && heard->no_counts > 0;
+    bool all = true;
     for (int number = 0; number < NUMBERS; number++) {
         if (heard->numbers[number] > 0)
             printf(" %d:%llu", number, (unsigned long long)heard->numbers[number]);
-        all = all && (heard->numbers[number] > 0 || (15 < number && number < 25));
+        all = all && (heard->numbers[number] > 0 || (16 < number && number < 25));
     }
     for (size_t place = 0; call_at(place) != NULL; place++)
         all = all && heard->done[place] > 0;
-    printf("; of 8, mended %llu, left %llu; of 5, for new nodes %llu\n",
-           (unsigned long long)heard->mended, (unsigned long long)heard->left,
-           (unsigned long long)heard->no_counts);
+    for (int i = 0; i < CASES; i++) {
+        printf("%s %s %llu", i == 0 ? ";" : ",", CASE_NAMES[i],
+               (unsigned long long)heard->cases[i]);
+        all = all && heard->cases[i] > 0;
+    }
+    printf("\n");
     return all;
 }
 
@@ -468,8 +614,9 @@ int main(int argc, char **argv)
     bool good = true;
     for (long i = 0; i < images && good; i++) {
         make_whole(&s);
-        if (one_in(3))
+        for (uint32_t harms = one_in(3) ? 1 + one_in(4) : 0; harms > 0 && s.len > 0; harms--)
             harm(&s);
+        judge(&s);
         for (int j = 0; j < CALLS_PER_IMAGE && good; j++)
             good = try_call(&s, &heard);
         if (!good)
