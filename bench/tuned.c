@@ -107,6 +107,17 @@ static inline bool childless(const struct opened *o, const uint8_t *node)
     return any_of_32(last) == 0;
 }
 
+/* The same for links of 32 to 64 bytes in all, the usual case, without a loop. */
+static inline bool leaf_of_64(const uint8_t *node, size_t len)
+{
+    return (any_of_32(node) | any_of_32(node + len - 32)) == 0;
+}
+
+static inline bool usual(const struct opened *o)
+{
+    return 32 <= o->links_len && o->links_len <= 64;
+}
+
 /* ---- 1 to 4 */
 
 /* The length of the well-formed character of two bytes or more at s; 0 if there is none in the
@@ -228,13 +239,15 @@ struct pass {
 };
 
 /* One test finds both a link above G and one that is not above its node. */
-static inline struct pass pass_links(const struct opened *o, uint32_t *work)
+__attribute__((always_inline)) static inline struct pass pass_links(
+    const struct opened *o, uint32_t *work, bool usual_len)
 {
     struct pass p = {.bad = o->g + 1};
     const uint8_t *node = o->nodes;
+    size_t width = o->width, len = o->links_len;
     uint32_t g = o->g, a = o->a, n = o->n, mask = o->link_mask;
-    for (uint32_t q = 0; q <= g; q++, node += o->width) {
-        if (childless(o, node))
+    for (uint32_t q = 0; q <= g; q++, node += width) {
+        if (usual_len ? leaf_of_64(node, len) : childless(o, node))
             continue;
         const uint8_t *end = node + a;
         for (uint32_t i = 0; i < n; i++, end += a) {
@@ -312,7 +325,7 @@ static inline trieff_answer judge_links(const struct opened *o, uint32_t *work, 
     if (work_len < nodes)
         return refusal(5, 0);
     memset(work, 0, nodes * sizeof *work);
-    *p = pass_links(o, work);
+    *p = usual(o) ? pass_links(o, work, true) : pass_links(o, work, false);
     trieff_answer answer = {.number = 0};
     if (p->bad <= o->g)
         answer = refusal(6, p->bad);
@@ -718,12 +731,6 @@ static inline bool leaf(const struct opened *o, const uint8_t *node)
     return len < 8 ? load8(node + len - 8) >> (64 - 8 * len) == 0 : childless(o, node);
 }
 
-/* The same for links of 32 to 64 bytes in all, the usual case, without a loop. */
-static inline bool leaf_of_64(const uint8_t *node, size_t len)
-{
-    return (any_of_32(node) | any_of_32(node + len - 32)) == 0;
-}
-
 /* A walk from the root that judges the links on its way and leaves each node's count, plus 1, in
    its working number. So 0 means that a node was not met. It goes by links alone, so children may
    have lower addresses. */
@@ -741,7 +748,8 @@ typedef uint32_t tally_function(struct tally *t, uint32_t q, uint32_t depth, uin
    itself stores one. Leaves are counted in the loop. The recursion is at most max levels deep. A
    node is entered only once: after an address was met again, no node is entered. */
 __attribute__((always_inline)) static inline uint32_t tally_in(
-    struct tally *t, uint32_t q, uint32_t depth, uint32_t own, bool usual, tally_function *enter)
+    struct tally *t, uint32_t q, uint32_t depth, uint32_t own, bool usual_len,
+    tally_function *enter)
 {
     const struct opened *o = t->o;
     size_t a = o->a, width = o->width, len = o->links_len;
@@ -762,7 +770,7 @@ __attribute__((always_inline)) static inline uint32_t tally_in(
         odd |= work[link];
         work[link] = own + 1;
         met++;
-        if (usual ? !leaf_of_64(child, len) : !leaf(o, child)) {
+        if (usual_len ? !leaf_of_64(child, len) : !leaf(o, child)) {
             t->odd |= odd;
             if (depth == o->max)
                 t->odd |= t->deep;
@@ -793,9 +801,8 @@ static struct tally tally(const struct opened *o, uint32_t *work, uint32_t deep)
     struct tally t = {.o = o, .work = work, .deep = deep};
     uint32_t own = o->min == 0 && data_of(o, o->nodes) != 0;
     work[0] = own + 1;
-    bool usual = 32 <= o->links_len && o->links_len <= 64;
     if (o->max > 0)
-        (usual ? tally_usual : tally_other)(&t, 0, 0, own);
+        (usual(o) ? tally_usual : tally_other)(&t, 0, 0, own);
     else if (!leaf(o, o->nodes))
         t.odd = deep;
     return t;
