@@ -493,10 +493,10 @@ static bool held(const char *name, const struct lent *lent)
 
 /* What must be met at least once. An image falls if a link in it is not above its node. */
 enum {
-    MENDED,       /* an image at 8 is mended .. */
-    MENDED_FALLS, /* .. that falls */
-    LEFT,         /* mending leaves an image at 8 .. */
-    LEFT_FALLS,   /* .. that falls */
+    MENDED_RISES, /* an image at 8 is mended that does not fall .. */
+    MENDED_FALLS, /* .. or that falls */
+    LEFT_RISES,   /* mending leaves an image at 8 that does not fall .. */
+    LEFT_FALLS,   /* .. or that falls */
     LEFT_RING,    /* .. since with G lowered the check answers 16 */
     NO_COUNTS,    /* a store finds its list of counts too short for its new nodes */
     DONE_FALLS,   /* a call is done on an accepted image that falls .. */
@@ -506,7 +506,7 @@ enum {
     CASES
 };
 static const char *const CASE_NAMES[CASES] = {
-    "mended", "mended that fall", "left at 8", "left that fall", "left at 8 for 16",
+    "mended that rise", "mended that fall", "left that rise", "left that fall", "left for 16",
     "too few counts for new nodes", "done on images that fall", "new nodes in images that fall",
     "16 on a ring", "16 under a ring"};
 
@@ -543,10 +543,8 @@ static void note(struct heard *heard, size_t place, const struct small *s, const
     if (strcmp(name, "mend") != 0)
         return;
     bool mended = number == 0 && !s->accepted;
-    cases[MENDED] += mended;
-    cases[MENDED_FALLS] += mended && s->falls;
-    cases[LEFT] += number == 8;
-    cases[LEFT_FALLS] += number == 8 && s->falls;
+    cases[s->falls ? MENDED_FALLS : MENDED_RISES] += mended;
+    cases[s->falls ? LEFT_FALLS : LEFT_RISES] += number == 8;
     cases[LEFT_RING] += number == 8 && ring_below(lent, answer.place);
 }
 
