@@ -8,7 +8,7 @@ use crate::rng::Rng;
 pub fn right(image: &[u8]) -> Option<Vec<u32>> {
     let head = model::one_to_four(image).ok()?;
     let mut work = vec![0; head.g as usize + 1];
-    model::one_to_eight(image, &mut work).ok()?;
+    model::checked(image, &mut work).ok()?;
     Some(model::fresh_counts(image, &head))
 }
 

@@ -257,22 +257,20 @@ fn refusal_5_again(head: &Head, k: u64, counts_len: usize) -> Result<(), Refusal
     refuse_if((counts_len as u64) < u64::from(head.g) + k + 1, 5)
 }
 
-/// "every link that isn't empty is at most G and greater than the address of the node it stands
-/// in"
-fn breaks_first_rule(head: &Head, node: u64, link: u64) -> bool {
-    link != 0 && (link > u64::from(head.g) || link <= node)
+/// "From now on 6, in lookups too, means only a link above G"
+fn above_g(head: &Head, link: u64) -> bool {
+    link > u64::from(head.g)
 }
 
 fn refusal_6(image: &[u8], head: &Head) -> Result<(), Refusal> {
     let holds_one = |node: &u64| {
-        (0..u64::from(head.n))
-            .any(|letter| breaks_first_rule(head, *node, link(image, head, *node, letter)))
+        (0..u64::from(head.n)).any(|letter| above_g(head, link(image, head, *node, letter)))
     };
     refuse_at((0..=u64::from(head.g)).find(holds_one), 6)
 }
 
 /// The number of links in which each address from 0 to G stands. Only for an image in which no
-/// link breaks the first rule.
+/// link is above G.
 fn standing(image: &[u8], head: &Head) -> Vec<u32> {
     let mut times = vec![0; head.g as usize + 1];
     for node in 0..=u64::from(head.g) {
@@ -289,6 +287,28 @@ fn refusal_7(head: &Head, standing: &[u32]) -> Result<(), Refusal> {
 
 fn refusal_8(head: &Head, standing: &[u32]) -> Result<(), Refusal> {
     refuse_at((1..=u64::from(head.g)).find(|address| standing[*address as usize] == 0), 8)
+}
+
+/// "every node must be reached from the root": for each node from 0 to G, whether it is. The root
+/// is reached, and so is each node that stands in a link of a reached one. Only for an image in
+/// which no link is above G.
+pub fn reached(image: &[u8], head: &Head) -> Vec<bool> {
+    let mut reached = vec![false; head.g as usize + 1];
+    let mut to_visit = vec![0];
+    while let Some(node) = to_visit.pop() {
+        if !reached[node as usize] {
+            reached[node as usize] = true;
+            let links = (0..u64::from(head.n)).map(|letter| link(image, head, node, letter));
+            to_visit.extend(links.filter(|link| *link != 0));
+        }
+    }
+    reached
+}
+
+/// "16, a node unreached, place the lowest"
+fn refusal_16(image: &[u8], head: &Head) -> Result<(), Refusal> {
+    let reached = reached(image, head);
+    refuse_at((0..=u64::from(head.g)).find(|node| !reached[*node as usize]), 16)
 }
 
 fn refusal_9(head: &Head, length: usize) -> Result<(), Refusal> {
@@ -359,34 +379,39 @@ pub fn one_to_four(image: &[u8]) -> Result<Head, Refusal> {
     Ok(head)
 }
 
-pub fn one_to_eight(image: &[u8], work: &mut [u32]) -> Result<Head, Refusal> {
+/// The order of the check: 1 to 8, 16.
+pub fn checked(image: &[u8], work: &mut [u32]) -> Result<Head, Refusal> {
     let head = one_to_four(image)?;
     refusal_5(&head, work.len())?;
-    six_to_eight(image, head, work)
+    checked_links(image, head, work)
 }
 
-/// 1 to 8 of a call with counts: 5 is also for the list of counts.
-fn one_to_eight_beside(image: &[u8], work: &mut [u32], counts: &[u32]) -> Result<Head, Refusal> {
+/// The same of a call with counts: 5 is also for the list of counts.
+fn checked_beside(image: &[u8], work: &mut [u32], counts: &[u32]) -> Result<Head, Refusal> {
     let head = one_to_four(image)?;
     refusal_5(&head, work.len())?;
     refusal_5_of_counts(&head, counts.len())?;
-    six_to_eight(image, head, work)
+    checked_links(image, head, work)
 }
 
+/// 6, 7, 8, and 16 "right after 8".
+///
 /// "Once 5 is passed, the first G+1 of them are 0 when the call returns, with the G of entry". The
 /// model uses no working numbers, so it clears them here.
-fn six_to_eight(image: &[u8], head: Head, work: &mut [u32]) -> Result<Head, Refusal> {
+fn checked_links(image: &[u8], head: Head, work: &mut [u32]) -> Result<Head, Refusal> {
     work[..=head.g as usize].fill(0);
     refusal_6(image, &head)?;
     let standing = standing(image, &head);
     refusal_7(&head, &standing)?;
     refusal_8(&head, &standing)?;
+    refusal_16(image, &head)?;
     Ok(head)
 }
 
-/// "every other call that takes counts, a checking call too, first compares them with fresh ones"
-fn one_to_eight_and_25(image: &[u8], work: &mut [u32], counts: &[u32]) -> Result<Head, Refusal> {
-    let head = one_to_eight_beside(image, work, counts)?;
+/// "every other call that takes counts, a checking call too, first compares them with fresh ones":
+/// 25 stands "after all the check's answers".
+fn compared(image: &[u8], work: &mut [u32], counts: &[u32]) -> Result<Head, Refusal> {
+    let head = checked_beside(image, work, counts)?;
     refusal_25(image, &head, counts)?;
     Ok(head)
 }
@@ -503,9 +528,9 @@ fn try_make(
     Ok(Answer::default())
 }
 
-/// Check: 1 to 8.
+/// Check: 1 to 8, 16.
 pub fn check(image: &[u8], work: &mut [u32]) -> Answer {
-    answer(one_to_eight(image, work).map(|_| Answer::default()))
+    answer(checked(image, work).map(|_| Answer::default()))
 }
 
 /// Mend: "if the check answers 8 at p, and the image with G set to p-1 is accepted, G becomes p-1
@@ -516,7 +541,7 @@ pub fn mend(image: &mut [u8], work: &mut [u32]) -> Answer {
         let p = answered.place;
         let mut trial = image.to_vec();
         Head { g: p - 1, ..Head::read(image) }.write(&mut trial);
-        if one_to_eight(&trial, &mut vec![0; p as usize]).is_ok() {
+        if checked(&trial, &mut vec![0; p as usize]).is_ok() {
             image.copy_from_slice(&trial);
             return Answer::default();
         }
@@ -524,9 +549,9 @@ pub fn mend(image: &mut [u8], work: &mut [u32]) -> Answer {
     answered
 }
 
-/// Number of stored keys: 1 to 8.
+/// Number of stored keys: 1 to 8, 16.
 pub fn count(image: &[u8], work: &mut [u32]) -> Answer {
-    answer(one_to_eight(image, work).map(|head| {
+    answer(checked(image, work).map(|head| {
         let mut keys = 0;
         each_stored_key(image, &head, &mut |_, _| keys += 1);
         Answer { value: keys, ..Answer::default() }
@@ -563,7 +588,7 @@ fn walk(image: &[u8], head: &Head, letters: &[u8]) -> Result<Answer, Refusal> {
         if next == 0 {
             return Ok(Answer::default());
         }
-        if breaks_first_rule(head, node, next) {
+        if above_g(head, next) {
             return Err(Refusal { number: 6, place: node as u32 });
         }
         node = next;
@@ -571,7 +596,7 @@ fn walk(image: &[u8], head: &Head, letters: &[u8]) -> Result<Answer, Refusal> {
     Ok(Answer { value: data(image, head, node), ..Answer::default() })
 }
 
-/// Store by letters: 1 to 8, 9, 10, 11, 12, 13.
+/// Store by letters: 1 to 8, 16, 9, 10, 11, 12, 13.
 pub fn store(image: &mut [u8], work: &mut [u32], letters: &[u8], value: u32) -> Answer {
     answer(
         before_store(image, work, letters).and_then(|head| store_at(image, &head, letters, value)),
@@ -593,7 +618,7 @@ pub fn store_writes(
 }
 
 fn before_store(image: &[u8], work: &mut [u32], letters: &[u8]) -> Result<Head, Refusal> {
-    let head = one_to_eight(image, work)?;
+    let head = checked(image, work)?;
     nine_and_ten(&head, letters)?;
     Ok(head)
 }
@@ -603,7 +628,7 @@ fn nine_and_ten(head: &Head, letters: &[u8]) -> Result<(), Refusal> {
     refusal_10_of_letters(head, letters)
 }
 
-/// Store by text: 1 to 8, 10, 9, 11, 12, 13.
+/// Store by text: 1 to 8, 16, 10, 9, 11, 12, 13.
 pub fn store_text(image: &mut [u8], work: &mut [u32], text: &[u8], value: u32) -> Answer {
     answer(
         before_store_text(image, work, text)
@@ -630,7 +655,7 @@ fn before_store_text(
     work: &mut [u32],
     text: &[u8],
 ) -> Result<(Head, Vec<u8>), Refusal> {
-    let head = one_to_eight(image, work)?;
+    let head = checked(image, work)?;
     let letters = ten_and_nine(image, &head, text)?;
     Ok((head, letters))
 }
@@ -754,7 +779,8 @@ fn list(image: &[u8], head: &Head, letters: &[u8], value: u32) -> Vec<(usize, us
     writes
 }
 
-/// Next key: 1 to 8, 9 (longer than max), 10, 14, 15. If `after` is false, it is "at or after".
+/// Next key: 1 to 8, 16, 9 (longer than max), 10, 14, 15. If `after` is false, it is "at or
+/// after".
 pub fn next_key(
     image: &[u8],
     work: &mut [u32],
@@ -772,7 +798,7 @@ fn try_next_key(
     after: bool,
     key: &mut [u8],
 ) -> Result<Answer, Refusal> {
-    let head = one_to_eight(image, work)?;
+    let head = checked(image, work)?;
     refusal_9_of_next_key(&head, letters.len())?;
     refusal_10_of_letters(&head, letters)?;
     refusal_14(&head, key.len())?;
@@ -791,20 +817,20 @@ fn try_next_key(
 
 // ---- calls with counts ----
 
-/// Work out counts: 1 to 8 (5 for either list).
+/// Work out counts: 1 to 8, 16 (5 for either list).
 pub fn counts(image: &[u8], work: &mut [u32], counts: &mut [u32]) -> Answer {
-    answer(one_to_eight_beside(image, work, counts).map(|_| {
+    answer(checked_beside(image, work, counts).map(|_| {
         write_counts(counts, image);
         Answer::default()
     }))
 }
 
-/// Check with counts: 1 to 8, 25.
+/// Check with counts: 1 to 8, 16, 25.
 pub fn check_counts(image: &[u8], work: &mut [u32], counts: &[u32]) -> Answer {
-    answer(one_to_eight_and_25(image, work, counts).map(|_| Answer::default()))
+    answer(compared(image, work, counts).map(|_| Answer::default()))
 }
 
-/// Store with counts by letters: 1 to 8, 25, 9, 10, 11, 12, 13, 5 again.
+/// Store with counts by letters: 1 to 8, 16, 25, 9, 10, 11, 12, 13, 5 again.
 pub fn store_counts(
     image: &mut [u8],
     work: &mut [u32],
@@ -822,12 +848,12 @@ fn try_store_counts(
     value: u32,
     counts: &mut [u32],
 ) -> Result<Answer, Refusal> {
-    let head = one_to_eight_and_25(image, work, counts)?;
+    let head = compared(image, work, counts)?;
     nine_and_ten(&head, letters)?;
     store_and_count(image, &head, letters, value, counts)
 }
 
-/// Store with counts by text: 1 to 8, 25, 10, 9, 11, 12, 13, 5 again.
+/// Store with counts by text: 1 to 8, 16, 25, 10, 9, 11, 12, 13, 5 again.
 pub fn store_text_counts(
     image: &mut [u8],
     work: &mut [u32],
@@ -845,12 +871,12 @@ fn try_store_text_counts(
     value: u32,
     counts: &mut [u32],
 ) -> Result<Answer, Refusal> {
-    let head = one_to_eight_and_25(image, work, counts)?;
+    let head = compared(image, work, counts)?;
     let letters = ten_and_nine(image, &head, text)?;
     store_and_count(image, &head, &letters, value, counts)
 }
 
-/// Key at a position: 1 to 8, 25, 14, 15.
+/// Key at a position: 1 to 8, 16, 25, 14, 15.
 pub fn key_at(
     image: &[u8],
     work: &mut [u32],
@@ -868,7 +894,7 @@ fn try_key_at(
     position: u64,
     key: &mut [u8],
 ) -> Result<Answer, Refusal> {
-    let head = one_to_eight_and_25(image, work, counts)?;
+    let head = compared(image, work, counts)?;
     refusal_14(&head, key.len())?;
     let keys = stored_keys(image, &head);
     refuse_if(position >= keys.len() as u64, 15)?;
@@ -877,17 +903,17 @@ fn try_key_at(
     Ok(Answer { length: found.len() as u32, value: *value, ..Answer::default() })
 }
 
-/// Position of a key by letters: 1 to 8, 25, 9, 10, 15.
+/// Position of a key by letters: 1 to 8, 16, 25, 9, 10, 15.
 pub fn position(image: &[u8], work: &mut [u32], counts: &[u32], letters: &[u8]) -> Answer {
-    answer(one_to_eight_and_25(image, work, counts).and_then(|head| {
+    answer(compared(image, work, counts).and_then(|head| {
         nine_and_ten(&head, letters)?;
         position_of(image, &head, letters)
     }))
 }
 
-/// Position of a key by text: 1 to 8, 25, 10, 9, 15.
+/// Position of a key by text: 1 to 8, 16, 25, 10, 9, 15.
 pub fn position_text(image: &[u8], work: &mut [u32], counts: &[u32], text: &[u8]) -> Answer {
-    answer(one_to_eight_and_25(image, work, counts).and_then(|head| {
+    answer(compared(image, work, counts).and_then(|head| {
         let letters = ten_and_nine(image, &head, text)?;
         position_of(image, &head, &letters)
     }))
@@ -907,7 +933,7 @@ pub fn listing(input: &[u8]) -> String {
     if input.len() > LONGEST_INPUT {
         return "refused 1 at 0\n".to_string();
     }
-    let head = match one_to_eight(input, &mut [0; LISTING_WORK]) {
+    let head = match checked(input, &mut [0; LISTING_WORK]) {
         Ok(head) => head,
         Err(Refusal { number, place }) => return format!("refused {number} at {place}\n"),
     };

@@ -130,7 +130,7 @@ fn p8_to_p11_links() {
         ("00010100 00000000", refused(7, 1)),
         ("00020000 00000000", refused(6, 0)),
         ("00000000 00000000", refused(8, 1)),
-        ("00010000 00010000", refused(6, 1)),
+        ("00010000 00010000", refused(7, 1)),
     ];
     for (body, answered) in cases {
         let mut work = [7, 7, 7];
@@ -265,7 +265,17 @@ fn mend_lowers_g_or_changes_nothing() {
         ("00000002", "02000000 00000000 00000000", refused(8, 1), "00000002"),
         ("00000001", "00010100 00000000", refused(7, 1), "00000001"),
         ("00000001", "00020000 00000000", refused(6, 0), "00000001"),
-        ("00000001", "00010000 00010000", refused(6, 1), "00000001"),
+        ("00000001", "00010000 00010000", refused(7, 1), "00000001"),
+        // lowered, the image has another 8: node 2 holds the link of node 1
+        ("00000002", "00000000 00000000 01000000", refused(8, 2), "00000002"),
+        // lowered, it has 16: nodes 1 and 2 are a cycle
+        ("00000003", "00000000 02000000 01000000 00000000", refused(8, 3), "00000003"),
+        // lowered, it has 6: node 1 links to node 3
+        ("00000003", "01000000 03000000 00000000 00000000", refused(8, 2), "00000003"),
+        // 16 alone
+        ("00000002", "00000000 02000000 01000000", refused(16, 1), "00000002"),
+        // lowered, it is accepted, though node 2 links to node 1
+        ("00000003", "00020000 00000009 01000005 00000000", Answer::default(), "00000002"),
     ];
     for (g, body, answered, left) in cases {
         let mut image = abc(g, body);
@@ -338,20 +348,201 @@ fn lengths_of_1() {
 }
 
 #[test]
-fn order_of_6_7_8() {
-    // 8 at 1, 7 at 3 and 6 at 2: all of 6 first, then all of 7
-    let mut image = abc("00000003", "03030000 00000000 02000000 00000000");
-    assert_eq!(check(&image, &mut [7; 4]), refused(6, 2));
-    image[31 + 8] = 0;
-    assert_eq!(check(&image, &mut [7; 4]), refused(7, 3));
-    image[31 + 1] = 0;
-    assert_eq!(check(&image, &mut [7; 4]), refused(8, 1));
+fn order_of_6_7_8_16() {
+    // 16 at 1, 8 at 3, 7 at 4 and 6 at 5: all of 6 first, then all of 7, then all of 8
+    let mut image = abc("00000005", "04040000 02000000 01000000 00000000 05000000 00000600");
+    let mut repair = |at: usize, link: u8| {
+        image[31 + at] = link;
+        check(&image, &mut [7; 6])
+    };
+    assert_eq!(repair(0, 4), refused(6, 5));
+    assert_eq!(repair(22, 0), refused(7, 4));
+    assert_eq!(repair(1, 0), refused(8, 3));
+    assert_eq!(repair(1, 3), refused(16, 1));
+    assert_eq!(repair(8, 0), refused(8, 1), "the cycle is broken, so node 1 stands in no link");
+    assert_eq!(repair(2, 1), Answer::default());
+}
+
+/// Images whose addresses all stand in one link, and the lowest node that is not reached.
+const UNREACHED: [(&str, &str, u32); 7] = [
+    ("00000002", "00000000 02000000 01000000", 1),
+    // a node that links to itself
+    ("00000001", "00000000 01000000", 1),
+    // 2 and 3 are a cycle, and 1 hangs under 3
+    ("00000003", "00000000 00000000 03000000 02010000", 1),
+    // 2 and 3 are a cycle, and 4 hangs under 3
+    ("00000004", "00010000 00000000 03000000 02040000 00000000", 2),
+    // 4 and 5 are a cycle, 3 hangs under 5, 1 under 3; the root links to 2
+    ("00000005", "02000000 00000000 00000000 00000100 05000000 03040000", 1),
+    // two cycles: 4, and 2 with 3
+    ("00000004", "01000000 00000000 00000300 00000200 00000400", 2),
+    // the last node alone
+    ("00000003", "01000000 00000200 00000000 00000300", 3),
+];
+
+#[test]
+fn sixteen_is_the_lowest_unreached() {
+    for (g, body, place) in UNREACHED {
+        let nodes = body.split(' ').count();
+        let mut work = vec![7; nodes + 1];
+        assert_eq!(check(&abc(g, body), &mut work), refused(16, place), "{body}");
+        assert_eq!(work, [&vec![0; nodes], &[7][..]].concat());
+        let mut too_few = vec![7; nodes - 1];
+        assert_eq!(check(&abc(g, body), &mut too_few), refused(5, 0));
+        assert_eq!(too_few, vec![7; nodes - 1]);
+    }
+}
+
+#[test]
+fn sixteen_in_every_call_with_the_check() {
+    // the keys, the value, the counts and the key buffer are bad too: 16 stands before 25, 9, 10,
+    // 11 and 14
+    let (g, body, place) = UNREACHED[2];
+    let before = abc(g, body);
+    let answered = refused(16, place);
+    for (letters, text) in [(&[3, 3, 3, 3][..], &b"DDDD"[..]), (&[B], b"B")] {
+        let mut image = before.clone();
+        let (work, writes, counts) = (&mut [7; 4], &mut [7; WRITES], &mut [9; 4]);
+        let answers = [
+            check(&image, work),
+            count(&image, work),
+            mend(&mut image, work),
+            store(&mut image, work, letters, 256),
+            store_text(&mut image, work, text, 256),
+            store_writes(&mut image, work, letters, 256, writes),
+            store_text_writes(&mut image, work, text, 256, writes),
+            next_key(&image, work, letters, false, &mut []),
+            super::counts(&image, work, counts),
+            check_counts(&image, work, counts),
+            store_counts(&mut image, work, letters, 256, counts),
+            store_text_counts(&mut image, work, text, 256, counts),
+            key_at(&image, work, counts, 0, &mut []),
+            position(&image, work, counts, letters),
+            position_text(&image, work, counts, text),
+        ];
+        assert_eq!(answers, [answered; 15]);
+        assert_eq!((&image, &*counts, &*writes), (&before, &[9; 4], &[7; WRITES]));
+    }
+    assert_eq!(look_up(&before, &[B]), value(0), "look up never gives 16");
+    assert_eq!(look_up_text(&before, b"B"), value(0));
+}
+
+/// P3 with the addresses 1 and 2 exchanged.
+fn renumbered_p3() -> Vec<u8> {
+    abc("00000002", "00020000 00000009 01000005")
+}
+
+#[test]
+fn renumbered_answers_as_p3() {
+    let image = renumbered_p3();
+    assert_eq!(check(&image, &mut [7; 3]), Answer::default());
+    assert_eq!(count(&image, &mut [7; 3]), value(2));
+    assert_eq!(listing(&image), "entries 2\n1 5\n1.0 9\n");
+    let found = |length, value| Answer { length, value, ..Answer::default() };
+    let asked: [(&[u8], bool, Answer); 5] = [
+        (&[], false, found(1, 5)),
+        (&[B], false, found(1, 5)),
+        (&[B], true, found(2, 9)),
+        (&[A, C, C], true, found(1, 5)),
+        (&[B, A], true, refused(15, 0)),
+    ];
+    for (letters, after, answered) in asked {
+        let mut key = [7; 3];
+        assert_eq!(next_key(&image, &mut [7; 3], letters, after, &mut key), answered);
+        assert_eq!(key, [[7, 7, 7], [B, 7, 7], [B, A, 7]][answered.length as usize]);
+    }
+    for letters in [&[B][..], &[B, A], &[A], &[C], &[B, B], &[B, A, C], &[], &[3], &[B, A, B, A]] {
+        assert_eq!(look_up(&image, letters), look_up(&p3(), letters));
+    }
+    let mut counts = [9; 4];
+    assert_eq!(super::counts(&image, &mut [7; 3], &mut counts), Answer::default());
+    assert_eq!(counts, [2, 1, 2, 9], "the counts are by address");
+    assert_eq!(position(&image, &mut [7; 3], &counts, &[B, A]), value(1));
+}
+
+#[test]
+fn renumbered_is_stored_into() {
+    let image = with_room(renumbered_p3(), 55);
+    let image = store_all_ways(
+        &image,
+        &[C, C, C],
+        b"CCC",
+        1,
+        listed(5, 1),
+        &[(43, 4), (47, 4), (51, 4), (0, 4), (33, 1)],
+    );
+    assert_eq!(image, abc("00000005", "00020300 00000009 01000005 00000400 00000500 00000001"));
+    let image = store_all_ways(&image, &[B, A], b"BA", 0, listed(1, -1), &[(38, 1)]);
+    assert_eq!(image, abc("00000005", "00020300 00000000 01000005 00000400 00000500 00000001"));
+    assert_eq!((look_up(&image, &[B]), count(&image, &mut [7; 6])), (value(5), value(2)));
+}
+
+#[test]
+fn look_ups_walk_round_a_cycle() {
+    // node 1 links to itself by B
+    let image = abc("00000001", "00010000 00010007");
+    for letters in [&[B][..], &[B, B], &[B, B, B]] {
+        assert_eq!(look_up(&image, letters), value(7));
+    }
+    assert_eq!(look_up(&image, &[B, B, A]), value(0));
+    assert_eq!(look_up_text(&image, b"BBB"), value(7));
+    assert_eq!(check(&image, &mut [7; 2]), refused(7, 1));
+    // node 2 links to node 1 by B, and above G by C
+    let image = abc("00000002", "00010000 00020005 00010306");
+    assert_eq!(look_up(&image, &[B, B]), value(6));
+    assert_eq!(look_up(&image, &[B, B, B]), value(5));
+    assert_eq!(look_up(&image, &[B, B, C]), refused(6, 2));
+    assert_eq!(check(&image, &mut [7; 3]), refused(6, 2));
+}
+
+/// The node with a link to an address, in an image in which each address stands in one link.
+fn parent(image: &[u8], head: &Head, address: u64) -> u64 {
+    (0..=u64::from(head.g))
+        .find(|node| (0..u64::from(head.n)).any(|l| link(image, head, *node, l) == address))
+        .expect("it stands in one link")
+}
+
+#[test]
+fn from_an_unreached_node_climbing_never_ends() {
+    // every image with N = 3 and G = 2, and every one with N = 2 and G = 3
+    let mut met = [0; 17];
+    for (n, g, links) in [(3, 2, 9), (2, 3, 8)] {
+        for index in 0..(g as usize + 1).pow(links) {
+            let fields = [g, n, 1, 1, 0, 0, 0];
+            let mut image: Vec<u8> = fields.iter().flat_map(|f: &u32| f.to_be_bytes()).collect();
+            let mut rest = index;
+            for _ in 0..=g {
+                for _ in 0..n {
+                    image.push((rest % (g as usize + 1)) as u8);
+                    rest /= g as usize + 1;
+                }
+                image.push(0);
+            }
+            let answered = check(&image, &mut [7; 4]);
+            met[answered.number as usize] += 1;
+            if matches!(answered.number, 7 | 8) {
+                continue;
+            }
+            let head = Head::read(&image);
+            let climbs_on = |node: &u64| {
+                (0..=g).try_fold(*node, |at, _| (at > 0).then(|| parent(&image, &head, at)))
+            };
+            let endless = (0..=u64::from(g)).find(|node| climbs_on(node).is_some());
+            let expected = endless.map_or(Answer::default(), |place| refused(16, place as u32));
+            assert_eq!(answered, expected, "{image:02X?}");
+        }
+    }
+    // 12 trees of three nodes and 14 of four, with their addresses in every order; and all other
+    // ways to put each address into one link
+    let (trees, all) = (12 * 2 + 14 * 6, 9 * 8 + 8 * 7 * 6);
+    assert_eq!((met[0], met[16], met[6]), (trees, all - trees, 0));
 }
 
 #[test]
 fn listing_of_the_small_file() {
     assert_eq!(listing(&p3()), "entries 2\n1 5\n1.0 9\n");
     assert_eq!(listing(&abc("00000001", "00010100 00000000")), "refused 7 at 1\n");
+    assert_eq!(listing(&abc(UNREACHED[0].0, UNREACHED[0].1)), "refused 16 at 1\n");
     assert_eq!(
         listing(&hex("00000000 00000001 00000001 00000001 00000000 00000000 00000000 0007")),
         "entries 1\n- 7\n"
