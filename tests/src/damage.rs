@@ -1,6 +1,7 @@
 //! Spoils an image in one way: a head field, the alphabet, links, data, the length.
 
 use crate::model::{greatest, link, write_number, Head, LONGEST_IMAGE};
+use crate::renumbering::{self, renumbered};
 use crate::rng::Rng;
 use crate::shapes;
 
@@ -188,7 +189,7 @@ fn body(rng: &mut Rng, image: &mut [u8]) {
         Some(head) => head,
         None => return,
     };
-    match rng.below(9) {
+    match rng.below(22) {
         0 => {
             let node = rng.between(0, u64::from(head.g));
             let value = if rng.one_in(3) { 0 } else { shapes::value(rng, head.d) };
@@ -203,7 +204,37 @@ fn body(rng: &mut Rng, image: &mut [u8]) {
         2..=3 => copy_link(rng, image, &head),
         4 => unlinked_nodes(rng, image, &head),
         5 => empty_link(rng, image, &head),
+        6..=9 => cycle(rng, image, &head),
+        10..=12 => {
+            cycle(rng, image, &head);
+            beside_a_cycle(rng, image, &head);
+        }
+        13 => move_link(rng, image, &head),
+        14 => link_up(rng, image, &head),
+        15 => renumber(rng, image, &head),
+        16 => {
+            unlinked_nodes(rng, image, &head);
+            renumber(rng, image, &Head::read(image));
+        }
+        17..=18 => {
+            for _ in 0..rng.between(1, 3) {
+                link_above(rng, image, &head);
+            }
+        }
         _ => tear(rng, image, &head),
+    }
+}
+
+/// Another fault beside a cycle that is not reached: a link above G, an address in two links, one
+/// in no link, or a further cycle. Or none, but other addresses.
+fn beside_a_cycle(rng: &mut Rng, image: &mut [u8], head: &Head) {
+    match rng.below(7) {
+        0 => link_above(rng, image, head),
+        1 => copy_link(rng, image, head),
+        2 => unlinked_nodes(rng, image, head),
+        3 => empty_link(rng, image, head),
+        4 => cycle(rng, image, head),
+        _ => renumber(rng, image, head),
     }
 }
 
@@ -212,23 +243,48 @@ fn some_node(rng: &mut Rng, image: &[u8], head: &Head) -> u64 {
     if rng.one_in(3) {
         return rng.between(0, u64::from(head.g));
     }
-    let mut node = 0;
+    let path = some_path(rng, image, head);
+    path[path.len() - 1]
+}
+
+/// The nodes on a path that a key may take, from the root on.
+fn some_path(rng: &mut Rng, image: &[u8], head: &Head) -> Vec<u64> {
+    let (mut path, mut node) = (vec![0], 0);
     for _ in 0..rng.below(u64::from(head.max).min(8) + 1) {
-        match taken_letter(rng, image, head, node) {
-            Some(letter) if link(image, head, node, letter) <= u64::from(head.g) => {
-                node = link(image, head, node, letter)
-            }
-            _ => break,
+        match child(rng, image, head, node) {
+            Some(next) => node = next,
+            None => break,
         }
+        path.push(node);
     }
-    node
+    path
+}
+
+/// A node that stands in a link of this one, if there is one.
+fn child(rng: &mut Rng, image: &[u8], head: &Head, node: u64) -> Option<u64> {
+    let letter = taken_letter(rng, image, head, node)?;
+    Some(link(image, head, node, letter)).filter(|next| *next <= u64::from(head.g))
 }
 
 /// A letter whose link is not empty, if there is one.
 pub fn taken_letter(rng: &mut Rng, image: &[u8], head: &Head, node: u64) -> Option<u64> {
+    some_letter(rng, head, |letter| link(image, head, node, letter) != 0)
+}
+
+/// A letter whose link is empty, if there is one.
+fn free_letter(rng: &mut Rng, image: &[u8], head: &Head, node: u64) -> Option<u64> {
+    some_letter(rng, head, |letter| link(image, head, node, letter) == 0)
+}
+
+fn some_letter(rng: &mut Rng, head: &Head, fits: impl Fn(u64) -> bool) -> Option<u64> {
     let n = u64::from(head.n);
     let start = rng.below(n);
-    (0..n).map(|i| (start + i) % n).find(|letter| link(image, head, node, *letter) != 0)
+    (0..n).map(|i| (start + i) % n).find(|letter| fits(*letter))
+}
+
+fn set_link(image: &mut [u8], head: &Head, node: u64, letter: u64, address: u64) {
+    let at = head.link_at(node, letter);
+    write_number(&mut image[at..at + head.a as usize], address);
 }
 
 /// A link becomes 0, the address of its own node, a lower address, one above G, or any.
@@ -242,8 +298,19 @@ fn tear(rng: &mut Rng, image: &mut [u8], head: &Head) {
     let (near, far) = (rng.below(g + 2), rng.below(most));
     let address =
         rng.pick(&[0, 0, node, node.saturating_sub(1), 1, g, g + 1, g + 2, most, near, far]);
-    let at = head.link_at(node, letter);
-    write_number(&mut image[at..at + head.a as usize], address.min(most));
+    set_link(image, head, node, letter, address.min(most));
+}
+
+/// A link becomes one above G, if A bytes can hold it.
+fn link_above(rng: &mut Rng, image: &mut [u8], head: &Head) {
+    let node = some_node(rng, image, head);
+    let any = rng.below(u64::from(head.n));
+    let letter = taken_letter(rng, image, head, node).unwrap_or(any);
+    let (first, most) = (u64::from(head.g) + 1, greatest(head.a));
+    if first <= most {
+        let far = rng.between(first, most);
+        set_link(image, head, node, letter, rng.pick(&[first, most, far]));
+    }
 }
 
 /// A link becomes 0, so that its address stands in no link. Nodes below that address may link to
@@ -251,8 +318,64 @@ fn tear(rng: &mut Rng, image: &mut [u8], head: &Head) {
 fn empty_link(rng: &mut Rng, image: &mut [u8], head: &Head) {
     let node = some_node(rng, image, head);
     if let Some(letter) = taken_letter(rng, image, head, node) {
-        let at = head.link_at(node, letter);
-        image[at..at + head.a as usize].fill(0);
+        set_link(image, head, node, letter, 0);
+    }
+}
+
+/// Moves the link to a node into that node, or into a node under it. So each address stands in as
+/// many links as before, but this node and all under it are not reached. Those from the node to
+/// its new link are a cycle, and the others hang under it.
+fn cycle(rng: &mut Rng, image: &mut [u8], head: &Head) {
+    let above = some_node(rng, image, head);
+    let letter = match taken_letter(rng, image, head, above) {
+        Some(letter) => letter,
+        None => return,
+    };
+    let top = link(image, head, above, letter);
+    let mut node = Some(top).filter(|top| *top <= u64::from(head.g));
+    // the tree may be damaged already, so the way down may never end
+    for _ in 0..=head.g {
+        let under = match node {
+            Some(under) => under,
+            None => return,
+        };
+        node = child(rng, image, head, under);
+        if node.is_none() || rng.one_in(3) {
+            if let Some(free) = free_letter(rng, image, head, under) {
+                set_link(image, head, above, letter, 0);
+                set_link(image, head, under, free, top);
+                return;
+            }
+        }
+    }
+}
+
+/// Moves a link to any other place: the tree takes another form, or a part of it is not reached.
+fn move_link(rng: &mut Rng, image: &mut [u8], head: &Head) {
+    let (from, to) = (some_node(rng, image, head), rng.between(0, u64::from(head.g)));
+    let letters = (taken_letter(rng, image, head, from), free_letter(rng, image, head, to));
+    if let (Some(letter), Some(free)) = letters {
+        let address = link(image, head, from, letter);
+        set_link(image, head, from, letter, 0);
+        set_link(image, head, to, free, address);
+    }
+}
+
+/// A node links to itself or to an ancestor, which stands in two links then.
+fn link_up(rng: &mut Rng, image: &mut [u8], head: &Head) {
+    let path = some_path(rng, image, head);
+    let node = path[path.len() - 1];
+    if let Some(free) = free_letter(rng, image, head, node) {
+        let up = rng.pick(&path);
+        set_link(image, head, node, free, up);
+    }
+}
+
+/// Gives the nodes other addresses, if A bytes can hold them.
+fn renumber(rng: &mut Rng, image: &mut [u8], head: &Head) {
+    if u64::from(head.g) <= greatest(head.a) {
+        let moved = renumbered(image, &renumbering::draw(rng, head.g));
+        image.copy_from_slice(&moved);
     }
 }
 
@@ -264,7 +387,7 @@ fn copy_link(rng: &mut Rng, image: &mut [u8], head: &Head) {
         Some(letter) => letter,
         None => return,
     };
-    let to = rng.between(0, (link(image, head, from, letter) - 1).min(u64::from(head.g)));
+    let to = rng.between(0, u64::from(head.g));
     let start = head.link_at(from, letter);
     let at = head.link_at(to, rng.below(u64::from(head.n)));
     image.copy_within(start..start + head.a as usize, at);
@@ -282,8 +405,7 @@ fn unlinked_nodes(rng: &mut Rng, image: &mut [u8], head: &Head) {
     image[start..end].fill(0);
     for node in first + 1..first + many {
         if node <= greatest(head.a) && !rng.one_in(8) {
-            let at = head.link_at(node - 1, rng.below(u64::from(head.n)));
-            write_number(&mut image[at..at + head.a as usize], node);
+            set_link(image, head, node - 1, rng.below(u64::from(head.n)), node);
         }
     }
     write_number(&mut image[..4], first + many - 1);

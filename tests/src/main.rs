@@ -13,6 +13,7 @@ mod lists;
 mod model;
 mod progress;
 mod random;
+mod renumbering;
 mod report;
 mod rng;
 mod saboteurs;

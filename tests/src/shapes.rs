@@ -1,6 +1,8 @@
-//! Accepted images of many shapes: alphabets, heads, trees with rising addresses, spare bytes.
+//! Accepted images of many shapes: alphabets, heads, trees with rising addresses and renumbered
+//! ones, spare bytes.
 
 use crate::model::{greatest, write_number, Head};
+use crate::renumbering::{self, renumbered};
 use crate::rng::Rng;
 
 /// What stores do not change in an image, and the G at the start.
@@ -77,7 +79,7 @@ impl Shape {
         self.head.g = rng.pick(&[0, 1.min(most), any, any, most]) as u32;
     }
 
-    /// An accepted image with `spare` bytes of rubbish after U.
+    /// An accepted image with `spare` bytes of rubbish after U. Half of them are renumbered.
     pub fn grow(&self, rng: &mut Rng, spare: usize) -> Vec<u8> {
         let head = &self.head;
         let mut image = vec![0; head.u() as usize];
@@ -100,6 +102,9 @@ impl Shape {
             let value = if rng.below(full) > 0 || full == 1 { value(rng, head.d) } else { 0 };
             let at = head.data_at(node);
             write_number(&mut image[at..at + head.d as usize], value);
+        }
+        if rng.one_in(2) {
+            image = renumbered(&image, &renumbering::draw(rng, head.g));
         }
         let rubbish = rng.rubbish(spare);
         image.extend(rubbish);

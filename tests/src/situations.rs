@@ -5,6 +5,7 @@ use crate::calls::Call;
 use crate::damage::readable;
 use crate::lists;
 use crate::model::{self, Answer, Head};
+use crate::renumbering::rises;
 use crate::twins::Asked;
 
 /// A call with what was lent to it, and what the model answered.
@@ -134,7 +135,7 @@ impl Seen<'_> {
 
     /// For a call with counts on a small image that was refused with 25: the right counts.
     fn differing(&self) -> Option<Vec<u32>> {
-        if self.number() == 25 && self.asked.image.len() < 300 {
+        if self.number() == 25 && self.small() {
             lists::right(self.asked.image)
         } else {
             None
@@ -165,17 +166,98 @@ impl Seen<'_> {
         model::characters(self.asked.given).map_or(0, |found| found.len())
     }
 
-    /// What the check of the image answers. It takes time, so it is done for small images only.
+    /// Whether the image is so small that what takes time is done for it.
+    fn small(&self) -> bool {
+        self.asked.image.len() < 300
+    }
+
+    /// What the check of a small image answers.
     fn check(&self) -> Option<Answer> {
-        if self.asked.image.len() < 300 {
+        if self.small() {
             Some(model::check(self.asked.image, &mut [0; 300]))
         } else {
             None
         }
     }
+
+    /// Whether the image is small and accepted, and one of its links does not rise.
+    fn falls(&self) -> bool {
+        self.check().map_or(false, |answer| answer.number == 0) && !rises(self.asked.image)
+    }
+
+    /// What the check answers for the image with the lower G that a mend tried, where 8 stays.
+    fn trial(&self) -> Option<Answer> {
+        if self.call() != Call::Mend || self.number() != 8 || !self.small() {
+            return None;
+        }
+        let mut trial = self.asked.image.to_vec();
+        Head { g: self.answer.place - 1, ..self.head() }.write(&mut trial);
+        Some(model::check(&trial, &mut [0; 300]))
+    }
+
+    /// For each node, whether links lead to it from the links of this node. Only for an image that
+    /// passed 4. A link above G leads nowhere.
+    fn under(&self, node: u64) -> Vec<bool> {
+        let (image, head) = (self.asked.image, self.head());
+        let mut under = vec![false; self.nodes()];
+        let mut last = vec![node];
+        while let Some(node) = last.pop() {
+            for letter in 0..u64::from(head.n) {
+                let next = model::link(image, &head, node, letter);
+                if next > 0 && next <= u64::from(head.g) && !under[next as usize] {
+                    under[next as usize] = true;
+                    last.push(next);
+                }
+            }
+        }
+        under
+    }
+
+    /// Whether the nodes of a small image include a cycle that is not reached from the root, for
+    /// a call that passed 4.
+    fn cycle_apart(&self) -> bool {
+        let reached = if self.small() { self.under(0) } else { return false };
+        (1..self.nodes()).any(|node| !reached[node] && self.under(node as u64)[node])
+    }
+
+    /// For 16 in a small image: for each node, whether it is reached; and whether the place is on
+    /// a cycle.
+    fn unreached(&self) -> Option<(Vec<bool>, bool)> {
+        if self.number() != 16 || !self.small() {
+            return None;
+        }
+        let place = self.answer.place;
+        Some((self.under(0), self.under(u64::from(place))[place as usize]))
+    }
+
+    /// The nodes that the key of a call by letters passes, as far as its links go, if the call did
+    /// not refuse the image or the key.
+    fn passed(&self) -> Vec<u64> {
+        let judged = match self.call() {
+            Call::LookUp => matches!(self.number(), 0 | 6),
+            _ => self.by_letters() && self.done(),
+        };
+        let (image, head, mut passed) = (self.asked.image, readable(self.asked.image), vec![0]);
+        if let (true, Some(head)) = (judged, head) {
+            for letter in self.asked.given {
+                let node = passed[passed.len() - 1];
+                match model::link(image, &head, node, u64::from(*letter)) {
+                    0 => break,
+                    next if next > u64::from(head.g) => break,
+                    next => passed.push(next),
+                }
+            }
+        }
+        passed
+    }
+
+    /// Whether one of these nodes is not above the one before it.
+    fn passes_lower(&self) -> bool {
+        self.passed().windows(2).any(|pair| pair[1] <= pair[0])
+    }
 }
 
-pub const SITUATIONS: [Situation; 97] = [
+pub const SITUATIONS: [Situation; 127] = [
     Situation {
         name: "1: the image is shorter than 28",
         met: |s| s.number() == 1 && s.image_len() < 28,
@@ -234,7 +316,116 @@ pub const SITUATIONS: [Situation; 97] = [
         name: "5: a link is broken too",
         met: |s| s.number() == 5 && s.check().map_or(false, |answer| answer.number == 6),
     },
-    Situation { name: "6: a link to the node itself or lower", met: link_not_rising },
+    Situation {
+        name: "5: a node is not reached too",
+        met: |s| s.number() == 5 && s.check().map_or(false, |answer| answer.number == 16),
+    },
+    Situation { name: "6: a link to G+1", met: link_past_g },
+    Situation {
+        name: "6: beside it a cycle that is not reached",
+        met: |s| s.number() == 6 && !s.is_look_up() && s.cycle_apart(),
+    },
+    Situation {
+        name: "7: a node links to itself",
+        met: |s| s.number() == 7 && s.small() && links_to(s, s.answer.place, s.answer.place),
+    },
+    Situation {
+        name: "7: a link to an ancestor",
+        met: |s| {
+            let place = s.answer.place;
+            s.number() == 7
+                && s.small()
+                && !links_to(s, place, place)
+                && s.under(0)[place as usize]
+                && s.under(u64::from(place))[place as usize]
+        },
+    },
+    Situation {
+        name: "7: beside it a cycle that is not reached",
+        met: |s| s.number() == 7 && s.cycle_apart(),
+    },
+    Situation {
+        name: "8: beside it a cycle that is not reached",
+        met: |s| s.number() == 8 && s.cycle_apart(),
+    },
+    Situation {
+        name: "8: a lower node is not reached",
+        met: |s| {
+            s.number() == 8 && s.small() && s.under(0)[1..s.answer.place as usize].contains(&false)
+        },
+    },
+    Situation {
+        name: "16: its place is on a cycle",
+        met: |s| s.unreached().map_or(false, |(_, on_cycle)| on_cycle),
+    },
+    Situation {
+        name: "16: its place is not on a cycle",
+        met: |s| s.unreached().map_or(false, |(_, on_cycle)| !on_cycle),
+    },
+    Situation {
+        name: "16: its place links to itself",
+        met: |s| s.unreached().is_some() && links_to(s, s.answer.place, s.answer.place),
+    },
+    Situation {
+        name: "16: nodes below and above its place are reached",
+        met: |s| {
+            let place = s.answer.place as usize;
+            s.unreached()
+                .map_or(false, |(reached, _)| place > 1 && reached[place..].contains(&true))
+        },
+    },
+    Situation {
+        name: "16: the root alone is reached",
+        met: |s| s.unreached().map_or(false, |(reached, _)| !reached.contains(&true)),
+    },
+    Situation {
+        name: "16: at an address above 255",
+        met: |s| s.number() == 16 && s.answer.place > 255,
+    },
+    Situation {
+        name: "16: the key of a store is refused too",
+        met: |s| {
+            s.number() == 16
+                && s.by_letters()
+                && matches!(model::look_up(s.asked.image, s.asked.given).number, 9 | 10)
+        },
+    },
+    Situation {
+        name: "accepted where a link does not rise: check",
+        met: |s| s.call() == Call::Check && s.done() && s.falls(),
+    },
+    Situation {
+        name: "accepted where a link does not rise: number of keys, above 2",
+        met: |s| s.call() == Call::Count && s.answer.value > 2 && s.falls(),
+    },
+    Situation {
+        name: "accepted where a link does not rise: next key found",
+        met: |s| s.is_next_key() && s.done() && s.falls(),
+    },
+    Situation {
+        name: "accepted where a link does not rise: 25",
+        met: |s| s.number() == 25 && s.falls(),
+    },
+    Situation {
+        name: "accepted where a link does not rise: the key at a position",
+        met: |s| s.position().is_some() && s.done() && s.falls(),
+    },
+    Situation {
+        name: "accepted where a link does not rise: store with new nodes",
+        met: |s| s.missing() > 0 && s.answer.change == 1 && s.falls(),
+    },
+    Situation {
+        name: "accepted where a link does not rise: store with counts",
+        met: |s| s.call().stores_counts() && s.answer.change != 0 && s.falls(),
+    },
+    Situation {
+        name: "a store passes a lower node, then adds nodes",
+        met: |s| s.missing() > 0 && s.answer.change == 1 && s.passes_lower(),
+    },
+    Situation {
+        name: "a store with counts passes a lower node",
+        met: |s| s.call().stores_counts() && s.answer.change != 0 && s.passes_lower(),
+    },
     Situation {
         name: "8: an address that A bytes cannot hold",
         met: |s| s.number() == 8 && u64::from(s.head().g) > model::greatest(s.head().a),
@@ -266,6 +457,28 @@ pub const SITUATIONS: [Situation; 97] = [
                 && s.number() == 6
                 && s.check().map_or(false, |a| a.number == 6 && a.place != s.answer.place)
         },
+    },
+    Situation {
+        name: "look up: found under a lower node",
+        met: |s| s.call() == Call::LookUp && s.answer.value > 0 && s.passes_lower(),
+    },
+    Situation {
+        name: "look up: 6 under a lower node",
+        met: |s| s.call() == Call::LookUp && s.number() == 6 && s.passes_lower(),
+    },
+    Situation {
+        name: "look up: found after a node was passed twice",
+        met: |s| {
+            let mut passed = s.passed();
+            let many = passed.len();
+            passed.sort();
+            passed.dedup();
+            s.call() == Call::LookUp && s.answer.value > 0 && passed.len() < many
+        },
+    },
+    Situation {
+        name: "look up: done where the check gives 16",
+        met: |s| s.is_look_up() && s.done() && s.check().map_or(false, |a| a.number == 16),
     },
     Situation {
         name: "9: shorter than min",
@@ -401,8 +614,27 @@ pub const SITUATIONS: [Situation; 97] = [
         },
     },
     Situation {
+        name: "mend: G lowered where a link does not rise",
+        met: |s| {
+            let mended = s.mended_at().filter(|p| *p > 0);
+            mended.map_or(false, |p| {
+                let mut left = s.asked.image.to_vec();
+                Head { g: p - 1, ..s.head() }.write(&mut left);
+                !rises(&left)
+            })
+        },
+    },
+    Situation {
         name: "mend: 8 stays, for a node before the gap links past it",
-        met: |s| s.call() == Call::Mend && s.number() == 8,
+        met: |s| s.trial().map_or(false, |answer| answer.number == 6),
+    },
+    Situation {
+        name: "mend: 8 stays, for a lower node stood in a link after the gap",
+        met: |s| s.trial().map_or(false, |answer| answer.number == 8),
+    },
+    Situation {
+        name: "mend: 8 stays, for a lower node is not reached",
+        met: |s| s.trial().map_or(false, |answer| answer.number == 16),
     },
     Situation {
         name: "next key: the key given is shorter than min",
@@ -602,7 +834,7 @@ fn deeper_than_max(s: &Seen) -> bool {
     }
     let (image, head) = (s.asked.image, s.head());
     let above = |node: u64| {
-        (0..node).find(|parent| {
+        (0..=u64::from(head.g)).filter(|_| node > 0).find(|parent| {
             (0..u64::from(head.n)).any(|letter| model::link(image, &head, *parent, letter) == node)
         })
     };
@@ -617,12 +849,14 @@ fn not_stored(s: &Seen, complete: bool) -> bool {
         && (path(s.asked.given) == s.asked.given.len()) == complete
 }
 
-fn link_not_rising(s: &Seen) -> bool {
-    let node = u64::from(s.answer.place);
-    s.number() == 6
-        && (0..u64::from(s.head().n)).any(|letter| {
-            (1..=node).contains(&model::link(s.asked.image, &s.head(), node, letter))
-        })
+fn link_past_g(s: &Seen) -> bool {
+    s.number() == 6 && s.head().g < u32::MAX && links_to(s, s.answer.place, s.head().g + 1)
+}
+
+/// Whether a node has a link to an address. Only for an image that passed 4.
+fn links_to(s: &Seen, node: u32, address: u32) -> bool {
+    let link = |letter| model::link(s.asked.image, &s.head(), u64::from(node), letter);
+    (0..u64::from(s.head().n)).any(|letter| link(letter) == u64::from(address))
 }
 
 fn bad_text(s: &Seen) -> bool {

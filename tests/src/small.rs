@@ -1,6 +1,7 @@
 //! Small images with A = D = 1 and their keys, for the exhaustive part and for the cuts.
 
 use crate::model::Head;
+use crate::renumbering;
 use crate::rng::Rng;
 
 /// All of an image but its body: the lengths of keys, the alphabet, the spare bytes.
@@ -96,8 +97,9 @@ pub fn tuples(values: &[u8], length: usize) -> impl Iterator<Item = Vec<u8>> {
     })
 }
 
-/// The links of every accepted image: each address from 1 to G stands in one link of a lower node.
-pub fn trees(n: usize, g: usize) -> Vec<Vec<u8>> {
+/// The links of every accepted image in which links rise: each address from 1 to G stands in one
+/// link of a lower node.
+pub fn rising_trees(n: usize, g: usize) -> Vec<Vec<u8>> {
     let mut all = vec![vec![0; n * (g + 1)]];
     for address in 1..=g {
         let hang = |tree: &Vec<u8>| {
@@ -112,4 +114,53 @@ pub fn trees(n: usize, g: usize) -> Vec<Vec<u8>> {
         all = all.iter().flat_map(hang).collect();
     }
     all
+}
+
+/// The links of a tree whose nodes get new addresses: node n gets `new[n]`.
+pub fn renumbered(n: usize, links: &[u8], new: &[u64]) -> Vec<u8> {
+    let mut moved = vec![0; links.len()];
+    for (node, to) in links.chunks(n).zip(new) {
+        let start = *to as usize * n;
+        for (link, address) in moved[start..start + n].iter_mut().zip(node) {
+            *link = new[usize::from(*address)] as u8;
+        }
+    }
+    moved
+}
+
+/// The links of every accepted image: the rising trees, with their addresses in every order.
+pub fn trees(n: usize, g: usize) -> Vec<Vec<u8>> {
+    let rising = rising_trees(n, g);
+    let moved = |new: Vec<u64>| {
+        rising.iter().map(|links| renumbered(n, links, &new)).collect::<Vec<Vec<u8>>>()
+    };
+    let mut all: Vec<Vec<u8>> = renumbering::every(g as u32).into_iter().flat_map(moved).collect();
+    all.sort();
+    all.dedup();
+    all
+}
+
+#[cfg(test)]
+mod tests {
+    use super::*;
+    use crate::model::{self, Answer};
+
+    #[test]
+    fn trees_are_the_accepted_images() {
+        // by N and G: the trees with G+1 nodes, by their form, times the orders of G addresses
+        let many = [(1, 4, 24), (2, 1, 2), (2, 2, 5 * 2), (2, 3, 14 * 6), (3, 2, 12 * 2)];
+        for (n, g, many) in many {
+            let values: Vec<u8> = (0..=g).collect();
+            let links = n as usize * (usize::from(g) + 1);
+            let accepted = |links: &Vec<u8>| {
+                let setting = &settings()[0];
+                let image = image(&mut Rng::new(0), n, links, &[1; 5], setting);
+                model::check(&image, &mut [0; 5]) == Answer::default()
+            };
+            let mut all: Vec<Vec<u8>> = tuples(&values, links).filter(accepted).collect();
+            all.sort();
+            assert_eq!(all.len(), many);
+            assert_eq!(all, trees(n as usize, usize::from(g)));
+        }
+    }
 }
