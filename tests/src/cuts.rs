@@ -8,6 +8,7 @@ use crate::calls::{ask_library, Call, Pointers};
 use crate::keys;
 use crate::model::{self, Answer, Head};
 use crate::progress::Progress;
+use crate::renumbering::{self, renumbered, rises};
 use crate::report;
 use crate::rng::Rng;
 use crate::saboteurs::{Sabotage, CUT_SABOTEURS};
@@ -46,11 +47,13 @@ impl Held {
     }
 }
 
-/// What was tried: the stores that were not refused, the images that their cuts left, and of these
-/// images those with a write that landed in part and those whose G was lowered.
+/// What was tried: the images to begin with, those of them in which a link does not rise, the
+/// stores that were not refused, the images that their cuts left, and of these images those with a
+/// write that landed in part and those whose G was lowered.
 #[derive(Clone, Copy, Default)]
 pub struct Tried {
     pub images: u64,
+    pub falling: u64,
     pub stores: u64,
     pub cuts: u64,
     pub partly: u64,
@@ -61,6 +64,7 @@ pub struct Tried {
 impl Tried {
     fn add(&mut self, other: &Tried) {
         self.images += other.images;
+        self.falling += other.falling;
         self.stores += other.stores;
         self.cuts += other.cuts;
         self.partly += other.partly;
@@ -228,6 +232,11 @@ impl Worker {
             sabotage,
             done: Tried::default(),
         }
+    }
+
+    fn begins_with(&mut self, held: &Held) {
+        self.done.images += 1;
+        self.done.falling += u64::from(!rises(&held.image));
     }
 
     fn ask(&mut self, call: Call, image: &[u8], given: &[u8]) -> Result<Answer, String> {
@@ -481,25 +490,26 @@ struct Family {
     g: u32,
     /// The data values of every node.
     data: &'static [u8],
-    /// An image is tried in every n-th setting, where n is this number.
+    /// An image is tried in every n-th of the 56 settings, where n is this number. If n is above
+    /// 56, some images are left out.
     settings: usize,
 }
 
 const FAMILIES: [Family; 14] = [
     Family { n: 1, g: 0, data: &[0, 1, 255], settings: 1 },
     Family { n: 1, g: 1, data: &[0, 1, 255], settings: 1 },
-    Family { n: 1, g: 2, data: &[0, 1, 255], settings: 1 },
-    Family { n: 1, g: 3, data: &[0, 1, 255], settings: 1 },
-    Family { n: 1, g: 4, data: &[0, 1], settings: 1 },
+    Family { n: 1, g: 2, data: &[0, 1, 255], settings: 2 },
+    Family { n: 1, g: 3, data: &[0, 1, 255], settings: 5 },
+    Family { n: 1, g: 4, data: &[0, 1], settings: 23 },
     Family { n: 2, g: 0, data: &[0, 1, 255], settings: 1 },
     Family { n: 2, g: 1, data: &[0, 1, 255], settings: 1 },
-    Family { n: 2, g: 2, data: &[0, 1, 255], settings: 8 },
-    Family { n: 2, g: 3, data: &[0, 1], settings: 8 },
-    Family { n: 2, g: 4, data: &[0, 1], settings: 56 },
+    Family { n: 2, g: 2, data: &[0, 1, 255], settings: 9 },
+    Family { n: 2, g: 3, data: &[0, 1], settings: 27 },
+    Family { n: 2, g: 4, data: &[0, 1], settings: 449 },
     Family { n: 3, g: 0, data: &[0, 1, 255], settings: 1 },
     Family { n: 3, g: 1, data: &[0, 1, 255], settings: 8 },
-    Family { n: 3, g: 2, data: &[0, 1], settings: 8 },
-    Family { n: 3, g: 3, data: &[0, 1], settings: 56 },
+    Family { n: 3, g: 2, data: &[0, 1], settings: 9 },
+    Family { n: 3, g: 3, data: &[0, 1], settings: 167 },
 ];
 
 /// Each of these values is stored under every key.
@@ -516,7 +526,7 @@ fn run_tree(
             small::settings().iter().skip((index + i) % family.settings).step_by(family.settings)
         {
             let held = Held::of(small::image(&mut worker.rng, family.n, links, &data, setting));
-            worker.done.images += 1;
+            worker.begins_with(&held);
             let keys = keys_of(
                 &held.image,
                 small::keys(family.n).into_iter().map(|key| key.letters).collect(),
@@ -587,7 +597,8 @@ fn keys_near(rng: &mut Rng, held: &Held, key: &[u8]) -> Vec<Key> {
     keys_of(&held.image, near)
 }
 
-/// A small image to begin with: fresh, or grown, then also with data that min and max hide.
+/// A small image to begin with: fresh, or grown, then also with data that min and max hide. Most
+/// grown images are renumbered, after their keys were read.
 fn begin(rng: &mut Rng) -> Held {
     let mut shape = Shape::draw(rng);
     let spare = shape.draw_spare(rng) + shape.draw_spare(rng);
@@ -599,8 +610,11 @@ fn begin(rng: &mut Rng) -> Held {
     }
     let most = rng.pick(&[8, 8, 8, 8, 8, 40]);
     shape.head.g = rng.between(0, most) as u32;
-    let image = shape.grow(rng, spare);
-    Held::of(image)
+    let held = Held::of(shape.grow(rng, spare));
+    if rng.one_in(3) {
+        return held;
+    }
+    Held { image: renumbered(&held.image, &renumbering::draw(rng, shape.head.g)), ..held }
 }
 
 /// A run of stores that begins with one image. Each store is tried with all its cuts. The next one
@@ -609,6 +623,7 @@ fn history(worker: &mut Worker, seed: u64) -> Result<(), String> {
     let mut rng = Rng::new(seed);
     worker.rng = Rng::new(!seed);
     let mut held = begin(&mut rng);
+    worker.begins_with(&held);
     for _ in 0..rng.between(4, 12) {
         let letters = keys::letters(&mut rng, &held.image, &[]);
         let keys = keys_near(&mut rng, &held, &letters);
@@ -642,7 +657,6 @@ pub fn run_random(start: u64, histories: u64) -> Tried {
                     }
                     let seed = start.wrapping_add(index);
                     progress.at(&format!("tests/replay cuts {seed}"));
-                    worker.done.images += 1;
                     if let Err(failure) = history(&mut worker, seed) {
                         print!("FAILED: cuts: {failure}");
                         worker.done.failed += 1;

@@ -6,14 +6,18 @@
 //! none, are made on the refused images, as `Asks` says. The calls with counts are made with
 //! right, wrong and short lists; those that take a key or a position are made on accepted images
 //! only.
+//!
+//! After the families, small accepted images are renumbered in every way. Each must answer as the
+//! one it was made from.
 
 use crate::calls::Call;
 use crate::lists;
-use crate::model::{self, Head};
+use crate::model::{self, Answer, Head};
 use crate::progress::Progress;
+use crate::renumbering;
 use crate::report;
 use crate::rng::Rng;
-use crate::small::{self, keys, settings, trees, tuples, Key, Setting};
+use crate::small::{self, keys, rising_trees, settings, trees, tuples, Key, Setting};
 use crate::twins::{Asked, Twins};
 use std::sync::Mutex;
 
@@ -71,15 +75,19 @@ const FAMILIES: [Family; 16] = [
     Family { n: 1, g: 4, links: &[], data: &[0, 1], refused: Asks::Check, settings: 3 },
     Family { n: 2, g: 3, links: &[], data: &[0, 1], refused: Asks::Check, settings: 3 },
     Family { n: 3, g: 2, links: &[], data: &[0, 1], refused: Asks::Check, settings: 3 },
-    Family { n: 3, g: 3, links: &[], data: &[0, 1], refused: Asks::Nothing, settings: 8 },
-    Family { n: 2, g: 4, links: &[], data: &[0, 1], refused: Asks::Nothing, settings: 8 },
+    Family { n: 3, g: 3, links: &[], data: &[0, 1], refused: Asks::Nothing, settings: 24 },
+    Family { n: 2, g: 4, links: &[], data: &[0, 1], refused: Asks::Nothing, settings: 56 },
 ];
 
-/// What was tried.
+/// The greatest G of the images that are renumbered, for N from 1 on.
+const RENUMBERED: [u32; 3] = [4, 4, 3];
+
+/// What was tried, and how many of the calls gave 16.
 #[derive(Clone, Copy, Default)]
 pub struct Exhausted {
     pub images: u64,
     pub calls: u64,
+    pub unreached: u64,
     pub failed: usize,
 }
 
@@ -87,6 +95,7 @@ impl Exhausted {
     fn add(&mut self, other: &Exhausted) {
         self.images += other.images;
         self.calls += other.calls;
+        self.unreached += other.unreached;
         self.failed += other.failed;
     }
 }
@@ -106,11 +115,11 @@ impl Worker {
         given: &[u8],
         key_len: usize,
         work_len: usize,
-    ) -> u32 {
+    ) -> Answer {
         self.ask_beside(call, image, given, key_len, work_len, &[])
     }
 
-    /// Makes a call with a list of counts.
+    /// Makes a call with a list of counts. Returns the library's answer.
     fn ask_beside(
         &mut self,
         call: Call,
@@ -119,16 +128,17 @@ impl Worker {
         key_len: usize,
         work_len: usize,
         counts: &[u32],
-    ) -> u32 {
+    ) -> Answer {
         let asked = Asked { call, image, given, key_len, work_len, counts };
         let outcome = self.twins.ask(&asked, &mut self.rng, None);
         self.done.calls += 1;
+        self.done.unreached += u64::from(outcome.model.number == 16);
         if outcome.difference.is_some() && self.done.failed < ENOUGH {
             self.done.failed += 1;
             let told = report::asked(&asked) + &report::outcome(&outcome);
             println!("FAILED: exhaustive: {told}    image [{}]", report::hex(image));
         }
-        outcome.model.number
+        outcome.library
     }
 
     fn image(&mut self, family: &Family, links: &[u8], data: &[u8], setting: &Setting) -> Vec<u8> {
@@ -275,7 +285,7 @@ impl Worker {
         let g = family.g as usize;
         let turn = |i: usize| &settings[(index + i) % settings.len()];
         let first = self.image(family, links, &[1; 5], turn(0));
-        let accepted = self.ask(Call::Check, &first, &[], 0, g + 1) == 0;
+        let accepted = self.ask(Call::Check, &first, &[], 0, g + 1).number == 0;
         self.ask(Call::Mend, &first, &[], 0, g + 1);
         if !accepted && matches!(family.refused, Asks::Check | Asks::Nothing) {
             return;
@@ -290,6 +300,89 @@ impl Worker {
                 let image = self.image(family, links, &data, turn(i));
                 self.ask_all(&image, keys, turn(i), g);
             }
+        }
+    }
+}
+
+// ---- renumbered images ----
+
+/// What an accepted image tells: the answers that name no address, the key buffer after each next
+/// key, and the counts.
+#[derive(PartialEq)]
+struct Told {
+    answers: Vec<Answer>,
+    found: Vec<Vec<u8>>,
+    counts: Vec<u32>,
+}
+
+impl Worker {
+    /// Makes the calls that read: without a key, with every key, and with every position.
+    fn told(&mut self, image: &[u8], keys: &[Key], setting: &Setting, nodes: usize) -> Told {
+        let max = setting.lengths.1 as usize;
+        let mut answers = vec![
+            self.ask(Call::Check, image, &[], 0, nodes),
+            self.ask(Call::Count, image, &[], 0, nodes),
+            self.ask_beside(Call::Counts, image, &[], 0, nodes, &vec![9; nodes]),
+        ];
+        let counts = self.twins.library.counts().to_vec();
+        let mut found = Vec::new();
+        for key in keys {
+            answers.push(self.ask(Call::LookUp, image, &key.letters, 0, 0));
+            answers.push(self.ask(Call::LookUpText, image, &key.text, 0, 0));
+            answers.push(self.ask_beside(Call::Position, image, &key.letters, 0, nodes, &counts));
+            for after in [false, true] {
+                let next = self.ask(Call::NextKey { after }, image, &key.letters, max, nodes);
+                found.push(self.twins.library.key()[..next.length as usize].to_vec());
+                answers.push(next);
+            }
+        }
+        for position in 0..=u64::from(counts[0]) {
+            let call = Call::KeyAt { position };
+            let at = self.ask_beside(call, image, &[], max, nodes, &counts);
+            found.push(self.twins.library.key()[..at.length as usize].to_vec());
+            answers.push(at);
+        }
+        Told { answers, found, counts }
+    }
+
+    /// Renumbers one image in every way. Each image must tell the same, with the counts at the new
+    /// addresses.
+    fn renumber(&mut self, n: u32, links: &[u8], data: &[u8], keys: &[Key], setting: &Setting) {
+        let nodes = data.len();
+        let image = small::image(&mut self.rng, n, links, data, setting);
+        let told = self.told(&image, keys, setting, nodes);
+        for new in renumbering::every(nodes as u32 - 1) {
+            let moved = renumbering::renumbered(&image, &new);
+            let mut its = self.told(&moved, keys, setting, nodes);
+            its.counts = new.iter().map(|address| its.counts[*address as usize]).collect();
+            self.done.images += 1;
+            if its != told && self.done.failed < ENOUGH {
+                self.done.failed += 1;
+                println!(
+                    "FAILED: exhaustive: renumbered, an image answers otherwise\n    \
+                     image [{}]\n    renumbered [{}]",
+                    report::hex(&image),
+                    report::hex(&moved)
+                );
+            }
+        }
+    }
+}
+
+/// Renumbers the rising trees with this N and G. Each node has data of its own, or none.
+fn run_renumbered(worker: &mut Worker, n: u32, g: u32, thread: usize, progress: &mut Progress) {
+    let (keys, settings) = (keys(n), settings());
+    let trees = rising_trees(n as usize, g as usize);
+    for (index, links) in trees.iter().enumerate().skip(thread).step_by(2) {
+        progress.at(&format!("exhaustive: renumbered: N {n} G {g} links {}", report::hex(links)));
+        for (i, empty) in [0, index + 1, 2 * index + 3].into_iter().enumerate() {
+            let value = |node: u32| if empty >> node & 1 == 1 { 0 } else { node as u8 + 1 };
+            let data: Vec<u8> = (0..=g).map(value).collect();
+            let setting = &settings[(3 * index + i) % settings.len()];
+            worker.renumber(n, links, &data, &keys, setting);
+        }
+        if worker.done.failed >= ENOUGH {
+            break;
         }
     }
 }
@@ -323,7 +416,7 @@ fn run_family(worker: &mut Worker, family: &Family, thread: usize, progress: &mu
 
 /// Tries all families, in two threads.
 pub fn run() -> Exhausted {
-    let tried = Mutex::new([Exhausted::default(); FAMILIES.len()]);
+    let tried = Mutex::new([Exhausted::default(); FAMILIES.len() + RENUMBERED.len()]);
     std::thread::scope(|scope| {
         for thread in 0..2 {
             let tried = &tried;
@@ -342,18 +435,36 @@ pub fn run() -> Exhausted {
                         break;
                     }
                 }
+                for (n, most) in (1..).zip(RENUMBERED) {
+                    for g in 1..=most {
+                        run_renumbered(&mut worker, n, g, thread, &mut progress);
+                    }
+                    let done = std::mem::take(&mut worker.done);
+                    tried.lock().unwrap()[FAMILIES.len() + n as usize - 1].add(&done);
+                }
                 progress.done();
             });
         }
     });
-    let mut all = Exhausted::default();
-    for (family, tried) in FAMILIES.iter().zip(tried.into_inner().unwrap()) {
+    let (mut all, tried) = (Exhausted::default(), tried.into_inner().unwrap());
+    for (family, tried) in FAMILIES.iter().zip(&tried) {
         let every = if family.links.is_empty() { "" } else { ", every byte" };
         println!(
-            "exhaustive: N {} G {}{every}: {} images, {} calls",
-            family.n, family.g, tried.images, tried.calls
+            "exhaustive: N {} G {}{every}: {} images, {} calls, {} give 16",
+            family.n, family.g, tried.images, tried.calls, tried.unreached
         );
-        all.add(&tried);
+        all.add(tried);
+        if family.g > 0 && family.refused != Asks::Nothing && tried.unreached == 0 {
+            all.failed += 1;
+            println!("FAILED: exhaustive: in this family no call gives 16");
+        }
+    }
+    for ((n, g), tried) in (1..).zip(RENUMBERED).zip(&tried[FAMILIES.len()..]) {
+        println!(
+            "exhaustive: N {n} G up to {g}, renumbered in every way: {} images, {} calls",
+            tried.images, tried.calls
+        );
+        all.add(tried);
     }
     all
 }

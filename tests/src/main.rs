@@ -103,12 +103,12 @@ fn random_cuts(seed: u64, histories: u64) -> cuts::Tried {
 
 /// Prints what was tried.
 fn told(sort: &str, tried: &cuts::Tried, begun: Instant) {
-    let cuts::Tried { images, stores, cuts, partly, lowered, .. } = *tried;
-    let [images, stores, cuts, partly, lowered] =
-        [images, stores, cuts, partly, lowered].map(grouped);
+    let cuts::Tried { images, falling, stores, cuts, partly, lowered, .. } = *tried;
+    let [images, falling, stores, cuts, partly, lowered] =
+        [images, falling, stores, cuts, partly, lowered].map(grouped);
     println!(
-        "cuts: {stores} stores from {images} {sort} images on, {cuts} images mended, \
-         {partly} with a write in part, {lowered} with G lowered, \
+        "cuts: {stores} stores from {images} {sort} images on, {falling} of them with a link \
+         that does not rise, {cuts} images mended, {partly} with a write in part, {lowered} with G lowered, \
          in {:.1} s",
         begun.elapsed().as_secs_f64()
     );
@@ -131,6 +131,13 @@ fn gate() -> bool {
     failed += small.failed + cut.failed;
     if failed == 0 && cut.cuts < GATE_CUTS {
         println!("FAILED: the random cuts are too few");
+        failed += 1;
+    }
+    let few = |tried: &cuts::Tried| tried.falling < tried.images / 8;
+    if failed == 0 && (few(&small) || few(&cut)) {
+        println!(
+            "FAILED: too few of the images that stores are cut in have a link to a lower node"
+        );
         failed += 1;
     }
     let begun = Instant::now();

@@ -1,5 +1,6 @@
 //! Renumbers the nodes of an image, as request 3's partner does: every node but the root may get
-//! another address, and each link follows. The trie stays the same.
+//! another address, and each link follows. The trie stays the same. And what the situations and
+//! the saboteurs ask of such images: whether links rise, and where they lead.
 
 use crate::model::{link, write_number, Head};
 use crate::rng::Rng;
@@ -65,6 +66,23 @@ pub fn rises(image: &[u8]) -> bool {
     (0..=u64::from(head.g)).all(|node| {
         (0..u64::from(head.n)).all(|letter| rises(node, link(image, &head, node, letter)))
     })
+}
+
+/// For each node from 0 to G, whether links lead to it from this node, in one step or more. A link
+/// above G leads nowhere. Only for an image whose nodes can be read.
+pub fn under(image: &[u8], head: &Head, node: u64) -> Vec<bool> {
+    let mut under = vec![false; head.g as usize + 1];
+    let mut last = vec![node];
+    while let Some(node) = last.pop() {
+        for letter in 0..u64::from(head.n) {
+            let next = link(image, head, node, letter);
+            if next > 0 && next <= u64::from(head.g) && !under[next as usize] {
+                under[next as usize] = true;
+                last.push(next);
+            }
+        }
+    }
+    under
 }
 
 #[cfg(test)]

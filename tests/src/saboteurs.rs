@@ -5,6 +5,7 @@
 use crate::calls::Call;
 use crate::iteration::Met;
 use crate::model::{self, Answer, Head};
+use crate::renumbering::under;
 use crate::safe::SOME_ZERO;
 use crate::twins::Arena;
 use std::ops::Range;
@@ -209,6 +210,41 @@ impl Spoiled<'_> {
         }
     }
 
+    fn refuse_at(&mut self, number: u32, place: u64) {
+        *self.answer = Answer { number, place: place as u32, ..Answer::default() };
+    }
+
+    /// The nodes 1 to G of the image at entry, which passed 4, that fit.
+    fn nodes_where(&self, fits: impl Fn(u64) -> bool) -> Vec<u64> {
+        (1..self.nodes() as u64).filter(|node| fits(*node)).collect()
+    }
+
+    /// The link of a node at entry.
+    fn link(&self, node: u64, letter: u64) -> u64 {
+        model::link(self.before.image(), &self.head().unwrap(), node, letter)
+    }
+
+    fn links(&self, node: u64) -> Vec<u64> {
+        (0..u64::from(self.head().unwrap().n)).map(|letter| self.link(node, letter)).collect()
+    }
+
+    /// The nodes that are not reached from the root at entry. A link above G leads nowhere.
+    fn unreached(&self) -> Vec<u64> {
+        let reached = under(self.before.image(), &self.head().unwrap(), 0);
+        self.nodes_where(|node| !reached[node as usize])
+    }
+
+    fn stands_in_a_link(&self, address: u64) -> bool {
+        (0..self.nodes() as u64).any(|node| self.links(node).contains(&address))
+    }
+
+    /// What the check answers for the image at entry with another G.
+    fn check_with(&self, g: u32) -> Answer {
+        let mut trial = self.before.image().to_vec();
+        model::write_number(&mut trial[..4], u64::from(g));
+        model::check(&trial, &mut vec![0; g as usize + 1])
+    }
+
     /// The nodes on the key's path at return, from the root on.
     fn passed(&self) -> Vec<usize> {
         let (image, head) = (self.after.image(), Head::read(self.after.image()));
@@ -220,7 +256,8 @@ impl Spoiled<'_> {
 
 /// All saboteurs.
 pub fn all() -> impl Iterator<Item = Sabotage> {
-    let of_library = SABOTEURS.iter().chain(&COUNT_SABOTEURS).chain(&CUT_SABOTEURS);
+    let of_library =
+        SABOTEURS.iter().chain(&REACH_SABOTEURS).chain(&COUNT_SABOTEURS).chain(&CUT_SABOTEURS);
     of_library.map(Sabotage::Library).chain(WRAPPER_SABOTEURS.iter().map(Sabotage::Wrapper))
 }
 
@@ -610,6 +647,240 @@ const SABOTEURS: [Saboteur; 39] = [
             if s.lowered() {
                 let kept = s.after.work.start + s.g() as usize + 1..s.after.work.end;
                 s.after.words[kept.clone()].copy_from_slice(&s.before.words[kept]);
+            }
+        },
+    },
+];
+
+/// The saboteurs of request 3: links to lower nodes, and nodes that are not reached.
+const REACH_SABOTEURS: [Saboteur; 19] = [
+    Saboteur {
+        name: "a node that stands in a link counts as reached: check",
+        spoil: |s| {
+            if s.call == Call::Check && s.number() == 16 {
+                s.refuse(0);
+            }
+        },
+    },
+    Saboteur {
+        name: "a node that stands in a link counts as reached: number of keys",
+        spoil: |s| {
+            if s.call == Call::Count && s.number() == 16 {
+                let value = s.stored_keys().len() as u64;
+                *s.answer = Answer { value, ..Answer::default() };
+            }
+        },
+    },
+    Saboteur {
+        name: "the place of 16 is the lowest node on a cycle",
+        spoil: |s| {
+            if s.number() == 16 && s.nodes() < 300 {
+                let (image, head) = (s.before.image(), s.head().unwrap());
+                let on_cycle = s.nodes_where(|node| under(image, &head, node)[node as usize]);
+                s.refuse_at(16, on_cycle[0]);
+            }
+        },
+    },
+    Saboteur {
+        name: "the place of 16 is the highest node that is not reached",
+        spoil: |s| {
+            if s.number() == 16 {
+                let unreached = s.unreached();
+                s.refuse_at(16, unreached[unreached.len() - 1]);
+            }
+        },
+    },
+    Saboteur {
+        name: "a node that links to itself alone is missed",
+        spoil: |s| {
+            if s.call == Call::Check && s.number() == 16 {
+                let unreached = s.unreached();
+                if unreached.iter().all(|node| s.links(*node).contains(node)) {
+                    s.refuse(0);
+                }
+            }
+        },
+    },
+    Saboteur {
+        name: "the check gives 6 for a link to a lower node",
+        spoil: |s| {
+            let judged = s.call == Call::Check && matches!(s.number(), 0 | 7 | 8 | 16);
+            if judged {
+                let lower = |node: u64| s.links(node).iter().any(|to| *to > 0 && *to <= node);
+                if let Some(node) = s.nodes_where(lower).first() {
+                    s.refuse_at(6, *node);
+                }
+            }
+        },
+    },
+    Saboteur {
+        name: "a look up gives 6 for a link to a lower node",
+        spoil: |s| {
+            if s.call == Call::LookUp && matches!(s.number(), 0 | 6) {
+                let mut node = 0;
+                for letter in s.before.given().to_vec() {
+                    let next = s.link(node, u64::from(letter));
+                    if next == 0 || next >= s.nodes() as u64 {
+                        return;
+                    }
+                    if next <= node {
+                        s.refuse_at(6, node);
+                        return;
+                    }
+                    node = next;
+                }
+            }
+        },
+    },
+    Saboteur {
+        name: "a look up gives 16",
+        spoil: |s| {
+            if matches!(s.call, Call::LookUp | Call::LookUpText) && s.done() {
+                let checked = s.check_with(s.head().unwrap().g);
+                if checked.number == 16 {
+                    *s.answer = checked;
+                }
+            }
+        },
+    },
+    Saboteur {
+        name: "a look up that comes to a node twice finds nothing",
+        spoil: |s| {
+            if s.call == Call::LookUp && s.answer.value > 0 {
+                let (mut node, mut passed) = (0, vec![0]);
+                for letter in s.before.given().to_vec() {
+                    node = s.link(node, u64::from(letter));
+                    if passed.contains(&node) {
+                        s.answer.value = 0;
+                    }
+                    passed.push(node);
+                }
+            }
+        },
+    },
+    Saboteur {
+        name: "16 is given before 8",
+        spoil: |s| {
+            if s.number() == 8 {
+                let unreached = s.unreached();
+                if let Some(node) = unreached.iter().find(|node| s.stands_in_a_link(**node)) {
+                    s.refuse_at(16, *node);
+                }
+            }
+        },
+    },
+    Saboteur {
+        name: "16 is given before 7",
+        spoil: |s| {
+            if s.number() == 7 {
+                if let Some(node) = s.unreached().first() {
+                    s.refuse_at(16, *node);
+                }
+            }
+        },
+    },
+    Saboteur {
+        name: "16 is given before 6",
+        spoil: |s| {
+            if s.number() == 6 && !matches!(s.call, Call::LookUp | Call::LookUpText) {
+                if let Some(node) = s.unreached().first() {
+                    s.refuse_at(16, *node);
+                }
+            }
+        },
+    },
+    Saboteur {
+        name: "a store gives 9 before 16",
+        spoil: |s| {
+            let by_letters = matches!(s.call, Call::Store { .. } | Call::StoreWrites { .. });
+            if by_letters && s.number() == 16 {
+                let looked_up = model::look_up(s.before.image(), s.before.given());
+                if looked_up.number == 9 {
+                    *s.answer = looked_up;
+                }
+            }
+        },
+    },
+    Saboteur {
+        name: "25 is given before 16",
+        spoil: |s| {
+            if s.call.compares_counts() && s.number() == 16 {
+                let fresh = model::fresh_counts(s.before.image(), &s.head().unwrap());
+                let differs = |node: &usize| fresh[*node] != s.before.counts()[*node];
+                if let Some(node) = (0..fresh.len()).find(differs) {
+                    s.refuse_at(25, node as u64);
+                }
+            }
+        },
+    },
+    Saboteur {
+        name: "the working numbers are not cleared when 16 is given",
+        spoil: |s| {
+            if s.number() == 16 {
+                s.restore_work();
+            }
+        },
+    },
+    Saboteur {
+        name: "mend lowers G to below the place of 16",
+        spoil: |s| {
+            if s.call == Call::Mend && s.number() == 16 {
+                let below = s.answer.place - 1;
+                if s.check_with(below).number == 0 {
+                    s.set_g(below);
+                    s.refuse(0);
+                }
+            }
+        },
+    },
+    Saboteur {
+        name: "mend leaves nodes that are not reached",
+        spoil: |s| {
+            if s.call == Call::Mend && s.number() == 8 {
+                let below = s.answer.place - 1;
+                if s.check_with(below).number == 16 {
+                    s.set_g(below);
+                    s.refuse(0);
+                }
+            }
+        },
+    },
+    Saboteur {
+        name: "mend goes on where the lowered image has another 8",
+        spoil: |s| {
+            if s.call == Call::Mend && s.number() == 8 {
+                let mut below = s.answer.place - 1;
+                let mut trial = s.check_with(below);
+                while trial.number == 8 {
+                    below = trial.place - 1;
+                    trial = s.check_with(below);
+                }
+                if trial.number == 0 {
+                    s.set_g(below);
+                    s.refuse(0);
+                }
+            }
+        },
+    },
+    Saboteur {
+        name: "the counts are added up by falling address",
+        spoil: |s| {
+            if s.call == Call::Counts && s.done() {
+                let fresh = model::fresh_counts(s.before.image(), &s.head().unwrap());
+                let nodes = 0..fresh.len() as u64;
+                let children: Vec<Vec<u64>> = nodes
+                    .map(|node| s.links(node).into_iter().filter(|link| *link > 0).collect())
+                    .collect();
+                let all = |counts: &[u32], node: usize| -> u32 {
+                    children[node].iter().map(|child| counts[*child as usize]).sum()
+                };
+                // at first each node has the key of its own alone
+                let mut counts: Vec<u32> =
+                    (0..fresh.len()).map(|node| fresh[node] - all(&fresh, node)).collect();
+                for node in (0..fresh.len()).rev() {
+                    counts[node] += all(&counts, node);
+                }
+                s.counts()[..fresh.len()].copy_from_slice(&counts);
             }
         },
     },
@@ -1089,7 +1360,15 @@ pub const CUT_SABOTEURS: [Saboteur; 16] = [
 ];
 
 /// The saboteurs of the crate's safe functions: what a wrapper can get wrong.
-const WRAPPER_SABOTEURS: [Saboteur; 14] = [
+const WRAPPER_SABOTEURS: [Saboteur; 15] = [
+    Saboteur {
+        name: "the wrapper takes 16 for 15",
+        spoil: |s| {
+            if s.number() == 16 {
+                s.answer.number = 15;
+            }
+        },
+    },
     Saboteur { name: "the wrapper loses the place of a refusal", spoil: |s| s.answer.place = 0 },
     Saboteur {
         name: "the wrapper takes 7 for 6",

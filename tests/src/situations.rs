@@ -5,7 +5,7 @@ use crate::calls::Call;
 use crate::damage::readable;
 use crate::lists;
 use crate::model::{self, Answer, Head};
-use crate::renumbering::rises;
+use crate::renumbering::{rises, under};
 use crate::twins::Asked;
 
 /// A call with what was lent to it, and what the model answered.
@@ -195,22 +195,9 @@ impl Seen<'_> {
         Some(model::check(&trial, &mut [0; 300]))
     }
 
-    /// For each node, whether links lead to it from the links of this node. Only for an image that
-    /// passed 4. A link above G leads nowhere.
+    /// For each node, whether links lead to it from this node. Only for an image that passed 4.
     fn under(&self, node: u64) -> Vec<bool> {
-        let (image, head) = (self.asked.image, self.head());
-        let mut under = vec![false; self.nodes()];
-        let mut last = vec![node];
-        while let Some(node) = last.pop() {
-            for letter in 0..u64::from(head.n) {
-                let next = model::link(image, &head, node, letter);
-                if next > 0 && next <= u64::from(head.g) && !under[next as usize] {
-                    under[next as usize] = true;
-                    last.push(next);
-                }
-            }
-        }
-        under
+        under(self.asked.image, &self.head(), node)
     }
 
     /// Whether the nodes of a small image include a cycle that is not reached from the root, for
