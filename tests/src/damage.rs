@@ -189,7 +189,7 @@ fn body(rng: &mut Rng, image: &mut [u8]) {
         Some(head) => head,
         None => return,
     };
-    match rng.below(22) {
+    match rng.below(24) {
         0 => {
             let node = rng.between(0, u64::from(head.g));
             let value = if rng.one_in(3) { 0 } else { shapes::value(rng, head.d) };
@@ -202,7 +202,7 @@ fn body(rng: &mut Rng, image: &mut [u8]) {
             }
         }
         2..=3 => copy_link(rng, image, &head),
-        4 => unlinked_nodes(rng, image, &head),
+        4 | 23 => unlinked_nodes(rng, image, &head),
         5 => empty_link(rng, image, &head),
         6..=9 => cycle(rng, image, &head),
         10..=12 => {
@@ -216,7 +216,7 @@ fn body(rng: &mut Rng, image: &mut [u8]) {
             unlinked_nodes(rng, image, &head);
             renumber(rng, image, &Head::read(image));
         }
-        17..=18 => {
+        17..=19 => {
             for _ in 0..rng.between(1, 3) {
                 link_above(rng, image, &head);
             }
@@ -228,10 +228,10 @@ fn body(rng: &mut Rng, image: &mut [u8]) {
 /// Another fault beside a cycle that is not reached: a link above G, an address in two links, one
 /// in no link, or a further cycle. Or none, but other addresses.
 fn beside_a_cycle(rng: &mut Rng, image: &mut [u8], head: &Head) {
-    match rng.below(7) {
+    match rng.below(8) {
         0 => link_above(rng, image, head),
         1 => copy_link(rng, image, head),
-        2 => unlinked_nodes(rng, image, head),
+        2 | 7 => unlinked_nodes(rng, image, head),
         3 => empty_link(rng, image, head),
         4 => cycle(rng, image, head),
         _ => renumber(rng, image, head),

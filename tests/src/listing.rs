@@ -3,7 +3,8 @@
 //! images, with the model's listing.
 
 use crate::damage::damage;
-use crate::model::{self, write_number, LISTING_WORK, LONGEST_INPUT};
+use crate::model::{self, write_number, Head, LISTING_WORK, LONGEST_INPUT};
+use crate::renumbering::{self, renumbered, rises};
 use crate::report;
 use crate::rng::Rng;
 use crate::shapes::Shape;
@@ -154,6 +155,21 @@ fn p3_of(length: usize) -> Vec<u8> {
     image
 }
 
+/// The image with its nodes 1 to G in reverse.
+fn reversed(image: &[u8]) -> Vec<u8> {
+    let g = u64::from(Head::read(image).g);
+    renumbered(image, &[vec![0], (1..=g).rev().collect()].concat())
+}
+
+/// The chain below without the root's link: its last node links to its first.
+fn ring(g: u32) -> Vec<u8> {
+    let mut image = chain(g, 2);
+    let last = image.len() - 3;
+    image[28..30].fill(0);
+    image[last..last + 2].copy_from_slice(&[0, 1]);
+    image
+}
+
 /// A chain of nodes with one link of `a` bytes and one byte of data, which is 1 in every node.
 fn chain(g: u32, a: usize) -> Vec<u8> {
     let node = |address: u32| {
@@ -209,7 +225,25 @@ fn small_cases(listed: &mut Listed) {
     listed.case("P8", &abc(1, &[0, 1, 1, 0, 0, 0, 0, 0]), "refused 7 at 1\n");
     listed.case("P9", &abc(1, &[0, 2, 0, 0, 0, 0, 0, 0]), "refused 6 at 0\n");
     listed.case("P10", &abc(1, &[0; 8]), "refused 8 at 1\n");
-    listed.case("P11", &abc(1, &[0, 1, 0, 0, 0, 1, 0, 0]), "refused 6 at 1\n");
+    listed.case("P11", &abc(1, &[0, 1, 0, 0, 0, 1, 0, 0]), "refused 7 at 1\n");
+    listed.case("a cycle", &abc(2, &[0, 0, 0, 0, 2, 0, 0, 0, 1, 0, 0, 0]), "refused 16 at 1\n");
+    listed.case(
+        "a node under a cycle",
+        &abc(4, &[0, 0, 2, 7, 0, 0, 0, 1, 0, 0, 0, 9, 0, 1, 4, 0, 0, 3, 0, 0]),
+        "refused 16 at 1\n",
+    );
+    listed.case(
+        "a cycle above a reached node",
+        &abc(3, &[2, 0, 0, 0, 0, 0, 3, 0, 0, 0, 0, 9, 1, 0, 0, 0]),
+        "refused 16 at 1\n",
+    );
+    listed.case(
+        "a node that links to itself",
+        &abc(2, &[1, 0, 0, 0, 0, 0, 0, 1, 0, 0, 2, 0]),
+        "refused 16 at 2\n",
+    );
+    listed.case("P3 renumbered", &abc(2, &[0, 2, 0, 0, 0, 0, 0, 9, 1, 0, 0, 5]), P3_LINES);
+    listed.case("P3 renumbered by rule", &reversed(&p3_of(47)), P3_LINES);
     listed.case("G = FFFFFFFF", &abc(u32::MAX, &[0; 4]), "refused 4 at 0\n");
     listed.case("one node cut off", &abc(1, &[0; 4]), "refused 4 at 0\n");
     listed.case("spare bytes", &p3_of(47), P3_LINES);
@@ -257,17 +291,29 @@ fn limits(listed: &mut Listed) {
     let all_data = "entries 4\n- 1\n0 1\n0.0 1\n0.0.0 1\n";
     listed.case("16,384 nodes", &chain(most - 1, 2), all_data);
     listed.case("16,385 nodes", &chain(most, 2), "refused 5 at 0\n");
+    listed.case("16,384 nodes in reverse", &reversed(&chain(most - 1, 2)), all_data);
+    listed.case("16,383 nodes in a ring", &ring(most - 1), "refused 16 at 1\n");
+    listed.case(
+        "16,383 nodes in a ring, in reverse",
+        &reversed(&ring(most - 1)),
+        "refused 16 at 1\n",
+    );
+    listed.case("16,384 nodes in a ring", &ring(most), "refused 5 at 0\n");
     // W = 2: there are more nodes than a link of one byte can name. Node 255 has an empty link,
-    // and node 256 holds the first bad one
+    // and node 256 links to node 1, as the root does
     let mut narrow = chain(most - 1, 1);
-    listed.case("16,384 nodes of two bytes", &narrow, "refused 6 at 256\n");
+    listed.case("16,384 nodes of two bytes", &narrow, "refused 7 at 1\n");
     write_number(&mut narrow[..4], u64::from(most));
     narrow.extend([0, 0]);
     listed.case("16,385 nodes of two bytes", &narrow, "refused 5 at 0\n");
     let (image, lines) = deep();
     listed.case("long lines", &image, &lines);
+    listed.case("long lines, renumbered", &reversed(&image), &lines);
     let (image, lines) = full_tree();
     listed.case("many lines", &image, &lines);
+    listed.case("many lines, renumbered", &reversed(&image), &lines);
+    let shuffled = renumbered(&image, &renumbering::draw(&mut Rng::new(4), 8_190));
+    listed.case("many lines, shuffled", &shuffled, &lines);
     listed.hold(
         "many lines in pieces",
         &[&image[..1], &image[1..28], &image[28..40_000], &image[40_000..]],
@@ -296,18 +342,33 @@ fn random_image(rng: &mut Rng) -> Vec<u8> {
     image
 }
 
+/// The names of all samples, without their ending.
+fn samples() -> Vec<String> {
+    let files = std::fs::read_dir("samples").into_iter().flatten().flatten();
+    let name = |path: &Path| path.file_stem().and_then(|name| name.to_str()).map(str::to_string);
+    let mut names: Vec<String> = files
+        .map(|file| file.path())
+        .filter(|path| path.extension().map_or(false, |ending| ending == "trieff"))
+        .filter_map(|path| name(&path))
+        .collect();
+    names.sort();
+    names
+}
+
 pub fn run(start: u64) -> Listed {
     let mut listed = Listed::default();
     small_cases(&mut listed);
     limits(&mut listed);
     listed.compare("/dev/null", written_of_file(Path::new("/dev/null")), "refused 1 at 0\n");
-    listed.sample("p3");
-    listed.sample("season");
-    let mut refused = 0;
+    let samples = samples();
+    samples.iter().for_each(|name| listed.sample(name));
+    let (mut refused, mut unreached, mut falling) = (0, 0, 0);
     for seed in start..start + RANDOM {
         let image = random_image(&mut Rng::new(seed));
         let expected = model::listing(&image);
         refused += u64::from(expected.starts_with("refused"));
+        unreached += u64::from(expected.starts_with("refused 16 "));
+        falling += u64::from(expected.starts_with("entries") && !rises(&image));
         let short = &image[..image.len().min(2_000)];
         listed.hold(
             &format!("random image {seed} of {} bytes [{}]", image.len(), report::hex(short)),
@@ -316,9 +377,19 @@ pub fn run(start: u64) -> Listed {
         );
     }
     println!(
-        "listing: {} tried, {RANDOM} of them random images, of which {refused} are refused",
-        listed.tried
+        "listing: {} tried, {} samples, {RANDOM} random images, of which {refused} are refused, \
+         {unreached} with 16, and {falling} are accepted though a link does not rise",
+        listed.tried,
+        samples.len()
     );
+    if samples.len() < 2 {
+        listed.failed += 1;
+        println!("FAILED: listing: samples/ has too few images");
+    }
+    if unreached < 5 || falling < RANDOM / 10 {
+        listed.failed += 1;
+        println!("FAILED: listing: too few random images have cycles, or links that do not rise");
+    }
     if refused.min(RANDOM - refused) < RANDOM / 5 {
         listed.failed += 1;
         println!("FAILED: listing: too few random images are refused, or too few accepted");
