@@ -108,8 +108,8 @@ fn told(sort: &str, tried: &cuts::Tried, begun: Instant) {
         [images, falling, stores, cuts, partly, lowered].map(grouped);
     println!(
         "cuts: {stores} stores from {images} {sort} images on, {falling} of them with a link \
-         that does not rise, {cuts} images mended, {partly} with a write in part, {lowered} with G lowered, \
-         in {:.1} s",
+         that does not rise, {cuts} images mended, {partly} with a write in part, {lowered} with \
+         G lowered, in {:.1} s",
         begun.elapsed().as_secs_f64()
     );
 }
