@@ -176,7 +176,6 @@ def goals(table):
     def goal(row, image, most):
         return row, image, table[row, image]["project"], most
 
-    yield goal("check", full, 36000000)
     yield goal("check", full, 1.05 * CHECK_BEFORE)
     yield goal("check", renumbered, 4 * table["check", full]["project"])
     for row in ("count", "mend, accepted", "mend, cut before the link"):
