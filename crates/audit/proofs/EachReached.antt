@@ -2,10 +2,9 @@
 -- root, so the tally alone shows it. Elsewhere the search of `reaching` has met the nodes that are
 -- reached, and the lowest working number that is still 0 is the place of 16.
 use Prim.Native.Nat.{ℕ, zero, suc, _+_, _-_, _≤_, _<_}
-use mathlib.Core.Path.{_≡_, refl, sym, ap, _∙_}
+use mathlib.Core.Path.{_≡_, sym, ap, _∙_}
 use mathlib.Core.Logic.{_≢_}
-use mathlib.Core.List.{List, [], _∷_}
-use mathlib.Core.Option.{none}
+use mathlib.Core.List.{List, []}
 use native.Mathlib.Decide.{ℕ-discrete, decLe}
 use native.Mathlib.Omega.{arith}
 use lib.Dec.{eqb, ltb}
@@ -23,7 +22,6 @@ use Rattle.node.specs.Image.{tableOf}
 use Rattle.node.proofs.Tables.{framed}
 use Rattle.paper.specs.declared.Refusal.{Refusal}
 use Rattle.paper.specs.declared.Verdict.{Verdict}
-use Rattle.paper.specs.Hearing.{first}
 use Rattle.paper.specs.Answers.{rowOf}
 use Rattle.paper.specs.Rows.{row16}
 use Rattle.paper.proofs.Hearing.{first-nil, first-some, first-none}

@@ -11,11 +11,12 @@ use native.Mathlib.Decide.{ℕ-discrete}
 use native.Mathlib.Numerals.{add-one}
 use native.Mathlib.Omega.{arith}
 use lib.Dec.{eqb}
-use lib.ListN.{length, getD, set, drop, replicate, length-set, length-replicate, getD-replicate}
+use lib.ListN.{length, getD, set, drop, replicate, length-replicate, getD-replicate}
 use lib.ListN.{List·getD-append}
-use lib.Seq.{getD-set-same, getD-set-other, drop-set-lt}
+use lib.Seq.{getD-set-same, getD-set-other}
 use borrow.Author.Tests.{eq-eqb, ne-eqb}
 use Rattle.trie.specs.Table.{Table}
+use Rattle.trie.specs.Lowest.{anyBelow}
 use Rattle.head.specs.declared.Head.{Head}
 use Rattle.node.specs.Image.{tableOf}
 use Rattle.paper.specs.Rows.{badLink, holdsBad, timesIn, times}
@@ -35,7 +36,7 @@ pub record Counting (g n : ℕ) (t : Table) (q : ℕ) (work work′ : List ℕ) 
   pub kept : RestKept g work work′
 
 pub counting-none : (g n : ℕ) (t : Table) (q : ℕ) (work : List ℕ) → Counting g n t q work work 0
-unfolding holdsBad timesIn
+unfolding holdsBad anyBelow timesIn
 counting-none g n t q work =
     record {
       within = omega arith;
@@ -83,7 +84,7 @@ module _ {g n : ℕ} {t : Table} {q : ℕ} {work work′ : List ℕ} {i : ℕ}
       ≡ min 2 (m + cond (eqb c x) 1 0))
       → (getD work″ 0 0 ≡ 0 → (getD work′ 0 0 ≡ 0) × (c ≢ 0 → q < c))
       → Counting g n t q work work″ (i + 1)
-  unfolding holdsBad timesIn
+  unfolding holdsBad anyBelow timesIn
   one-more {c} {work″} e good kept step told =
       record {
         within = omega arith;

@@ -3,7 +3,7 @@
 -- none. So a search in the working numbers finds the place of 7 and of 8.
 use mathlib.Core.Path.{_≡_, refl, sym, ap, _∙_}
 use mathlib.Core.Bool.{Bool}
-use mathlib.Core.Option.{none, some}
+use mathlib.Core.Option.{none}
 use mathlib.Core.List.{List, [], _∷_, _++_}
 use Prim.Native.Nat.{ℕ, _+_, _-_, _≤_, _<_, min}
 use native.Mathlib.Decide.{ℕ-discrete, decLe}
@@ -23,7 +23,7 @@ use Rattle.node.proofs.Tables.{framed}
 use Rattle.paper.specs.declared.Refusal.{Refusal}
 use Rattle.paper.specs.declared.Verdict.{Verdict}
 use Rattle.paper.specs.Hearing.{Row, first}
-use Rattle.paper.specs.Answers.{numberAt, rowOf}
+use Rattle.paper.specs.Answers.{rowOf}
 use Rattle.paper.specs.Rows.{row5, row6, row7, row8, row16, times}
 use Rattle.paper.specs.Orders.{openingRowsOf, linkRows, checkOrder}
 use Rattle.paper.specs.Calls.{clearedBy, workAfter}

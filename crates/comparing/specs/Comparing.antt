@@ -12,7 +12,6 @@ use Rattle.paper.specs.Answers.{rowOf}
 use Rattle.paper.specs.Given.{alphabetIn}
 use Rattle.paper.specs.Orders.{checkOrder}
 use Rattle.paper.specs.Calls.{workAfter}
-use Rattle.position.specs.Counts.{RightCounts}
 use Rattle.position.specs.Orders.{checkCountsOrder}
 use Rattle.position.specs.Calls.{workLeft}
 use Rattle.opening.specs.declared.Opened.{Opened}

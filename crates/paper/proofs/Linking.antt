@@ -1,18 +1,17 @@
 -- Rows 6 to 8 and 16, and the rules on links: the rows pass exactly where the rules hold. The rows
 -- speak of the nodes and letters of the image, the rules of every link; a table has no other
 -- link. In how many links an address stands is a sum, above 0 where one link holds the address.
-use Prim.Native.Nat.{ℕ, zero, suc, _+_, _≤_, _<_}
+use Prim.Native.Nat.{ℕ, _+_, _≤_, _<_}
 use mathlib.Core.Path.{_≡_, refl, sym, _∙_, subst}
-use mathlib.Core.Bool.{Bool, true, false, not, _&&_, _||_, cond, or-true}
-use mathlib.Core.Logic.{_↔_, _≢_, _⊎_, inl, inr, ⊎-elim}
+use mathlib.Core.Bool.{Bool, true, false, cond}
+use mathlib.Core.Logic.{_↔_, _≢_}
 use mathlib.Core.Option.{none, some}
 use mathlib.Core.List.{[], _∷_}
 use native.Mathlib.Omega.{arith}
 use native.Mathlib.Decide.{ℕ-discrete, decLe}
 use lib.Dec.{leb, ltb, eqb}
-use borrow.Author.Tests.{lt-ltb, le-ltb, le-leb, lt-leb, eq-eqb, ne-eqb, leb-true, leb-false}
-use borrow.Author.Tests.{ltb-true, ltb-false, eqb-true, eqb-false, not-false}
-use Rattle.field.proofs.Range.{both}
+use borrow.Author.Tests.{lt-ltb, le-ltb, lt-leb, eq-eqb, ne-eqb, leb-false}
+use borrow.Author.Tests.{ltb-true, ltb-false, eqb-true, eqb-false}
 use Rattle.trie.specs.Table.{Table}
 use Rattle.trie.specs.Lowest.{lowest}
 use Rattle.trie.specs.Rules.{Framed, Within, Named, Once, AllReached, LinkRules}
@@ -21,6 +20,7 @@ use Rattle.trie.specs.Storing.{grow}
 use Rattle.trie.proofs.Depth.{reached-depth, depth-reached}
 use Rattle.trie.proofs.Walk.{descend-nil}
 use Rattle.trie.proofs.Lowest.{NonePasses, lowest-none, none-lowest, lowest-least, lowest-at}
+use Rattle.trie.proofs.Lowest.{any-here, any-none, none-any}
 use Rattle.trie.proofs.Counted.{Sums, one-part, two-parts, some-part, one-at-most}
 use Rattle.trie.proofs.Unlinked.{unlinked-within, unlinked-once, unlinked-names}
 use Rattle.trie.proofs.Unlinked.{unlinked-none}
@@ -50,28 +50,17 @@ module _ (g : ℕ) (t : Table) (q : ℕ) where
   pub holds-bad : (m : ℕ) {i : ℕ} → i < m → badLink g (t .child q i) ≡ true → holdsBad g t q m
       ≡ true
   unfolding holdsBad
-  holds-bad zero h e = absurd (omega arith)
-  holds-bad (suc m) {i} h e = go (ℕ-discrete i m) (λ b. holds-bad m b e)
-    where
-      go : Dec (i ≡ m) → (i < m → holdsBad g t q m ≡ true)
-          → (holdsBad g t q m || badLink g (t .child q m)) ≡ true
-      go (yes s) on = let f : badLink g (t .child q m) ≡ true = rw (← s) e in
-          rw f (or-true (holdsBad g t q m))
-      go (no d) on = rw (on (omega arith))
+  holds-bad m h e = any-here (λ i. badLink g (t .child q i)) m h e
 
   pub holds-none : (m : ℕ) → ((i : ℕ) → i < m → badLink g (t .child q i) ≡ false)
       → holdsBad g t q m ≡ false
   unfolding holdsBad
-  holds-none zero good = refl
-  holds-none (suc m) good = rw (holds-none m (λ i h. good i (omega arith)), good m (omega arith))
+  holds-none m good = any-none (λ i. badLink g (t .child q i)) m good
 
   pub none-held : (m : ℕ) → holdsBad g t q m ≡ false → (i : ℕ) → i < m → badLink g (t .child q i)
       ≡ false
-  none-held m e i h = go (badLink g (t .child q i)) refl
-    where
-      go : (b : Bool) → badLink g (t .child q i) ≡ b → b ≡ false
-      go true f = sym (holds-bad m h f) ∙ e
-      go false f = refl
+  unfolding holdsBad
+  none-held m e i h = none-any (λ i. badLink g (t .child q i)) m e i h
 
 -- ---- in how many links an address stands
 

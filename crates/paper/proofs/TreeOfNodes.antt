@@ -1,14 +1,10 @@
 -- The nodes of an accepted image are a tree in TRIEFF's own words. Each rule is a law on tables
 -- (`trie/proofs/Tree.antt`), since 01's rules on links are part of `Accepted`.
 use mathlib.Core.List.{List}
-use mathlib.Core.Path.{_≡_, sym}
 use Prim.Native.Nat.{ℕ}
-use Rattle.trie.specs.Table.{Table}
-use Rattle.trie.specs.Tree.{Parent, Ancestor, parent, above}
+use Rattle.trie.specs.Tree.{parent, above}
 use Rattle.trie.proofs.Tree.{has-parent, one-parent, root-parentless, parent-within, child-within}
 use Rattle.trie.proofs.Tree.{not-own-ancestor}
-use Rattle.head.specs.Fields.{headOf}
-use Rattle.paper.specs.Calls.{tableIn}
 use Rattle.paper.specs.Accepted.{Accepted, TrieffTree}
 use Rattle.paper.proofs.CheckCall.{accepted-linked}
 

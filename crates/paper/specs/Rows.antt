@@ -2,14 +2,14 @@
 -- and 16 of 02.
 -- Each takes what its row speaks of, and says when the row is given and with which place.
 use Prim.Native.Nat.{ℕ, zero, suc, _+_, _-_, _*_, _^_}
-use mathlib.Core.Bool.{Bool, true, false, not, _&&_, _||_, cond}
+use mathlib.Core.Bool.{Bool, true, false, not, _&&_, cond}
 use mathlib.Core.Option.{Option, none, some}
 use mathlib.Core.List.{List, [], _∷_}
 use lib.ListN.{length}
 use lib.Dec.{leb, ltb, eqb}
 use Rattle.field.specs.Range.{between}
 use Rattle.trie.specs.Table.{Table, fault}
-use Rattle.trie.specs.Lowest.{lowest}
+use Rattle.trie.specs.Lowest.{lowest, anyBelow}
 use Rattle.trie.specs.Tree.{depthOf}
 use Rattle.head.specs.declared.Head.{Head}
 use Rattle.head.specs.Fields.{shortestImage, longestImage, permitted, nodeWidth, usedLen}
@@ -50,9 +50,8 @@ badLink g c = ltb g c
 
 -- does one of the first m links of node q break it?
 unfoldable pub holdsBad : ℕ → Table → ℕ → ℕ → Bool
-unfolding badLink
-holdsBad g t q zero = false
-holdsBad g t q (suc m) = holdsBad g t q m || badLink g (t .child q m)
+unfolding anyBelow badLink
+holdsBad g t q m = anyBelow (λ i. badLink g (t .child q i)) m
 
 -- a row whose place is the lowest of the numbers a..a+k-1 that passes the test; it is not given
 -- where none passes

@@ -4,7 +4,7 @@
 use Prim.Native.Nat.{ℕ, zero, suc, _+_, _≤_, _<_}
 use mathlib.Core.Path.{_≡_, refl, sym, _∙_}
 use mathlib.Core.Logic.{_↔_, _≢_, _⊎_, inl, inr, ⊎-elim}
-use mathlib.Core.Bool.{Bool, true, false, true≢false, false≢true}
+use mathlib.Core.Bool.{Bool, true, false, true≢false}
 use mathlib.Core.List.{List, []}
 use native.Mathlib.Decide.{ℕ-discrete, decLe}
 use native.Mathlib.Omega.{arith}
@@ -15,7 +15,7 @@ use Rattle.trie.specs.Lowest.{lowest}
 use Rattle.trie.specs.Tree.{depthOf}
 use Rattle.trie.proofs.Walk.{descend-nil}
 use Rattle.trie.proofs.Depth.{reached-depth, depth-reached}
-use Rattle.trie.proofs.Lowest.{lowest-least, none-lowest, lowest-found}
+use Rattle.trie.proofs.Lowest.{lowest-least, none-lowest, lowest-found, any-found}
 use Rattle.trie.proofs.Counted.{Sums, some-part}
 use Rattle.head.specs.declared.Head.{Head}
 use Rattle.head.specs.Fields.{headOf}
@@ -92,14 +92,7 @@ bad-breaks g c = (ltb-true g c, lt-ltb g c)
 bad-held : (g : ℕ) (t : Table) (q m : ℕ) → holdsBad g t q m ≡ true
     → (i : ℕ) × (i < m) × (badLink g (t .child q i) ≡ true)
 unfolding holdsBad
-bad-held g t q zero e = absurd (false≢true e)
-bad-held g t q (suc m) e = go (holdsBad g t q m) refl (bad-held g t q m)
-  where
-    go : (b : Bool) → holdsBad g t q m ≡ b
-        → (holdsBad g t q m ≡ true → (i : ℕ) × (i < m) × (badLink g (t .child q i) ≡ true))
-        → (i : ℕ) × (i < suc m) × (badLink g (t .child q i) ≡ true)
-    go true f rest = let (i, b, s) = rest f in (i, omega arith, s)
-    go false f rest = (m, omega arith, rw f at e)
+bad-held g t q m e = any-found (λ i. badLink g (t .child q i)) m e
 
 -- ---- 7 and 8
 

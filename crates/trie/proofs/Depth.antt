@@ -4,7 +4,7 @@
 use Prim.Native.Nat.{ℕ, zero, suc, _+_, _≤_, _<_}
 use mathlib.Core.Path.{_≡_, refl, sym, ap, _∙_}
 use mathlib.Core.Logic.{_≢_}
-use mathlib.Core.Bool.{Bool, true, false, _&&_, _||_, cond, or-true}
+use mathlib.Core.Bool.{Bool, true, false, _&&_, _||_, cond, false≢true}
 use mathlib.Core.List.{List, [], _∷_, _++_, reverse, reverse-cons, reverse-reverse}
 use native.Mathlib.Omega.{arith}
 use native.Mathlib.Decide.{ℕ-discrete, decLe}
@@ -15,40 +15,9 @@ use Rattle.trie.specs.Table.{Table, complete, descend}
 use Rattle.trie.specs.Lowest.{anyBelow, lowest}
 use Rattle.trie.specs.Rules.{Framed}
 use Rattle.trie.specs.Tree.{Parent, Reachable, holdsAddress, atDepth, depthOf}
-use Rattle.trie.proofs.Lowest.{lowest-found, none-lowest}
+use Rattle.trie.proofs.Lowest.{lowest-found, none-lowest, any-found, any-here}
 use Rattle.trie.proofs.Tree.{link-on, parent-within}
 use Rattle.trie.proofs.Walk.{descend-nil, descend-append, last-link}
-
--- ---- whether one of the numbers below m passes
-
-none-true : false ≡ true → ⊥
-none-true e = let z : _≡_ {A = ℕ} 0 1 = cc in omega arith
-
-both : (a b : Bool) → (a && b) ≡ true → (a ≡ true) × (b ≡ true)
-both true true e = (refl, refl)
-both true false e = absurd (none-true e)
-both false b e = absurd (none-true e)
-
-pub any-found : (p : ℕ → Bool) (m : ℕ) → anyBelow p m ≡ true → (i : ℕ) × (i < m) × (p i ≡ true)
-unfolding anyBelow
-any-found p zero e = absurd (none-true e)
-any-found p (suc m) e = go (anyBelow p m) refl (any-found p m) e
-  where
-    go : (b : Bool) → anyBelow p m ≡ b
-        → (anyBelow p m ≡ true → (i : ℕ) × (i < m) × (p i ≡ true))
-        → (b || p m) ≡ true
-        → (i : ℕ) × (i < suc m) × (p i ≡ true)
-    go true f below e = let (i, b, h) = below f in (i, omega arith, h)
-    go false f below e = (m, omega arith, e)
-
-pub any-here : (p : ℕ → Bool) (m : ℕ) {i : ℕ} → i < m → p i ≡ true → anyBelow p m ≡ true
-unfolding anyBelow
-any-here p zero h e = absurd (omega arith)
-any-here p (suc m) {i} h e = go (ℕ-discrete i m) (λ b. any-here p m b e)
-  where
-    go : Dec (i ≡ m) → (i < m → anyBelow p m ≡ true) → (anyBelow p m || p m) ≡ true
-    go (yes s) on = let f : p m ≡ true = rw (← s) e in rw f (or-true (anyBelow p m))
-    go (no d) on = rw (on (omega arith))
 
 -- ---- sums of parts, compared
 
@@ -81,6 +50,11 @@ total-more a b less (suc m) y high more = go (ℕ-discrete y m) (total-more a b 
 
 -- ---- links and walks
 
+both : (a b : Bool) → (a && b) ≡ true → (a ≡ true) × (b ≡ true)
+both true true e = (refl, refl)
+both true false e = absurd (false≢true e)
+both false b e = absurd (false≢true e)
+
 module _ (t : Table) (n g : ℕ) where
   held : (q x : ℕ) → holdsAddress t n q (suc x) ≡ true → Parent t q (suc x)
   unfolding holdsAddress
@@ -92,7 +66,7 @@ module _ (t : Table) (n g : ℕ) where
   parent-at : (k x : ℕ) → atDepth t n g (suc k) x ≡ true
       → (q : ℕ) × (q ≤ g) × Parent t q x × (atDepth t n g k q ≡ true)
   unfolding atDepth
-  parent-at k zero e = absurd (none-true e)
+  parent-at k zero e = absurd (false≢true e)
   parent-at k (suc x) e =
       let (q, b, f) = any-found (λ q. holdsAddress t n q (suc x) && atDepth t n g k q) (g + 1) e in
       let (c, d) = both (holdsAddress t n q (suc x)) (atDepth t n g k q) f in
@@ -173,7 +147,7 @@ module _ (t : Table) (n g : ℕ) where
                 → atDepth t n g i q ≡ b
                 → b ≡ false
             earlier q a i h true e =
-                absurd (none-true (sym (f .least (suc i) (omega arith)) ∙ at-child i q x a e))
+                absurd (false≢true (sym (f .least (suc i) (omega arith)) ∙ at-child i q x a e))
             earlier q a i h false e = refl
 
     -- is node y met with fewer than j links?
@@ -205,7 +179,7 @@ module _ (t : Table) (n g : ℕ) where
             → cond b 1 0 < cond (b || atDepth t n g j y) 1 0
         go true e =
             let (k, h, d) = any-found (λ k. atDepth t n g k y) j e in
-            absurd (none-true (sym (f .least k h) ∙ d))
+            absurd (false≢true (sym (f .least k h) ∙ d))
         go false e = rw (f .at) (omega arith)
 
     -- with fewer than j links, j nodes or more are met
@@ -234,7 +208,7 @@ module _ (t : Table) (n g : ℕ) where
         here j = atDepth t n g j x
 
         go : Dec (suc k ≤ lowest here 0 (suc k)) → (j : ℕ) × First j x
-        go (yes b) = absurd (none-true
+        go (yes b) = absurd (false≢true
             (sym (none-lowest here 0 (suc k) (omega arith) k (omega arith) (omega arith)) ∙ e))
         go (no b) =
             let (f, before) = lowest-found here 0 (suc k) (omega arith) in (
@@ -257,7 +231,7 @@ module _ (t : Table) (n g : ℕ) where
         go j f (yes b) = b
         go j f (no b) =
             let low : j < 0 + (g + 1) = omega (arith, few j x f) in
-            absurd (none-true
+            absurd (false≢true
             (sym (none-lowest here 0 (g + 1) (omega arith) j (omega arith) low) ∙ f .at))
 
   pub depth-reached : (x : ℕ) → depthOf t n g x ≤ g → Reachable t x

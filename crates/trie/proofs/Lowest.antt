@@ -1,11 +1,12 @@
 -- The lowest number that passes a test, determined by which numbers pass. Each law goes up from
--- the first number: if it passes, it is the lowest; otherwise the rest is searched.
+-- the first number: if it passes, it is the lowest; otherwise the rest is searched. At the end,
+-- whether there is one at all.
 use Prim.Native.Nat.{ℕ, zero, suc, _+_, _≤_, _<_}
-use mathlib.Core.Path.{_≡_, refl, ap, _∙_}
-use mathlib.Core.Bool.{Bool, true, false}
+use mathlib.Core.Path.{_≡_, refl, sym, ap, _∙_}
+use mathlib.Core.Bool.{Bool, true, false, _||_, or-true, false≢true}
 use native.Mathlib.Omega.{arith}
 use native.Mathlib.Decide.{ℕ-discrete, decLe}
-use Rattle.trie.specs.Lowest.{lowest}
+use Rattle.trie.specs.Lowest.{lowest, anyBelow}
 
 module _ (p : ℕ → Bool) where
   -- none of the k numbers from a on passes
@@ -90,3 +91,39 @@ lowest-found p a (suc k) h = go (p a) refl (lowest-found p (suc a) k)
             → p y ≡ false
         before y (yes b) low high f = f b high
         before y (no b) low high f = let same : y ≡ a = omega arith in ap p same ∙ e
+
+-- ---- whether one of the numbers below m passes
+
+module _ (p : ℕ → Bool) where
+  pub any-found : (m : ℕ) → anyBelow p m ≡ true → (i : ℕ) × (i < m) × (p i ≡ true)
+  unfolding anyBelow
+  any-found zero e = absurd (false≢true e)
+  any-found (suc m) e = go (anyBelow p m) refl (any-found m) e
+    where
+      go : (b : Bool) → anyBelow p m ≡ b
+          → (anyBelow p m ≡ true → (i : ℕ) × (i < m) × (p i ≡ true))
+          → (b || p m) ≡ true
+          → (i : ℕ) × (i < suc m) × (p i ≡ true)
+      go true f below e = let (i, b, h) = below f in (i, omega arith, h)
+      go false f below e = (m, omega arith, e)
+
+  pub any-here : (m : ℕ) {i : ℕ} → i < m → p i ≡ true → anyBelow p m ≡ true
+  unfolding anyBelow
+  any-here zero h e = absurd (omega arith)
+  any-here (suc m) {i} h e = go (ℕ-discrete i m) (λ b. any-here m b e)
+    where
+      go : Dec (i ≡ m) → (i < m → anyBelow p m ≡ true) → (anyBelow p m || p m) ≡ true
+      go (yes s) on = let f : p m ≡ true = rw (← s) e in rw f (or-true (anyBelow p m))
+      go (no d) on = rw (on (omega arith))
+
+  pub any-none : (m : ℕ) → ((i : ℕ) → i < m → p i ≡ false) → anyBelow p m ≡ false
+  unfolding anyBelow
+  any-none zero none = refl
+  any-none (suc m) none = rw (any-none m (λ i h. none i (omega arith)), none m (omega arith))
+
+  pub none-any : (m : ℕ) → anyBelow p m ≡ false → (i : ℕ) → i < m → p i ≡ false
+  none-any m e i h = go (p i) refl
+    where
+      go : (b : Bool) → p i ≡ b → b ≡ false
+      go true f = sym (any-here m h f) ∙ e
+      go false f = refl

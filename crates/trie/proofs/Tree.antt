@@ -1,10 +1,10 @@
 -- A table that meets the rules on links is a tree as 002 describes it. A node's only parent is
 -- the node of the only link that holds its address. A node that is its own ancestor would be
 -- reached by two keys, which `one-key` excludes.
-use Prim.Native.Nat.{ℕ, zero, suc, _≤_, _<_}
+use Prim.Native.Nat.{ℕ, _≤_}
 use mathlib.Core.Path.{_≡_, refl, sym, _∙_, ap}
 use mathlib.Core.List.{List, [], _∷_, _++_}
-use native.Mathlib.Decide.{ℕ-discrete, decLe}
+use native.Mathlib.Decide.{decLe}
 use native.Mathlib.Omega.{arith}
 use lib.ListN.{length, length-append}
 use Rattle.trie.specs.Table.{Table, complete, descend}

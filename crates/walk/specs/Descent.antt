@@ -3,9 +3,7 @@
 -- "the first refusal met on the way down is the answer, and its place is the node that holds that
 -- link".
 use Prim.Native.Nat.{ℕ, _+_}
-use mathlib.Core.Path.{_≡_}
-use mathlib.Core.Logic.{_≢_}
-use mathlib.Core.Bool.{false, cond}
+use mathlib.Core.Bool.{cond}
 use mathlib.Core.Option.{Option, none, some}
 use mathlib.Core.List.{List, [], _∷_}
 use Rattle.trie.specs.Table.{Table, follow, answer, fault}

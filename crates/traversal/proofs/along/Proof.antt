@@ -12,7 +12,6 @@ use lib.ListN.{length, getD, take, set, length-set}
 use lib.Seq.{getD-take}
 use Rattle.head.specs.Fields.{mostLetters}
 use Rattle.head.proofs.Permitted.{bounds}
-use Rattle.node.specs.Image.{tableOf}
 use Rattle.key.specs.Hand.{lettersOf}
 use Rattle.key.proofs.Hand.{letters-count, letter-below}
 use Rattle.walk.specs.declared.Position.{Position}
