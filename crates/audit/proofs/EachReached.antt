@@ -27,8 +27,9 @@ use Rattle.paper.specs.Rows.{row16}
 use Rattle.paper.proofs.Hearing.{first-nil, first-some, first-none}
 use Rattle.paper.proofs.Linking.{row16-none, unreached}
 use Rattle.reaching.specs.Reaching.{Searched}
-use Rattle.audit.specs.Audit.{ReachedJudged, FoundFrom}
-use Rattle.audit.proofs.LowestFound.{lowest-same, given-at, given-nowhere}
+use Rattle.tallying.specs.Tallied.{FoundFrom}
+use Rattle.audit.specs.Audit.{ReachedJudged}
+use Rattle.tallying.proofs.LowestFound.{lowest-same, given-at, given-nowhere}
 
 -- ---- links that lead upward
 

@@ -35,10 +35,10 @@ use Rattle.paper.proofs.Linking.{none-within, none-named, row16-none}
 use Rattle.reaching.proofs.Kept.{kept-more}
 use Rattle.opening.specs.declared.Opened.{Opened}
 use Rattle.opening.specs.Opened.{Opens}
-use Rattle.audit.specs.Audit.{Checked, Audited, LinksJudged, ReachedJudged, BadFrom}
-use Rattle.audit.specs.Audit.{Tally, AllOnce, FoundFrom}
-use Rattle.audit.proofs.Clearing.{cleared-rest, kept-cleared}
-use Rattle.audit.proofs.LowestFound.{lowest-same, given-at, given-nowhere}
+use Rattle.tallying.specs.Tallied.{BadFrom, Tally, AllOnce, FoundFrom}
+use Rattle.audit.specs.Audit.{Checked, Audited, LinksJudged, ReachedJudged}
+use Rattle.tallying.proofs.Clearing.{cleared-rest, kept-cleared}
+use Rattle.tallying.proofs.LowestFound.{lowest-same, given-at, given-nowhere}
 use Rattle.audit.proofs.EachReached.{upward-reached}
 
 -- ---- 6 to 8 and 16

@@ -1,7 +1,7 @@
 -- The outcome of the comparison at each return of the code: what the check answers, or 25 if it
 -- has passed. The fresh counts are the front of the working numbers. So comparing the two lists
 -- gives row 25, and clearing the front leaves what the check left.
-use Prim.Native.Nat.{ℕ, _+_, _≤_, _<_, _^_}
+use Prim.Native.Nat.{ℕ, _+_, _≤_, _<_}
 use native.Mathlib.Omega.{arith}
 use mathlib.Core.Path.{_≡_, refl, sym, _∙_, ap}
 use mathlib.Core.Bool.{not}
@@ -18,9 +18,8 @@ use Rattle.paper.specs.Hearing.{Row, first, rowWhen}
 use Rattle.paper.specs.Answers.{rowOf}
 use Rattle.paper.specs.Rows.{rowWhenLowest}
 use Rattle.paper.specs.Orders.{checkOrder}
-use Rattle.paper.specs.Calls.{tableIn}
 use Rattle.paper.specs.Accepted.{Accepted}
-use Rattle.paper.proofs.Hearing.{first-nil, first-part, second-part, told-refused, told-passed}
+use Rattle.paper.proofs.Hearing.{first-part, second-part, told-refused, told-passed}
 use Rattle.paper.proofs.CheckCall.{check-accepts, checked}
 use Rattle.position.specs.Counts.{countIn, countsIn, row25}
 use Rattle.position.specs.Orders.{usable, countsOrder, checkCountsOrder}
@@ -28,8 +27,8 @@ use Rattle.position.specs.Calls.{workLeft, worked}
 use Rattle.position.proofs.Plain.{both-lent, work-left}
 use Rattle.position.proofs.Right.{counts-length, worked-length, worked-right}
 use Rattle.opening.specs.declared.Opened.{Opened}
-use Rattle.audit.proofs.Clearing.{cleared-rest, cleared-again}
-use Rattle.audit.proofs.LowestFound.{lowest-same}
+use Rattle.tallying.proofs.Clearing.{cleared-rest, cleared-again}
+use Rattle.tallying.proofs.LowestFound.{lowest-same}
 use Rattle.comparing.specs.Comparing.{CheckedBoth, Compared}
 
 -- working the counts out keeps what comes after them

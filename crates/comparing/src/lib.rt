@@ -55,7 +55,7 @@ pub fn compare(
             let nodes = (h.g as usize) + 1;
             weighing::add_up(image, h, work);
             let differs = first_different(work, counts, nodes);
-            audit::clear(work, nodes);
+            tallying::clear(work, nodes);
             Opened {
                 verdict: judge(differs, nodes),
                 head: h,

@@ -15,7 +15,7 @@ use Rattle.head.specs.declared.Head.{Head}
 use Rattle.head.specs.Fields.{headOf}
 use Rattle.node.specs.Image.{tableOf}
 use Rattle.depths.specs.Depths.{KeysBelow}
-use Rattle.audit.proofs.Clearing.{cleared-rest, cleared-again}
+use Rattle.tallying.proofs.Clearing.{cleared-rest, cleared-again}
 use Rattle.counting.proofs.Counting.{owned}
 use Rattle.passing.proofs.Weights.{weight-count}
 use Rattle.passing.proofs.Reached.{count-few, count-outside, each-length, each-at}

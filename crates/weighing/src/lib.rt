@@ -21,7 +21,7 @@ pub fn weigh(image: &[u8], h: Head, list: &mut [u32])
         ∗ ⌜ h .g + 1 ≤ length (now list) ⌝ }
     ensures { λ _. ⌜ now (list .exit) ≡ worked (now (image .entry)) (now (list .entry)) ⌝ }
 {
-    audit::clear(list, (h.g as usize) + 1);
+    tallying::clear(list, (h.g as usize) + 1);
     add_up(image, h, list);
 }
 

@@ -3,7 +3,7 @@
 use Prim.Native.Nat.{_+_}
 use native.Mathlib.Omega.{arith}
 use borrow.Author.Needs.{needs}
-use Rattle.audit.proofs.Clearing.{cleared-again}
+use Rattle.tallying.proofs.Clearing.{cleared-again}
 use Rattle.audit.proofs.Verdicts.{audited-few, audited-linked}
 use Rattle.audit.proofs.audit.Statement.{statement}
 use Rattle.audit.proofs.audit.Tie as tie

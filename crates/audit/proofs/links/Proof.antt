@@ -6,7 +6,7 @@ use native.Mathlib.Omega.{arith}
 use borrow.Author.Needs.{needs}
 use borrow.Author.Tests.{eqb-true}
 use Rattle.field.proofs.Range.{both}
-use Rattle.audit.proofs.Clearing.{cleared-again, kept-cleared}
+use Rattle.tallying.proofs.Clearing.{cleared-again, kept-cleared}
 use Rattle.audit.proofs.Verdicts.{linked-bad, linked-once, linked-twice, linked-missing}
 use Rattle.audit.proofs.Verdicts.{linked-within, linked-reached}
 use Rattle.audit.proofs.links.Statement.{statement}

@@ -8,8 +8,8 @@ use lib.ListN.{getD}
 use borrow.Author.Needs.{needs}
 use borrow.Author.Tests.{eq-eqb, ne-eqb}
 use Rattle.paper.proofs.Hearing.{untrue, unfalse}
-use Rattle.audit.proofs.LowestFound.{Seeking, seeking-none, seeking-more, seeking-found}
-use Rattle.audit.proofs.LowestFound.{seeking-all}
+use Rattle.tallying.proofs.LowestFound.{Seeking, seeking-none, seeking-more, seeking-found}
+use Rattle.tallying.proofs.LowestFound.{seeking-all}
 use Rattle.comparing.proofs.Comparing.{alike-nowhere}
 use Rattle.comparing.proofs.first_different.Statement.{statement}
 use Rattle.comparing.proofs.first_different.Tie as tie

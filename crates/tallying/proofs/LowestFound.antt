@@ -17,7 +17,7 @@ use Rattle.field.proofs.Range.{both}
 use Rattle.paper.specs.Answers.{numberAt}
 use Rattle.paper.specs.Rows.{rowWhenLowest}
 use Rattle.paper.proofs.Hearing.{is-given, not-given}
-use Rattle.audit.specs.Audit.{AllOnce}
+use Rattle.tallying.specs.Tallied.{AllOnce}
 
 -- of the k numbers from a on, those below x are passed over
 pub record Seeking (p : ℕ → Bool) (a k x : ℕ) : Type 0 where

@@ -1,10 +1,10 @@
--- `audit::all_once` meets its contract: while the answer is true, every working number read is
+-- `tallying::all_once` meets its contract: while the answer is true, every working number read is
 -- 1. The measure is how many are left. Assumes nothing.
 use Prim.Native.Nat.{_-_}
 use native.Mathlib.Omega.{arith}
-use Rattle.audit.proofs.LowestFound.{Sole, sole-none, sole-more, sole-all}
-use Rattle.audit.proofs.all_once.Statement.{statement}
-use Rattle.audit.proofs.all_once.Tie as tie
+use Rattle.tallying.proofs.LowestFound.{Sole, sole-none, sole-more, sole-all}
+use Rattle.tallying.proofs.all_once.Statement.{statement}
+use Rattle.tallying.proofs.all_once.Tie as tie
 
 abbrev Inv-loop : tie.InvT-loop
 Inv-loop work nodes once₀ x₀ once x = Sole work once x

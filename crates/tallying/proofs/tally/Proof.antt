@@ -1,4 +1,4 @@
--- `audit::tally` meets its contract: a node without links adds nothing; else each turn counts
+-- `tallying::tally` meets its contract: a node without links adds nothing; else each turn counts
 -- one more link, or stops at a bad one. The measure is how many links are left. Assumes nothing.
 use mathlib.Core.Path.{sym, _∙_}
 use mathlib.Core.Logic.{⊎-elim}
@@ -6,12 +6,12 @@ use Prim.Native.Nat.{_-_}
 use native.Mathlib.Omega.{arith}
 use borrow.Author.Needs.{needs}
 use Rattle.node.specs.Image.{tableOf}
-use Rattle.audit.proofs.Tallying.{Counting, counting-none, counting-empty, counting-full}
-use Rattle.audit.proofs.Tallying.{counting-more, counting-room, Noted, noted-lower}
-use Rattle.audit.proofs.Tallying.{noted-upward, tallied-all, tallied-bad}
-use Rattle.audit.proofs.Tallying.{tallied-childless}
-use Rattle.audit.proofs.tally.Statement.{statement}
-use Rattle.audit.proofs.tally.Tie as tie
+use Rattle.tallying.proofs.Tallying.{Counting, counting-none, counting-empty, counting-full}
+use Rattle.tallying.proofs.Tallying.{counting-more, counting-room, Noted, noted-lower}
+use Rattle.tallying.proofs.Tallying.{noted-upward, tallied-all, tallied-bad}
+use Rattle.tallying.proofs.Tallying.{tallied-childless}
+use Rattle.tallying.proofs.tally.Statement.{statement}
+use Rattle.tallying.proofs.tally.Tie as tie
 
 abbrev Inv-loop : tie.InvT-loop
 Inv-loop image h mask q work₀ i₀ work i = Counting (h .g) (h .n) (tableOf h image) q work₀ work i

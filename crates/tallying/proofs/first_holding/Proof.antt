@@ -1,14 +1,14 @@
--- `audit::first_holding` meets its contract: a search upwards from address 1. The measure is how
--- many addresses are left. Assumes nothing.
+-- `tallying::first_holding` meets its contract: a search upwards from address 1. The measure is
+-- how many addresses are left. Assumes nothing.
 use Prim.Native.Nat.{_-_}
 use native.Mathlib.Omega.{arith}
 use lib.Dec.{eqb}
 use lib.ListN.{getD}
 use borrow.Author.Tests.{eq-eqb, ne-eqb}
-use Rattle.audit.proofs.LowestFound.{Seeking, seeking-none, seeking-more, seeking-found}
-use Rattle.audit.proofs.LowestFound.{seeking-all}
-use Rattle.audit.proofs.first_holding.Statement.{statement}
-use Rattle.audit.proofs.first_holding.Tie as tie
+use Rattle.tallying.proofs.LowestFound.{Seeking, seeking-none, seeking-more, seeking-found}
+use Rattle.tallying.proofs.LowestFound.{seeking-all}
+use Rattle.tallying.proofs.first_holding.Statement.{statement}
+use Rattle.tallying.proofs.first_holding.Tie as tie
 
 abbrev Inv-loop : tie.InvT-loop
 Inv-loop work nodes v x₀ x = Seeking (λ y. eqb (getD work y 0) v) 1 (nodes - 1) x

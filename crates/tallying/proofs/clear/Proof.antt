@@ -1,10 +1,10 @@
--- `audit::clear` meets its contract: each turn sets one more of the first numbers to 0. The
+-- `tallying::clear` meets its contract: each turn sets one more of the first numbers to 0. The
 -- measure is how many are left. Assumes nothing.
 use Prim.Native.Nat.{_-_}
 use native.Mathlib.Omega.{arith}
-use Rattle.audit.proofs.Clearing.{Filling, filling-none, filling-more, filling-all}
-use Rattle.audit.proofs.clear.Statement.{statement}
-use Rattle.audit.proofs.clear.Tie as tie
+use Rattle.tallying.proofs.Clearing.{Filling, filling-none, filling-more, filling-all}
+use Rattle.tallying.proofs.clear.Statement.{statement}
+use Rattle.tallying.proofs.clear.Tie as tie
 
 abbrev Inv-loop : tie.InvT-loop
 Inv-loop work₀ n i₀ work i = Filling work₀ n work i

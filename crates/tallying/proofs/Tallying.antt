@@ -23,9 +23,9 @@ use Rattle.paper.specs.Rows.{badLink, holdsBad, timesIn, times}
 use Rattle.paper.proofs.Linking.{not-bad, holds-bad}
 use Rattle.reaching.specs.Reaching.{RestKept}
 use Rattle.reaching.proofs.Kept.{kept-none, kept-more, kept-set}
-use Rattle.audit.specs.Audit.{LinksCounted, Tallied, Upward, Tally, BadFrom}
-use Rattle.audit.proofs.LowestFound.{Seeking, seeking-none, seeking-more, seeking-found}
-use Rattle.audit.proofs.LowestFound.{seeking-all}
+use Rattle.tallying.specs.Tallied.{LinksCounted, Tallied, Upward, Tally, BadFrom}
+use Rattle.tallying.proofs.LowestFound.{Seeking, seeking-none, seeking-more, seeking-found}
+use Rattle.tallying.proofs.LowestFound.{seeking-all}
 
 -- ---- the links of a node
 

@@ -1,4 +1,4 @@
--- `audit::first_bad_node` meets its contract: each turn counts the links of one more node, or
+-- `tallying::first_bad_node` meets its contract: each turn counts the links of one more node, or
 -- stops at a node with a bad link, which is then the lowest. The measure is how many nodes are
 -- left. Assumes nothing.
 use Prim.Native.Nat.{_-_}
@@ -6,10 +6,10 @@ use native.Mathlib.Omega.{arith}
 use borrow.Author.Needs.{needs}
 use borrow.Author.Tests.{not-true, not-false}
 use Rattle.node.specs.Image.{tableOf}
-use Rattle.audit.proofs.Tallying.{Tallying, tallying-none, tallying-more, tallying-bad}
-use Rattle.audit.proofs.Tallying.{tallying-all}
-use Rattle.audit.proofs.first_bad_node.Statement.{statement}
-use Rattle.audit.proofs.first_bad_node.Tie as tie
+use Rattle.tallying.proofs.Tallying.{Tallying, tallying-none, tallying-more, tallying-bad}
+use Rattle.tallying.proofs.Tallying.{tallying-all}
+use Rattle.tallying.proofs.first_bad_node.Statement.{statement}
+use Rattle.tallying.proofs.first_bad_node.Tie as tie
 
 abbrev Inv-loop : tie.InvT-loop
 Inv-loop image h work₀ mask nodes q₀ work q = Tallying (h .g) (h .n) (tableOf h image) work₀ work q
