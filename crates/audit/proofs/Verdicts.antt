@@ -25,7 +25,7 @@ use Rattle.paper.specs.declared.Verdict.{Verdict}
 use Rattle.paper.specs.Hearing.{Row, first}
 use Rattle.paper.specs.Answers.{rowOf}
 use Rattle.paper.specs.Rows.{row5, row6, row7, row8, row16, times}
-use Rattle.paper.specs.Orders.{openingRowsOf, linkRows, checkOrder}
+use Rattle.paper.specs.Orders.{openingRowsOf, nodeRows, checkOrder}
 use Rattle.paper.specs.Calls.{clearedBy, workAfter}
 use Rattle.paper.specs.Accepted.{Accepted}
 use Rattle.paper.proofs.Hearing.{is-given, not-given, first-nil, first-some, first-none}
@@ -71,7 +71,7 @@ found t n g v work test tally same e =
 
 module _ {h : Head} {l work work′ : List ℕ} {bad : ℕ} (b : BadFrom h l work bad work′) where
   pub linked-bad : bad < h .g + 1 → LinksJudged h l work (Verdict.Refused (Refusal.Link bad)) work′
-  unfolding rowOf linkRows row6
+  unfolding rowOf nodeRows row6
   linked-bad low =
       record {
         verdict = sym (first-some _ _ (given-at 6 _ 0 (h .g + 1) (b .lowest-bad) (omega arith)));
@@ -89,7 +89,7 @@ module _ {h : Head} {l work work′ : List ℕ} {bad : ℕ} (b : BadFrom h l wor
 
     pub linked-twice : x < h .g + 1
         → LinksJudged h l work (Verdict.Refused (Refusal.LinkedTwice x)) work′
-    unfolding rowOf linkRows row7
+    unfolding rowOf nodeRows row7
     linked-twice low =
         record {
           verdict =
@@ -99,9 +99,9 @@ module _ {h : Head} {l work work′ : List ℕ} {bad : ℕ} (b : BadFrom h l wor
         }
 
     module _ (none-twice : h .g + 1 ≤ x) {y : ℕ} (missed : FoundFrom work′ (h .g + 1) 0 y) where
-      past-7 : first (linkRows h (tableOf h l))
+      past-7 : first (nodeRows h (tableOf h l))
           ≡ first (row8 h (tableOf h l) ∷ row16 h (tableOf h l) ∷ [])
-      unfolding linkRows row7
+      unfolding nodeRows row7
       past-7 =
           first-none _ _ past-6 ∙ first-none _ _ (given-nowhere 7 _ 1 (h .g) seventh (omega arith))
 
@@ -123,7 +123,7 @@ module _ {h : Head} {l work work′ : List ℕ} {bad : ℕ} (b : BadFrom h l wor
         unfolding row8
         none-8 = given-nowhere 8 _ 1 (h .g) eighth (omega arith)
 
-        past-8 : first (linkRows h (tableOf h l)) ≡ first (row16 h (tableOf h l) ∷ [])
+        past-8 : first (nodeRows h (tableOf h l)) ≡ first (row16 h (tableOf h l) ∷ [])
         past-8 = past-7 ∙ first-none _ _ none-8
 
         -- the numbers are cleared, and 16 is judged
@@ -169,7 +169,7 @@ module _ {h : Head} {l work work′ : List ℕ} {bad : ℕ} (b : BadFrom h l wor
         no-none : FoundFrom work′ (h .g + 1) 0 (h .g + 1)
         no-none = nowhere 0 (λ e. omega arith)
 
-        passed : first (linkRows h (tableOf h l)) ≡ first (row16 h (tableOf h l) ∷ [])
+        passed : first (nodeRows h (tableOf h l)) ≡ first (row16 h (tableOf h l) ∷ [])
         passed = past-8 high no-two (omega arith) no-none (omega arith)
 
         named : Named (tableOf h l) (h .g)
@@ -211,7 +211,7 @@ fifth l work = row5 (headOf l) (length work) ∷ []
 
 -- after 1 to 4: 5 to 8 and 16
 abbrev others : List ℕ → List ℕ → List Row
-others l work = row5 (headOf l) (length work) ∷ linkRows (headOf l) (tableOf (headOf l) l)
+others l work = row5 (headOf l) (length work) ∷ nodeRows (headOf l) (tableOf (headOf l) l)
 
 module _ {l : List ℕ} {r : Opened} {codes : List ℕ} (o : Opens l r codes) where
   pub checked-refused : (work : List ℕ) {why : Refusal} → r .verdict ≡ Verdict.Refused why

@@ -12,7 +12,7 @@ use Rattle.paper.specs.declared.Verdict.{Verdict}
 use Rattle.paper.specs.Hearing.{first}
 use Rattle.paper.specs.Answers.{rowOf}
 use Rattle.paper.specs.Given.{alphabetIn}
-use Rattle.paper.specs.Orders.{linkRows, checkOrder}
+use Rattle.paper.specs.Orders.{nodeRows, checkOrder}
 use Rattle.paper.specs.Rows.{row5, row16}
 use Rattle.paper.specs.Calls.{clearedBy, workAfter}
 use Rattle.opening.specs.declared.Opened.{Opened}
@@ -28,12 +28,12 @@ pub record Checked (l work : List ℕ) (r : Opened) (work′ codes : List ℕ) :
 
 -- 5 to 8 and 16 for an opened image
 pub record Audited (h : Head) (l work : List ℕ) (r : Verdict) (work′ : List ℕ) : Type 0 where
-  pub verdict : rowOf r ≡ first (row5 h (length work) ∷ linkRows h (tableOf h l))
+  pub verdict : rowOf r ≡ first (row5 h (length work) ∷ nodeRows h (tableOf h l))
   pub numbers : work′ ≡ clearedBy (first (row5 h (length work) ∷ [])) (h .g + 1) work
 
 -- 6 to 8 and 16
 pub record LinksJudged (h : Head) (l work : List ℕ) (r : Verdict) (work′ : List ℕ) : Type 0 where
-  pub verdict : rowOf r ≡ first (linkRows h (tableOf h l))
+  pub verdict : rowOf r ≡ first (nodeRows h (tableOf h l))
   pub kept : RestKept (h .g) work work′
 
 -- 16

@@ -19,7 +19,7 @@ use Rattle.paper.specs.Hearing.{Row, Numbers, Outcome, outcome, first, heard, d
 use Rattle.paper.specs.Hearing.{refusedNumbers}
 use Rattle.paper.specs.Given.{Given, keyIn}
 use Rattle.paper.specs.Rows.{row5, row14, row15}
-use Rattle.paper.specs.Orders.{openingRows, openingRowsOf, linkRows, checkOrder, keyRows, nextRows}
+use Rattle.paper.specs.Orders.{openingRows, openingRowsOf, nodeRows, checkOrder, keyRows, nextRows}
 use Rattle.paper.specs.Orders.{newOf, storeOrder, nextKeyOrder}
 use Rattle.paper.specs.Calls.{workAfter, freshHead, makeOf, checkOf, countOf}
 use Rattle.paper.specs.Calls.{storedKeys, storeOf}
@@ -168,7 +168,7 @@ module _ (l w work : List ℕ) (e : length w ≡ length work) where
   checks-same : checkOrder l w ≡ checkOrder l work
   unfolding checkOrder
   checks-same = ap (λ (n : ℕ). openingRowsOf l
-      ++ (row5 (headOf l) n ∷ linkRows (headOf l) (tableOf (headOf l) l))) e
+      ++ (row5 (headOf l) n ∷ nodeRows (headOf l) (tableOf (headOf l) l))) e
 
   check-same : SameBesides (working w ∷ []) (working work ∷ []) (checkOf l w) (checkOf l work)
   unfolding checkOf othersIn
@@ -249,7 +249,7 @@ module _ (l w work : List ℕ) (e : length w ≡ length work) where
   usable-same : (tally : List ℕ) → checkOrder l (usable w tally) ≡ checkOrder l (usable work tally)
   unfolding checkOrder usable
   usable-same tally = ap (λ (n : ℕ). openingRowsOf l
-      ++ (row5 (headOf l) n ∷ linkRows (headOf l) (tableOf (headOf l) l)))
+      ++ (row5 (headOf l) n ∷ nodeRows (headOf l) (tableOf (headOf l) l)))
       (length-take (length tally) w ∙ ap (min (length tally)) e
       ∙ sym (length-take (length tally) work))
 

@@ -21,7 +21,7 @@ use Rattle.node.proofs.Tables.{framed}
 use Rattle.paper.specs.Hearing.{Row, first, heard, doneNumbers}
 use Rattle.paper.specs.Rows.{row5}
 use Rattle.paper.specs.Given.{alphabetIn}
-use Rattle.paper.specs.Orders.{openingRowsOf, linkRows, checkOrder}
+use Rattle.paper.specs.Orders.{openingRowsOf, nodeRows, checkOrder}
 use Rattle.paper.specs.Calls.{tableIn, clearedBy, workAfter, checkOf}
 use Rattle.paper.specs.Accepted.{Accepted}
 use Rattle.paper.proofs.Hearing.{was-false, first-nil, yes-row, no-row, first-part}
@@ -54,7 +54,7 @@ checkNumbers = 1 ∷ 2 ∷ 3 ∷ 4 ∷ 5 ∷ 6 ∷ 7 ∷ 8 ∷ 16 ∷ []
 module _ (l work : List ℕ) where
   -- once 1 to 5 have passed, 6 to 8 and 16 decide
   pub left-6 : first (openingRowsOf l) ≡ none → headOf l .g + 1 ≤ length work
-      → first (checkOrder l work) ≡ first (linkRows (headOf l) (tableOf (headOf l) l))
+      → first (checkOrder l work) ≡ first (nodeRows (headOf l) (tableOf (headOf l) l))
   unfolding checkOrder row5
   left-6 e b =
       second-part (openingRowsOf l) _ e ∙ no-row 5 0 _ (le-ltb (length work) (headOf l .g + 1) b)
@@ -63,15 +63,15 @@ module _ (l work : List ℕ) where
   pub record Checked : Type 0 where
     pub opened : Passed (headOf l) (alphabetIn (headOf l) l) (length l)
     pub lent : headOf l .g + 1 ≤ length work
-    pub links : first (linkRows (headOf l) (tableOf (headOf l) l)) ≡ none
+    pub links : first (nodeRows (headOf l) (tableOf (headOf l) l)) ≡ none
 
   pub checked : first (checkOrder l work) ≡ none → Checked
   unfolding checkOrder openingRowsOf row5
   checked e =
       let h : Head = headOf l in
       let parts =
-      passed-parts (openingRowsOf l) (row5 h (length work) ∷ linkRows h (tableOf h l)) e in
-      let after5 = passed-row (row5 h (length work)) (linkRows h (tableOf h l)) (parts .1) in
+      passed-parts (openingRowsOf l) (row5 h (length work) ∷ nodeRows h (tableOf h l)) e in
+      let after5 = passed-row (row5 h (length work)) (nodeRows h (tableOf h l)) (parts .1) in
       record {
         opened = passed h (alphabetIn h l) (length l) (parts .0);
         lent = ltb-false (length work) (h .g + 1) (was-false 5 0 _ (after5 .0));

@@ -30,7 +30,7 @@ use Rattle.paper.specs.Hearing.{Said, Row, rowWhen, first}
 use Rattle.paper.specs.Answers.{numberAt}
 use Rattle.paper.specs.Rows.{badLink, holdsBad, rowWhenLowest, row6, timesIn, times, row7}
 use Rattle.paper.specs.Rows.{row8, row16}
-use Rattle.paper.specs.Orders.{linkRows}
+use Rattle.paper.specs.Orders.{nodeRows}
 use Rattle.paper.proofs.Hearing.{not-given, is-given, was-false, first-nil, first-none}
 use Rattle.paper.proofs.Hearing.{first-some, passed-row}
 use Rattle.paper.proofs.Numbers.{AllSay, end, _then_, lowest-says, first-says, one-of}
@@ -288,8 +288,8 @@ module _ (h : Head) (t : Table) (f : Framed t (h .g) (h .n)) where
       row16-none h t (λ x b c. reached-depth t (h .n) (h .g) f x c (reached x c))
 
   -- 6 to 8 and 16 for a table, in both directions
-  pub rules-pass : LinkRules t (h .g) → first (linkRows h t) ≡ none
-  unfolding linkRows
+  pub rules-pass : LinkRules t (h .g) → first (nodeRows h t) ≡ none
+  unfolding nodeRows
   rules-pass r =
       first-none _ _ (rules-6 (r .within))
       ∙ first-none _ _ (rules-7 (r .once))
@@ -297,8 +297,8 @@ module _ (h : Head) (t : Table) (f : Framed t (h .g) (h .n)) where
       ∙ first-none _ _ (rules-16 (r .reached))
       ∙ first-nil
 
-  pub passed-rules : first (linkRows h t) ≡ none → LinkRules t (h .g)
-  unfolding linkRows
+  pub passed-rules : first (nodeRows h t) ≡ none → LinkRules t (h .g)
+  unfolding nodeRows
   passed-rules e =
       let after6 = passed-row (row6 h t) (row7 h t ∷ row8 h t ∷ row16 h t ∷ []) e in
       let after7 = passed-row (row7 h t) (row8 h t ∷ row16 h t ∷ []) (after6 .1) in
@@ -313,8 +313,8 @@ module _ (h : Head) (t : Table) (f : Framed t (h .g) (h .n)) where
       }
 
 -- 6 to 8 and 16 give no other number
-pub linking-says : (h : Head) (t : Table) → AllSay (6 ∷ 7 ∷ 8 ∷ 16 ∷ []) (linkRows h t)
-unfolding linkRows row6 row7 row8 row16 among
+pub linking-says : (h : Head) (t : Table) → AllSay (6 ∷ 7 ∷ 8 ∷ 16 ∷ []) (nodeRows h t)
+unfolding nodeRows row6 row7 row8 row16 among
 linking-says h t =
     lowest-says 6 (holds h t) 0 (h .g + 1) refl
     then lowest-says 7 (twice h t) 1 (h .g) refl
@@ -337,9 +337,9 @@ lowest-said number test a k {s} e = go (ltb (lowest test a k) (a + k)) refl e
         (omega (arith, lowest-least test a k), omega (arith, ltb-true (lowest test a k) (a + k) f))
     go false f g = let z : _≡_ {A = ℕ} 0 1 = cc in absurd (omega arith)
 
-pub eight-place : (h : Head) (t : Table) {s : Said} → first (linkRows h t) ≡ some s → s .number ≡ 8
+pub eight-place : (h : Head) (t : Table) {s : Said} → first (nodeRows h t) ≡ some s → s .number ≡ 8
     → (1 ≤ s .place) × (s .place ≤ h .g)
-unfolding linkRows row6 row7 row8 row16 among first
+unfolding nodeRows row6 row7 row8 row16 among first
 eight-place h t {s} e n =
     let after6 =
     pass-row (row7 h t ∷ row8 h t ∷ row16 h t ∷ []) 8
@@ -398,8 +398,8 @@ module _ (h : Head) (t : Table) (f : Framed t (h .g) (h .n)) {q x c : ℕ}
       (λ y low high. ne-eqb (count h t y) 0 (others-counted y low high)) in
       rw at (is-given 8 c (lt-ltb c (1 + h .g) (omega (arith, u .most))))
 
-  pub unlinked-8 : first (linkRows h t) ≡ some (numberAt 8 c)
-  unfolding linkRows
+  pub unlinked-8 : first (nodeRows h t) ≡ some (numberAt 8 c)
+  unfolding nodeRows
   unlinked-8 =
       first-none _ _
       (rules-6 h t f (unlinked-within t q x c (u .empty) (u .rules .within)))

@@ -23,7 +23,7 @@ use Rattle.paper.specs.Hearing.{Said, Row, Outcome, outcome, first, hear
 use Rattle.paper.specs.Hearing.{doneNumbers}
 use Rattle.paper.specs.Rows.{row5}
 use Rattle.paper.specs.Given.{alphabetIn}
-use Rattle.paper.specs.Orders.{openingRowsOf, linkRows, checkOrder}
+use Rattle.paper.specs.Orders.{openingRowsOf, nodeRows, checkOrder}
 use Rattle.paper.specs.Calls.{clearedBy, workAfter, checkOf, isAccepted, canMend, mendBy}
 use Rattle.paper.specs.Calls.{mendOf}
 use Rattle.paper.specs.Accepted.{Accepted}
@@ -103,10 +103,10 @@ module _ (l work : List ℕ) where
   eight e =
       let h : Head = headOf l in
       let t : Table = tableOf h l in
-      let after4 = pass-part (row5 h (length work) ∷ linkRows h t) 8
+      let after4 = pass-part (row5 h (length work) ∷ nodeRows h t) 8
       (opening-says h (alphabetIn h l) (length l)) refl refl (heard-eight e) in
       let after5 =
-      pass-row (linkRows h t) 8
+      pass-row (nodeRows h t) 8
       (given-says {numbers = 5 ∷ []} 5 0 (ltb (length work) (h .g + 1)) refl) refl refl
       (after4 .1) in
       let b = eight-place h t (after5 .1) refl in

@@ -24,7 +24,7 @@ use Rattle.paper.specs.Rows.{row6, timesIn, times, row7, row8, row9, row
 use Rattle.paper.specs.Rows.{row10, isNone, row10text, row11, row12, row13, row14, row15}
 use Rattle.paper.specs.Rows.{row6At, row6path, row16}
 use Rattle.paper.specs.Given.{alphabetIn, meantBy, meantIn, keyIn}
-use Rattle.paper.specs.Orders.{openingRows, openingRowsOf, linkRows, checkOrder, lettersRows}
+use Rattle.paper.specs.Orders.{openingRows, openingRowsOf, nodeRows, checkOrder, lettersRows}
 use Rattle.paper.specs.Orders.{textRows, keyRowsBy, keyRows, nextRows, lookUpOrder}
 use Rattle.paper.specs.Orders.{addingRows, newOf, storeOrder, nextKeyOrder}
 use Rattle.paper.specs.Calls.{tableIn, clearedBy, workAfter, freshHead, freshImage, makeOf}
@@ -43,7 +43,7 @@ unfolding fieldAt digits inRange inRanges fitsRow lengthBy charLen charAt inFron
     pathNode newNodes totalWrite linkWrite dataWrite storeWrites rowWhen first refusedNumbers
     doneNumbers heard row1 row2 row3 row4 row5 badLink holdsBad rowWhenLowest row6 timesIn times
     row7 row8 row9 row9next allBelow row10 isNone row10text row11 row12 row13 row14 row15 row16
-    row6At row6path alphabetIn meantBy meantIn keyIn openingRows openingRowsOf linkRows checkOrder
+    row6At row6path alphabetIn meantBy meantIn keyIn openingRows openingRowsOf nodeRows checkOrder
     lettersRows textRows keyRowsBy keyRows nextRows lookUpOrder addingRows newOf storeOrder
     nextKeyOrder tableIn clearedBy workAfter freshHead headBytes freshImage makeOf checkOf
     storedKeys countOf lookUpOf storedImage storeOf nextIn foundIn nextKeyOf

@@ -8,7 +8,7 @@ use mathlib.Core.Logic.{_≢_}
 use mathlib.Core.Bool.{true}
 use mathlib.Core.List.{List}
 use lib.ListN.{length}
-use Rattle.trie.specs.Rules.{LinkRules}
+use Rattle.trie.specs.Rules.{LinkRules, Visible}
 use Rattle.trie.specs.Tree.{Parent, Ancestor, Reachable}
 use Rattle.head.specs.Fields.{shortestImage, longestImage, headOf, permitted, usedLen}
 use Rattle.alphabet.specs.Letters.{goodAlphabet}
@@ -30,6 +30,8 @@ pub record Accepted (l : List ℕ) : Type 0 where
   -- "every link that isn't empty is at most G", "Every address from 1 to G stands in exactly one
   -- link", and, of 02's Ask 3, "every node must be reached from the root"
   pub links : LinkRules (tableIn l) (headOf l .g)
+  -- 02's Ask 8: no "data at any depth outside min..max"
+  pub visible : Visible (tableIn l) (headOf l .min) (headOf l .max)
 
 -- 002, sections Node and Node address: the nodes of an image of these bytes, which are 0 to G,
 -- are a tree.

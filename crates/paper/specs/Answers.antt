@@ -9,7 +9,7 @@ use Rattle.paper.specs.declared.Refusal.the-variants.{ImageRoom, TooFewN
 use Rattle.paper.specs.declared.Refusal.the-variants.{LinkedTwice, NotLinked, KeyLength}
 use Rattle.paper.specs.declared.Refusal.the-variants.{Letter, ValueTooGreat, NoAddress}
 use Rattle.paper.specs.declared.Refusal.the-variants.{NoRoom, ShortBuffer, NoKey}
-use Rattle.paper.specs.declared.Refusal.the-variants.{NotReached, CountsDiffer}
+use Rattle.paper.specs.declared.Refusal.the-variants.{NotReached, Hidden, CountsDiffer}
 use Rattle.paper.specs.declared.Verdict.{Verdict}
 use Rattle.paper.specs.declared.Done.{Done}
 use Rattle.paper.specs.declared.Counted.{Counted}
@@ -24,8 +24,8 @@ use Rattle.paper.specs.Hearing.{Said, Row, Numbers, refusedNumbers, done
 abbrev pub numberAt : ℕ → ℕ → Said
 numberAt number place = record { number = number; place = place }
 
--- the number and the place of each refusal, as 01's table gives them and, for 16 and 25, 02's
--- Asks 3 and 7
+-- the number and the place of each refusal, as 01's table gives them and, for 16, 19 and
+-- 25, 02's Asks 3, 8 and 7
 abbrev pub saidOf : Refusal → Said
 saidOf ImageLength = numberAt 1 0
 saidOf HeadField = numberAt 2 0
@@ -43,6 +43,7 @@ saidOf NoRoom = numberAt 13 0
 saidOf ShortBuffer = numberAt 14 0
 saidOf NoKey = numberAt 15 0
 saidOf (NotReached node) = numberAt 16 node
+saidOf (Hidden node) = numberAt 19 node
 saidOf (CountsDiffer node) = numberAt 25 node
 
 -- the row that a part of an order gives; none where the part passed

@@ -14,7 +14,7 @@ use Rattle.paper.specs.Hearing.{Row}
 use Rattle.paper.specs.Given.{Given, asLetters, asText, alphabetIn, meantBy, keyIn}
 use Rattle.paper.specs.Rows.{row1, row2, row3, row4, row5, row6, row6path, row7, row8, row9}
 use Rattle.paper.specs.Rows.{row9next, row10, row10text, row11, row12, row13, row14, row15}
-use Rattle.paper.specs.Rows.{row16}
+use Rattle.paper.specs.Rows.{row16, row19}
 
 -- 1 to 4, for a head, an alphabet and the image's length; "make: 1, 2, 3, 4"
 unfoldable pub openingRows : Head → List ℕ → ℕ → List Row
@@ -25,16 +25,16 @@ unfoldable pub openingRowsOf : List ℕ → List Row
 unfolding openingRows alphabetIn headOf
 openingRowsOf l = openingRows (headOf l) (alphabetIn (headOf l) l) (length l)
 
--- 6 to 8 and 16, for a table; 02, Ask 3: 16 stands "right after 8 in check, store, number of keys
--- and next key"
-unfoldable pub linkRows : Head → Table → List Row
-linkRows h t = row6 h t ∷ row7 h t ∷ row8 h t ∷ row16 h t ∷ []
+-- 6 to 8, 16 and 19, for a table; 02, Ask 3: 16 stands "right after 8 in check, store, number of
+-- keys and next key"; Ask 8: 19 stands "right after 16"
+unfoldable pub nodeRows : Head → Table → List Row
+nodeRows h t = row6 h t ∷ row7 h t ∷ row8 h t ∷ row16 h t ∷ row19 h t ∷ []
 
--- "check and number of keys: 1 to 8", and 16
+-- "check and number of keys: 1 to 8", with 16 and 19 after 8
 unfoldable pub checkOrder : List ℕ → List ℕ → List Row
-unfolding openingRowsOf linkRows tableOf
+unfolding openingRowsOf nodeRows tableOf
 checkOrder l work =
-    openingRowsOf l ++ (row5 (headOf l) (length work) ∷ linkRows (headOf l) (tableOf (headOf l) l))
+    openingRowsOf l ++ (row5 (headOf l) (length work) ∷ nodeRows (headOf l) (tableOf (headOf l) l))
 
 -- 9, 10 for a key by its letter numbers
 unfoldable pub lettersRows : Head → List ℕ → List Row
@@ -77,7 +77,7 @@ unfoldable pub newOf : Head → List ℕ → List ℕ → ℕ → ℕ
 unfolding added missing descend tableOf
 newOf h l key value = added (missing (descend (tableOf h l) 0 key)) value
 
--- "store: 1 to 8, 9, 10, 11, 12, 13", with 16 after 8
+-- "store: 1 to 8, 9, 10, 11, 12, 13", with 16 and 19 after 8
 unfoldable pub storeOrder : List ℕ → List ℕ → Given → ℕ → List Row
 unfolding checkOrder keyRows keyIn addingRows newOf
 storeOrder l work given value =
@@ -85,7 +85,7 @@ storeOrder l work given value =
     ++ (keyRows l given
     ++ addingRows (headOf l) value (newOf (headOf l) l (keyIn l given) value) (length l))
 
--- "next key: 1 to 8, 9, 10, 14, 15", with 16 after 8
+-- "next key: 1 to 8, 9, 10, 14, 15", with 16 and 19 after 8
 unfoldable pub nextKeyOrder : List ℕ → List ℕ → List ℕ → ℕ → Option (List ℕ) → List Row
 unfolding checkOrder nextRows
 nextKeyOrder l work key lent found =

@@ -1,5 +1,5 @@
 -- 01, "What the bench may hear": the table, one definition for each row, in the table's words,
--- and 16 of 02.
+-- and 16 and 19 of 02.
 -- Each takes what its row speaks of, and says when the row is given and with which place.
 use Prim.Native.Nat.{ℕ, zero, suc, _+_, _-_, _*_, _^_}
 use mathlib.Core.Bool.{Bool, true, false, not, _&&_, cond}
@@ -10,7 +10,7 @@ use lib.Dec.{leb, ltb, eqb}
 use Rattle.field.specs.Range.{between}
 use Rattle.trie.specs.Table.{Table, fault}
 use Rattle.trie.specs.Lowest.{lowest, anyBelow}
-use Rattle.trie.specs.Tree.{depthOf}
+use Rattle.trie.specs.Tree.{depthOf, depthWithin}
 use Rattle.head.specs.declared.Head.{Head}
 use Rattle.head.specs.Fields.{shortestImage, longestImage, permitted, nodeWidth, usedLen}
 use Rattle.alphabet.specs.Letters.{goodAlphabet}
@@ -91,6 +91,17 @@ row8 h t = rowWhenLowest 8 (λ x. eqb (times t (h .n) x (h .g + 1)) 0) 1 (h .g)
 unfoldable pub row16 : Head → Table → Row
 unfolding rowWhenLowest depthOf
 row16 h t = rowWhenLowest 16 (λ x. ltb (h .g) (depthOf t (h .n) (h .g) x)) 1 (h .g)
+
+-- has node x data that is not 0, at no depth in min..max?
+unfoldable pub hidden : Head → Table → ℕ → Bool
+unfolding depthWithin
+hidden h t x =
+    ltb 0 (t .value x) && not (depthWithin t (h .n) (h .g) (h .min) (h .max) x)
+
+-- 19, of 02's Ask 8: "data at any depth outside min..max"; "place the lowest such node"
+unfoldable pub row19 : Head → Table → Row
+unfolding rowWhenLowest hidden
+row19 h t = rowWhenLowest 19 (hidden h t) 0 (h .g + 1)
 
 -- 9: "key length outside min..max"
 unfoldable pub row9 : Head → List ℕ → Row

@@ -39,12 +39,14 @@ pub enum Refusal {
     NoKey,
     // 16: a node is not reached from the root. The place is the lowest such node.
     NotReached(u32),
+    // 19: data at a depth outside min..max. The place is the lowest node that has such data.
+    Hidden(u32),
     // 25: a count is not the fresh one. The place is the lowest such node.
     CountsDiffer(u32),
 }
 
 impl Refusal {
-    // The number that 01's table has for it; 16 and 25 are 02's.
+    // The number that 01's table has for it; 16, 19 and 25 are 02's.
     pub fn number(self) -> u32
         ensures { λ r. ⌜ r ≡ saidOf self .number ⌝ }
     {
@@ -65,6 +67,7 @@ impl Refusal {
             Refusal::ShortBuffer => 14,
             Refusal::NoKey => 15,
             Refusal::NotReached(_) => 16,
+            Refusal::Hidden(_) => 19,
             Refusal::CountsDiffer(_) => 25,
         }
     }
@@ -78,6 +81,7 @@ impl Refusal {
             Refusal::LinkedTwice(address) => address,
             Refusal::NotLinked(address) => address,
             Refusal::NotReached(node) => node,
+            Refusal::Hidden(node) => node,
             Refusal::CountsDiffer(node) => node,
             Refusal::ImageLength => 0,
             Refusal::HeadField => 0,

@@ -27,7 +27,7 @@ use Rattle.paper.specs.Hearing.{Row, Numbers, Outcome, rowWhen, first, heard, o
 use Rattle.paper.specs.Hearing.{doneNumbers}
 use Rattle.paper.specs.Rows.{row5}
 use Rattle.paper.specs.Given.{Given, meantIn, keyIn}
-use Rattle.paper.specs.Orders.{openingRowsOf, linkRows, checkOrder, keyRows, newOf, storeOrder}
+use Rattle.paper.specs.Orders.{openingRowsOf, nodeRows, checkOrder, keyRows, newOf, storeOrder}
 use Rattle.paper.specs.Calls.{tableIn, workAfter, storedImage, storeOf}
 use Rattle.paper.specs.Accepted.{Accepted}
 use Rattle.paper.specs.Granted.{Granted}
@@ -67,7 +67,7 @@ same-check l work counts long =
     ∙ ap (rowWhen 5 0)
     (ap (ltb (length work) (h .g + 1) ||_) (le-ltb (length counts) (h .g + 1) long)
     ∙ or-false (ltb (length work) (h .g + 1))) in
-    ap (λ (r : Row). openingRowsOf l ++ (r ∷ linkRows h (tableOf h l))) same
+    ap (λ (r : Row). openingRowsOf l ++ (r ∷ nodeRows h (tableOf h l))) same
 
 module _ (l work : List ℕ) (given : Given) (value : ℕ) (counts : List ℕ) where
   abbrev key : List ℕ

@@ -22,7 +22,7 @@ use Rattle.paper.specs.Rows.{row1, row2, row3, row4, row5, badLink, holdsBad, r
 use Rattle.paper.specs.Rows.{timesIn, times, row7, row8, row9, allBelow, row10, isNone, row10text}
 use Rattle.paper.specs.Rows.{row11, row12, row13, row14, row15, row16}
 use Rattle.paper.specs.Given.{alphabetIn, meantBy, meantIn, keyIn}
-use Rattle.paper.specs.Orders.{openingRows, openingRowsOf, linkRows, checkOrder, lettersRows}
+use Rattle.paper.specs.Orders.{openingRows, openingRowsOf, nodeRows, checkOrder, lettersRows}
 use Rattle.paper.specs.Orders.{textRows, keyRowsBy, keyRows, addingRows, newOf}
 use Rattle.paper.specs.Calls.{tableIn, clearedBy, workAfter, storedKeys, storedImage}
 use Rattle.paper.specs.Cases.{Case}
@@ -42,7 +42,7 @@ unfolding fieldAt digits inRange inRanges fitsRow lengthBy charLen charAt inFron
     carriedOut lastNode pathNode newNodes totalWrite linkWrite dataWrite storeWrites rowWhen first
     refusedNumbers doneNumbers heard row1 row2 row3 row4 row5 badLink holdsBad rowWhenLowest row6
     timesIn times row7 row8 row9 allBelow row10 isNone row10text row11 row12 row13 row14 row15
-    row16 alphabetIn meantBy meantIn keyIn openingRows openingRowsOf linkRows checkOrder
+    row16 alphabetIn meantBy meantIn keyIn openingRows openingRowsOf nodeRows checkOrder
     lettersRows textRows keyRowsBy keyRows addingRows newOf tableIn clearedBy workAfter storedKeys
     storedImage countIn countsIn row25 row5again usable countsOrder checkCountsOrder
     storeCountsOrder keyAtOrder ifStored positionOrder workLeft worked countsOf checkCountsOf

@@ -25,7 +25,7 @@ use Rattle.paper.specs.Rows.{row1, row2, row3, row4, row5, row6path, row9, row9
 use Rattle.paper.specs.Rows.{allBelow}
 use Rattle.paper.specs.Rows.{row10, isNone, row10text, row11, row12, row13, row14, row15}
 use Rattle.paper.specs.Given.{Given, asLetters, asText, alphabetIn, meantBy, keyIn}
-use Rattle.paper.specs.Orders.{openingRows, openingRowsOf, linkRows, checkOrder, lettersRows}
+use Rattle.paper.specs.Orders.{openingRows, openingRowsOf, nodeRows, checkOrder, lettersRows}
 use Rattle.paper.specs.Orders.{textRows, keyRowsBy, keyRows, nextRows, lookUpOrder}
 use Rattle.paper.specs.Orders.{addingRows, newOf, storeOrder, nextKeyOrder}
 use Rattle.paper.specs.Calls.{freshHead, makeOf, checkOf, countOf, lookUpOf, storeOf}
@@ -92,18 +92,18 @@ module _ (image : List ℕ) (n a d : ℕ) (alphabet : List ℕ) (least most : �
 -- ---- check and number of keys
 
 -- 6 to 8 and 16
-link-fits : (l : List ℕ) → AllFit (linkRows (headOf l) (tableOf (headOf l) l)) (linkReasons l)
-unfolding linkRows linkReasons
+link-fits : (l : List ℕ) → AllFit (nodeRows (headOf l) (tableOf (headOf l) l)) (linkReasons l)
+unfolding nodeRows linkReasons
 link-fits l = (six-fits l, (seven-fits l, (eight-fits l, (sixteen-fits l, tt))))
 
-link-tells : (l : List ℕ) → AllTell (RightPlace l) (linkRows (headOf l) (tableOf (headOf l) l))
-unfolding linkRows
+link-tells : (l : List ℕ) → AllTell (RightPlace l) (nodeRows (headOf l) (tableOf (headOf l) l))
+unfolding nodeRows
 link-tells l = (six-tells l, (seven-tells l, (eight-tells l, (sixteen-tells l, tt))))
 
 module _ (l work : List ℕ) where
   -- 5 to 8 and 16
   abbrev from-five : List Row
-  from-five = row5 (headOf l) (length work) ∷ linkRows (headOf l) (tableOf (headOf l) l)
+  from-five = row5 (headOf l) (length work) ∷ nodeRows (headOf l) (tableOf (headOf l) l)
 
   pub check-fits : AllFit (checkOrder l work) (checkReasons l work)
   unfolding checkOrder checkReasons row5

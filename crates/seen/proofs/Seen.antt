@@ -26,7 +26,7 @@ use Rattle.node.proofs.Tables.{table-bytes}
 use Rattle.paper.specs.Hearing.{Row, Numbers, Outcome, outcome, doneNumbers, first, heard}
 use Rattle.paper.specs.Given.{Given, alphabetIn, meantBy, meantIn, keyIn}
 use Rattle.paper.specs.Rows.{row5, rowWhenLowest, row6path, row14, row15}
-use Rattle.paper.specs.Orders.{openingRows, openingRowsOf, linkRows, checkOrder, keyRowsBy}
+use Rattle.paper.specs.Orders.{openingRows, openingRowsOf, nodeRows, checkOrder, keyRowsBy}
 use Rattle.paper.specs.Orders.{keyRows, nextRows, lookUpOrder, addingRows, newOf, storeOrder}
 use Rattle.paper.specs.Orders.{nextKeyOrder}
 use Rattle.paper.specs.Calls.{tableIn, clearedBy, workAfter, checkOf, storedKeys, countOf, telling}
@@ -87,7 +87,7 @@ abbrev opens : Seen → List Row
 opens s = openingRows (s .head) (s .alphabet) (s .len)
 
 abbrev checks : Seen → List ℕ → List Row
-checks s work = opens s ++ (row5 (s .head) (length work) ∷ linkRows (s .head) (s .table))
+checks s work = opens s ++ (row5 (s .head) (length work) ∷ nodeRows (s .head) (s .table))
 
 abbrev pub clears : Seen → List ℕ → List ℕ
 clears s work =

@@ -1,7 +1,7 @@
 -- The stored keys of a table in order. 01, "Walking, storing, listing": "A stored key is one
 -- with length in min..max whose data is not 0" and "Order: a key comes before its extensions;
 -- otherwise the first different letter number decides".
-use Prim.Native.Nat.{ℕ, zero, suc, pred}
+use Prim.Native.Nat.{ℕ, zero, suc, pred, _+_}
 use mathlib.Core.Bool.{Bool, true, false, not, cond}
 use mathlib.Core.Option.{Option, none, some}
 use mathlib.Core.List.{List, [], _∷_, _++_, map, List·Memᴰ}
@@ -38,6 +38,11 @@ keysUnder t n short (suc left) q =
 -- the listing: the stored keys of a table with n letters, for keys of `least` to `most` letters
 abbrev pub listing : Table → ℕ → ℕ → ℕ → List (List ℕ)
 listing t n least most = keysUnder t n least most 0
+
+-- how many of the nodes below m have data that is not 0
+unfoldable pub holding : Table → ℕ → ℕ
+holding t zero = 0
+holding t (suc m) = holding t m + cond (eqb (t .value m) 0) 0 1
 
 -- 01's order: whether k comes before m
 unfoldable pub before : List ℕ → List ℕ → Bool

@@ -1,4 +1,5 @@
--- The rules on links, each by itself and then as one record. 01: "every link that isn't empty is
+-- The rules on the nodes of a table: on links, each by itself and then as one record, and on data.
+-- 01: "every link that isn't empty is
 -- at most G" and "Every address from 1 to G stands in exactly one link". 02, Ask 3: "every node
 -- must be reached from the root", instead of 01's "and greater than the address of the node it
 -- stands in". `Framed` says that a table has no link outside its nodes and letters, so no rule
@@ -6,7 +7,9 @@
 use Prim.Native.Nat.{ℕ, _≤_, _<_}
 use mathlib.Core.Path.{_≡_}
 use mathlib.Core.Logic.{_≢_}
-use Rattle.trie.specs.Table.{Table}
+use mathlib.Core.List.{List}
+use lib.ListN.{length}
+use Rattle.trie.specs.Table.{Table, answer}
 use Rattle.trie.specs.Tree.{Reachable}
 
 -- outside the nodes 0..g and the letters below n, all links and data are 0
@@ -37,6 +40,12 @@ pub record LinkRules (t : Table) (g : ℕ) : Type 0 where
   pub named : Named t g
   pub once : Once t
   pub reached : AllReached t g
+
+-- 02, Ask 8: no "data at any depth outside min..max". A key whose data is not 0 has a length in
+-- min..max; its length is the depth of its node.
+abbrev pub Visible : Table → ℕ → ℕ → Type 0
+Visible t least most =
+    (k : List ℕ) → answer t k ≢ 0 → (least ≤ length k) × (length k ≤ most)
 
 -- What the laws on a store's answers and links require of a table, and what a store keeps. It
 -- leaves out `AllReached`, which few laws use: a store keeps it (`trie/proofs/Rules.antt:

@@ -7,7 +7,7 @@ use mathlib.Core.Path.{_≡_}
 use mathlib.Core.Logic.{_≢_}
 use mathlib.Core.Bool.{Bool, false, _&&_}
 use mathlib.Core.List.{List}
-use lib.Dec.{eqb}
+use lib.Dec.{eqb, leb}
 use Rattle.trie.specs.Table.{Table, complete, descend}
 use Rattle.trie.specs.Lowest.{anyBelow, lowest}
 
@@ -44,3 +44,8 @@ atDepth t n g (suc k) (suc x) =
 unfoldable pub depthOf : Table → ℕ → ℕ → ℕ → ℕ
 unfolding lowest atDepth
 depthOf t n g x = lowest (λ k. atDepth t n g k x) 0 (g + 1)
+
+-- is node x at a depth from `least` to `most`?
+unfoldable pub depthWithin : Table → ℕ → ℕ → ℕ → ℕ → ℕ → Bool
+unfolding anyBelow atDepth
+depthWithin t n g least most x = anyBelow (λ d. leb least d && atDepth t n g d x) (most + 1)
