@@ -1,6 +1,6 @@
 -- Demand 2, "Lent enough working numbers, the check accepts exactly the images that meet the
--- TRIEFF rules as document 01 reads them": 1 to 8 and 16 pass exactly where the image is
--- `Accepted`. Each row is a rule negated; 6 to 8 and 16 are in `Linking`.
+-- TRIEFF rules as document 01 reads them": 1 to 8, 16 and 19 pass exactly where the image is
+-- `Accepted`. Each row is a rule negated; 6 to 8, 16 and 19 are in `Linking`.
 use Prim.Native.Nat.{ℕ, _+_, _≤_, _<_}
 use mathlib.Core.Path.{_≡_, refl, ap, _∙_}
 use mathlib.Core.Logic.{_↔_}
@@ -45,14 +45,14 @@ accepted-opens {l} a =
     left-4 h (alphabetIn h l) (length l) long (a .head-permitted) unspoilt
     ∙ fits-4 h (length l) (le-leb (usedLen h) (length l) (a .room))
 
--- ---- 1 to 8 and 16, of an image and the working numbers lent
+-- ---- 1 to 8, 16 and 19, of an image and the working numbers lent
 
 -- the numbers of a check's refusals
 abbrev pub checkNumbers : List ℕ
-checkNumbers = 1 ∷ 2 ∷ 3 ∷ 4 ∷ 5 ∷ 6 ∷ 7 ∷ 8 ∷ 16 ∷ []
+checkNumbers = 1 ∷ 2 ∷ 3 ∷ 4 ∷ 5 ∷ 6 ∷ 7 ∷ 8 ∷ 16 ∷ 19 ∷ []
 
 module _ (l work : List ℕ) where
-  -- once 1 to 5 have passed, 6 to 8 and 16 decide
+  -- once 1 to 5 have passed, 6 to 8, 16 and 19 decide
   pub left-6 : first (openingRowsOf l) ≡ none → headOf l .g + 1 ≤ length work
       → first (checkOrder l work) ≡ first (nodeRows (headOf l) (tableOf (headOf l) l))
   unfolding checkOrder row5
@@ -63,7 +63,7 @@ module _ (l work : List ℕ) where
   pub record Checked : Type 0 where
     pub opened : Passed (headOf l) (alphabetIn (headOf l) l) (length l)
     pub lent : headOf l .g + 1 ≤ length work
-    pub links : first (nodeRows (headOf l) (tableOf (headOf l) l)) ≡ none
+    pub nodes : first (nodeRows (headOf l) (tableOf (headOf l) l)) ≡ none
 
   pub checked : first (checkOrder l work) ≡ none → Checked
   unfolding checkOrder openingRowsOf row5
@@ -75,7 +75,7 @@ module _ (l work : List ℕ) where
       record {
         opened = passed h (alphabetIn h l) (length l) (parts .0);
         lent = ltb-false (length work) (h .g + 1) (was-false 5 0 _ (after5 .0));
-        links = after5 .1;
+        nodes = after5 .1;
       }
 
   -- ---- the theorem
@@ -87,6 +87,7 @@ module _ (l work : List ℕ) where
       let c = checked e in
       let long = between-true (length l) shortestImage longestImage (c .opened .allowed) in
       let whole = alphabet-whole h l (c .opened .room) in
+      let rules = passed-rules h (tableOf h l) (framed h l) (c .nodes) in
       record {
         long-enough = long .0;
         short-enough = long .1;
@@ -94,7 +95,8 @@ module _ (l work : List ℕ) where
         alphabet-good = λ b. unspoilt-good h (alphabetIn h l) (length l) (c .opened .unspoilt)
             (omega arith) whole;
         room = c .opened .room;
-        links = passed-rules h (tableOf h l) (framed h l) (c .links);
+        links = rules .0;
+        visible = rules .1;
       }
 
   pub accepted-checks : Accepted l → headOf l .g + 1 ≤ length work → first (checkOrder l work)
@@ -102,7 +104,7 @@ module _ (l work : List ℕ) where
   unfolding tableIn
   accepted-checks a b =
       left-6 (accepted-opens a) b ∙ rules-pass (headOf l) (tableIn l) (framed (headOf l) l)
-      (a .links)
+      (a .links) (a .visible)
 
   -- ---- the same by the number of the answer
 

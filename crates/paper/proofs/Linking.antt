@@ -1,24 +1,27 @@
--- Rows 6 to 8 and 16, and the rules on links: the rows pass exactly where the rules hold. The rows
--- speak of the nodes and letters of the image, the rules of every link; a table has no other
--- link. In how many links an address stands is a sum, above 0 where one link holds the address.
+-- Rows 6 to 8, 16 and 19, and the rules on links and data: the rows pass exactly where the rules
+-- hold. The rows speak of the nodes and letters of the image, the rules of every link; a table has
+-- no other link. In how many links an address stands is a sum, above 0 where one link holds it.
 use Prim.Native.Nat.{ℕ, _+_, _≤_, _<_}
 use mathlib.Core.Path.{_≡_, refl, sym, _∙_, subst}
-use mathlib.Core.Bool.{Bool, true, false, cond}
+use mathlib.Core.Bool.{Bool, true, false, not, _&&_, cond, true≢false}
 use mathlib.Core.Logic.{_↔_, _≢_}
 use mathlib.Core.Option.{none, some}
-use mathlib.Core.List.{[], _∷_}
+use mathlib.Core.List.{List, [], _∷_}
 use native.Mathlib.Omega.{arith}
 use native.Mathlib.Decide.{ℕ-discrete, decLe}
 use lib.Dec.{leb, ltb, eqb}
+use lib.ListN.{length}
 use borrow.Author.Tests.{lt-ltb, le-ltb, lt-leb, eq-eqb, ne-eqb, leb-false}
 use borrow.Author.Tests.{ltb-true, ltb-false, eqb-true, eqb-false}
-use Rattle.trie.specs.Table.{Table}
+use Rattle.trie.specs.Table.{Table, Descent, complete, stopped, descend}
 use Rattle.trie.specs.Lowest.{lowest}
 use Rattle.trie.specs.Rules.{Framed, Within, Named, Once, AllReached, LinkRules}
-use Rattle.trie.specs.Tree.{Reachable, depthOf}
+use Rattle.trie.specs.Rules.{Visible}
+use Rattle.trie.specs.Tree.{Reachable, depthOf, depthWithin}
 use Rattle.trie.specs.Storing.{grow}
-use Rattle.trie.proofs.Depth.{reached-depth, depth-reached}
-use Rattle.trie.proofs.Walk.{descend-nil}
+use Rattle.trie.proofs.Depth.{reached-depth, depth-reached, walk-within, within-walk}
+use Rattle.trie.proofs.Walk.{descend-nil, one-key, complete-within, answer-complete}
+use Rattle.trie.proofs.Walk.{answer-stopped}
 use Rattle.trie.proofs.Lowest.{NonePasses, lowest-none, none-lowest, lowest-least, lowest-at}
 use Rattle.trie.proofs.Lowest.{any-here, any-none, none-any}
 use Rattle.trie.proofs.Counted.{Sums, one-part, two-parts, some-part, one-at-most}
@@ -29,7 +32,7 @@ use Rattle.alphabet.specs.Letters.{among}
 use Rattle.paper.specs.Hearing.{Said, Row, rowWhen, first}
 use Rattle.paper.specs.Answers.{numberAt}
 use Rattle.paper.specs.Rows.{badLink, holdsBad, rowWhenLowest, row6, timesIn, times, row7}
-use Rattle.paper.specs.Rows.{row8, row16}
+use Rattle.paper.specs.Rows.{row8, row16, hidden, row19}
 use Rattle.paper.specs.Orders.{nodeRows}
 use Rattle.paper.proofs.Hearing.{not-given, is-given, was-false, first-nil, first-none}
 use Rattle.paper.proofs.Hearing.{first-some, passed-row}
@@ -227,7 +230,41 @@ module _ (h : Head) (t : Table) where
   unfolding row8
   none-row8 e x b c = eqb-false (count x) 0 (passed-lowest 8 nowhere 1 (h .g) e x b (omega arith))
 
--- ---- 6 to 8 and 16 pass exactly where the rules on links hold
+  -- row 19: data that is not 0 is not hidden exactly if its node is at a depth in min..max
+  pub within : ℕ → Bool
+  within x = depthWithin t (h .n) (h .g) (h .min) (h .max) x
+
+  pub shown : (x : ℕ) → hidden h t x ≡ false → t .value x ≢ 0 → within x ≡ true
+  unfolding hidden within
+  shown x e full = go (within x) refl
+    where
+      go : (b : Bool) → within x ≡ b → within x ≡ true
+      go true f = f
+      go false f =
+          let there : ltb 0 (t .value x) ≡ true = lt-ltb 0 (t .value x) (omega arith) in
+          absurd (true≢false (rw (there, f) at e))
+
+  pub not-hidden : (x : ℕ) → (t .value x ≢ 0 → within x ≡ true) → hidden h t x ≡ false
+  unfolding hidden within
+  not-hidden x f = go (ℕ-discrete (t .value x) 0)
+    where
+      neither : (b : Bool) → (b && false) ≡ false
+      neither true = refl
+      neither false = refl
+
+      go : Dec (t .value x ≡ 0) → (ltb 0 (t .value x) && not (within x)) ≡ false
+      go (yes z) = rw (le-ltb 0 (t .value x) (omega arith))
+      go (no d) = rw (f d) (neither (ltb 0 (t .value x)))
+
+  pub row19-none : ((x : ℕ) → x ≤ h .g → hidden h t x ≡ false) → row19 h t ≡ none
+  unfolding row19
+  row19-none f = lowest-passed 19 (hidden h t) 0 (h .g + 1) (λ x _ b. f x (omega arith))
+
+  pub none-row19 : row19 h t ≡ none → (x : ℕ) → x ≤ h .g → hidden h t x ≡ false
+  unfolding row19
+  none-row19 e x b = passed-lowest 19 (hidden h t) 0 (h .g + 1) e x (omega arith) (omega arith)
+
+-- ---- 6 to 8, 16 and 19 pass exactly where the rules on links and data hold
 
 module _ (h : Head) (t : Table) (f : Framed t (h .g) (h .n)) where
   -- a link that is not empty is one of a node up to G, for a letter below N
@@ -287,39 +324,67 @@ module _ (h : Head) (t : Table) (f : Framed t (h .g) (h .n)) where
   rules-16 reached =
       row16-none h t (λ x b c. reached-depth t (h .n) (h .g) f x c (reached x c))
 
-  -- 6 to 8 and 16 for a table, in both directions
-  pub rules-pass : LinkRules t (h .g) → first (nodeRows h t) ≡ none
+  none-visible : Within t (h .g) → Once t → row19 h t ≡ none → Visible t (h .min) (h .max)
+  unfolding within
+  none-visible inside once e k full = go (descend t 0 k) refl
+    where
+      go : (d : Descent) → descend t 0 k ≡ d → (h .min ≤ length k) × (length k ≤ h .max)
+      go (stopped q x xs) s = absurd (full (answer-stopped t k s))
+      go (complete q) s =
+          let b = complete-within t (h .g) k inside s in
+          let there : t .value q ≢ 0 = λ z. full (answer-complete t k s ∙ z) in
+          let at = shown h t q (none-row19 h t e q b) there in
+          let (m, w, low, high) = within-walk t (h .n) (h .g) (h .min) (h .max) q at in
+          rw (one-key t k m once s w) (low, high)
+
+  rules-19 : AllReached t (h .g) → Visible t (h .min) (h .max) → row19 h t ≡ none
+  unfolding within
+  rules-19 reached visible =
+      row19-none h t (λ x b. not-hidden h t x (λ full.
+      let (k, e) = reached x b in
+      let (low, high) = visible k (λ z. full (sym (answer-complete t k e) ∙ z)) in
+      walk-within t (h .n) (h .g) f (h .min) (h .max) x k e low high))
+
+  -- 6 to 8, 16 and 19 for a table, in both directions
+  pub rules-pass : LinkRules t (h .g) → Visible t (h .min) (h .max) → first (nodeRows h t) ≡ none
   unfolding nodeRows
-  rules-pass r =
+  rules-pass r visible =
       first-none _ _ (rules-6 (r .within))
       ∙ first-none _ _ (rules-7 (r .once))
       ∙ first-none _ _ (rules-8 (r .named))
       ∙ first-none _ _ (rules-16 (r .reached))
+      ∙ first-none _ _ (rules-19 (r .reached) visible)
       ∙ first-nil
 
-  pub passed-rules : first (nodeRows h t) ≡ none → LinkRules t (h .g)
+  pub passed-rules : first (nodeRows h t) ≡ none
+      → LinkRules t (h .g) × Visible t (h .min) (h .max)
   unfolding nodeRows
   passed-rules e =
-      let after6 = passed-row (row6 h t) (row7 h t ∷ row8 h t ∷ row16 h t ∷ []) e in
-      let after7 = passed-row (row7 h t) (row8 h t ∷ row16 h t ∷ []) (after6 .1) in
-      let after8 = passed-row (row8 h t) (row16 h t ∷ []) (after7 .1) in
-      let none-16 = passed-row (row16 h t) [] (after8 .1) .0 in
-      let within : Within t (h .g) = none-within (after6 .0) in
-      record {
-        within = within;
-        named = none-named (after8 .0);
-        once = none-once within (after7 .0);
-        reached = none-reached none-16;
-      }
+      let after6 = passed-row (row6 h t) (row7 h t ∷ row8 h t ∷ row16 h t ∷ row19 h t ∷ []) e in
+      let after7 = passed-row (row7 h t) (row8 h t ∷ row16 h t ∷ row19 h t ∷ []) (after6 .1) in
+      let after8 = passed-row (row8 h t) (row16 h t ∷ row19 h t ∷ []) (after7 .1) in
+      let after16 = passed-row (row16 h t) (row19 h t ∷ []) (after8 .1) in
+      let none-19 = passed-row (row19 h t) [] (after16 .1) .0 in
+      let inside : Within t (h .g) = none-within (after6 .0) in
+      let once : Once t = none-once inside (after7 .0) in (
+        record {
+          within = inside;
+          named = none-named (after8 .0);
+          once = once;
+          reached = none-reached (after16 .0);
+        },
+        none-visible inside once none-19,
+      )
 
--- 6 to 8 and 16 give no other number
-pub linking-says : (h : Head) (t : Table) → AllSay (6 ∷ 7 ∷ 8 ∷ 16 ∷ []) (nodeRows h t)
-unfolding nodeRows row6 row7 row8 row16 among
+-- 6 to 8, 16 and 19 give no other number
+pub linking-says : (h : Head) (t : Table) → AllSay (6 ∷ 7 ∷ 8 ∷ 16 ∷ 19 ∷ []) (nodeRows h t)
+unfolding nodeRows row6 row7 row8 row16 row19 among
 linking-says h t =
     lowest-says 6 (holds h t) 0 (h .g + 1) refl
     then lowest-says 7 (twice h t) 1 (h .g) refl
     then lowest-says 8 (nowhere h t) 1 (h .g) refl
     then lowest-says 16 (unreached h t) 1 (h .g) refl
+    then lowest-says 19 (hidden h t) 0 (h .g + 1) refl
     then end
 
 -- ---- what is known where 8 is given
@@ -339,24 +404,27 @@ lowest-said number test a k {s} e = go (ltb (lowest test a k) (a + k)) refl e
 
 pub eight-place : (h : Head) (t : Table) {s : Said} → first (nodeRows h t) ≡ some s → s .number ≡ 8
     → (1 ≤ s .place) × (s .place ≤ h .g)
-unfolding nodeRows row6 row7 row8 row16 among first
+unfolding nodeRows row6 row7 row8 row16 row19 among first
 eight-place h t {s} e n =
     let after6 =
-    pass-row (row7 h t ∷ row8 h t ∷ row16 h t ∷ []) 8
+    pass-row (row7 h t ∷ row8 h t ∷ row16 h t ∷ row19 h t ∷ []) 8
     (lowest-says {numbers = 6 ∷ []} 6 (holds h t) 0 (h .g + 1) refl) refl n e in
     let after7 =
-    pass-row (row8 h t ∷ row16 h t ∷ []) 8
+    pass-row (row8 h t ∷ row16 h t ∷ row19 h t ∷ []) 8
     (lowest-says {numbers = 7 ∷ []} 7 (twice h t) 1 (h .g) refl)
     refl n (after6 .1) in
     let b = lowest-said 8 (nowhere h t) 1 (h .g) (eighth (row8 h t) refl (after7 .1)) in
     (b .0, omega (arith, b .1))
   where
-    eighth : (r : Row) → row8 h t ≡ r → first (r ∷ row16 h t ∷ []) ≡ some s → r ≡ some s
+    eighth : (r : Row) → row8 h t ≡ r → first (r ∷ row16 h t ∷ row19 h t ∷ []) ≡ some s
+        → r ≡ some s
     eighth none _ f =
         let says = first-says
-        (lowest-says {numbers = 16 ∷ []} 16 (unreached h t) 1 (h .g) refl then end) in
-        let said : among 8 (16 ∷ []) ≡ true =
-        subst (λ (m : ℕ). among m (16 ∷ []) ≡ true) n (one-of says f) in
+        (lowest-says {numbers = 16 ∷ 19 ∷ []} 16 (unreached h t) 1 (h .g) refl
+        then lowest-says 19 (hidden h t) 0 (h .g + 1) refl
+        then end) in
+        let said : among 8 (16 ∷ 19 ∷ []) ≡ true =
+        subst (λ (m : ℕ). among m (16 ∷ 19 ∷ []) ≡ true) n (one-of says f) in
         let z : _≡_ {A = ℕ} 0 1 = cc in absurd (omega arith)
     eighth (some s) _ f = f
 

@@ -173,6 +173,12 @@ module _ {h : Head} {alphabet image : List ℕ} (m : Made h alphabet image) wher
       go (suc q) =
           framed h (freshImage h alphabet image) .no-data (suc q) (omega (arith, m .root-alone))
 
+  pub fresh-answers : (k : List ℕ) → answer (tableIn (freshImage h alphabet image)) k ≡ 0
+  fresh-answers [] =
+      answer-complete (tableIn (freshImage h alphabet image)) [] (descend-nil _ 0) ∙ fresh-value 0
+  fresh-answers (x ∷ xs) = answer-stopped (tableIn (freshImage h alphabet image)) (x ∷ xs)
+      (descend-empty _ 0 x xs (fresh-child 0 x))
+
   pub fresh-accepted : Accepted (freshImage h alphabet image)
   fresh-accepted =
       let e : headOf (freshImage h alphabet image) ≡ h = fresh-head in
@@ -196,13 +202,8 @@ module _ {h : Head} {alphabet image : List ℕ} (m : Made h alphabet image) wher
                   let z : c ≡ 0 = omega (arith, ap (λ (k : Head). k .g) e, m .root-alone) in
                   ([], descend-nil _ 0 ∙ ap complete (sym z));
             };
+        visible = λ k full. absurd (full (fresh-answers k));
       }
-
-  pub fresh-answers : (k : List ℕ) → answer (tableIn (freshImage h alphabet image)) k ≡ 0
-  fresh-answers [] =
-      answer-complete (tableIn (freshImage h alphabet image)) [] (descend-nil _ 0) ∙ fresh-value 0
-  fresh-answers (x ∷ xs) = answer-stopped (tableIn (freshImage h alphabet image)) (x ∷ xs)
-      (descend-empty _ 0 x xs (fresh-child 0 x))
 
   pub fresh-keys : storedKeys (freshImage h alphabet image) ≡ []
   unfolding storedKeys

@@ -19,13 +19,13 @@ use Rattle.field.specs.Field.{digits}
 use Rattle.field.proofs.Range.{between-true}
 use Rattle.trie.specs.Table.{Table, Descent, complete, stopped, descend, answer, missing, fault}
 use Rattle.trie.specs.Keys.{listing}
-use Rattle.trie.specs.Rules.{LinkRules}
+use Rattle.trie.specs.Rules.{LinkRules, Visible}
 use Rattle.trie.specs.Storing.{stored, storedBy, added, changeOf}
 use Rattle.trie.proofs.Walk.{complete-within}
 use Rattle.trie.proofs.Faults.{fault-nil, fault-empty, fault-on}
 use Rattle.trie.proofs.Grow.{room}
 use Rattle.trie.proofs.Storing.{none-added, stored-answer, stored-answer-other}
-use Rattle.trie.proofs.Rules.{stored-rules}
+use Rattle.trie.proofs.Rules.{stored-rules, stored-visible}
 use Rattle.trie.proofs.Count.{stored-count}
 use Rattle.head.specs.declared.Head.{Head}
 use Rattle.head.specs.Fields.{fieldsLen, headOf, permitted, nodeWidth, usedLen}
@@ -184,6 +184,14 @@ module _ {l key : List ℕ} {value : ℕ} (s : Granted l key value) where
   unfolding newOf tableIn
   stored-links = stored-rules (framed (headOf l) l) (s .accepted .links) key (s .fit .below) value
 
+  stored-data : Visible (stored (tableIn l) (headOf l .g) key value) (headOf l .min)
+      (headOf l .max)
+  stored-data =
+      let (low, high) =
+      between-true (length key) (headOf l .min) (headOf l .max) (s .fit .allowed) in
+      stored-visible (accepted-linked (s .accepted)) (headOf l .min) (headOf l .max)
+      (s .accepted .visible) key (s .fit .below) low high value
+
   stored-permitted : permitted (headOf (storedImage l key value)) ≡ true
   unfolding permitted
   stored-permitted = ap permitted (stored-head s) ∙ s .accepted .head-permitted
@@ -199,6 +207,7 @@ module _ {l key : List ℕ} {value : ℕ} (s : Granted l key value) where
         alphabet-good = rw (stored-alphabet, stored-head s) (a .alphabet-good);
         room = stored-room;
         links = rw (stored-table s, stored-head s) stored-links;
+        visible = rw (stored-table s, stored-head s) stored-data;
       }
 
 -- ---- a lookup in an image that was opened, on a path with no bad link
@@ -371,7 +380,7 @@ module _ (h : Head) where
 
 -- the numbers of its refusals
 abbrev pub storeNumbers : List ℕ
-storeNumbers = 1 ∷ 2 ∷ 3 ∷ 4 ∷ 5 ∷ 6 ∷ 7 ∷ 8 ∷ 16 ∷ 9 ∷ 10 ∷ 11 ∷ 12 ∷ 13 ∷ []
+storeNumbers = 1 ∷ 2 ∷ 3 ∷ 4 ∷ 5 ∷ 6 ∷ 7 ∷ 8 ∷ 16 ∷ 19 ∷ 9 ∷ 10 ∷ 11 ∷ 12 ∷ 13 ∷ []
 
 -- 11, 12 and 13 for a key and a value
 abbrev pub valued : List ℕ → List ℕ → ℕ → List Row

@@ -15,7 +15,7 @@ use Rattle.paper.specs.declared.Refusal.the-variants.{ImageRoom, TooFewN
 use Rattle.paper.specs.declared.Refusal.the-variants.{LinkedTwice, NotLinked, KeyLength}
 use Rattle.paper.specs.declared.Refusal.the-variants.{Letter, ValueTooGreat, NoAddress}
 use Rattle.paper.specs.declared.Refusal.the-variants.{NoRoom, ShortBuffer, NoKey}
-use Rattle.paper.specs.declared.Refusal.the-variants.{NotReached, CountsDiffer}
+use Rattle.paper.specs.declared.Refusal.the-variants.{NotReached, Hidden, CountsDiffer}
 use Rattle.paper.specs.declared.Done.{Done}
 use Rattle.paper.specs.declared.Counted.{Counted}
 use Rattle.paper.specs.declared.Placed.{Placed}
@@ -38,8 +38,8 @@ refusalIn m =
     getD
     (NoKey ∷ ImageLength ∷ HeadField ∷ Alphabet ∷ ImageRoom ∷ TooFewNumbers ∷ Link (m .place)
     ∷ LinkedTwice (m .place) ∷ NotLinked (m .place) ∷ KeyLength ∷ Letter ∷ ValueTooGreat
-    ∷ NoAddress ∷ NoRoom ∷ ShortBuffer ∷ NoKey ∷ NotReached (m .place) ∷ NoKey ∷ NoKey ∷ NoKey
-    ∷ NoKey ∷ NoKey ∷ NoKey ∷ NoKey ∷ NoKey ∷ CountsDiffer (m .place) ∷ [])
+    ∷ NoAddress ∷ NoRoom ∷ ShortBuffer ∷ NoKey ∷ NotReached (m .place) ∷ NoKey ∷ NoKey
+    ∷ Hidden (m .place) ∷ NoKey ∷ NoKey ∷ NoKey ∷ NoKey ∷ NoKey ∷ CountsDiffer (m .place) ∷ [])
     (m .number) NoKey
 
 refusal-back : (r : Refusal) → refusalIn (refusalNumbers r) ≡ r
@@ -60,6 +60,7 @@ refusal-back NoRoom = refl
 refusal-back ShortBuffer = refl
 refusal-back NoKey = refl
 refusal-back (NotReached q) = refl
+refusal-back (Hidden q) = refl
 refusal-back (CountsDiffer q) = refl
 
 -- number 0 is done, every other a refusal
@@ -86,6 +87,7 @@ by-refusal done refused NoRoom = refl
 by-refusal done refused ShortBuffer = refl
 by-refusal done refused NoKey = refl
 by-refusal done refused (NotReached q) = refl
+by-refusal done refused (Hidden q) = refl
 by-refusal done refused (CountsDiffer q) = refl
 
 -- so no refusal's number is 0

@@ -1,11 +1,11 @@
--- 01, "Cases from one small file": those marked P, and cases of 02's Ask 3, as one table: of calls
--- and of what each must leave, and of the images that are left and of their G, W and U. N = 3, A =
--- 1, D = 1, letters ABC, min 1, max 3. The lent buffers hold rubbish (AA in images and key
+-- 01, "Cases from one small file": those marked P, and cases of 02's Asks 3 and 8, as one table: of
+-- calls and of what each must leave, and of the images that are left and of their G, W and U. N =
+-- 3, A = 1, D = 1, letters ABC, min 1, max 3. The lent buffers hold rubbish (AA in images and key
 -- buffers, 7 in working numbers), so that the table shows what a call keeps and what it changes.
 use Prim.Native.Nat.{ℕ, _+_}
 use mathlib.Core.Bool.{true, false}
 use mathlib.Core.List.{List, [], _∷_, _++_}
-use lib.ListN.{replicate}
+use lib.ListN.{replicate, set}
 use lib.IntN.{ℤ, pos}
 use Rattle.head.specs.Fields.{headOf, nodeWidth, usedLen}
 use Rattle.paper.specs.Hearing.{Outcome, outcome, refusedNumbers, doneNumbers}
@@ -126,7 +126,18 @@ body11 = 0 ∷ 1 ∷ 0 ∷ 0 ∷ 0 ∷ 1 ∷ 0 ∷ 0 ∷ []
 abbrev lower3 : List ℕ
 lower3 = file 2 (0 ∷ 2 ∷ 0 ∷ 0 ∷ 0 ∷ 0 ∷ 0 ∷ 9 ∷ 1 ∷ 0 ∷ 0 ∷ 5 ∷ []) 0
 
--- P1 to P12, and Ask 3
+-- five nodes under the root, in one chain, with data at two: node 1 is at depth 5, node 2 at depth 4
+abbrev chain : List ℕ
+chain =
+    5 ∷ 0 ∷ 0 ∷ 0 ∷ 0 ∷ 0 ∷ 0 ∷ 9 ∷ 1 ∷ 0 ∷ 0 ∷ 8 ∷ 2 ∷ 0 ∷ 0 ∷ 0 ∷ 3 ∷ 0 ∷ 0 ∷ 0 ∷ 4 ∷ 0 ∷ 0 ∷ 0
+    ∷ []
+
+-- P3's file with a record at BABA, below a node without data: the two nodes are 3 and 4
+abbrev longer3 : ℕ → List ℕ
+longer3 value =
+    0 ∷ 1 ∷ 0 ∷ 0 ∷ 2 ∷ 0 ∷ 0 ∷ 5 ∷ 0 ∷ 3 ∷ 0 ∷ 9 ∷ 4 ∷ 0 ∷ 0 ∷ 0 ∷ 0 ∷ 0 ∷ 0 ∷ value ∷ []
+
+-- P1 to P12, and Asks 3 and 8
 abbrev pub cases : List Case
 cases =
     -- P1: "fresh in 35 bytes .. With 34 bytes, 4"
@@ -207,6 +218,21 @@ cases =
     ∷ record {
       call = nextKeyOf lower3 work (1 ∷ []) true buffer;
       leaves = done 2 (pos 0) 9 (cleared ∷ (1 ∷ 0 ∷ 0xAA ∷ []) ∷ []);
+    }
+    -- Ask 8: data below min, in the root and in P3's file with min 2; data above max; "place the
+    -- lowest such node", which here is not the one of least depth; 16 stands before it
+    ∷ checks 0 (0 ∷ 0 ∷ 0 ∷ 4 ∷ []) 19 0
+    ∷ record {
+      call = checkOf (set file3 23 2) work;
+      leaves = refused 19 1 (cleared ∷ []);
+    }
+    ∷ checks 4 (longer3 1) 19 4
+    ∷ checks 5 chain 19 1
+    ∷ checks 2 (0 ∷ 0 ∷ 0 ∷ 4 ∷ 2 ∷ 0 ∷ 0 ∷ 0 ∷ 1 ∷ 0 ∷ 0 ∷ 0 ∷ []) 16 1
+    -- Ask 8: a node below max is accepted where it has no data, and not counted
+    ∷ record {
+      call = countOf (file 4 (longer3 0) 0) (replicate 5 7);
+      leaves = done 0 (pos 0) 2 (replicate 5 0 ∷ []);
     }
     -- P12: "after P3, next at or after the empty key is B; after B is BA; after BA gives 15"
     ∷ record {

@@ -8,13 +8,14 @@ use mathlib.Core.Bool.{Bool, true, false, _&&_, _||_, cond, false≢true}
 use mathlib.Core.List.{List, [], _∷_, _++_, reverse, reverse-cons, reverse-reverse}
 use native.Mathlib.Omega.{arith}
 use native.Mathlib.Decide.{ℕ-discrete, decLe}
-use lib.Dec.{eqb}
-use lib.ListN.{length, length-append}
-use borrow.Author.Tests.{eq-eqb, eqb-true}
+use lib.Dec.{eqb, leb}
+use lib.ListN.{length, length-append, length-reverse}
+use borrow.Author.Tests.{eq-eqb, eqb-true, le-leb, leb-true}
 use Rattle.trie.specs.Table.{Table, complete, descend}
 use Rattle.trie.specs.Lowest.{anyBelow, lowest}
 use Rattle.trie.specs.Rules.{Framed}
 use Rattle.trie.specs.Tree.{Parent, Reachable, holdsAddress, atDepth, depthOf}
+use Rattle.trie.specs.Tree.{depthWithin}
 use Rattle.trie.proofs.Lowest.{lowest-found, none-lowest, any-found, any-here}
 use Rattle.trie.proofs.Tree.{link-on, parent-within}
 use Rattle.trie.proofs.Walk.{descend-nil, descend-append, last-link}
@@ -117,9 +118,23 @@ module _ (t : Table) (n g : ℕ) where
         let (q, w, f, h) = last-link t 0 (reverse m) y (rw (reverse-cons y m) at e) in
         at-child (length m) q x (record { letter = y; link = f; full = h }) (from-end m w)
 
-    -- a node that is reached has links that lead to it
-    pub walk-at : (x : ℕ) → Reachable t x → (k : ℕ) × (atDepth t n g k x ≡ true)
-    walk-at x (m, e) = (length (reverse m), from-end (reverse m) (rw reverse-reverse e))
+    -- a key's walk is as many links as the key has letters
+    pub walk-at : (x : ℕ) (m : List ℕ) → descend t 0 m ≡ complete x
+        → atDepth t n g (length m) x ≡ true
+    walk-at x m e =
+        let back : descend t 0 (reverse (reverse m)) ≡ complete x = rw reverse-reverse e in
+        rw (length-reverse m) at (from-end (reverse m) back)
+
+    -- ---- depths from `least` to `most`
+
+    -- a node at such a depth is reached by a key of so many letters, and the other way round
+    pub walk-within : (least most x : ℕ) (m : List ℕ) → descend t 0 m ≡ complete x
+        → least ≤ length m → length m ≤ most
+        → depthWithin t n g least most x ≡ true
+    unfolding depthWithin
+    walk-within least most x m e low high =
+        any-here (λ d. leb least d && atDepth t n g d x) (most + 1) {i = length m} (omega arith)
+        (rw (le-leb least (length m) low, walk-at x m e))
 
     -- ---- the least number of links
 
@@ -220,8 +235,7 @@ module _ (t : Table) (n g : ℕ) where
     pub reached-depth : (x : ℕ) → x ≤ g → Reachable t x → depthOf t n g x ≤ g
     unfolding depthOf
     reached-depth x node r =
-        let (k, e) = walk-at x r in
-        let (j, f) = least k x node e in
+        let (j, f) = least (length (r .0)) x node (walk-at x (r .0) (r .1)) in
         go j f (decLe (lowest here 0 (g + 1)) g)
       where
         here : ℕ → Bool
@@ -240,3 +254,12 @@ module _ (t : Table) (n g : ℕ) where
       let (e, f) = lowest-found (λ k. atDepth t n g k x) 0 (g + 1) (omega arith) in
       let (m, l, w) = at-walk (lowest (λ k. atDepth t n g k x) 0 (g + 1)) x e in
       (m, w)
+
+  pub within-walk : (least most x : ℕ) → depthWithin t n g least most x ≡ true
+      → (m : List ℕ) × (descend t 0 m ≡ complete x) × (least ≤ length m) × (length m ≤ most)
+  unfolding depthWithin
+  within-walk least most x e =
+      let (d, b, f) = any-found (λ d. leb least d && atDepth t n g d x) (most + 1) e in
+      let (c, a) = both (leb least d) (atDepth t n g d x) f in
+      let (m, l, w) = at-walk d x a in
+      (m, w, omega (arith, leb-true least d c, l), omega (arith, b, l))

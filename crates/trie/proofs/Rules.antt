@@ -1,18 +1,19 @@
--- A store keeps the rules on links. Every walk that ended at a node still ends there, so older
+-- A store keeps the rules on links and on data. Every walk that ended at a node still ends there, so older
 -- nodes are reached as before. A new node is reached through the node whose empty link it fills.
 use Prim.Native.Nat.{ℕ, suc, _+_, _≤_}
-use mathlib.Core.List.{List, [], _∷_, _++_}
+use mathlib.Core.List.{List, [], _∷_, _++_, List-discrete}
 use mathlib.Core.Path.{_≡_, _∙_, ap}
-use native.Mathlib.Decide.{decLe}
+use native.Mathlib.Decide.{ℕ-discrete, decLe}
 use native.Mathlib.Omega.{arith}
 use lib.ListN.{length}
 use Rattle.trie.specs.Table.{Table, LettersBelow, complete, descend, missing}
 use Rattle.trie.specs.Tree.{Reachable}
-use Rattle.trie.specs.Rules.{Framed, AllReached, LinkRules, Linked}
+use Rattle.trie.specs.Rules.{Framed, AllReached, LinkRules, Linked, Visible}
 use Rattle.trie.specs.Storing.{put, grow, growPath, stored, added}
 use Rattle.trie.proofs.Put.{put-descend}
 use Rattle.trie.proofs.Grow.{grow-descend, grow-descend-new, Room, room, room-next}
 use Rattle.trie.proofs.Storing.{Store, over, unchanged, longer, store, stored-linked}
+use Rattle.trie.proofs.Storing.{stored-answer-other}
 
 grow-reached : (t : Table) (g q x : ℕ) → AllReached t g → q ≤ g → t .child q x ≡ 0
     → AllReached (grow t q x (suc g)) (suc g)
@@ -63,3 +64,15 @@ stored-rules {t} {g} f r k letters v =
       once = s .once;
       reached = reached l letters (r .reached) (store t g k v);
     }
+
+-- A store keeps data at depths from `least` to `most`: of all keys only the one that is stored
+-- answers otherwise than before, and its length is in these bounds.
+pub stored-visible : {t : Table} {g n : ℕ} → Linked t g n → (least most : ℕ) → Visible t least most
+    → (k : List ℕ) → LettersBelow n k → least ≤ length k → length k ≤ most → (v : ℕ)
+    → Visible (stored t g k v) least most
+stored-visible {t} {g} l least most visible k letters low high v m full =
+    go (List-discrete ℕ-discrete m k)
+  where
+    go : Dec (m ≡ k) → (least ≤ length m) × (length m ≤ most)
+    go (yes e) = rw e (low, high)
+    go (no d) = visible m (λ z. full (stored-answer-other l k letters v m d ∙ z))
