@@ -41,7 +41,8 @@ use Rattle.paper.proofs.Hearing.{passed-row, passed-parts, heard-refuse
 use Rattle.paper.proofs.Numbers.{AllSay, end, _then_, given-says, parts-say, first-says}
 use Rattle.paper.proofs.Numbers.{none-heard}
 use Rattle.paper.proofs.Keying.{some-found, Askable, askable-passes, next-says}
-use Rattle.paper.proofs.CheckCall.{checking-says, accepted-checks, accepted-linked}
+use Rattle.paper.proofs.CheckCall.{checkNumbers, checking-says, accepted-checks}
+use Rattle.paper.proofs.CheckCall.{accepted-linked}
 
 -- ---- the stored keys
 
@@ -86,7 +87,7 @@ counted-fits {l} a =
 
 -- the numbers of its refusals
 abbrev pub nextNumbers : List ℕ
-nextNumbers = 1 ∷ 2 ∷ 3 ∷ 4 ∷ 5 ∷ 6 ∷ 7 ∷ 8 ∷ 16 ∷ 19 ∷ 9 ∷ 10 ∷ 14 ∷ 15 ∷ []
+nextNumbers = checkNumbers ++ (9 ∷ 10 ∷ 14 ∷ 15 ∷ [])
 
 -- a key that is written at the front of a buffer with room for it can be read there
 pub front : (buffer k : List ℕ) → length k ≤ length buffer → take (length k) (sets buffer 0 k) ≡ k

@@ -59,7 +59,8 @@ use Rattle.paper.proofs.Numbers.{none-heard}
 use Rattle.paper.proofs.Opening.{alphabet-same}
 use Rattle.paper.proofs.Keying.{keyNumbers, given-meant, fit-given, given-says-key}
 use Rattle.paper.proofs.CheckCall.{accepted-opens, check-accepts, accepted-checks}
-use Rattle.paper.proofs.CheckCall.{checking-says, checked, accepted-linked}
+use Rattle.paper.proofs.CheckCall.{checkNumbers, checking-says, checked}
+use Rattle.paper.proofs.CheckCall.{accepted-linked}
 use Rattle.paper.proofs.Linking.{not-bad}
 use Rattle.paper.proofs.LookUpCall.{given-fit}
 
@@ -380,7 +381,7 @@ module _ (h : Head) where
 
 -- the numbers of its refusals
 abbrev pub storeNumbers : List ℕ
-storeNumbers = 1 ∷ 2 ∷ 3 ∷ 4 ∷ 5 ∷ 6 ∷ 7 ∷ 8 ∷ 16 ∷ 19 ∷ 9 ∷ 10 ∷ 11 ∷ 12 ∷ 13 ∷ []
+storeNumbers = checkNumbers ++ (9 ∷ 10 ∷ 11 ∷ 12 ∷ 13 ∷ [])
 
 -- 11, 12 and 13 for a key and a value
 abbrev pub valued : List ℕ → List ℕ → ℕ → List Row

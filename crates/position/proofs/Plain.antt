@@ -169,7 +169,7 @@ counts-checked l work counts e =
 
 -- the numbers of the refusals of a store with counts
 abbrev pub storeCountsNumbers : List ℕ
-storeCountsNumbers = 1 ∷ 2 ∷ 3 ∷ 4 ∷ 5 ∷ 6 ∷ 7 ∷ 8 ∷ 16 ∷ 25 ∷ 9 ∷ 10 ∷ 11 ∷ 12 ∷ 13 ∷ 5 ∷ []
+storeCountsNumbers = checkNumbers ++ (25 ∷ 9 ∷ 10 ∷ 11 ∷ 12 ∷ 13 ∷ 5 ∷ [])
 
 module _ (l work : List ℕ) (given : Given) (value : ℕ) (counts : List ℕ) where
   abbrev key : List ℕ

@@ -9,13 +9,12 @@ use Rattle.paper.specs.Given.{Given, asLetters, asText}
 use Rattle.paper.specs.Cases.{Case, file, body2, body3, body7, file3, refused, done}
 use Rattle.position.specs.Calls.{countsOf, checkCountsOf, storeCountsOf, keyAtOf, positionOf}
 
--- the key AA = 5, and data at depths 0 and 4, where keys of 1 to 3 letters have none
-abbrev bodyHidden : List ℕ
-bodyHidden = 1 ∷ 0 ∷ 0 ∷ 6 ∷ 2 ∷ 0 ∷ 0 ∷ 0 ∷ 3 ∷ 0 ∷ 0 ∷ 5 ∷ 4 ∷ 0 ∷ 0 ∷ 0 ∷ 0 ∷ 0 ∷ 0 ∷ 8 ∷ []
-
--- the file with that body
-abbrev hidden : List ℕ
-hidden = file 4 bodyHidden 0
+-- the file with the key AA = 5 and two nodes below it; the last, at depth 4, has this data, though
+-- keys have 1 to 3 letters
+abbrev deep : ℕ → List ℕ
+deep last =
+    file 4
+    (1 ∷ 0 ∷ 0 ∷ 0 ∷ 2 ∷ 0 ∷ 0 ∷ 0 ∷ 3 ∷ 0 ∷ 0 ∷ 5 ∷ 4 ∷ 0 ∷ 0 ∷ 0 ∷ 0 ∷ 0 ∷ 0 ∷ last ∷ []) 0
 
 -- four working numbers
 abbrev work : List ℕ
@@ -82,10 +81,9 @@ cases =
       call = countsOf (file 1 (0 ∷ 2 ∷ 0 ∷ 0 ∷ 0 ∷ 0 ∷ 0 ∷ 0 ∷ []) 0) work (9 ∷ 9 ∷ 9 ∷ []);
       leaves = refused 6 0 (cleared2 ∷ (9 ∷ 9 ∷ 9 ∷ []) ∷ []);
     }
-    -- data at depths outside min..max is not counted, and the nodes below the only key have the
-    -- count 0
+    -- the nodes below the only key have the count 0, also deeper than max
     ∷ record {
-      call = countsOf hidden work5 (9 ∷ 9 ∷ 9 ∷ 9 ∷ 9 ∷ []);
+      call = countsOf (deep 0) work5 (9 ∷ 9 ∷ 9 ∷ 9 ∷ 9 ∷ []);
       leaves = done 0 (pos 0) 0 (cleared5 ∷ (1 ∷ 1 ∷ 1 ∷ 0 ∷ 0 ∷ []) ∷ []);
     }
     -- check with counts: 25 at the lowest node that differs, after the check's answers
@@ -99,8 +97,13 @@ cases =
       leaves = refused 25 0 (cleared ∷ []);
     }
     ∷ record {
-      call = checkCountsOf hidden work5 (1 ∷ 1 ∷ 1 ∷ 0 ∷ 1 ∷ []);
+      call = checkCountsOf (deep 0) work5 (1 ∷ 1 ∷ 1 ∷ 0 ∷ 1 ∷ []);
       leaves = refused 25 4 (cleared5 ∷ []);
+    }
+    -- Ask 8: 19 is one of the check's answers
+    ∷ record {
+      call = checkCountsOf (deep 8) work5 (9 ∷ 9 ∷ 9 ∷ 9 ∷ 9 ∷ []);
+      leaves = refused 19 4 (cleared5 ∷ []);
     }
     ∷ record {
       call = checkCountsOf (file 1 (0 ∷ 1 ∷ 1 ∷ 0 ∷ 0 ∷ 0 ∷ 0 ∷ 0 ∷ []) 0) work
