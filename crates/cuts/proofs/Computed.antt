@@ -17,7 +17,7 @@ use Rattle.head.specs.Fields.{headOf, usedLen}
 use Rattle.node.specs.Writes.{storeWrites, noted}
 use Rattle.paper.specs.Hearing.{Outcome, outcome, doneNumbers, refusedNumbers}
 use Rattle.paper.specs.Answers.{numberAt}
-use Rattle.paper.specs.Rows.{row1, row2, row3, row4, row6, row7, row8, row16}
+use Rattle.paper.specs.Rows.{row1, row2, row3, row4, row6, row7, row8, row16, row19}
 use Rattle.paper.specs.Calls.{tableIn, storedKeys, writesIn, storedImage, mendOf}
 use Rattle.paper.specs.Cases.{file}
 use Rattle.cuts.specs.Cut.{cutAfter}
@@ -69,7 +69,7 @@ pub computed : (map left cuts ≡ expected)
     × (noted (writesIn before (2 ∷ 2 ∷ 2 ∷ []) 1) ≡ 43 ∷ 4 ∷ 47 ∷ 4 ∷ 51 ∷ 4 ∷ 0 ∷ 4 ∷ 33 ∷ 1 ∷ [])
     × (readBack (left 5) (noted (writesIn before (2 ∷ 2 ∷ 2 ∷ []) 1)) ≡ writesIn before
     (2 ∷ 2 ∷ 2 ∷ []) 1)
-unfolding row1 row2 row3 row4 row6 row7 row8 row16 cutAfter mendedImage mendOf storedImage readBack
+unfolding row1 row2 row3 row4 row6 row7 row8 row16 row19 cutAfter mendedImage mendOf storedImage readBack
     noted storeWrites tableIn
 computed = (refl, refl, refl, refl, refl)
 
@@ -126,7 +126,7 @@ pub computed-flushes : (map noted (groupsIn before (2 ∷ 2 ∷ 2 ∷ []) 1)
     × (mendOf sparse work ≡ done sparse (0 ∷ 0 ∷ 0 ∷ 7 ∷ 7 ∷ 7 ∷ 7 ∷ []))
     × (map storedKeys (before ∷ sparse ∷ striped ∷ grown 2 0 ∷ [])
     ≡ replicate 4 ((1 ∷ []) ∷ (1 ∷ 0 ∷ []) ∷ []))
-unfolding row1 row2 row3 row4 row6 row7 row8 row16 flushed cutSince mendedImage mendOf noted
+unfolding row1 row2 row3 row4 row6 row7 row8 row16 row19 flushed cutSince mendedImage mendOf noted
     storeWrites tableIn descend storedKeys keysUnder
 computed-flushes = (refl, refl, refl, refl, refl, refl, refl, refl, refl, refl)
 
@@ -137,7 +137,7 @@ pub computed-rounds : (leftIn 0 (second ∷ odds ∷ []) ≡ both)
     × (storedKeys both ≡ (1 ∷ []) ∷ (1 ∷ 0 ∷ []) ∷ [])
     × (leftIn 1 (nothing ∷ odds ∷ all ∷ []) ≡ grown 5 0)
     × (leftIn 2 (all ∷ all ∷ []) ≡ grown 5 3)
-unfolding row1 row2 row3 row4 row6 row7 row8 row16 flushed cutSince mendedImage mendOf noted
+unfolding row1 row2 row3 row4 row6 row7 row8 row16 row19 flushed cutSince mendedImage mendOf noted
     storeWrites tableIn descend storedKeys keysUnder
 computed-rounds = (refl, refl, refl, refl, refl)
 
@@ -152,7 +152,7 @@ unflushed lands =
 pub computed-needed :
     (mendOf (unflushed (λ i. eqb i 3)) work .numbers ≡ refusedNumbers (numberAt 6 3))
     × (mendOf (unflushed (λ i. not (eqb i 3))) work .numbers ≡ refusedNumbers (numberAt 6 0))
-unfolding row1 row2 row3 row4 row6 row7 row8 row16 landed mendOf storeWrites tableIn descend headOf
+unfolding row1 row2 row3 row4 row6 row7 row8 row16 row19 landed mendOf storeWrites tableIn descend headOf
     usedLen
 computed-needed = (refl, refl)
 
@@ -176,5 +176,5 @@ pub computed-images : (mendOf (blank 1) three ≡ done (blank 0) (0 ∷ 0 ∷ 7 
     (twice ∷ (0 ∷ 0 ∷ 7 ∷ []) ∷ []))
     × (mendOf unnamed three ≡ outcome (refusedNumbers (numberAt 8 1))
     (unnamed ∷ (0 ∷ 0 ∷ 0 ∷ []) ∷ []))
-unfolding row1 row2 row3 row4 row6 row7 row8 row16 mendOf
+unfolding row1 row2 row3 row4 row6 row7 row8 row16 row19 mendOf
 computed-images = (refl, refl, refl)

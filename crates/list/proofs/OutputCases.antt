@@ -2,7 +2,7 @@
 use mathlib.Core.Path.{_≡_, refl}
 use mathlib.Core.List.{[], _∷_}
 use Rattle.trie.specs.Keys.{keysUnder}
-use Rattle.paper.specs.Rows.{row1, row2, row3, row4, row6, row7, row8, row16}
+use Rattle.paper.specs.Rows.{row1, row2, row3, row4, row6, row7, row8, row16, row19}
 use Rattle.paper.specs.Cases.{file, file3}
 use Rattle.list.specs.Output.{outputOf}
 
@@ -11,7 +11,7 @@ pub writes-3 : outputOf file3
     ≡ 101 ∷ 110 ∷ 116 ∷ 114 ∷ 105 ∷ 101 ∷ 115 ∷ 32 ∷ 50 ∷ 10
     ∷ 49 ∷ 32 ∷ 53 ∷ 10
     ∷ 49 ∷ 46 ∷ 48 ∷ 32 ∷ 57 ∷ 10 ∷ []
-unfolding outputOf row1 row2 row3 row4 row6 row7 row8 row16 keysUnder
+unfolding outputOf row1 row2 row3 row4 row6 row7 row8 row16 row19 keysUnder
 writes-3 = refl
 
 -- "for P8 `refused 7 at 1`"

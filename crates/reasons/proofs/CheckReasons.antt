@@ -32,7 +32,7 @@ use Rattle.paper.specs.Calls.{freshHead, makeOf, checkOf, countOf, lookUpOf, st
 use Rattle.paper.specs.Calls.{writesIn, withWrites, storeWritesOf, storedKeys, nextIn}
 use Rattle.paper.specs.Calls.{foundIn, nextKeyOf}
 use Rattle.reasons.specs.Reasons.{_when_, FirstApplies, keyReasons, valueReasons}
-use Rattle.reasons.specs.CheckReasons.{openingReasons, makeReasons, linkReasons}
+use Rattle.reasons.specs.CheckReasons.{openingReasons, makeReasons, nodeReasons}
 use Rattle.reasons.specs.CheckReasons.{checkReasons}
 use Rattle.reasons.specs.CheckReasons.{RightPlace, BreaksOnPath, lookUpReasons, PathPlace}
 use Rattle.reasons.specs.CheckReasons.{storeAnyReasons, StoredKey, askedReasons}
@@ -44,7 +44,7 @@ use Rattle.paper.proofs.Opening.{spoilt}
 use Rattle.reasons.proofs.OpeningReasons.{opening-fits, make-fits}
 use Rattle.reasons.proofs.LinkReasons.{six-fits, seven-fits, eight-fits, sixteen-fits}
 use Rattle.reasons.proofs.LinkReasons.{placeless, six-tells, seven-tells, eight-tells}
-use Rattle.reasons.proofs.LinkReasons.{sixteen-tells}
+use Rattle.reasons.proofs.LinkReasons.{sixteen-tells, nineteen-fits, nineteen-tells}
 use Rattle.reasons.proofs.PathReasons.{path-fits, path-tells}
 use Rattle.paper.proofs.StoreCall.{valued}
 use Rattle.paper.proofs.NextKeyCall.{stored-exactly}
@@ -91,17 +91,17 @@ module _ (image : List ℕ) (n a d : ℕ) (alphabet : List ℕ) (least most : �
 
 -- ---- check and number of keys
 
--- 6 to 8 and 16
-link-fits : (l : List ℕ) → AllFit (nodeRows (headOf l) (tableOf (headOf l) l)) (linkReasons l)
-unfolding nodeRows linkReasons
-link-fits l = (six-fits l, (seven-fits l, (eight-fits l, (sixteen-fits l, tt))))
+-- 6 to 8, 16 and 19
+node-fits : (l : List ℕ) → AllFit (nodeRows (headOf l) (tableOf (headOf l) l)) (nodeReasons l)
+unfolding nodeRows nodeReasons
+node-fits l = (six-fits l, (seven-fits l, (eight-fits l, (sixteen-fits l, (nineteen-fits l, tt)))))
 
-link-tells : (l : List ℕ) → AllTell (RightPlace l) (nodeRows (headOf l) (tableOf (headOf l) l))
+node-tells : (l : List ℕ) → AllTell (RightPlace l) (nodeRows (headOf l) (tableOf (headOf l) l))
 unfolding nodeRows
-link-tells l = (six-tells l, (seven-tells l, (eight-tells l, (sixteen-tells l, tt))))
+node-tells l = (six-tells l, (seven-tells l, (eight-tells l, (sixteen-tells l, (nineteen-tells l, tt)))))
 
 module _ (l work : List ℕ) where
-  -- 5 to 8 and 16
+  -- 5 to 8, 16 and 19
   abbrev from-five : List Row
   from-five = row5 (headOf l) (length work) ∷ nodeRows (headOf l) (tableOf (headOf l) l)
 
@@ -109,17 +109,17 @@ module _ (l work : List ℕ) where
   unfolding checkOrder checkReasons row5
   check-fits =
       parts-fit (openingRowsOf l) from-five (openingReasons l)
-      (5 when (length work < headOf l .g + 1) ∷ linkReasons l) (opening-fits l)
-      (five-fits (length work) (headOf l .g + 1), link-fits l)
+      (5 when (length work < headOf l .g + 1) ∷ nodeReasons l) (opening-fits l)
+      (five-fits (length work) (headOf l .g + 1), node-fits l)
 
-  -- "check .. : 1 to 8", and 16, each exactly when the table says, for any image
+  -- "check .. : 1 to 8", 16 and 19, each exactly when the table says, for any image
   pub check-number-exactly : (n : ℕ) → (checkOf l work .numbers .number ≡ n)
       ↔ FirstApplies (checkReasons l work) n
   unfolding checkOf doneNumbers
   check-number-exactly n =
       heard-exactly (checkOrder l work) (checkReasons l work) _ _ refl check-fits refl n
 
-  -- "check and number of keys: 1 to 8", and 16
+  -- "check and number of keys: 1 to 8", 16 and 19
   pub count-number-exactly : (n : ℕ) → (countOf l work .numbers .number ≡ n)
       ↔ FirstApplies (checkReasons l work) n
   unfolding countOf doneNumbers
@@ -134,7 +134,7 @@ module _ (l work : List ℕ) where
       (λ n b. placeless l n (inl (omega arith)))) (
         when-tells (RightPlace l) 5 0 (ltb (length work) (headOf l .g + 1))
             (placeless l 5 (inl (omega arith))),
-        link-tells l,
+        node-tells l,
       )
 
   -- 6 at the "lowest node that holds one", 7 and 8 at the "lowest such address"; "A place not
@@ -252,7 +252,7 @@ module _ (l work : List ℕ) (given : Given) (value : ℕ) where
       (parts-fit (keyRows l given) (valued l (keyIn l given) value) (keyReasons l given) _
       (key-fits l given) (value-fits l (keyIn l given) value))
 
-  -- "store: 1 to 8, 9, 10, 11, 12, 13", with 16 after 8, for any image
+  -- "store: 1 to 8, 9, 10, 11, 12, 13", with 16 and 19 after 8, for any image
   pub store-any-number-exactly : (n : ℕ) → (storeOf l work given value .numbers .number ≡ n)
       ↔ FirstApplies (storeAnyReasons l work given value) n
   unfolding storeOf doneNumbers
@@ -382,7 +382,7 @@ module _ (l work key : List ℕ) (after : Bool) (buffer : List ℕ) where
       parts-fit (checkOrder l work) asked (checkReasons l work) (askedReasons l key after buffer)
       (check-fits l work) asked-fits
 
-  -- "next key: 1 to 8, 9, 10, 14, 15", with 16 after 8, for any image
+  -- "next key: 1 to 8, 9, 10, 14, 15", with 16 and 19 after 8, for any image
   pub next-key-number-exactly : (n : ℕ)
       → (nextKeyOf l work key after buffer .numbers .number ≡ n)
       ↔ FirstApplies (nextKeyReasons l work key after buffer) n

@@ -1,20 +1,23 @@
--- 6 to 8 and 16: each row is given exactly where its reason applies, and its place is the lowest
+-- 6 to 8, 16 and 19: each row is given exactly where its reason applies, and its place is the lowest
 -- node or address that the reason speaks of. An address that is counted twice stands in two links:
 -- in two of one node, or in one of each of two nodes.
 use Prim.Native.Nat.{ℕ, zero, suc, _+_, _≤_, _<_}
 use mathlib.Core.Path.{_≡_, refl, sym, _∙_}
 use mathlib.Core.Logic.{_↔_, _≢_, _⊎_, inl, inr, ⊎-elim}
-use mathlib.Core.Bool.{Bool, true, false, true≢false}
+use mathlib.Core.Bool.{Bool, true, false, not, true≢false}
 use mathlib.Core.List.{List, []}
 use native.Mathlib.Decide.{ℕ-discrete, decLe}
 use native.Mathlib.Omega.{arith}
 use lib.Dec.{ltb}
+use lib.ListN.{length}
 use borrow.Author.Tests.{lt-ltb, ltb-true, ltb-false, leb-true, le-leb, eqb-true, eq-eqb}
-use Rattle.trie.specs.Table.{Table}
+use borrow.Author.Tests.{not-true}
+use Rattle.field.proofs.Range.{both}
+use Rattle.trie.specs.Table.{Table, complete, descend}
 use Rattle.trie.specs.Lowest.{lowest}
-use Rattle.trie.specs.Tree.{depthOf}
+use Rattle.trie.specs.Tree.{depthOf, depthWithin}
 use Rattle.trie.proofs.Walk.{descend-nil}
-use Rattle.trie.proofs.Depth.{reached-depth, depth-reached}
+use Rattle.trie.proofs.Depth.{reached-depth, depth-reached, walk-within, within-walk}
 use Rattle.trie.proofs.Lowest.{lowest-least, none-lowest, lowest-found, any-found}
 use Rattle.trie.proofs.Counted.{Sums, some-part}
 use Rattle.head.specs.declared.Head.{Head}
@@ -23,11 +26,11 @@ use Rattle.node.specs.Image.{tableOf}
 use Rattle.node.proofs.Tables.{framed}
 use Rattle.paper.specs.Hearing.{Row, rowWhen}
 use Rattle.paper.specs.Rows.{badLink, holdsBad, rowWhenLowest, row6, timesIn, times, row7}
-use Rattle.paper.specs.Rows.{row8, row16}
+use Rattle.paper.specs.Rows.{row8, row16, hidden, row19}
 use Rattle.paper.specs.Calls.{tableIn}
 use Rattle.reasons.specs.Reasons.{_when_}
 use Rattle.reasons.specs.CheckReasons.{Breaks, HoldsBreaking, StandsIn, InTwo, InNone}
-use Rattle.reasons.specs.CheckReasons.{Unreached, LowestOf, RightPlace}
+use Rattle.reasons.specs.CheckReasons.{Unreached, Hidden, LowestOf, RightPlace}
 use Rattle.reasons.proofs.FirstReason.{Fits, Tells, tell-alike}
 use Rattle.paper.proofs.Linking.{holds-bad, one-hit, hit-most, in-node, in-nodes}
 use Rattle.paper.proofs.Linking.{counted, counted-once, holds, count, twice, nowhere, unreached}
@@ -174,7 +177,7 @@ module _ (t : Table) (x n k : ℕ) where
             λ same. apart (same .0),
           )
 
--- ---- 6 to 8 and 16 of an image
+-- ---- 6 to 8, 16 and 19 of an image
 
 module _ (l : List ℕ) where
   abbrev head : Head
@@ -285,6 +288,50 @@ module _ (l : List ℕ) where
       deep (yes b) = absurd (s .1 (depth-reached table (head .n) (head .g) x b))
       deep (no b) = omega arith
 
+  -- a walk of min to max letters leads to a node exactly if it is at such a depth
+  nineteen-to : (x : ℕ) → 0 ≤ x → x < 0 + (head .g + 1) → hidden head table x ≡ true → Hidden l x
+  unfolding tableIn hidden
+  nineteen-to x low high e =
+      let (full, deep) =
+      both (ltb 0 (table .value x))
+      (not (depthWithin table (head .n) (head .g) (head .min) (head .max) x)) e in
+      let there = ltb-true 0 (table .value x) full in (
+        omega arith,
+        λ z. omega arith,
+        λ k w. outside k w (not-true _ deep) (decLe (head .min) (length k))
+            (decLe (length k) (head .max)),
+      )
+    where
+      outside : (k : List ℕ) → descend table 0 k ≡ complete x
+          → depthWithin table (head .n) (head .g) (head .min) (head .max) x ≡ false
+          → Dec (head .min ≤ length k) → Dec (length k ≤ head .max)
+          → (length k < head .min) ⊎ (head .max < length k)
+      outside k w f (no b) _ = inl (omega arith)
+      outside k w f (yes b) (no c) = inr (omega arith)
+      outside k w f (yes b) (yes c) =
+          absurd (true≢false (sym
+          (walk-within table (head .n) (head .g) (framed head l) (head .min) (head .max) x k w b c)
+          ∙ f))
+
+  nineteen-from : (x : ℕ) → Hidden l x
+      → (0 ≤ x) × (x < 0 + (head .g + 1)) × (hidden head table x ≡ true)
+  unfolding tableIn hidden
+  nineteen-from x s = (
+    omega arith,
+    omega (arith, s .0),
+    rw (lt-ltb 0 (table .value x) (omega (arith, s .1))) (rw (shut (within x) refl)),
+  )
+    where
+      within : ℕ → Bool
+      within y = depthWithin table (head .n) (head .g) (head .min) (head .max) y
+
+      shut : (b : Bool) → within x ≡ b → within x ≡ false
+      shut false e = e
+      shut true e =
+          let (k, w, low, high) =
+          within-walk table (head .n) (head .g) (head .min) (head .max) x e in
+          absurd (⊎-elim (λ b. omega arith) (λ b. omega arith) (s .2 k w))
+
   pub six-fits : Fits (row6 head table) (6 when ((q : ℕ) × HoldsBreaking l q))
   unfolding row6
   six-fits = lowest-fits 6 (holds head table) 0 (head .g + 1) six-to six-from
@@ -301,6 +348,10 @@ module _ (l : List ℕ) where
   unfolding row16
   sixteen-fits = lowest-fits 16 (unreached head table) 1 (head .g) sixteen-to sixteen-from
 
+  pub nineteen-fits : Fits (row19 head table) (19 when ((x : ℕ) × Hidden l x))
+  unfolding row19
+  nineteen-fits = lowest-fits 19 (hidden head table) 0 (head .g + 1) nineteen-to nineteen-from
+
   -- ---- their places
 
   -- a number without a place
@@ -311,7 +362,8 @@ module _ (l : List ℕ) where
         seven = λ e. absurd (⊎-elim (λ b. omega arith) (λ b. omega arith) far);
         eight = λ e. absurd (⊎-elim (λ b. omega arith) (λ b. omega arith) far);
         sixteen = λ e. absurd (⊎-elim (λ b. omega arith) (λ b. omega arith) far);
-        others = λ _ _ _ _. refl;
+        nineteen = λ e. absurd (⊎-elim (λ b. omega arith) (λ b. omega arith) far);
+        others = λ _ _ _ _ _. refl;
       }
 
   six-right : (n place : ℕ) → (n ≡ 6) × LowestOf (HoldsBreaking l) place → RightPlace l n place
@@ -321,7 +373,8 @@ module _ (l : List ℕ) where
         seven = λ e. absurd (omega (arith, s .0));
         eight = λ e. absurd (omega (arith, s .0));
         sixteen = λ e. absurd (omega (arith, s .0));
-        others = λ d _ _ _. absurd (d (s .0));
+        nineteen = λ e. absurd (omega (arith, s .0));
+        others = λ d _ _ _ _. absurd (d (s .0));
       }
 
   seven-right : (n place : ℕ) → (n ≡ 7) × LowestOf (InTwo l) place → RightPlace l n place
@@ -331,7 +384,8 @@ module _ (l : List ℕ) where
         seven = λ _. s .1;
         eight = λ e. absurd (omega (arith, s .0));
         sixteen = λ e. absurd (omega (arith, s .0));
-        others = λ _ d _ _. absurd (d (s .0));
+        nineteen = λ e. absurd (omega (arith, s .0));
+        others = λ _ d _ _ _. absurd (d (s .0));
       }
 
   eight-right : (n place : ℕ) → (n ≡ 8) × LowestOf (InNone l) place → RightPlace l n place
@@ -341,7 +395,8 @@ module _ (l : List ℕ) where
         seven = λ e. absurd (omega (arith, s .0));
         eight = λ _. s .1;
         sixteen = λ e. absurd (omega (arith, s .0));
-        others = λ _ _ d _. absurd (d (s .0));
+        nineteen = λ e. absurd (omega (arith, s .0));
+        others = λ _ _ d _ _. absurd (d (s .0));
       }
 
   sixteen-right : (n place : ℕ) → (n ≡ 16) × LowestOf (Unreached l) place → RightPlace l n place
@@ -351,7 +406,19 @@ module _ (l : List ℕ) where
         seven = λ e. absurd (omega (arith, s .0));
         eight = λ e. absurd (omega (arith, s .0));
         sixteen = λ _. s .1;
-        others = λ _ _ _ d. absurd (d (s .0));
+        nineteen = λ e. absurd (omega (arith, s .0));
+        others = λ _ _ _ d _. absurd (d (s .0));
+      }
+
+  nineteen-right : (n place : ℕ) → (n ≡ 19) × LowestOf (Hidden l) place → RightPlace l n place
+  nineteen-right n place s =
+      record {
+        six = λ e. absurd (omega (arith, s .0));
+        seven = λ e. absurd (omega (arith, s .0));
+        eight = λ e. absurd (omega (arith, s .0));
+        sixteen = λ e. absurd (omega (arith, s .0));
+        nineteen = λ _. s .1;
+        others = λ _ _ _ _ d. absurd (d (s .0));
       }
 
   pub six-tells : Tells (RightPlace l) (row6 head table)
@@ -373,3 +440,8 @@ module _ (l : List ℕ) where
   unfolding row16
   sixteen-tells = tell-alike (row16 head table) sixteen-right
       (lowest-tells 16 (unreached head table) 1 (head .g) sixteen-to sixteen-from)
+
+  pub nineteen-tells : Tells (RightPlace l) (row19 head table)
+  unfolding row19
+  nineteen-tells = tell-alike (row19 head table) nineteen-right
+      (lowest-tells 19 (hidden head table) 0 (head .g + 1) nineteen-to nineteen-from)

@@ -85,7 +85,7 @@ makeReasons image n a d alphabet least most =
     ∷ 4 when (length image < usedLen (freshHead n a d alphabet least most))
     ∷ []
 
--- ---- 6 to 8 and 16
+-- ---- 6 to 8, 16 and 19
 
 -- "every link that isn't empty is at most G": the link c breaks this. 02, Ask 3: "6, in lookups
 -- too, means only a link above G"
@@ -124,33 +124,45 @@ InNone l x = Address l x × ((q i : ℕ) → ¬ StandsIn l x q i)
 abbrev pub Unreached : List ℕ → ℕ → Type 0
 Unreached l x = (x ≤ headOf l .g) × (¬ Reachable (tableIn l) x)
 
--- 6 to 8 and 16 for an image; 16 stands "right after 8"
-unfoldable pub linkReasons : List ℕ → List Reason
-linkReasons l =
+-- 19, of 02's Ask 8: "data at any depth outside min..max". Node x has data that is not 0, and no
+-- key of min to max letters leads to it.
+abbrev pub Hidden : List ℕ → ℕ → Type 0
+Hidden l x =
+    (x ≤ headOf l .g)
+    × (tableIn l .value x ≢ 0)
+    × ((k : List ℕ) → descend (tableIn l) 0 k ≡ complete x
+    → (length k < headOf l .min) ⊎ (headOf l .max < length k))
+
+-- 6 to 8, 16 and 19 for an image; 16 stands "right after 8", 19 "right after 16"
+unfoldable pub nodeReasons : List ℕ → List Reason
+nodeReasons l =
     6 when ((q : ℕ) × HoldsBreaking l q)
     ∷ 7 when ((x : ℕ) × InTwo l x)
     ∷ 8 when ((x : ℕ) × InNone l x)
     ∷ 16 when ((x : ℕ) × Unreached l x)
+    ∷ 19 when ((x : ℕ) × Hidden l x)
     ∷ []
 
--- "check and number of keys: 1 to 8", and 16; 5: "fewer than G+1 working numbers lent"
+-- "check and number of keys: 1 to 8", 16 and 19; 5: "fewer than G+1 working numbers lent"
 unfoldable pub checkReasons : List ℕ → List ℕ → List Reason
-unfolding openingReasons linkReasons
+unfolding openingReasons nodeReasons
 checkReasons l work =
-    openingReasons l ++ (5 when (length work < headOf l .g + 1) ∷ linkReasons l)
+    openingReasons l ++ (5 when (length work < headOf l .g + 1) ∷ nodeReasons l)
 
 -- "lowest": it is one, and no lower one is
 abbrev pub LowestOf : (ℕ → Type 0) → ℕ → Type 0
 LowestOf one x = one x × ((y : ℕ) → y < x → ¬ one y)
 
 -- the column of places, for the calls that check: for 6 "lowest node that holds one", for the next
--- two "lowest such address", for 16 "place the lowest", and "A place not named is 0"
+-- two "lowest such address", for 16 "place the lowest", for 19 "place the lowest such node", and
+-- "A place not named is 0"
 pub record RightPlace (l : List ℕ) (number place : ℕ) : Type 0 where
   pub six : number ≡ 6 → LowestOf (HoldsBreaking l) place
   pub seven : number ≡ 7 → LowestOf (InTwo l) place
   pub eight : number ≡ 8 → LowestOf (InNone l) place
   pub sixteen : number ≡ 16 → LowestOf (Unreached l) place
-  pub others : number ≢ 6 → number ≢ 7 → number ≢ 8 → number ≢ 16 → place ≡ 0
+  pub nineteen : number ≡ 19 → LowestOf (Hidden l) place
+  pub others : number ≢ 6 → number ≢ 7 → number ≢ 8 → number ≢ 16 → number ≢ 19 → place ≡ 0
 
 -- ---- look up
 
@@ -188,7 +200,7 @@ pub record PathPlace (l key : List ℕ) (number place : ℕ) : Type 0 where
 
 -- ---- store and next key
 
--- "store: 1 to 8, 9, 10, 11, 12, 13", with 16 after 8
+-- "store: 1 to 8, 9, 10, 11, 12, 13", with 16 and 19 after 8
 unfoldable pub storeAnyReasons : List ℕ → List ℕ → Given → ℕ → List Reason
 unfolding checkReasons keyReasons valueReasons newOf keyIn
 storeAnyReasons l work given value =
@@ -211,7 +223,7 @@ askedReasons l key after buffer =
     ∷ 15 when ((k : List ℕ) → StoredKey l k → ¬ (meets after key k ≡ true))
     ∷ []
 
--- "next key: 1 to 8, 9, 10, 14, 15", with 16 after 8
+-- "next key: 1 to 8, 9, 10, 14, 15", with 16 and 19 after 8
 unfoldable pub nextKeyReasons : List ℕ → List ℕ → List ℕ → Bool → List ℕ → List Reason
 unfolding checkReasons askedReasons
 nextKeyReasons l work key after buffer = checkReasons l work ++ askedReasons l key after buffer

@@ -13,7 +13,7 @@ use lib.IntN.{pos}
 use Rattle.trie.specs.Table.{answer, descend, missing}
 use Rattle.trie.specs.Storing.{added, changeOf}
 use Rattle.trie.specs.Keys.{listing, meets, firstMeeting}
-use Rattle.trie.specs.Rules.{LinkRules}
+use Rattle.trie.specs.Rules.{LinkRules, Visible}
 use Rattle.passing.specs.Passing.{countAt, oneForEach, keyAt, rankIn}
 use Rattle.head.specs.declared.Head.{Head}
 use Rattle.head.specs.Fields.{shortestImage, longestImage, fieldsLen, totalAt, totalLen, headOf}
@@ -322,4 +322,7 @@ module _ {a b : List ℕ} (e : seenIn a ≡ seenIn b) where
             back (x .alphabet-good);
         room = subst (λ (s : Seen). usedLen (s .head) ≤ s .len) back (x .room);
         links = subst (λ (s : Seen). LinkRules (s .table) (s .head .g)) back (x .links);
+        visible =
+            subst (λ (s : Seen). Visible (s .table) (s .head .min) (s .head .max)) back
+            (x .visible);
       }
