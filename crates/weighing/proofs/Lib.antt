@@ -1,2 +1,3 @@
+pub mod KeysLeft
 pub mod Weighing
 pub mod Working

@@ -19,11 +19,12 @@ use Rattle.trie.proofs.Beyond.{under-split}
 use Rattle.head.specs.declared.Head.{Head}
 use Rattle.node.specs.Image.{tableOf}
 use Rattle.depths.specs.Depths.{KeysBelow}
-use Rattle.counting.proofs.Counting.{left, owned, left-no-keys, left-none, left-empty, left-link}
 use Rattle.passing.specs.Weights.{weightFrom}
 use Rattle.passing.proofs.Weights.{weight-split, weight-none, weight-empty, weight-link}
 use Rattle.passing.proofs.Weights.{weight-no-keys}
 use Rattle.weighing.specs.Weighing.{weight, SumsFit, Weighed}
+use Rattle.weighing.proofs.KeysLeft.{left, owned, left-no-keys, left-none, left-empty}
+use Rattle.weighing.proofs.KeysLeft.{left-link}
 
 -- ---- one number of a list raised
 

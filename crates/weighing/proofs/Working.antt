@@ -16,7 +16,6 @@ use Rattle.head.specs.Fields.{headOf}
 use Rattle.node.specs.Image.{tableOf}
 use Rattle.depths.specs.Depths.{KeysBelow}
 use Rattle.tallying.proofs.Clearing.{cleared-rest, cleared-again}
-use Rattle.counting.proofs.Counting.{owned}
 use Rattle.passing.proofs.Weights.{weight-count}
 use Rattle.passing.proofs.Reached.{count-few, count-outside, each-length, each-at}
 use Rattle.paper.specs.Calls.{tableIn, storedKeys}
@@ -26,6 +25,7 @@ use Rattle.paper.proofs.NextKeyCall.{counted-fits}
 use Rattle.position.specs.Counts.{countIn, countsIn}
 use Rattle.position.specs.Calls.{worked}
 use Rattle.weighing.specs.Weighing.{weight, SumsFit, Weighed}
+use Rattle.weighing.proofs.KeysLeft.{owned}
 use Rattle.weighing.proofs.Weighing.{weighed-leaf}
 
 -- ---- a list whose first n numbers are replaced by as many others

@@ -11,7 +11,7 @@ use borrow.Fn.Kinds.{In}
 use borrow.Fn.PlainCycle.{Measures, is, falls, and}
 use Rattle.head.proofs.Permitted.{bounds}
 use Rattle.node.specs.Image.{tableOf}
-use Rattle.counting.proofs.Counting.{owned, owned-none, owned-one}
+use Rattle.weighing.proofs.KeysLeft.{owned, owned-none, owned-one}
 use Rattle.weighing.proofs.Weighing.{Weighing, weighing-start, weighing-empty, weighing-sum}
 use Rattle.weighing.proofs.Weighing.{weighing-end, fits-end}
 use Rattle.weighing.proofs.Weighing.{Onto, weighing-leaf, weighing-child, fits-one}

@@ -6,7 +6,7 @@ use native.Mathlib.Omega.{arith}
 use borrow.Author.Needs.{needs}
 use Rattle.node.specs.Image.{tableOf}
 use Rattle.depths.proofs.Walkable.{Walkable, walkable}
-use Rattle.counting.proofs.Counting.{owned, owned-none, owned-one}
+use Rattle.weighing.proofs.KeysLeft.{owned, owned-none, owned-one}
 use Rattle.weighing.proofs.Working.{start-length, fits-start, leaf-worked, weighed-worked}
 use Rattle.weighing.proofs.add_up.Statement.{statement}
 use Rattle.weighing.proofs.add_up.Tie as tie

@@ -2,15 +2,14 @@
 -- come make up the whole. A link that is not empty adds the child's own key, if there is one,
 -- and the keys below the child.
 use Prim.Native.Nat.{ℕ, _+_, _-_, _<_, _≤_}
-use native.Mathlib.Nat.{sub-zero}
 use native.Mathlib.Numerals.{add-one}
 use mathlib.Core.Bool.{Bool, true}
 use mathlib.Core.Logic.{_≢_}
 use mathlib.Core.Path.{_≡_, sym, _∙_, ap}
 use lib.ListN.{length, length-append, length-map}
 use Rattle.trie.specs.Table.{Table}
-use Rattle.trie.specs.Keys.{ownKey, listing}
-use Rattle.trie.proofs.Beyond.{under-split, from-none, from-empty}
+use Rattle.trie.specs.Keys.{ownKey}
+use Rattle.trie.proofs.Beyond.{from-none, from-empty}
 use Rattle.head.specs.declared.Head.{Head}
 use Rattle.depths.specs.Depths.{ownValue, KeysBelow}
 use Rattle.depths.proofs.Links.{own-empty, own-full, from, from-link}
@@ -30,10 +29,6 @@ module _ (h : Head) (t : Table) where
 
   pub owned-one : (q depth : ℕ) {v : ℕ} → v ≡ ownValue h t q depth → v ≢ 0 → owned q depth ≡ 1
   owned-one q depth e full = ap length (own-full h t q depth (λ z. full (e ∙ z)))
-
-  pub listed : length (listing t (h .n) (h .min) (h .max)) ≡ owned 0 0 + left 0 0 0
-  listed = rw (sub-zero (h .min), sub-zero (h .max))
-      (ap length (under-split t (h .n) (h .min) (h .max) 0) ∙ simp length-append)
 
   -- no key is left below a node without keys below it, nor past the last letter
   pub left-no-keys : (q depth i : ℕ) {r : Bool} → KeysBelow h t q depth r → r ≡ true
