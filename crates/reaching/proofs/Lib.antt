@@ -1,4 +1,5 @@
 pub mod Kept
+pub mod Marks
 pub mod Vacant
 pub mod OnStack
 pub mod Spreading

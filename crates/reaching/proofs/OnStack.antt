@@ -1,8 +1,8 @@
 -- What holds while the search runs, from its start to its end. A node whose number is 0 is not on
--- the stack, since the numbers there name nodes from 1 on, or G+1. So it can be put there, and the
--- stack below it stays. At the end the stack is empty: the nodes that have been met hold the root
--- and are closed under links, so no walk from the root leaves them.
-use Prim.Native.Nat.{ℕ, _+_, _≤_, _<_}
+-- the stack, since the numbers there name nodes from 1 on, or G+1. So it can be put there with its
+-- mark, and the stack below it stays. At the end the stack is empty: the nodes that have been met
+-- hold the root and are closed under links, so no walk from the root leaves them.
+use Prim.Native.Nat.{ℕ, _+_, _*_, _≤_, _<_}
 use mathlib.Core.Path.{_≡_, refl, sym, _∙_, ap}
 use mathlib.Core.Logic.{_≢_, _⊎_, inl, inr}
 use mathlib.Core.List.{List, [], _∷_, _++_, List·Memᴰ, List·Memᴰ·head, List·Memᴰ·tail}
@@ -14,15 +14,14 @@ use lib.ListN.{List·getD-append}
 use lib.Seq.{getD-set-same, getD-set-other}
 use Rattle.trie.specs.Table.{Table, complete}
 use Rattle.trie.specs.Rules.{Within, Framed}
-use Rattle.trie.specs.Tree.{Reachable}
-use Rattle.trie.proofs.Walk.{Walk, end, on, walk, descend-nil}
-use Rattle.trie.proofs.Tree.{reached-on}
+use Rattle.trie.proofs.Walk.{Walk, end, on, walk}
 use Rattle.head.specs.declared.Head.{Head}
 use Rattle.node.specs.Image.{tableOf}
 use Rattle.node.proofs.Tables.{framed}
-use Rattle.reaching.specs.Reaching.{RestKept, Met, Searched, Stack, vacant, LinksMet}
-use Rattle.reaching.specs.Reaching.{Searching}
-use Rattle.reaching.proofs.Vacant.{vacant-all, vacant-none, vacant-set}
+use Rattle.reaching.specs.Reaching.{RestKept, marks, deeperOf, Marked, markIn, nextIn, Met}
+use Rattle.reaching.specs.Reaching.{Searched, Stack, vacant, LinksMet, Searching}
+use Rattle.reaching.proofs.Marks.{marked-root, marked-on, next-of, mark-of, next-none}
+use Rattle.reaching.proofs.Vacant.{vacant-all, vacant-none, vacant-some, vacant-set}
 
 -- ---- a node that is met
 
@@ -47,16 +46,22 @@ stack-top : (work : List ℕ) (top last : ℕ) (p : List ℕ) → Stack work (la
 stack-top work top last [] s z = omega arith
 stack-top work top last (x ∷ p) (e, low, high, s) z = omega arith
 
+stack-most : (work : List ℕ) (top last : ℕ) (p : List ℕ) → Stack work (last + 1) top p
+    → top ≤ last + 1
+stack-most work top last [] s = omega arith
+stack-most work top last (x ∷ p) (e, low, high, s) = omega arith
+
 -- a node whose number is 0 is not on it, so the stack stays when that number is set
 stack-set : (work : List ℕ) (top last : ℕ) (p : List ℕ) (c v : ℕ) → getD work c 0 ≡ 0
     → Stack work (last + 1) top p → Stack (set work c v) (last + 1) top p
 stack-set work top last [] c v z s = s
 stack-set work top last (x ∷ p) c v z (e, low, high, s) =
-    let other : x ≢ c = λ w. stack-top work (getD work x 0) last p s (rw w z) in (
+    let other : x ≢ c =
+    λ w. stack-top work (nextIn work x) last p s (next-none work x (rw w z)) in (
       e,
       low,
       high,
-      rw (getD-set-other work c x v 0 other) (stack-set work (getD work x 0) last p c v z s),
+      rw (getD-set-other work c x v 0 other) (stack-set work (nextIn work x) last p c v z s),
     )
 
 -- ---- the search
@@ -64,18 +69,21 @@ stack-set work top last (x ∷ p) c v z (e, low, high, s) =
 -- the root is met, and no other node
 pub searching-start : (t : Table) (g n : ℕ) (work : List ℕ) → g + 1 ≤ length work
     → work ≡ replicate (g + 1) 0 ++ drop (g + 1) work
-    → Searching t g n 0 0 1 (g + 1) (set work 0 (g + 1))
+    → Searching t g n 0 0 1 (g + 1) (set work 0 ((g + 1) * marks + 1))
 searching-start t g n work room e =
     record {
       pending = [];
       stack = refl;
       root = met-now work (omega arith) (λ z. omega arith);
       here = met-now work (omega arith) (λ z. omega arith);
-      reached = λ x b m. go x b m (ℕ-discrete x 0);
+      marked = λ x b m. go x b m (ℕ-discrete x 0);
       closed = λ x b m. inr (λ j c f. absurd (stop x b m f (ℕ-discrete x 0)));
       counted = omega (arith, vacant-all work (g + 1) clear, one-less);
     }
   where
+    first : ℕ
+    first = (g + 1) * marks + 1
+
     clear : (x : ℕ) → x < g + 1 → getD work x 0 ≡ 0
     clear x b =
         ap (λ (w : List ℕ). getD w x 0) e
@@ -83,19 +91,22 @@ searching-start t g n work room e =
         (omega (arith, length-replicate {A = ℕ} (g + 1) 0))
         ∙ getD-replicate (g + 1) x 0 0 b
 
-    one-less : vacant work (g + 1) ≡ vacant (set work 0 (g + 1)) (g + 1) + 1
+    one-less : vacant work (g + 1) ≡ vacant (set work 0 first) (g + 1) + 1
     one-less =
-        vacant-set work (g + 1) 0 (g + 1) (omega arith) (clear 0 (omega arith)) (λ z. omega arith)
+        vacant-set work (g + 1) 0 first (omega arith) (clear 0 (omega arith)) (λ z. omega arith)
         (omega arith)
 
-    only : (x : ℕ) → x ≤ g → Met (set work 0 (g + 1)) x → x ≢ 0 → ⊥
-    only x b m f = m (getD-set-other work 0 x (g + 1) 0 f ∙ clear x (omega arith))
+    only : (x : ℕ) → x ≤ g → Met (set work 0 first) x → x ≢ 0 → ⊥
+    only x b m f = m (getD-set-other work 0 x first 0 f ∙ clear x (omega arith))
 
-    go : (x : ℕ) → x ≤ g → Met (set work 0 (g + 1)) x → Dec (x ≡ 0) → Reachable t x
-    go x b m (yes z) = ([], descend-nil t 0 ∙ ap complete (sym z))
+    go : (x : ℕ) → x ≤ g → Met (set work 0 first) x → Dec (x ≡ 0)
+        → Marked t x (markIn (set work 0 first) x)
+    go x b m (yes z) =
+        rw (z, getD-set-same work 0 first 0 (omega arith), mark-of (g + 1) 1 (omega arith))
+        (marked-root t)
     go x b m (no f) = absurd (only x b m f)
 
-    stop : {j : ℕ} (x : ℕ) → x ≤ g → Met (set work 0 (g + 1)) x → (x ≡ 0 → j < 0) → Dec (x ≡ 0) → ⊥
+    stop : {j : ℕ} (x : ℕ) → x ≤ g → Met (set work 0 first) x → (x ≡ 0 → j < 0) → Dec (x ≡ 0) → ⊥
     stop x b m f (yes z) = let y = f z in omega arith
     stop x b m f (no z) = only x b m z
 
@@ -109,7 +120,7 @@ module _ {t : Table} {g n q i followed top : ℕ} {work : List ℕ}
         stack = s .stack;
         root = s .root;
         here = s .here;
-        reached = s .reached;
+        marked = s .marked;
         closed = λ x b d. wider x (s .closed x b d);
         counted = s .counted;
       }
@@ -125,70 +136,87 @@ module _ {t : Table} {g n q i followed top : ℕ} {work : List ℕ}
       wider x (inl a) = inl a
       wider x (inr f) = inr (λ j b h. at x j b f h (ℕ-discrete x q) (ℕ-discrete j i))
 
-  -- it leads to a node that has not been met, which is put on the stack
-  push : {c : ℕ} → g + 1 ≤ length work → q ≤ g → c ≤ g → c ≡ t .child q i → getD work c 0 ≡ 0
-      → Searching t g n q i followed c (set work c top)
-  push {c} room low high link z =
+  -- it leads to a node that has not been met, which is put on the stack with its mark
+  push : {c mark : ℕ} → g + 1 ≤ length work → q ≤ g → c ≤ g → c ≡ t .child q i
+      → getD work c 0 ≡ 0 → mark ≡ deeperOf (markIn work q)
+      → Searching t g n q i followed c (set work c (top * marks + mark))
+  push {c} {mark} room low high link z e =
       record {
         pending = c ∷ s .pending;
         stack = (
           refl,
           omega (arith, not-root),
           omega arith,
-          rw (getD-set-same work c top 0 inside)
-              (stack-set work top g (s .pending) c top z (s .stack)),
+          rw (now, next-of top mark small)
+              (stack-set work top g (s .pending) c number z (s .stack)),
         );
         root = still 0 (s .root);
         here = still q (s .here);
-        reached = λ x b m. go x b m (ℕ-discrete x c);
+        marked = λ x b m. go x b m (ℕ-discrete x c);
         closed = λ x b m. again x b m (ℕ-discrete x c);
         counted = omega (arith, s .counted, one-less);
       }
     where
+      number : ℕ
+      number = top * marks + mark
+
+      small : mark < marks
+      small = omega arith
+
       not-root : c ≢ 0
-      not-root e = s .root (rw e at z)
+      not-root f = s .root (rw f at z)
 
       inside : c < length work
       inside = omega arith
 
-      full : top ≢ 0
-      full = stack-top work top g (s .pending) (s .stack)
+      now : getD (set work c number) c 0 ≡ number
+      now = getD-set-same work c number 0 inside
 
-      one-less : vacant work (g + 1) ≡ vacant (set work c top) (g + 1) + 1
-      one-less = vacant-set work (g + 1) c top inside z full (omega arith)
+      full : number ≢ 0
+      full f = omega arith
 
-      still : (x : ℕ) → Met work x → Met (set work c top) x
+      one-less : vacant work (g + 1) ≡ vacant (set work c number) (g + 1) + 1
+      one-less = vacant-set work (g + 1) c number inside z full (omega arith)
+
+      still : (x : ℕ) → Met work x → Met (set work c number) x
       still = met-still work inside full
 
-      go : (x : ℕ) → x ≤ g → Met (set work c top) x → Dec (x ≡ c) → Reachable t x
-      go x b m (yes e) =
-          reached-on (s .reached q low (s .here))
-          (record { letter = i; link = sym (e ∙ link); full = λ w. not-root (sym e ∙ w) })
-      go x b m (no e) = s .reached x b (met-before work inside full x e m)
+      child : Marked t c mark
+      child =
+          rw e
+          (marked-on (s .marked q low (s .here))
+          (record { letter = i; link = sym link; full = not-root }))
+
+      go : (x : ℕ) → x ≤ g → Met (set work c number) x → Dec (x ≡ c)
+          → Marked t x (markIn (set work c number) x)
+      go x b m (yes f) = rw (f, now, mark-of top mark small) child
+      go x b m (no f) =
+          rw (getD-set-other work c x number 0 f)
+          (s .marked x b (met-before work inside full x f m))
 
       more : (x : ℕ) → List·Memᴰ x (s .pending) ⊎ LinksMet t n q i work x
-          → List·Memᴰ x (c ∷ s .pending) ⊎ LinksMet t n q i (set work c top) x
+          → List·Memᴰ x (c ∷ s .pending) ⊎ LinksMet t n q i (set work c number) x
       more x (inl a) = inl (List·Memᴰ·tail a)
       more x (inr f) = inr (λ j b h. still (t .child x j) (f j b h))
 
-      again : (x : ℕ) → x ≤ g → Met (set work c top) x → Dec (x ≡ c)
-          → List·Memᴰ x (c ∷ s .pending) ⊎ LinksMet t n q i (set work c top) x
-      again x b m (yes e) = inl (List·Memᴰ·head e)
-      again x b m (no e) = more x (s .closed x b (met-before work inside full x e m))
+      again : (x : ℕ) → x ≤ g → Met (set work c number) x → Dec (x ≡ c)
+          → List·Memᴰ x (c ∷ s .pending) ⊎ LinksMet t n q i (set work c number) x
+      again x b m (yes f) = inl (List·Memᴰ·head f)
+      again x b m (no f) = more x (s .closed x b (met-before work inside full x f m))
 
 -- the search after such a link
-pub searching-new : {t : Table} {g n q i followed top : ℕ} {work : List ℕ} {c : ℕ}
+pub searching-new : {t : Table} {g n q i followed top : ℕ} {work : List ℕ} {c mark : ℕ}
     → Searching t g n q i followed top work → g + 1 ≤ length work → q ≤ g → c ≤ g
-    → c ≡ t .child q i → getD work c 0 ≡ 0
-    → Searching t g n q (i + 1) followed c (set work c top)
-searching-new {g = g} {top = top} {work = work} s room low high link z =
-    searching-met (push s room low high link z)
-    (rw (← link) (met-now work (omega arith) (stack-top work top g (s .pending) (s .stack))))
+    → c ≡ t .child q i → getD work c 0 ≡ 0 → mark ≡ deeperOf (markIn work q)
+    → Searching t g n q (i + 1) followed c (set work c (top * marks + mark))
+searching-new {work = work} s room low high link z e =
+    searching-met (push s room low high link z e)
+    (rw (← link) (met-now work (omega arith) (λ f. omega arith)))
 
 module _ {t : Table} {g n q followed top : ℕ} {work : List ℕ}
     (s : Searching t g n q n followed top work) where
   -- the node at the top of the stack is the next whose links are followed
-  pub searching-pop : top < g + 1 → Searching t g n top 0 (followed + 1) (getD work top 0) work
+  pub searching-pop : top < g + 1 → Searching t g n top 0 (followed + 1) (nextIn work top) work
   searching-pop below = go (s .pending) (s .stack) (s .closed) (s .counted)
     where
       less : (y x : ℕ) (p : List ℕ) → top ≡ y → List·Memᴰ x (y ∷ p) ⊎ LinksMet t n q n work x
@@ -201,18 +229,23 @@ module _ {t : Table} {g n q followed top : ℕ} {work : List ℕ}
       go : (p : List ℕ) → Stack work (g + 1) top p
           → ((x : ℕ) → x ≤ g → Met work x → List·Memᴰ x p ⊎ LinksMet t n q n work x)
           → followed + length p + vacant work (g + 1) ≡ g + 1
-          → Searching t g n top 0 (followed + 1) (getD work top 0) work
+          → Searching t g n top 0 (followed + 1) (nextIn work top) work
       go [] e closed counted = absurd (omega arith)
       go (y ∷ p) (e, low, high, rest) closed counted =
           record {
             pending = p;
             stack = rw e rest;
             root = s .root;
-            here = rw e (stack-top work (getD work y 0) g p rest);
-            reached = s .reached;
+            here = rw e (λ z. stack-top work (nextIn work y) g p rest (next-none work y z));
+            marked = s .marked;
             closed = λ x b m. less y x p e (closed x b m);
             counted = omega (arith, counted);
           }
+
+  -- the node below it on the stack, or G+1
+  pub searching-below : top < g + 1 → nextIn work top ≤ g + 1
+  searching-below below =
+      let r = searching-pop below in stack-most work (nextIn work top) g (r .pending) (r .stack)
 
   -- no more nodes have been followed than there are
   pub searching-room : top < g + 1 → followed < g + 1
@@ -239,9 +272,23 @@ module _ {t : Table} {g n q followed top : ℕ} {work : List ℕ}
       go (yes c) = all-followed high a b m j c (λ _. c)
       go (no c) = absurd (full (frame .no-letter a j (omega arith)))
 
-  -- where as many nodes were followed as there are, none is left
-  none-vacant : followed ≡ g + 1 → vacant work (g + 1) ≡ 0
-  none-vacant e = omega (arith, s .counted)
+  -- each node was followed, or has not been met
+  each : g + 1 ≤ top → followed + vacant work (g + 1) ≡ g + 1
+  each high = go (s .pending) (s .stack) (s .counted)
+    where
+      go : (p : List ℕ) → Stack work (g + 1) top p
+          → followed + length p + vacant work (g + 1) ≡ g + 1
+          → followed + vacant work (g + 1) ≡ g + 1
+      go [] e counted = omega (arith, counted)
+      go (y ∷ p) (e, low, below, rest) counted = absurd (omega arith)
+
+  -- where fewer nodes were followed than there are, one has not been met
+  one-left : g + 1 ≤ top → followed ≢ g + 1
+      → (x : ℕ) × (1 ≤ x) × (x ≤ g) × (getD work x 0 ≡ 0)
+  one-left high f =
+      let (x, b, z) = vacant-some work (g + 1) (λ e. f (omega (arith, each high))) in
+      let not-root : x ≢ 0 = λ e. s .root (rw e at z) in
+      (x, omega (arith, not-root), omega arith, z)
 
 -- ---- the answer
 
@@ -251,9 +298,10 @@ pub searched : {h : Head} {l work work′ : List ℕ} {q followed top : ℕ}
     → Searched h l work followed work′
 searched {h} {l} {work} {work′} s within high kept =
     record {
-      marked = s .reached;
+      marked = s .marked;
       unmarked = λ x b z (k, e).
           met-on s (framed h l) within high (omega arith) (s .root) (walk (tableOf h l) 0 k e) z;
-      all = λ e x b. vacant-none work′ (h .g + 1) x (none-vacant s e) (omega arith);
+      all = λ e x b. vacant-none work′ (h .g + 1) x (omega (arith, each s high)) (omega arith);
+      some = one-left s high;
       kept = kept;
     }

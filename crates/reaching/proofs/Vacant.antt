@@ -1,5 +1,5 @@
--- How many working numbers are 0. Where one that is 0 receives another number there is one less,
--- and where there is none left no number is 0.
+-- How many working numbers are 0. Where one that is 0 receives another number there is one less.
+-- Where there is none left no number is 0, and else one is.
 use Prim.Native.Nat.{ℕ, zero, suc, _+_, _≤_, _<_}
 use mathlib.Core.Path.{_≡_, refl, sym, _∙_, ap}
 use mathlib.Core.Logic.{_≢_}
@@ -50,6 +50,19 @@ vacant-none work (suc m) x e b z =
     go : Dec (getD work m 0 ≡ 0) → (vacant work m ≡ 0 → x < m → ⊥) → ⊥
     go (yes y) rest = omega (arith, one-more work m y)
     go (no y) rest = last (ℕ-discrete x m) y (rest (sym (no-more work m y) ∙ e))
+
+pub vacant-some : (work : List ℕ) (m : ℕ) → vacant work m ≢ 0
+    → (x : ℕ) × (x < m) × (getD work x 0 ≡ 0)
+unfolding vacant
+vacant-some work zero f = absurd (f refl)
+vacant-some work (suc m) f = go (ℕ-discrete (getD work m 0) 0) (vacant-some work m)
+  where
+    go : Dec (getD work m 0 ≡ 0)
+        → (vacant work m ≢ 0 → (x : ℕ) × (x < m) × (getD work x 0 ≡ 0))
+        → (x : ℕ) × (x < suc m) × (getD work x 0 ≡ 0)
+    go (yes y) rest = (m, omega arith, y)
+    go (no y) rest =
+        let (x, b, z) = rest (λ e. f (no-more work m y ∙ e)) in (x, omega arith, z)
 
 -- ---- a number that is set
 

@@ -6,7 +6,7 @@ use native.Mathlib.Omega.{arith}
 use lib.ListN.{length-set}
 use borrow.Author.Needs.{needs}
 use Rattle.reaching.proofs.Reaching.{Reaching, nodes-fit, reaching-start, reaching-room}
-use Rattle.reaching.proofs.Reaching.{reaching-more, reaching-all}
+use Rattle.reaching.proofs.Reaching.{reaching-below, reaching-more, reaching-all}
 use Rattle.reaching.proofs.reach.Statement.{statement}
 use Rattle.reaching.proofs.reach.Tie as tie
 
@@ -23,8 +23,17 @@ mask-requires c κs = search needs
 add-nodes : tie.Need-add-nodes Inv-loop μ-loop
 add-nodes c =
     let pre = c .before .before .before .before .pre in
-    let fit = nodes-fit (pre .0) (pre .1 .0) in
-    omega (arith, fit)
+    omega (arith, nodes-fit (pre .0) (pre .1 .0))
+
+mul-work : tie.Need-mul-work Inv-loop μ-loop
+mul-work c =
+    let pre = c .before .before .before .before .pre in
+    omega (arith, nodes-fit (pre .0) (pre .1 .0))
+
+add-work : tie.Need-add-work Inv-loop μ-loop
+add-work c =
+    let pre = c .before .before .before .before .pre in
+    omega (arith, nodes-fit (pre .0) (pre .1 .0))
 
 slice-write-work : tie.Need-slice-write-work Inv-loop μ-loop
 slice-write-work c = omega arith
@@ -35,7 +44,16 @@ spread-requires c κs =
       s .pre .0,
       (
         c .before .before .mask .ensures,
-        (s .pre .1 .1 .0, (omega arith, simp length-set (s .pre .1 .1 .1 .0))),
+        (
+          s .pre .1 .1 .0,
+          (
+            omega arith,
+            (
+              omega arith,
+              (nodes-fit (s .pre .0) (s .pre .1 .0), simp length-set (s .pre .1 .1 .1 .0)),
+            ),
+          ),
+        ),
       ),
     )
 
@@ -60,7 +78,16 @@ spread-requires-2 c κs =
       s .pre .0,
       (
         p .before .before .before .before .before .before .mask .ensures,
-        (s .pre .1 .1 .0, (omega arith, p .loop .inv .room)),
+        (
+          s .pre .1 .1 .0,
+          (
+            omega arith,
+            (
+              reaching-below (p .loop .inv) (omega arith),
+              (nodes-fit (s .pre .0) (s .pre .1 .0), p .loop .inv .room),
+            ),
+          ),
+        ),
       ),
     )
 
@@ -97,6 +124,8 @@ reach-spec =
     μ-loop
     mask-requires
     add-nodes
+    mul-work
+    add-work
     slice-write-work
     spread-requires
     loop-holds

@@ -1,6 +1,6 @@
 -- `reaching::spread` meets its contract: a node without links adds nothing; else each turn follows
--- one more link, and meets its node if it is new. The measure is how many links are left. Assumes
--- nothing.
+-- one more link, and meets its node with its mark if it is new. The measure is how many links are
+-- left. Assumes nothing.
 use Prim.Native.Nat.{_-_}
 use native.Mathlib.Omega.{arith}
 use borrow.Author.Needs.{needs}
@@ -12,20 +12,30 @@ use Rattle.reaching.proofs.spread.Statement.{statement}
 use Rattle.reaching.proofs.spread.Tie as tie
 
 abbrev Inv-loop : tie.InvT-loop
-Inv-loop image h mask q top work₀ top₀ i₀ work top' i =
+Inv-loop image h mask q top work₀ mark top₀ i₀ work top' i =
     Spreading (tableOf h image) (h .g) (h .n) q top work₀ i top' work
 
 abbrev μ-loop : tie.MeasureT-loop
-μ-loop image h mask q top work₀ top₀ i₀ work top' i = h .n - i
+μ-loop image h mask q top work₀ mark top₀ i₀ work top' i = h .n - i
 
 childless-requires : tie.Need-childless-requires Inv-loop μ-loop
 childless-requires c κs = search needs
 
 returns : tie.Need-returns Inv-loop μ-loop
-returns c = spread-childless _ _ _ _ _ (c .before .childless .ensures (c .if1 .taken))
+returns c =
+    spread-childless _ _ _ _ _ (omega arith) (c .before .childless .ensures (c .if1 .taken))
+
+mul-deeper : tie.Need-mul-deeper Inv-loop μ-loop
+mul-deeper c = omega arith
+
+slice-read-deeper : tie.Need-slice-read-deeper Inv-loop μ-loop
+slice-read-deeper c = omega arith
+
+deeper-requires : tie.Need-deeper-requires Inv-loop μ-loop
+deeper-requires c κs = search needs
 
 loop-holds : tie.Need-loop-holds Inv-loop μ-loop
-loop-holds c = spreading-none _ _ _ _ _ _
+loop-holds c = spreading-none _ _ _ _ _ _ (omega arith)
 
 link-requires : tie.Need-link-requires Inv-loop μ-loop
 link-requires c κs = search needs
@@ -42,14 +52,25 @@ mul-if3 c = omega arith
 slice-read-if3 : tie.Need-slice-read-if3 Inv-loop μ-loop
 slice-read-if3 c =
     let a = c .before .before .before .before in
-    let pre = a .before .before .before .before .before .pre in
-    spreading-room (a .loop .inv) (pre .1 .1 .0) (pre .1 .1 .1 .1) (c .before .link .ensures)
+    let pre = a .before .before .before .before .before .before .before .pre in
+    spreading-room (a .loop .inv) (pre .1 .1 .0) (pre .1 .1 .1 .1 .1 .1)
+    (c .before .link .ensures)
+
+mul-work : tie.Need-mul-work Inv-loop μ-loop
+mul-work c =
+    let a = c .before .before .before .before .before in
+    omega (arith, a .loop .inv .top-most)
+
+add-work : tie.Need-add-work Inv-loop μ-loop
+add-work c =
+    let a = c .before .before .before .before .before in
+    omega (arith, a .loop .inv .top-most, a .before .deeper .ensures)
 
 cast-work : tie.Need-cast-work Inv-loop μ-loop
 cast-work c = omega arith
 
-mul-work : tie.Need-mul-work Inv-loop μ-loop
-mul-work c = omega arith
+mul-work-2 : tie.Need-mul-work-2 Inv-loop μ-loop
+mul-work-2 c = omega arith
 
 slice-write-work : tie.Need-slice-write-work Inv-loop μ-loop
 slice-write-work c = slice-read-if3 (c .before)
@@ -60,9 +81,9 @@ loop-less c = omega arith
 loop-again : tie.Need-loop-again Inv-loop μ-loop
 loop-again c =
     let a = c .before .before .before .before .before in
-    let pre = a .before .before .before .before .before .pre in
-    spreading-new (a .loop .inv) (pre .1 .1 .0) (pre .1 .1 .1 .1) (pre .1 .1 .1 .0) (omega arith)
-    (c .before .before .link .ensures) (c .if3 .taken)
+    let pre = a .before .before .before .before .before .before .before .pre in
+    spreading-new (a .loop .inv) (pre .1 .1 .0) (pre .1 .1 .1 .1 .1 .1) (pre .1 .1 .1 .0)
+    (omega arith) (c .before .before .link .ensures) (c .if3 .taken) (a .before .deeper .ensures)
 
 loop-less-2 : tie.Need-loop-less-2 Inv-loop μ-loop
 loop-less-2 c = omega arith
@@ -86,14 +107,19 @@ spread-spec =
     μ-loop
     childless-requires
     returns
+    mul-deeper
+    slice-read-deeper
+    deeper-requires
     loop-holds
     link-requires
     add-i
     cast-if3
     mul-if3
     slice-read-if3
-    cast-work
     mul-work
+    add-work
+    cast-work
+    mul-work-2
     slice-write-work
     loop-less
     loop-again
