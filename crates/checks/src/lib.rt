@@ -9,7 +9,7 @@ use paper::Done;
 use paper::Found;
 use paper::Verdict;
 
-// Checks an image with lent working numbers. Refusals: 1 to 8, 16.
+// Checks an image with lent working numbers. Refusals: 1 to 8, 16, 19.
 pub fn check(image: &[u8], work: &mut [u32]) -> Done
     ensures { λ r. ⌜ Checks (now (image .entry)) (now (work .entry)) (doneOf r)
         (now (work .exit)) ⌝ }
@@ -23,7 +23,7 @@ pub fn check(image: &[u8], work: &mut [u32]) -> Done
     }
 }
 
-// The number of stored keys. Refusals: 1 to 8, 16.
+// The number of stored keys. Refusals: 1 to 8, 16, 19.
 pub fn count(image: &[u8], work: &mut [u32]) -> Counted
     ensures { λ r. ⌜ CountsKeys (now (image .entry)) (now (work .entry)) (countedOf r)
         (now (work .exit)) ⌝ }
@@ -38,7 +38,7 @@ pub fn count(image: &[u8], work: &mut [u32]) -> Counted
 }
 
 // The first stored key at or after the key given or, if `after` is true, after it, in the key
-// buffer. Refusals: 1 to 8, 16, 9 for a key longer than max, 10, 14, 15.
+// buffer. Refusals: 1 to 8, 16, 19, 9 for a key longer than max, 10, 14, 15.
 pub fn next_key(
     image: &[u8],
     work: &mut [u32],

@@ -40,7 +40,7 @@ is-not-linked w k =
 
 -- the other variants
 abbrev others : List ℕ
-others = 0 ∷ 1 ∷ 2 ∷ 3 ∷ 4 ∷ 5 ∷ 6 ∷ 8 ∷ 9 ∷ 10 ∷ 11 ∷ 12 ∷ 13 ∷ 14 ∷ 15 ∷ 16 ∷ []
+others = 0 ∷ 1 ∷ 2 ∷ 3 ∷ 4 ∷ 5 ∷ 6 ∷ 8 ∷ 9 ∷ 10 ∷ 11 ∷ 12 ∷ 13 ∷ 14 ∷ 15 ∷ 16 ∷ 17 ∷ []
 
 pub not-eight : (w : Refusal) → OneOf others (tagOf the-type w) → saidOf w .number ≢ 8
 not-eight w o k = miss others 7 tt (rw (is-not-linked w k) at o)

@@ -44,7 +44,7 @@ pub fn make(image: &mut [u8], n: u32, a: u32, d: u32, alphabet: &[u8], min: u32,
 
 // Mends an image after a cut between two writes of a store: if the check answers 8 at p, and the
 // image with G set to p-1 is accepted, G becomes p-1. Otherwise nothing changes, and the check's
-// answer is returned. Refusals: 1 to 8, 16.
+// answer is returned. Refusals: 1 to 8, 16, 19, 19.
 pub fn mend(image: &mut [u8], work: &mut [u32]) -> Done
     ensures { λ r. ⌜ Mends (now (image .entry)) (now (work .entry)) (doneOf r) (now (image .exit))
         (now (work .exit)) ⌝ }

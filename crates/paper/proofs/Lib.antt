@@ -9,6 +9,7 @@ pub mod LookUpCall
 pub mod MendCall
 pub mod Named
 pub mod NextKeyCall
+pub mod Records
 pub mod Numbers
 pub mod Opening
 pub mod StoreCall

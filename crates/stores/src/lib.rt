@@ -10,7 +10,7 @@ use paper::Stored;
 use paper::Verdict;
 
 // Stores a value under a key given by its letters; 0 deletes the key. Answers the change in the
-// number of stored keys. Refusals: 1 to 8, 16, 9, 10, 11, 12, 13.
+// number of stored keys. Refusals: 1 to 8, 16, 19, 9, 10, 11, 12, 13.
 pub fn store(image: &mut [u8], work: &mut [u32], letters: &[u8], value: u32) -> Stored
     ensures { λ r. ⌜ Stores (now (image .entry)) (now (work .entry))
         (asLetters (now (letters .entry))) value (storedOf r) (now (image .exit))
@@ -25,7 +25,7 @@ pub fn store(image: &mut [u8], work: &mut [u32], letters: &[u8], value: u32) -> 
     }
 }
 
-// The same for a key given as text. Refusals: 1 to 8, 16, 10, 9, 11, 12, 13.
+// The same for a key given as text. Refusals: 1 to 8, 16, 19, 10, 9, 11, 12, 13.
 pub fn store_text(image: &mut [u8], work: &mut [u32], text: &[u8], value: u32) -> Stored
     ensures { λ r. ⌜ Stores (now (image .entry)) (now (work .entry)) (asText (now (text .entry)))
         value (storedOf r) (now (image .exit)) (now (work .exit)) ⌝ }
@@ -40,7 +40,7 @@ pub fn store_text(image: &mut [u8], work: &mut [u32], text: &[u8], value: u32) -
 }
 
 // As `store`, and notes the place and the length of each write, in order. The bytes of a write are
-// those of the image after the call. Refusals: 1 to 8, 16, 9, 10, 11, 12, 13.
+// those of the image after the call. Refusals: 1 to 8, 16, 19, 9, 10, 11, 12, 13.
 pub fn store_writes(
     image: &mut [u8],
     work: &mut [u32],
@@ -61,7 +61,7 @@ pub fn store_writes(
     }
 }
 
-// The same for a key given as text. Refusals: 1 to 8, 16, 10, 9, 11, 12, 13.
+// The same for a key given as text. Refusals: 1 to 8, 16, 19, 10, 9, 11, 12, 13.
 pub fn store_text_writes(
     image: &mut [u8],
     work: &mut [u32],

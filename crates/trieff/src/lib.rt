@@ -29,7 +29,7 @@ pub extern "C" fn trieff_make(
     face::done(answer)
 }
 
-// Checks an image: its head, its alphabet and every link. Refusals: 1 to 8, 16.
+// Checks an image: its head, its alphabet and every link. Refusals: 1 to 8, 16, 19.
 #[no_mangle]
 pub extern "C" fn trieff_check(image: &[u8], work: &mut [u32]) -> TrieffAnswer
     ensures { λ r. ⌜ Checks (now (image .entry)) (now (work .entry)) (numbersOf r)
@@ -39,7 +39,7 @@ pub extern "C" fn trieff_check(image: &[u8], work: &mut [u32]) -> TrieffAnswer
     face::done(answer)
 }
 
-// The number of stored keys, in `value`. Refusals: 1 to 8, 16.
+// The number of stored keys, in `value`. Refusals: 1 to 8, 16, 19.
 #[no_mangle]
 pub extern "C" fn trieff_count(image: &[u8], work: &mut [u32]) -> TrieffAnswer
     ensures { λ r. ⌜ CountsKeys (now (image .entry)) (now (work .entry)) (numbersOf r)
@@ -70,7 +70,7 @@ pub extern "C" fn trieff_look_up_text(image: &[u8], text: &[u8]) -> TrieffAnswer
 }
 
 // Stores a value under a key given by its letters; 0 deletes the key. `change` is the change in
-// the number of stored keys. Refusals: 1 to 8, 16, 9, 10, 11, 12, 13.
+// the number of stored keys. Refusals: 1 to 8, 16, 19, 9, 10, 11, 12, 13.
 #[no_mangle]
 pub extern "C" fn trieff_store(
     image: &mut [u8],
@@ -86,7 +86,7 @@ pub extern "C" fn trieff_store(
     face::stored(answer)
 }
 
-// The same for a key given as text. Refusals: 1 to 8, 16, 10, 9, 11, 12, 13.
+// The same for a key given as text. Refusals: 1 to 8, 16, 19, 10, 9, 11, 12, 13.
 #[no_mangle]
 pub extern "C" fn trieff_store_text(
     image: &mut [u8],
@@ -102,7 +102,7 @@ pub extern "C" fn trieff_store_text(
 }
 
 // As `trieff_store`, and notes its writes in the lent list. `length` is the number of writes.
-// Refusals: 1 to 8, 16, 9, 10, 11, 12, 13.
+// Refusals: 1 to 8, 16, 19, 9, 10, 11, 12, 13.
 #[no_mangle]
 pub extern "C" fn trieff_store_writes(
     image: &mut [u8],
@@ -119,7 +119,7 @@ pub extern "C" fn trieff_store_writes(
     face::noted(answer)
 }
 
-// The same for a key given as text. Refusals: 1 to 8, 16, 10, 9, 11, 12, 13.
+// The same for a key given as text. Refusals: 1 to 8, 16, 19, 10, 9, 11, 12, 13.
 #[no_mangle]
 pub extern "C" fn trieff_store_text_writes(
     image: &mut [u8],
@@ -137,7 +137,7 @@ pub extern "C" fn trieff_store_text_writes(
 }
 
 // Mends an image after a cut: if the check answers 8 at p, and the image with G set to p-1 is
-// accepted, G becomes p-1; otherwise nothing changes. Refusals: 1 to 8, 16.
+// accepted, G becomes p-1; otherwise nothing changes. Refusals: 1 to 8, 16, 19.
 #[no_mangle]
 pub extern "C" fn trieff_mend(image: &mut [u8], work: &mut [u32]) -> TrieffAnswer
     ensures { λ r. ⌜ Mends (now (image .entry)) (now (work .entry)) (numbersOf r)
@@ -148,7 +148,7 @@ pub extern "C" fn trieff_mend(image: &mut [u8], work: &mut [u32]) -> TrieffAnswe
 }
 
 // The first stored key at or after the key given or, if `after` is true, after it, in the key
-// buffer, `length` and `value`. Refusals: 1 to 8, 16, 9 for a key longer than max, 10, 14, 15.
+// buffer, `length` and `value`. Refusals: 1 to 8, 16, 19, 9 for a key longer than max, 10, 14, 15.
 #[no_mangle]
 pub extern "C" fn trieff_next_key(
     image: &[u8],
