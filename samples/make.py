@@ -1,9 +1,9 @@
 #!/usr/bin/env python3
 """Makes images with its own store, independent of the library.
 
-make.py                 writes the samples p3.trieff, season.trieff and renumbered.trieff beside
-                        this file, and what `list` must write for each of them: p3.txt, season.txt
-                        and renumbered.txt
+make.py                 writes the samples p3.trieff, season.trieff, renumbered.trieff and
+                        hidden.trieff beside this file, and what `list` must write for each of
+                        them: p3.txt, season.txt, renumbered.txt and hidden.txt
 make.py bench FOLDER    writes the images that bench/run measures
 """
 import os
@@ -13,7 +13,8 @@ import sys
 
 
 class Image:
-    """An image as document 01 defines it. Nodes are added at the end, as a store does."""
+    """An image as document 01 defines it. Nodes are added at the end, as a store does. A key of
+    any length is stored, so that hidden data can be made too."""
 
     def __init__(self, room, n, a, d, alphabet, least, most):
         self.n, self.a, self.d, self.alphabet, self.least, self.most = (
@@ -43,6 +44,14 @@ class Image:
         self.stored[tuple(key)] = value
         return True
 
+    def node_of(self, key):
+        """The address of the node where a stored key ends."""
+        node = 0
+        for letter in key:
+            at = self.first + node * self.width + letter * self.a
+            node = int.from_bytes(self.bytes[at:at + self.a], "big")
+        return node
+
     def whole(self):
         head = struct.pack(">7I", self.g, self.n, self.a, self.d, len(self.alphabet), self.least,
                            self.most)
@@ -50,7 +59,11 @@ class Image:
         return bytes(self.bytes)
 
     def listing(self):
-        """Document 01's lines of the listing, made from what was stored and not from the bytes."""
+        """Document 01's lines of the listing, made from what was stored and not from the bytes. A
+        key whose length is outside min..max is hidden data: the line is that of 19."""
+        hidden = [key for key in self.stored if not self.least <= len(key) <= self.most]
+        if hidden:
+            return b"refused 19 at %d\n" % min(self.node_of(key) for key in hidden)
         lines = ["entries %d" % len(self.stored)]
         for key, value in sorted(self.stored.items()):
             lines.append("%s %d" % (".".join(map(str, key)) or "-", value))
@@ -71,10 +84,14 @@ def p3():
 LETTERS = "0123456789ABCDE-"
 
 
-def season():
+def letter_numbers(label):
+    return [LETTERS.index(character) for character in label]
+
+
+def season(least=1):
     """Labels as they are tapped in: trench, square, context, bucket, as in B04-117-2. Contexts are
     dug one after the other."""
-    image = Image(65536, 16, 3, 4, LETTERS, 1, 12)
+    image = Image(65536, 16, 3, 4, LETTERS, least, 12)
     record = 2401
     context = 100
     for trench, squares in (("A", 6), ("B", 5), ("C", 4), ("D", 3)):
@@ -83,7 +100,7 @@ def season():
                 context += 1
                 for bucket in range(1, 2 + (context * 5 + square) % 8):
                     label = f"{trench}{square:02}-{context}-{bucket}"
-                    if not image.store([LETTERS.index(c) for c in label], record):
+                    if not image.store(letter_numbers(label), record):
                         raise SystemExit("no room")
                     record += 1
     return image
@@ -104,6 +121,16 @@ def renumbered(image):
             node[at:at + image.a] = new[child].to_bytes(image.a, "big")
         place = image.first + new[old] * image.width
         image.bytes[place:place + image.width] = node
+    return image
+
+
+def hidden():
+    """The season in a file for labels of nine letters or more, where another tool has put a record
+    under a whole trench and one under a whole context. The context's node has the lower address,
+    the trench's the lesser depth."""
+    image = season(9)
+    image.store(letter_numbers("D"), 2795)
+    image.store(letter_numbers("B03-145"), 2796)
     return image
 
 
@@ -132,7 +159,7 @@ def write(folder, name, data):
 
 def samples(folder):
     for name, image in (("p3", p3()), ("season", season()),
-                        ("renumbered", renumbered(season()))):
+                        ("renumbered", renumbered(season())), ("hidden", hidden())):
         write(folder, name + ".trieff", image.used())
         write(folder, name + ".txt", image.listing())
 
