@@ -59,8 +59,13 @@
    root. A child may have a lower address than its parent, as in a file that another tool has
    renumbered. The new nodes of a store have the addresses after G.
 
-   6, 7 and 16 mean that the nodes are not one tree. No cut of a store leaves such an image, and
-   mending does not help: refuse the file and restore a copy. Do the same if mend answers 8.
+   The depth of a node is the number of links from the root to it; the root has depth 0. In an
+   accepted image data stands only at depths of min to max. So every record in it can be looked up,
+   is listed and is counted. Nodes whose data is 0 may stand at any depth.
+
+   6, 7 and 16 mean that the nodes are not one tree, 19 that data stands where no lookup finds it.
+   No cut of a store leaves such an image, and mending does not help: refuse the file and restore a
+   copy. Do the same if mend answers 8.
 
    A power cut
    -----------
@@ -239,6 +244,9 @@ enum trieff_number {
     /* A node is not reached from the root by links. Since 7 and 8 come first, it is on a cycle of
        links or under one. Place: the lowest such node. */
     TRIEFF_NOT_REACHED = 16,
+    /* Data that is not 0 stands at a depth outside min..max, where no lookup finds it. Place: the
+       lowest such node, which may be the root, 0. */
+    TRIEFF_HIDDEN = 19,
     /* A count differs from the fresh one. Place: the lowest such node. */
     TRIEFF_COUNTS_DIFFER = 25
 };
@@ -281,6 +289,7 @@ static inline const char *trieff_text(uint32_t number)
     case TRIEFF_SHORT_BUFFER: return "key buffer shorter than max";
     case TRIEFF_NO_KEY: return "no stored key meets the request";
     case TRIEFF_NOT_REACHED: return "a node is not reached from the root";
+    case TRIEFF_HIDDEN: return "data stands at a depth outside min..max";
     case TRIEFF_COUNTS_DIFFER: return "a count is not the fresh one";
     default: return "a number that this header does not know";
     }
@@ -297,21 +306,22 @@ trieff_answer trieff_make(uint8_t *image, size_t image_len, uint32_t n, uint32_t
                           const uint8_t *alphabet, size_t alphabet_len,
                           uint32_t min, uint32_t max);
 
-/* Checks an image: its head, its alphabet, every link, and whether each node is reached from the
-   root. An image that passes is accepted.
-   Refusals: 1 to 8, 16. */
+/* Checks an image: its head, its alphabet, every link, whether each node is reached from the root,
+   and whether data stands only at depths of min to max. An image that passes is accepted.
+   Refusals: 1 to 8, 16, 19. */
 trieff_answer trieff_check(const uint8_t *image, size_t image_len,
                            uint32_t *work, size_t work_len);
 
-/* The number of stored keys, in `value`: keys of min to max letters whose data is not 0.
-   Refusals: 1 to 8, 16. */
+/* The number of stored keys, in `value`: keys of min to max letters whose data is not 0. It is the
+   number of nodes whose data is not 0, since data at any other depth is refused.
+   Refusals: 1 to 8, 16, 19. */
 trieff_answer trieff_count(const uint8_t *image, size_t image_len,
                            uint32_t *work, size_t work_len);
 
 /* The value that is stored under a key, in `value`; 0 for absent. The key is letter numbers, one
    byte each. The call does not check the image. Its time depends on the length of the key and of
    the alphabet, not on the number of nodes. 6 is given only for links on the key's path. Its place
-   is the node that holds the first one above G.
+   is the node that holds the first one above G. 19 is never given.
    Refusals: 1 to 4, 9, 10, 6. */
 trieff_answer trieff_look_up(const uint8_t *image, size_t image_len,
                              const uint8_t *letters, size_t letters_len);
@@ -325,7 +335,7 @@ trieff_answer trieff_look_up_text(const uint8_t *image, size_t image_len,
 /* Stores a value under a key, or deletes the key if the value is 0. `change` is the change in the
    number of stored keys: 1 for a new key, -1 for a deleted one, 0 for another value of a stored
    key and for deleting a key that is not stored.
-   Refusals: 1 to 8, 16, 9, 10, 11, 12, 13. A value of 0 needs no new nodes, so 12 and 13 are
+   Refusals: 1 to 8, 16, 19, 9, 10, 11, 12, 13. A value of 0 needs no new nodes, so 12 and 13 are
    never given for it.
    Done: if the key's path is complete, writes the D bytes of its data. If it is not complete, a
    value of 0 changes nothing. Any other value writes the new nodes to the spare bytes at U, G, and
@@ -334,7 +344,7 @@ trieff_answer trieff_store(uint8_t *image, size_t image_len, uint32_t *work, siz
                            const uint8_t *letters, size_t letters_len, uint32_t value);
 
 /* The same as trieff_store, for a key given as text in UTF-8.
-   Refusals: 1 to 8, 16, 10, 9, 11, 12, 13. */
+   Refusals: 1 to 8, 16, 19, 10, 9, 11, 12, 13. */
 trieff_answer trieff_store_text(uint8_t *image, size_t image_len, uint32_t *work, size_t work_len,
                                 const uint8_t *text, size_t text_len, uint32_t value);
 
@@ -344,7 +354,7 @@ trieff_answer trieff_store_text(uint8_t *image, size_t image_len, uint32_t *work
    and has n = writes[2*i + 1] bytes. These bytes are image[p] to image[p + n - 1], as they are
    after the call. All writes, carried out in order, turn the image from before the call into the
    image after it.
-   Refusals: 1 to 8, 16, 9, 10, 11, 12, 13.
+   Refusals: 1 to 8, 16, 19, 9, 10, 11, 12, 13.
    Done: writes what trieff_store writes, and the list. If the key's path is complete, the list is
    one write, of the data field, also if the value was there already. If it is not complete, the
    list is empty for a value of 0. For any other value it is the new nodes, one write each by
@@ -356,7 +366,7 @@ trieff_answer trieff_store_writes(uint8_t *image, size_t image_len,
                                   uint32_t writes[TRIEFF_WRITES_LEN]);
 
 /* The same as trieff_store_writes, for a key given as text in UTF-8.
-   Refusals: 1 to 8, 16, 10, 9, 11, 12, 13. */
+   Refusals: 1 to 8, 16, 19, 10, 9, 11, 12, 13. */
 trieff_answer trieff_store_text_writes(uint8_t *image, size_t image_len,
                                        uint32_t *work, size_t work_len,
                                        const uint8_t *text, size_t text_len, uint32_t value,
@@ -366,8 +376,8 @@ trieff_answer trieff_store_text_writes(uint8_t *image, size_t image_len,
    accepted, G becomes p-1 and the answer is TRIEFF_DONE. Otherwise nothing changes and the check's
    answer is returned: TRIEFF_DONE for an image that is accepted as it is. This holds for every
    image, cut or not. G is lowered once: in a file from elsewhere the lower G may leave a 6,
-   another 8 or a 16, and then the answer is 8 at p.
-   Refusals: 1 to 8, 16.
+   another 8, a 16 or a 19, and then the answer is 8 at p.
+   Refusals: 1 to 8, 16, 19.
    Done: changes the first four bytes or nothing. If they changed, write them back to the kept
    image, as one write that lands whole or not at all, and flush, before the next store. Until then
    the kept image still counts the nodes that were cut off, so new nodes would not go to its spare
@@ -378,7 +388,7 @@ trieff_answer trieff_mend(uint8_t *image, size_t image_len, uint32_t *work, size
    before its extensions; otherwise the first different letter number decides. The key given has 0
    to max letters and need not be stored. The first stored key of all is the one at or after the
    empty key.
-   Refusals: 1 to 8, 16, 9 (only for a key longer than max), 10, 14, 15.
+   Refusals: 1 to 8, 16, 19, 9 (only for a key longer than max), 10, 14, 15.
    Done: writes the letters of the key found to the front of the key buffer, their number to
    `length` and the key's value to `value`. The rest of the buffer keeps what it held. `letters`
    and `key` are two buffers: to go on from the key found, copy it. */
@@ -388,21 +398,21 @@ trieff_answer trieff_next_key(const uint8_t *image, size_t image_len,
                               uint8_t *key, size_t key_len);
 
 /* Works the counts out afresh. What the list held does not matter, so 25 is never given.
-   Refusals: 1 to 8 (5 for either list), 16.
+   Refusals: 1 to 8 (5 for either list), 16, 19.
    Done: writes counts[0] to counts[G]. The rest of the list keeps what it held. */
 trieff_answer trieff_counts(const uint8_t *image, size_t image_len,
                             uint32_t *work, size_t work_len,
                             uint32_t *counts, size_t counts_len);
 
 /* Checks an image and its counts: each of counts[0] to counts[G] must be the fresh one.
-   Refusals: 1 to 8 (5 for either list), 16, 25. */
+   Refusals: 1 to 8 (5 for either list), 16, 19, 25. */
 trieff_answer trieff_check_counts(const uint8_t *image, size_t image_len,
                                   uint32_t *work, size_t work_len,
                                   const uint32_t *counts, size_t counts_len);
 
 /* A store with counts: stores a value under a key, or deletes the key if the value is 0, and keeps
    the counts right. `change` and every byte of the image are as trieff_store leaves them.
-   Refusals: 1 to 8 (5 for either list), 16, 25, 9, 10, 11, 12, 13, then 5 again if fewer than
+   Refusals: 1 to 8 (5 for either list), 16, 19, 25, 9, 10, 11, 12, 13, then 5 again if fewer than
    G+k+1 counts are lent. Here k is the number of nodes that are missing on the key's path. A value
    of 0 needs no new nodes, so 12, 13 and the second 5 are never given for it.
    Done: writes what trieff_store writes, and the counts. counts[0] to counts[G], with the new G,
@@ -414,15 +424,15 @@ trieff_answer trieff_store_counts(uint8_t *image, size_t image_len,
                                   uint32_t *counts, size_t counts_len);
 
 /* The same as trieff_store_counts, for a key given as text in UTF-8.
-   Refusals: 1 to 8 (5 for either list), 16, 25, 10, 9, 11, 12, 13, then 5 again. */
+   Refusals: 1 to 8 (5 for either list), 16, 19, 25, 10, 9, 11, 12, 13, then 5 again. */
 trieff_answer trieff_store_text_counts(uint8_t *image, size_t image_len,
                                        uint32_t *work, size_t work_len,
                                        const uint8_t *text, size_t text_len, uint32_t value,
                                        uint32_t *counts, size_t counts_len);
 
 /* The stored key at a position: the first stored key moved on by `position` steps of next key.
-   Refusals: 1 to 8 (5 for either list), 16, 25, 14, 15 (`position` is the number of stored keys or
-   more).
+   Refusals: 1 to 8 (5 for either list), 16, 19, 25, 14, 15 (`position` is the number of stored
+   keys or more).
    Done: writes the key's letters to the front of the key buffer, their number to `length` and the
    key's value to `value`. The rest of the buffer keeps what it held. */
 trieff_answer trieff_key_at(const uint8_t *image, size_t image_len,
@@ -431,14 +441,14 @@ trieff_answer trieff_key_at(const uint8_t *image, size_t image_len,
                             uint8_t *key, size_t key_len);
 
 /* The position of a stored key, in `value`.
-   Refusals: 1 to 8 (5 for either list), 16, 25, 9, 10, 15 (the key is not stored). */
+   Refusals: 1 to 8 (5 for either list), 16, 19, 25, 9, 10, 15 (the key is not stored). */
 trieff_answer trieff_position(const uint8_t *image, size_t image_len,
                               uint32_t *work, size_t work_len,
                               const uint32_t *counts, size_t counts_len,
                               const uint8_t *letters, size_t letters_len);
 
 /* The same as trieff_position, for a key given as text in UTF-8.
-   Refusals: 1 to 8 (5 for either list), 16, 25, 10, 9, 15 (the key is not stored). */
+   Refusals: 1 to 8 (5 for either list), 16, 19, 25, 10, 9, 15 (the key is not stored). */
 trieff_answer trieff_position_text(const uint8_t *image, size_t image_len,
                                    uint32_t *work, size_t work_len,
                                    const uint32_t *counts, size_t counts_len,

@@ -1,7 +1,8 @@
 //! What a bench's firmware does with the library, in short. It stores, finds, lists and deletes
 //! labels. It meets refusals: wrong labels, too little memory, damaged images. It mends an image
 //! after a cut, and finds a label by its position, also in a file that another tool has
-//! renumbered. rust/examples/bench.txt holds what it must print.
+//! renumbered. It refuses a file with records that no lookup finds. rust/examples/bench.txt holds
+//! what it must print.
 //!
 //! ```sh
 //! cargo run --manifest-path rust/Cargo.toml --example bench
@@ -20,6 +21,8 @@ const NODES: usize = 30;
 const SEASON: &[u8] = include_bytes!("../../samples/season.trieff");
 /// The same labels. Many a node has a lower address than its parent.
 const RENUMBERED: &[u8] = include_bytes!("../../samples/renumbered.trieff");
+/// The same labels, with min = 9, and two records at nodes of fewer letters.
+const HIDDEN: &[u8] = include_bytes!("../../samples/hidden.trieff");
 const SEASON_NODES: usize = 700;
 
 /// What the bench does after a refusal. The match names all refusals, so the program does not
@@ -35,6 +38,7 @@ fn advice(refusal: Refusal) -> &'static str {
         }
         Refusal::NotLinked(_) => "mend it, or load the copy",
         Refusal::Link(_) | Refusal::LinkedTwice(_) | Refusal::NotReached(_) => "load the copy",
+        Refusal::Hidden(_) => "load the copy, or have the file repaired",
         Refusal::CountsDiffer(_) => "work the counts out afresh",
         Refusal::Unknown { .. } => "call the maker",
     }
@@ -103,6 +107,18 @@ fn jump(season: &[u8]) -> Result<(), Refusal> {
     Ok(())
 }
 
+/// What the bench does with a file that came in: it goes by it only if the check accepts it. This
+/// one is refused for a record under a context, though a lookup of a bucket's label finds its own.
+fn came_in(file: &[u8]) {
+    let mut image = file.to_vec();
+    let mut work = [0; SEASON_NODES];
+    show("check the file with hidden records", check(&image, &mut work));
+    show("mend", mend(&mut image, &mut work));
+    show("count", count(&image, &mut work));
+    show("look up B03-145", look_up_text(&image, b"B03-145"));
+    show("look up B03-145-1", look_up_text(&image, b"B03-145-1"));
+}
+
 fn main() {
     let mut image = [0; SHAPE.length(NODES, ALPHABET.len())];
     let mut work = [0; NODES];
@@ -125,6 +141,7 @@ fn main() {
     }
     show("jump", jump(SEASON));
     show("jump in the renumbered season", jump(RENUMBERED));
+    came_in(HIDDEN);
 
     show("look up B04/117", look_up_text(&image, b"B04/117"));
     show("look up 13 letters", look_up_text(&image, b"0123456789ABC"));
@@ -141,5 +158,10 @@ fn main() {
     show("store BA = 9", store_text(&mut small, &mut work, b"BA", 9));
     (small[32], small[39]) = (0, 1);
     show("check, a cycle", check(&small, &mut work));
+    show("mend", mend(&mut small, &mut work));
+
+    // the links as before, and data at the root, though the shortest key has one letter
+    (small[32], small[39], small[34]) = (1, 0, 4);
+    show("check, data at the root", check(&small, &mut work));
     show("mend", mend(&mut small, &mut work));
 }

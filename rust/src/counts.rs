@@ -53,7 +53,7 @@ impl<'a> Counts<'a> {
     ///
     /// Done: it writes the first G+1 counts. The rest keep what they held.
     ///
-    /// Refusals: 1 to 8 (5 for either list), 16.
+    /// Refusals: 1 to 8 (5 for either list), 16, 19.
     ///
     /// ```
     /// use trieff::{make, store, Counts, Refusal, Shape};
@@ -87,7 +87,7 @@ impl<'a> Counts<'a> {
 
     /// Checks an image and its counts.
     ///
-    /// Refusals: 1 to 8 (5 for either list), 16, 25.
+    /// Refusals: 1 to 8 (5 for either list), 16, 19, 25.
     ///
     /// ```
     /// use trieff::{make, store, Counts, Refusal, Shape};
@@ -123,9 +123,9 @@ impl<'a> Counts<'a> {
     /// Done: the first G+1 counts, with the new G, are those of the new image. Only the counts on
     /// the key's path and those of the new nodes change.
     ///
-    /// Refusals: 1 to 8 (5 for either list), 16, 25, 9, 10, 11, 12, 13, then 5 again if fewer than
-    /// G+k+1 counts are lent. Here k is the number of nodes that are missing on the key's path. A
-    /// value of 0 needs no new nodes, so 12, 13 and the second 5 are never given for it.
+    /// Refusals: 1 to 8 (5 for either list), 16, 19, 25, 9, 10, 11, 12, 13, then 5 again if fewer
+    /// than G+k+1 counts are lent. Here k is the number of nodes that are missing on the key's
+    /// path. A value of 0 needs no new nodes, so 12, 13 and the second 5 are never given for it.
     ///
     /// ```
     /// use trieff::{make, Counts, Refusal, Shape};
@@ -174,7 +174,7 @@ impl<'a> Counts<'a> {
 
     /// The same as [`store`](Counts::store), for a key given as text in UTF-8.
     ///
-    /// Refusals: 1 to 8 (5 for either list), 16, 25, 10, 9, 11, 12, 13, then 5 again.
+    /// Refusals: 1 to 8 (5 for either list), 16, 19, 25, 10, 9, 11, 12, 13, then 5 again.
     ///
     /// ```
     /// use trieff::{make, Counts, Refusal, Shape};
@@ -220,7 +220,7 @@ impl<'a> Counts<'a> {
     /// Done: it writes the key's letters to the front of the key buffer. The rest of the buffer
     /// keeps what it held. For a position past the end the refusal is [`Refusal::NoKey`].
     ///
-    /// Refusals: 1 to 8 (5 for either list), 16, 25, 14, 15.
+    /// Refusals: 1 to 8 (5 for either list), 16, 19, 25, 14, 15.
     ///
     /// ```
     /// use trieff::{make, Counts, Found, Refusal, Shape};
@@ -270,7 +270,7 @@ impl<'a> Counts<'a> {
     /// The position of a stored key given by its letter numbers, from 0. If the key is not stored,
     /// the refusal is [`Refusal::NoKey`].
     ///
-    /// Refusals: 1 to 8 (5 for either list), 16, 25, 9, 10, 15.
+    /// Refusals: 1 to 8 (5 for either list), 16, 19, 25, 9, 10, 15.
     ///
     /// ```
     /// use trieff::{make, Counts, Refusal, Shape};
@@ -311,7 +311,7 @@ impl<'a> Counts<'a> {
 
     /// The same as [`position`](Counts::position), for a key given as text in UTF-8.
     ///
-    /// Refusals: 1 to 8 (5 for either list), 16, 25, 10, 9, 15.
+    /// Refusals: 1 to 8 (5 for either list), 16, 19, 25, 10, 9, 15.
     ///
     /// ```
     /// use trieff::{make, Counts, Refusal, Shape};

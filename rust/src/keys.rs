@@ -12,7 +12,7 @@ const KEY_MOST: usize = 64;
 /// Any other refusal is given once, and ends the iterator too. The key buffer is the iterator's
 /// own and always long enough, so [`Refusal::ShortBuffer`] is never given.
 ///
-/// Refusals: 1 to 8, 16.
+/// Refusals: 1 to 8, 16, 19.
 ///
 /// ```
 /// use trieff::{keys, make, store, Refusal, Shape};
@@ -41,7 +41,7 @@ pub fn keys<'a>(image: &'a [u8], work: &'a mut [u32]) -> Keys<'a> {
 /// the key given or, if `after` is true, after it. The key given has 0 to max letters and need not
 /// be stored.
 ///
-/// Refusals: 1 to 8, 16, 9 (only for a key longer than max), 10.
+/// Refusals: 1 to 8, 16, 19, 9 (only for a key longer than max), 10.
 ///
 /// ```
 /// use trieff::{keys_from, make, store, Refusal, Shape};

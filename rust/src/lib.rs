@@ -11,10 +11,14 @@
 //! [`Refusal`] is an `Error` there too.
 //!
 //! The nodes of an accepted image are one tree. A child may have a lower address than its parent,
-//! as in a file that another tool has renumbered. [`Refusal::Link`], [`Refusal::LinkedTwice`] and
-//! [`Refusal::NotReached`] mean that the nodes are not one tree. No cut of a store leaves such an
-//! image, and mending does not help: refuse the file and restore a copy. Do the same if [`mend`]
-//! gives [`Refusal::NotLinked`].
+//! as in a file that another tool has renumbered. Data stands only at depths of min to max, where
+//! the depth of a node is the number of links from the root to it. So every record in an accepted
+//! image can be looked up, is listed and is counted.
+//!
+//! [`Refusal::Link`], [`Refusal::LinkedTwice`] and [`Refusal::NotReached`] mean that the nodes are
+//! not one tree, [`Refusal::Hidden`] that data stands where no lookup finds it. No cut of a store
+//! leaves such an image, and mending does not help: refuse the file and restore a copy. Do the
+//! same if [`mend`] gives [`Refusal::NotLinked`].
 //!
 //! Working numbers: every call but [`make`] and the lookups needs G+1 of them, one for each node
 //! in use. No answer depends on what they held. If the call stops at [`Refusal::TooFewNumbers`],
@@ -271,10 +275,10 @@ pub fn make(image: &mut [u8], shape: Shape, alphabet: &[u8]) -> Result<(), Refus
     heard(answer).map(|_| ())
 }
 
-/// Checks an image: its head, its alphabet, every link, and whether each node is reached from the
-/// root. An image that passes is accepted.
+/// Checks an image: its head, its alphabet, every link, whether each node is reached from the
+/// root, and whether data stands only at depths of min to max. An image that passes is accepted.
 ///
-/// Refusals: 1 to 8, 16.
+/// Refusals: 1 to 8, 16, 19.
 ///
 /// ```
 /// use trieff::{check, make, store, Refusal, Shape};
@@ -296,6 +300,9 @@ pub fn make(image: &mut [u8], shape: Shape, alphabet: &[u8]) -> Result<(), Refus
 /// // the root links to node 2, and node 2 to node 1
 /// image[31..].copy_from_slice(&[0, 2, 0, 0, 0, 0, 0, 9, 1, 0, 0, 0]);
 /// assert_eq!(check(&image, &mut work), Ok(()));
+///
+/// image[34] = 4; // data at the root, though no key is empty
+/// assert_eq!(check(&image, &mut work), Err(Refusal::Hidden(0)));
 /// # Ok::<(), Refusal>(())
 /// ```
 pub fn check(image: &[u8], work: &mut [u32]) -> Result<(), Refusal> {
@@ -306,9 +313,10 @@ pub fn check(image: &[u8], work: &mut [u32]) -> Result<(), Refusal> {
     heard(answer).map(|_| ())
 }
 
-/// The number of stored keys: those of min to max letters whose data is not 0.
+/// The number of stored keys: those of min to max letters whose data is not 0. It is the number of
+/// nodes whose data is not 0, since data at any other depth is refused.
 ///
-/// Refusals: 1 to 8, 16.
+/// Refusals: 1 to 8, 16, 19.
 ///
 /// ```
 /// use trieff::{count, make, store, Refusal, Shape};
@@ -334,7 +342,7 @@ pub fn count(image: &[u8], work: &mut [u32]) -> Result<u64, Refusal> {
 ///
 /// No stored value is 0. So `None` means what the value 0 means in C, and a caller cannot take it
 /// for a value. The call does not check the image: 6 is given only for links on the key's path,
-/// and its place is the node that holds the first one above G.
+/// and its place is the node that holds the first one above G. 19 is never given.
 ///
 /// Refusals: 1 to 4, 9, 10, 6.
 ///
@@ -397,7 +405,7 @@ pub fn look_up_text(image: &[u8], text: &[u8]) -> Result<Option<u64>, Refusal> {
 /// of 0 changes nothing. Any other value writes the new nodes to the spare bytes at U, G, and the
 /// link to the first new node.
 ///
-/// Refusals: 1 to 8, 16, 9, 10, 11, 12, 13. A value of 0 needs no new nodes, so 12 and 13 are
+/// Refusals: 1 to 8, 16, 19, 9, 10, 11, 12, 13. A value of 0 needs no new nodes, so 12 and 13 are
 /// never given for it.
 ///
 /// ```
@@ -438,7 +446,7 @@ pub fn store(
 
 /// The same as [`store`], for a key given as text in UTF-8.
 ///
-/// Refusals: 1 to 8, 16, 10, 9, 11, 12, 13.
+/// Refusals: 1 to 8, 16, 19, 10, 9, 11, 12, 13.
 ///
 /// ```
 /// use trieff::{look_up, make, store_text, Refusal, Shape};
@@ -483,7 +491,7 @@ pub fn store_text(
 /// node. All writes, carried out in order, turn the image from before the call into the image
 /// after it. A refusal leaves the list as it was.
 ///
-/// Refusals: 1 to 8, 16, 9, 10, 11, 12, 13.
+/// Refusals: 1 to 8, 16, 19, 9, 10, 11, 12, 13.
 ///
 /// ```
 /// use trieff::{make, store_writes, Refusal, Shape, Writes};
@@ -530,7 +538,7 @@ pub fn store_writes(
 
 /// The same as [`store_writes`], for a key given as text in UTF-8.
 ///
-/// Refusals: 1 to 8, 16, 10, 9, 11, 12, 13.
+/// Refusals: 1 to 8, 16, 19, 10, 9, 11, 12, 13.
 ///
 /// ```
 /// use trieff::{make, store_text_writes, Refusal, Shape, Writes};
@@ -572,15 +580,15 @@ pub fn store_text_writes(
 /// Mends an image after a cut. If [`check`] refuses it with 8 at p, and the image with G set to
 /// p-1 is accepted, G becomes p-1. Otherwise nothing changes and the check's answer is returned:
 /// `Ok` for an image that is accepted as it is. This holds for every image, cut or not. G is
-/// lowered once: in a file from elsewhere the lower G may leave a 6, another 8 or a 16, and then
-/// the answer is 8 at p.
+/// lowered once: in a file from elsewhere the lower G may leave a 6, another 8, a 16 or a 19, and
+/// then the answer is 8 at p.
 ///
 /// Done: it changes the first four bytes or nothing. If they changed, write them back to the kept
 /// image, as one write that lands whole or not at all, and flush, before the next store. Until
 /// then the kept image still counts the nodes that were cut off, so new nodes would not go to its
 /// spare bytes. If a cut comes there, the next start mends again.
 ///
-/// Refusals: 1 to 8, 16.
+/// Refusals: 1 to 8, 16, 19.
 ///
 /// ```
 /// use trieff::{check, make, mend, Refusal, Shape};
@@ -605,6 +613,10 @@ pub fn store_text_writes(
 /// (image[32], image[39]) = (0, 1); // node 2 links to node 1, and no link leads to node 2
 /// assert_eq!(mend(&mut image, &mut work), Err(Refusal::NotLinked(2)));
 /// assert_eq!(image[..4], [0, 0, 0, 2]);
+///
+/// (image[3], image[34], image[39]) = (1, 4, 0); // no link to node 1, and data at the root
+/// assert_eq!(mend(&mut image, &mut work), Err(Refusal::NotLinked(1)));
+/// assert_eq!(image[..4], [0, 0, 0, 1]);
 /// # Ok::<(), Refusal>(())
 /// ```
 pub fn mend(image: &mut [u8], work: &mut [u32]) -> Result<(), Refusal> {
@@ -624,7 +636,7 @@ pub fn mend(image: &mut [u8], work: &mut [u32]) -> Result<(), Refusal> {
 /// Done: it writes the letters of the key found to the front of the key buffer. The rest of the
 /// buffer keeps what it held. If there is no such key, the refusal is [`Refusal::NoKey`].
 ///
-/// Refusals: 1 to 8, 16, 9 (only for a key longer than max), 10, 14, 15.
+/// Refusals: 1 to 8, 16, 19, 9 (only for a key longer than max), 10, 14, 15.
 ///
 /// ```
 /// use trieff::{make, next_key, store, Found, Refusal, Shape};

@@ -41,7 +41,7 @@ extern "C" {
         max: u32,
     ) -> TrieffAnswer;
 
-    /// Checks an image. Refusals: 1 to 8, 16.
+    /// Checks an image. Refusals: 1 to 8, 16, 19.
     pub fn trieff_check(
         image: *const u8,
         image_len: usize,
@@ -49,7 +49,7 @@ extern "C" {
         work_len: usize,
     ) -> TrieffAnswer;
 
-    /// The number of stored keys. Refusals: 1 to 8, 16.
+    /// The number of stored keys. Refusals: 1 to 8, 16, 19.
     pub fn trieff_count(
         image: *const u8,
         image_len: usize,
@@ -74,7 +74,7 @@ extern "C" {
     ) -> TrieffAnswer;
 
     /// Stores a value under a key given by its letters, 0 to delete.
-    /// Refusals: 1 to 8, 16, 9, 10, 11, 12, 13.
+    /// Refusals: 1 to 8, 16, 19, 9, 10, 11, 12, 13.
     pub fn trieff_store(
         image: *mut u8,
         image_len: usize,
@@ -86,7 +86,7 @@ extern "C" {
     ) -> TrieffAnswer;
 
     /// Stores a value under a key given by its text, 0 to delete.
-    /// Refusals: 1 to 8, 16, 10, 9, 11, 12, 13.
+    /// Refusals: 1 to 8, 16, 19, 10, 9, 11, 12, 13.
     pub fn trieff_store_text(
         image: *mut u8,
         image_len: usize,
@@ -98,7 +98,7 @@ extern "C" {
     ) -> TrieffAnswer;
 
     /// As `trieff_store`, and also leaves the list of its writes in the 132 numbers lent.
-    /// Refusals: 1 to 8, 16, 9, 10, 11, 12, 13.
+    /// Refusals: 1 to 8, 16, 19, 9, 10, 11, 12, 13.
     pub fn trieff_store_writes(
         image: *mut u8,
         image_len: usize,
@@ -111,7 +111,7 @@ extern "C" {
     ) -> TrieffAnswer;
 
     /// As `trieff_store_text`, and also leaves the list of its writes in the 132 numbers lent.
-    /// Refusals: 1 to 8, 16, 10, 9, 11, 12, 13.
+    /// Refusals: 1 to 8, 16, 19, 10, 9, 11, 12, 13.
     pub fn trieff_store_text_writes(
         image: *mut u8,
         image_len: usize,
@@ -124,7 +124,7 @@ extern "C" {
     ) -> TrieffAnswer;
 
     /// Mends an image after a cut: lowers G if the check answers 8 and the image is then accepted.
-    /// Refusals: 1 to 8, 16, those of the check.
+    /// Refusals: 1 to 8, 16, 19, those of the check.
     pub fn trieff_mend(
         image: *mut u8,
         image_len: usize,
@@ -133,7 +133,7 @@ extern "C" {
     ) -> TrieffAnswer;
 
     /// The first stored key at or after a key or, if `after` is true, after it.
-    /// Refusals: 1 to 8, 16, 9 (only for a key longer than max), 10, 14, 15.
+    /// Refusals: 1 to 8, 16, 19, 9 (only for a key longer than max), 10, 14, 15.
     pub fn trieff_next_key(
         image: *const u8,
         image_len: usize,
@@ -146,7 +146,7 @@ extern "C" {
         key_len: usize,
     ) -> TrieffAnswer;
 
-    /// Works the counts out afresh. Refusals: 1 to 8 (5 for either list), 16.
+    /// Works the counts out afresh. Refusals: 1 to 8 (5 for either list), 16, 19.
     pub fn trieff_counts(
         image: *const u8,
         image_len: usize,
@@ -156,7 +156,7 @@ extern "C" {
         counts_len: usize,
     ) -> TrieffAnswer;
 
-    /// Checks an image and its counts. Refusals: 1 to 8 (5 for either list), 16, 25.
+    /// Checks an image and its counts. Refusals: 1 to 8 (5 for either list), 16, 19, 25.
     pub fn trieff_check_counts(
         image: *const u8,
         image_len: usize,
@@ -167,7 +167,7 @@ extern "C" {
     ) -> TrieffAnswer;
 
     /// As `trieff_store`, and keeps the counts right.
-    /// Refusals: 1 to 8 (5 for either list), 16, 25, 9, 10, 11, 12, 13, then 5 again.
+    /// Refusals: 1 to 8 (5 for either list), 16, 19, 25, 9, 10, 11, 12, 13, then 5 again.
     pub fn trieff_store_counts(
         image: *mut u8,
         image_len: usize,
@@ -181,7 +181,7 @@ extern "C" {
     ) -> TrieffAnswer;
 
     /// As `trieff_store_text`, and keeps the counts right.
-    /// Refusals: 1 to 8 (5 for either list), 16, 25, 10, 9, 11, 12, 13, then 5 again.
+    /// Refusals: 1 to 8 (5 for either list), 16, 19, 25, 10, 9, 11, 12, 13, then 5 again.
     pub fn trieff_store_text_counts(
         image: *mut u8,
         image_len: usize,
@@ -194,7 +194,7 @@ extern "C" {
         counts_len: usize,
     ) -> TrieffAnswer;
 
-    /// The stored key at a position. Refusals: 1 to 8 (5 for either list), 16, 25, 14, 15.
+    /// The stored key at a position. Refusals: 1 to 8 (5 for either list), 16, 19, 25, 14, 15.
     pub fn trieff_key_at(
         image: *const u8,
         image_len: usize,
@@ -208,7 +208,7 @@ extern "C" {
     ) -> TrieffAnswer;
 
     /// The position of a stored key given by its letters.
-    /// Refusals: 1 to 8 (5 for either list), 16, 25, 9, 10, 15.
+    /// Refusals: 1 to 8 (5 for either list), 16, 19, 25, 9, 10, 15.
     pub fn trieff_position(
         image: *const u8,
         image_len: usize,
@@ -221,7 +221,7 @@ extern "C" {
     ) -> TrieffAnswer;
 
     /// The position of a stored key given by its text.
-    /// Refusals: 1 to 8 (5 for either list), 16, 25, 10, 9, 15.
+    /// Refusals: 1 to 8 (5 for either list), 16, 19, 25, 10, 9, 15.
     pub fn trieff_position_text(
         image: *const u8,
         image_len: usize,

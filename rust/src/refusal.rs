@@ -54,12 +54,15 @@ pub enum Refusal {
     /// 16: a node is not reached from the root by links. Since 7 and 8 come first, it is on a
     /// cycle of links or under one. Place: the lowest such node.
     NotReached(u32),
+    /// 19: data that is not 0 stands at a depth outside min..max, where no lookup finds it. Place:
+    /// the lowest such node, which may be the root, 0.
+    Hidden(u32),
     /// 25: a count differs from the fresh one. Place: the lowest such node.
     CountsDiffer(u32),
     /// A number that this crate does not know, with its place. The library that the crate was
-    /// written for is proved to answer only 0 to 16 and 25, so only a newer `libtrieff.a` can give
-    /// another number. The crate passes it on: firmware should not stop because of it, and should
-    /// not take it for another refusal.
+    /// written for is proved to answer only 0 to 16, 19 and 25, so only a newer `libtrieff.a` can
+    /// give another number. The crate passes it on: firmware should not stop because of it, and
+    /// should not take it for another refusal.
     Unknown {
         /// The number.
         number: u32,
@@ -89,6 +92,7 @@ impl Refusal {
             14 => Refusal::ShortBuffer,
             15 => Refusal::NoKey,
             16 => Refusal::NotReached(place),
+            19 => Refusal::Hidden(place),
             25 => Refusal::CountsDiffer(place),
             _ => Refusal::Unknown { number, place },
         })
@@ -113,6 +117,7 @@ impl Refusal {
             Refusal::ShortBuffer => 14,
             Refusal::NoKey => 15,
             Refusal::NotReached(_) => 16,
+            Refusal::Hidden(_) => 19,
             Refusal::CountsDiffer(_) => 25,
             Refusal::Unknown { number, .. } => number,
         }
@@ -125,6 +130,7 @@ impl Refusal {
             | Refusal::LinkedTwice(place)
             | Refusal::NotLinked(place)
             | Refusal::NotReached(place)
+            | Refusal::Hidden(place)
             | Refusal::CountsDiffer(place)
             | Refusal::Unknown { place, .. } => place,
             _ => 0,
@@ -149,6 +155,7 @@ impl Refusal {
             Refusal::ShortBuffer => "key buffer shorter than max",
             Refusal::NoKey => "no stored key meets the request",
             Refusal::NotReached(_) => "a node is not reached from the root",
+            Refusal::Hidden(_) => "data stands at a depth outside min..max",
             Refusal::CountsDiffer(_) => "a count is not the fresh one",
             Refusal::Unknown { .. } => "a number that this crate does not know",
         }
@@ -186,8 +193,8 @@ mod tests {
     fn every_number_keeps_its_number_and_place() {
         assert_eq!(Refusal::of(0, 0), None);
         for number in 1..=40 {
-            let unknown = number > 16 && number != 25;
-            let place = if unknown || [6, 7, 8, 16, 25].contains(&number) { 77 } else { 0 };
+            let unknown = number > 16 && number != 19 && number != 25;
+            let place = if unknown || [6, 7, 8, 16, 19, 25].contains(&number) { 77 } else { 0 };
             let refusal = Refusal::of(number, place).unwrap();
             assert_eq!((refusal.number(), refusal.place()), (number, place));
             assert_eq!(matches!(refusal, Refusal::Unknown { .. }), unknown);
