@@ -92,4 +92,31 @@ fn a_refusal_leaves_image_and_counts() {
     let heard = counts.store_text(&mut image, &mut work, b"x", 256);
     assert_eq!((heard, image), (Err(Refusal::CountsDiffer(1)), before));
     assert_eq!((counts.numbers(), work), (&[1, 0, 1, 0][..], [0, 0, 0, 7, 7, 7]));
+    // data at the root, though no key is empty: 19 stands before 25
+    image[SHAPE.length(1, 3) - 1] = 1;
+    let before = image;
+    work.fill(7);
+    let heard = counts.store_text(&mut image, &mut work, b"x", 256);
+    assert_eq!((heard, image), (Err(Refusal::Hidden(0)), before));
+    assert_eq!((counts.numbers(), work), (&[1, 0, 1, 0][..], [0, 0, 0, 7, 7, 7]));
+}
+
+/// Counts are not worked out for a file with hidden records, and none are right for it: those that
+/// count all the same are refused with 19 too.
+#[test]
+fn hidden_records_have_no_counts() {
+    const HIDDEN: &[u8] = include_bytes!("../../samples/hidden.trieff");
+    let hidden = Refusal::Hidden(331);
+    let (mut work, mut numbers) = ([7; NODES], [7; NODES]);
+    let mut file = HIDDEN.to_vec();
+    assert_eq!(Counts::new(&mut numbers).work_out(&file, &mut work), Err(hidden));
+    assert_eq!(numbers, [7; NODES]);
+    file[23] = 1; // min = 1: now they are keys
+    let mut counts = Counts::new(&mut numbers);
+    counts.work_out(&file, &mut work).unwrap();
+    assert_eq!(agree(&file, &counts, &mut work), 396);
+    assert_eq!(counts.check(HIDDEN, &mut work), Err(hidden));
+    assert_eq!(counts.nth(HIDDEN, &mut work, 0, &mut [0; 64]), Err(hidden));
+    assert_eq!(counts.position(HIDDEN, &mut work, &[13]), Err(hidden));
+    assert_eq!(counts.position_text(HIDDEN, &mut work, b"x"), Err(hidden));
 }

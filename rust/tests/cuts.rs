@@ -101,6 +101,32 @@ fn a_cut_in_a_renumbered_image() {
     }
 }
 
+/// Mending leaves hidden data, and an 8 where a lower G would leave hidden data. What the lower G
+/// cuts off may hold any data, since it becomes spare bytes.
+#[test]
+fn hidden_data_is_not_mended() {
+    const ABC: Shape = Shape { n: 3, a: 1, d: 1, min: 1, max: 2 };
+    let mut work = [0; 4];
+    for (g, nodes, heard, lowered) in [
+        (0, [[0, 0, 0, 4], [0; 4], [0; 4], [0; 4]], Err(Refusal::Hidden(0)), 0),
+        (1, [[0, 0, 0, 4], [0; 4], [0; 4], [0; 4]], Err(Refusal::NotLinked(1)), 1),
+        (1, [[0; 4], [0, 0, 0, 4], [0; 4], [0; 4]], Ok(()), 0),
+        // a chain of four nodes, with data at depth 3; then without its last link
+        (3, [[1, 0, 0, 0], [2, 0, 0, 0], [3, 0, 0, 4], [0, 0, 0, 5]], Err(Refusal::Hidden(3)), 3),
+        (3, [[1, 0, 0, 0], [2, 0, 0, 0], [0, 0, 0, 4], [0, 0, 0, 5]], Ok(()), 2),
+        // the chain 0, 3, 2, 1: the deepest node has the lowest address
+        (3, [[3, 0, 0, 0], [0, 0, 0, 4], [1, 0, 0, 0], [2, 0, 0, 5]], Err(Refusal::Hidden(1)), 3),
+    ] {
+        let mut image = [0; ABC.length(4, 3)];
+        make(&mut image, ABC, b"ABC").unwrap();
+        image[3] = g;
+        image[31..].copy_from_slice(&nodes.concat());
+        let before = image;
+        assert_eq!(mend(&mut image, &mut work), heard);
+        assert_eq!((image[3], &image[4..]), (lowered, &before[4..]));
+    }
+}
+
 #[test]
 fn the_longest_list_and_a_list_in_words() {
     const DEEP: Shape = Shape { n: 1, a: 1, d: 1, min: 0, max: 64 };

@@ -1,9 +1,10 @@
 //! The iterator over the stored keys gives what next key gives, step by step, and then ends.
 
-use trieff::{keys, keys_from, make, next_key, store, Found, Keys, Refusal, Shape};
+use trieff::{count, keys, keys_from, make, next_key, store, Found, Keys, Refusal, Shape};
 
 const SEASON: &[u8] = include_bytes!("../../samples/season.trieff");
 const RENUMBERED: &[u8] = include_bytes!("../../samples/renumbered.trieff");
+const HIDDEN: &[u8] = include_bytes!("../../samples/hidden.trieff");
 const NODES: usize = 659;
 const DEEP: Shape = Shape { n: 2, a: 1, d: 4, min: 0, max: 64 };
 
@@ -55,6 +56,25 @@ fn a_renumbered_season_has_the_same_keys() {
     let (mut work, mut other) = ([0; NODES], [0; NODES]);
     assert!(keys(RENUMBERED, &mut work).eq(keys(SEASON, &mut other)));
     assert_ne!(RENUMBERED, SEASON);
+}
+
+/// No key is given from a file with records at nodes of too few letters. Where min allows them,
+/// the same records are keys as all others.
+#[test]
+fn hidden_records_are_refused_or_given() {
+    assert_eq!(agree(HIDDEN, NODES, &[], false), (0, Refusal::Hidden(331)));
+    assert_eq!(agree(HIDDEN, NODES, &[99; 65], false), (0, Refusal::Hidden(331)));
+    let (mut file, mut work) = (HIDDEN.to_vec(), [0; NODES]);
+    for (min, heard) in [(1, Ok(396)), (2, Err(Refusal::Hidden(547)))] {
+        file[23] = min;
+        assert_eq!(count(&file, &mut work), heard);
+    }
+    file[23] = 1;
+    assert_eq!(agree(&file, NODES, &[], false), (396, Refusal::NoKey));
+    for (label, value) in [(&[13][..], 2795), (&[11, 0, 3, 15, 1, 4, 5], 2796)] {
+        let stored = keys_from(&file, &mut work, label, false).next().unwrap().unwrap();
+        assert_eq!((stored.letters(), stored.value()), (label, value));
+    }
 }
 
 #[test]
