@@ -1,8 +1,9 @@
 /* What a bench's firmware does with the library. It keeps the labels of buckets in an image, each
    with its record number. It meets every refusal at least once, mends an image after a cut, jumps
    by position in samples/season.trieff, and does so in the same labels as another tool numbers
-   their nodes. All memory is static. (bench_file.c keeps its image in a file.) From the
-   repository's root, after `rt staticlib trieff`:
+   their nodes. It refuses a file with records that no lookup finds. All memory is static.
+   (bench_file.c keeps its image in a file.) From the repository's root, after
+   `rt staticlib trieff`:
 
      gcc -std=c11 -O2 -Iinclude -o target/bench-c examples/bench.c \
          target/staticlib/libtrieff.a && target/bench-c
@@ -27,8 +28,9 @@ static uint32_t work[NODES];
 /* What the bench shows for an answer. After 9 to 11 the worker taps again. 12 and 13 need a
    greater image. 5 and 14 are mistakes of the firmware. 15 is the end of the list. 8 may come from
    a cut, and then mending helps. After 25 the counts are worked out afresh. After any other
-   refusal, and after an 8 of mending, the bench cannot go on with the image and loads its copy.
-   The place says where to look. */
+   refusal, and after an 8 of mending, the bench cannot go on with the image and loads its copy. A
+   file that came in with 19 can also be repaired where it was made: it holds a record under a
+   label that is too short or too long. The place says where to look. */
 static void show(const char *asked, trieff_answer heard)
 {
     printf("%s: ", asked);
@@ -50,6 +52,7 @@ static void show(const char *asked, trieff_answer heard)
     case TRIEFF_SHORT_BUFFER: printf("lend a key buffer of max letters"); break;
     case TRIEFF_NO_KEY: printf("no more labels"); break;
     case TRIEFF_NOT_REACHED: printf("no way to node %u", (unsigned)heard.place); break;
+    case TRIEFF_HIDDEN: printf("hidden record in node %u", (unsigned)heard.place); break;
     case TRIEFF_COUNTS_DIFFER: printf("wrong count at node %u", (unsigned)heard.place); break;
     default: printf("a number that this firmware does not know"); break;
     }
@@ -143,6 +146,12 @@ static void refused_images(void)
     show("mend", trieff_mend(ALL(small), ALL(work)));
     small[32] = 1;
     small[39] = 0;
+    /* data at the root, though the shortest key has one letter; mending does not help either */
+    small[34] = 4;
+    show("data at the root", trieff_check(ALL(small), ALL(work)));
+    show("mend", trieff_mend(ALL(small), ALL(work)));
+    show("look up BA", trieff_look_up_text(ALL(small), TEXT("BA")));
+    small[34] = 0;
     show("all bytes as before", trieff_check(ALL(small), ALL(work)));
 }
 
@@ -209,7 +218,8 @@ static void cut_off(void)
 
 /* A season of labels, in an image with the same alphabet and with room for more nodes. The counts
    are a list beside it, one for each node. In renumbered.trieff the same nodes have other
-   addresses: many a child has a lower one than its parent. */
+   addresses: many a child has a lower one than its parent. In hidden.trieff min is 9, and two
+   nodes of fewer letters hold a record. */
 enum { SEASON_A = 3, SEASON_NODES = 700 };
 static uint8_t season[TRIEFF_LENGTH(SEASON_NODES, N, SEASON_A, D, sizeof alphabet - 1)];
 static uint32_t season_work[SEASON_NODES], counts[SEASON_NODES];
@@ -279,6 +289,18 @@ static void from_elsewhere(void)
     position_of("B03-145-1");
 }
 
+/* A file that came in with records under a whole context and under a whole trench, which no label
+   of nine letters finds. A lookup does not check the image, so the bench must: it goes by no label
+   of such a file. */
+static void hidden_records(void)
+{
+    show("check the file with hidden records", trieff_check(SEASON));
+    show("mend", trieff_mend(SEASON));
+    show("work the counts out", trieff_counts(SEASON, ALL(counts)));
+    show("store B03-145-9 = 2797", trieff_store_text(SEASON, TEXT("B03-145-9"), 2797));
+    show("look up B03-145", trieff_look_up_text(ALL(season), TEXT("B03-145")));
+}
+
 int main(void)
 {
     show("make the labels' image", trieff_make(ALL(image), N, A, D, TEXT(alphabet), MIN, MAX));
@@ -302,5 +324,8 @@ int main(void)
     if (!read_season("samples/renumbered.trieff"))
         return 1;
     from_elsewhere();
+    if (!read_season("samples/hidden.trieff"))
+        return 1;
+    hidden_records();
     return 0;
 }

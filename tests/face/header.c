@@ -1,8 +1,8 @@
 /* What include/trieff.h says, tried against the library: slices of no elements at NULL, the
    working numbers that mending needs, images whose children have lower addresses, images that are
-   no tree and that mending leaves, the shapes whose fields stay inside a sector, a fresh image on
-   a device, and a text for each number. It prints what is wrong, and ends with 1 if anything is.
-*/
+   no tree or hold data that no lookup finds and that mending leaves, the shapes whose fields stay
+   inside a sector, a fresh image on a device, and a text for each number. It prints what is wrong,
+   and ends with 1 if anything is. */
 #include "trieff.h"
 
 #include <stdio.h>
@@ -129,27 +129,43 @@ static int refuses(trieff_answer heard, uint32_t number, uint32_t place)
 }
 
 /* Every call that begins with the check answers this refusal, though its key is too long or has a
-   wrong letter, and changes no byte of the image. */
+   wrong letter, its value is too great, its buffer too short and its counts are wrong. It changes
+   nothing but the working numbers, of which the first G+1 are then 0. */
+#define REFUSED(call)                                                        \
+    do {                                                                     \
+        for (size_t i = 0; i < NODES; i++)                                   \
+            work[i] = 99;                                                    \
+        EXPECT(refuses(call, number, place));                                \
+        for (size_t i = 0; i < NODES; i++)                                   \
+            EXPECT(work[i] == (i <= image[3] ? 0 : 99));                     \
+        EXPECT(memcmp(image_before, image, sizeof image) == 0);              \
+        EXPECT(memcmp(counts_before, counts, sizeof counts) == 0);           \
+        EXPECT(memcmp(writes_before, writes, sizeof writes) == 0);           \
+    } while (0)
+
 static void refused(uint32_t number, uint32_t place)
 {
-    uint8_t key[99] = {0}, buffer[MAX], before[sizeof image];
-    memcpy(before, image, sizeof before);
-    EXPECT(refuses(trieff_check(IMAGE, WORK), number, place));
-    EXPECT(refuses(trieff_count(IMAGE, WORK), number, place));
-    EXPECT(refuses(trieff_store(IMAGE, WORK, key, 99, 256), number, place));
-    EXPECT(refuses(trieff_store_text(IMAGE, WORK, TEXT("X"), 256), number, place));
-    EXPECT(refuses(trieff_store_writes(IMAGE, WORK, key, 99, 256, writes), number, place));
-    EXPECT(refuses(trieff_store_text_writes(IMAGE, WORK, TEXT("X"), 256, writes), number, place));
-    EXPECT(refuses(trieff_mend(IMAGE, WORK), number, place));
-    EXPECT(refuses(trieff_next_key(IMAGE, WORK, key, 99, false, buffer, 0), number, place));
-    EXPECT(refuses(trieff_counts(IMAGE, WORK, COUNTS), number, place));
-    EXPECT(refuses(trieff_check_counts(IMAGE, WORK, COUNTS), number, place));
-    EXPECT(refuses(trieff_store_counts(IMAGE, WORK, key, 99, 256, COUNTS), number, place));
-    EXPECT(refuses(trieff_store_text_counts(IMAGE, WORK, TEXT("X"), 256, COUNTS), number, place));
-    EXPECT(refuses(trieff_key_at(IMAGE, WORK, COUNTS, 99, buffer, 0), number, place));
-    EXPECT(refuses(trieff_position(IMAGE, WORK, COUNTS, key, 99), number, place));
-    EXPECT(refuses(trieff_position_text(IMAGE, WORK, COUNTS, TEXT("X")), number, place));
-    EXPECT(memcmp(before, image, sizeof before) == 0);
+    uint8_t key[99] = {0}, buffer[MAX], image_before[sizeof image];
+    uint32_t counts_before[NODES], writes_before[TRIEFF_WRITES_LEN];
+    memset(counts, 77, sizeof counts);
+    memcpy(image_before, image, sizeof image);
+    memcpy(counts_before, counts, sizeof counts);
+    memcpy(writes_before, writes, sizeof writes);
+    REFUSED(trieff_check(IMAGE, WORK));
+    REFUSED(trieff_count(IMAGE, WORK));
+    REFUSED(trieff_store(IMAGE, WORK, key, 99, 256));
+    REFUSED(trieff_store_text(IMAGE, WORK, TEXT("X"), 256));
+    REFUSED(trieff_store_writes(IMAGE, WORK, key, 99, 256, writes));
+    REFUSED(trieff_store_text_writes(IMAGE, WORK, TEXT("X"), 256, writes));
+    REFUSED(trieff_mend(IMAGE, WORK));
+    REFUSED(trieff_next_key(IMAGE, WORK, key, 99, false, buffer, 0));
+    REFUSED(trieff_counts(IMAGE, WORK, COUNTS));
+    REFUSED(trieff_check_counts(IMAGE, WORK, COUNTS));
+    REFUSED(trieff_store_counts(IMAGE, WORK, key, 99, 256, COUNTS));
+    REFUSED(trieff_store_text_counts(IMAGE, WORK, TEXT("X"), 256, COUNTS));
+    REFUSED(trieff_key_at(IMAGE, WORK, COUNTS, 99, buffer, 0));
+    REFUSED(trieff_position(IMAGE, WORK, COUNTS, key, 99));
+    REFUSED(trieff_position_text(IMAGE, WORK, COUNTS, TEXT("X")));
 }
 
 /* A child may have a lower address than its parent. If the nodes are no tree, every call that
@@ -158,7 +174,6 @@ static void refused(uint32_t number, uint32_t place)
 static void trees(void)
 {
     uint8_t b[] = {1, 1, 1};
-    memset(counts, 77, sizeof counts);
     /* root to 2, 2 to 1; then CC = 7 in two nodes more */
     NODES_ARE("\0\2\0\0" "\0\0\0\11" "\1\0\0\5");
     EXPECT(trieff_check(IMAGE, WORK).number == TRIEFF_DONE);
@@ -190,6 +205,116 @@ static void trees(void)
     /* root to 2, 2 to 1, no link to 3: mending lowers G */
     NODES_ARE("\0\2\0\0" "\0\0\0\11" "\1\0\0\5" "\0\0\0\0");
     EXPECT(trieff_mend(IMAGE, WORK).number == TRIEFF_DONE && image[3] == 2);
+}
+
+/* An image with these nodes, and keys of `min` to `max` letters. */
+#define KEYS_OF(min, max, nodes) (NODES_ARE(nodes), image[23] = (min), image[27] = (max))
+
+/* The image is accepted, and this is its number of keys. */
+static void keys_are(uint64_t keys)
+{
+    EXPECT(trieff_check(IMAGE, WORK).number == TRIEFF_DONE);
+    EXPECT(same(trieff_count(IMAGE, WORK), (trieff_answer){.value = keys}));
+    EXPECT(trieff_counts(IMAGE, WORK, COUNTS).number == TRIEFF_DONE && counts[0] == keys);
+}
+
+/* Data at a depth outside min..max is refused with 19, in every call that checks, after 6, 7, 8
+   and 16. Nodes whose data is 0 may stand at any depth. The place is the lowest address, and the
+   depth of its node does not matter. */
+static void hidden_data(void)
+{
+    uint8_t ba[] = {1, 0, 0};
+    /* root to 1, 1 to 2: data at the depths 0, 1 and 2 */
+    KEYS_OF(0, 3, "\0\1\0\4" "\2\0\0\5" "\0\0\0\11");
+    keys_are(3);
+    KEYS_OF(1, 3, "\0\1\0\4" "\2\0\0\5" "\0\0\0\11");
+    refused(TRIEFF_HIDDEN, 0);
+    KEYS_OF(1, 3, "\0\1\0\0" "\2\0\0\5" "\0\0\0\11");
+    keys_are(2);
+    KEYS_OF(2, 3, "\0\1\0\0" "\2\0\0\5" "\0\0\0\11");
+    refused(TRIEFF_HIDDEN, 1);
+    KEYS_OF(0, 1, "\0\1\0\4" "\2\0\0\5" "\0\0\0\11");
+    refused(TRIEFF_HIDDEN, 2);
+    KEYS_OF(3, 3, "\0\1\0\0" "\2\0\0\0" "\0\0\0\11");
+    refused(TRIEFF_HIDDEN, 2);
+    KEYS_OF(0, 0, "\0\0\0\4");
+    keys_are(1);
+    /* nodes without data stand at depths that no key has */
+    KEYS_OF(2, 2, "\0\1\0\0" "\2\0\0\0" "\3\0\0\11" "\0\0\0\0");
+    keys_are(1);
+    /* root to 3, 3 to 2, 2 to 1: the lowest address has the greatest depth, then the middle one */
+    KEYS_OF(2, 2, "\0\3\0\0" "\0\0\0\7" "\1\0\0\11" "\2\0\0\5");
+    refused(TRIEFF_HIDDEN, 1);
+    KEYS_OF(3, 3, "\0\3\0\0" "\0\0\0\7" "\1\0\0\11" "\2\0\0\5");
+    refused(TRIEFF_HIDDEN, 2);
+    KEYS_OF(1, 3, "\0\3\0\1" "\0\0\0\7" "\1\0\0\11" "\2\0\0\5");
+    refused(TRIEFF_HIDDEN, 0);
+    KEYS_OF(1, 3, "\0\3\0\0" "\0\0\0\7" "\1\0\0\11" "\2\0\0\5");
+    keys_are(3);
+    /* the root's data is hidden, and a link is above G, one is double, one is missing, a cycle */
+    KEYS_OF(1, 3, "\0\3\0\4" "\0\0\0\5");
+    refused(TRIEFF_LINK, 0);
+    KEYS_OF(1, 3, "\0\1\1\4" "\0\0\0\5");
+    refused(TRIEFF_LINKED_TWICE, 1);
+    KEYS_OF(1, 3, "\0\0\0\4" "\2\0\0\5" "\1\0\0\11");
+    refused(TRIEFF_NOT_REACHED, 1);
+    KEYS_OF(1, 3, "\0\1\0\4" "\0\0\0\5" "\0\0\0\11");
+    refused(TRIEFF_NOT_LINKED, 2); /* and mending leaves it, since 19 would follow */
+    /* the same without the root's data: mending cuts node 2 off, with its data */
+    KEYS_OF(1, 3, "\0\1\0\0" "\0\0\0\5" "\0\0\0\11");
+    EXPECT(trieff_mend(IMAGE, WORK).number == TRIEFF_DONE && image[3] == 1);
+    keys_are(1);
+    /* no link to 3; with G = 2 data stands deeper than max, or less deep than min */
+    KEYS_OF(1, 1, "\0\1\0\0" "\2\0\0\5" "\0\0\0\11" "\0\0\0\0");
+    refused(TRIEFF_NOT_LINKED, 3);
+    KEYS_OF(2, 3, "\0\1\0\0" "\2\0\0\5" "\0\0\0\11" "\0\0\0\0");
+    refused(TRIEFF_NOT_LINKED, 3);
+    /* a lookup passes by hidden data, and never finds it */
+    KEYS_OF(2, 2, "\0\1\0\4" "\2\0\0\5" "\3\0\0\11" "\0\0\0\7");
+    EXPECT(same(trieff_look_up(IMAGE, ba, 2), (trieff_answer){.value = 9}));
+    EXPECT(same(trieff_look_up_text(IMAGE, TEXT("BA")), (trieff_answer){.value = 9}));
+    EXPECT(refuses(trieff_look_up(IMAGE, ba, 0), TRIEFF_KEY_LENGTH, 0));
+    EXPECT(refuses(trieff_look_up(IMAGE, ba, 1), TRIEFF_KEY_LENGTH, 0));
+    EXPECT(refuses(trieff_look_up(IMAGE, ba, 3), TRIEFF_KEY_LENGTH, 0));
+    EXPECT(refuses(trieff_look_up_text(IMAGE, TEXT("B")), TRIEFF_KEY_LENGTH, 0));
+    /* no call hides data: a store of such a key is refused, and a delete leaves a node alone */
+    KEYS_OF(2, 2, "\0\1\0\0" "\2\0\0\0" "\3\0\0\11" "\0\0\0\0");
+    EXPECT(refuses(trieff_store(IMAGE, WORK, ba, 1, 5), TRIEFF_KEY_LENGTH, 0));
+    EXPECT(refuses(trieff_store(IMAGE, WORK, ba, 3, 5), TRIEFF_KEY_LENGTH, 0));
+    EXPECT(trieff_store(IMAGE, WORK, ba, 2, 0).change == -1);
+    keys_are(0);
+}
+
+/* A chain of one letter, deeper than any key, with data at one depth alone: done with one key
+   where min and max allow it, else 19 at that node. Up the addresses and down, for each length of
+   the data, with each of its bytes alone. */
+static void hidden_in_a_chain(void)
+{
+    enum { DEPTHS = 140, KINDS = 6 };
+    static const uint8_t keys[KINDS][2] = {{0, 64}, {0, 0}, {1, 63}, {64, 64}, {63, 64}, {2, 3}};
+    static uint8_t chain[TRIEFF_LENGTH(DEPTHS, 1, 1, TRIEFF_D_MOST, 0)];
+    static uint32_t numbers[DEPTHS];
+    for (uint32_t depth = 0; depth < DEPTHS; depth++)
+        for (uint32_t kind = 0; kind < 2 * KINDS; kind++)
+            for (uint32_t byte = 0; byte < 10; byte++) {
+                uint8_t min = keys[kind / 2][0], max = keys[kind / 2][1];
+                uint32_t d = byte < 1 ? 1 : byte < 3 ? 2 : byte < 6 ? 3 : 4;
+                uint32_t down = kind % 2, at = depth == 0 || !down ? depth : DEPTHS - depth;
+                int allowed = min <= depth && depth <= max;
+                trieff_answer heard = trieff_make(chain, sizeof chain, 1, 1, d, NULL, 0, min, max);
+                EXPECT(heard.number == TRIEFF_DONE);
+                chain[3] = DEPTHS - 1;
+                memset(chain + 28, 0, sizeof chain - 28);
+                for (uint32_t node = 0; node < DEPTHS; node++)
+                    chain[28 + node * (1 + d)] =
+                        (uint8_t)(!down     ? (node + 1) % DEPTHS
+                                  : node > 0 ? node - 1
+                                             : DEPTHS - 1);
+                chain[28 + at * (1 + d) + 1 + byte - d * (d - 1) / 2] = 1;
+                heard = trieff_count(chain, sizeof chain, numbers, DEPTHS);
+                EXPECT(allowed ? same(heard, (trieff_answer){.value = 1})
+                               : refuses(heard, TRIEFF_HIDDEN, at));
+            }
 }
 
 /* Whether a field at an offset lies across the end of a sector. */
@@ -248,7 +373,7 @@ static void texts(void)
 {
     const char *unknown = trieff_text(1000);
     for (uint32_t number = 0; number <= 40; number++) {
-        int known = number <= 16 || number == 25;
+        int known = number <= 16 || number == 19 || number == 25;
         EXPECT((strcmp(trieff_text(number), unknown) != 0) == known);
         for (uint32_t other = 0; known && other < number; other++)
             EXPECT(strcmp(trieff_text(number), trieff_text(other)) != 0);
@@ -260,6 +385,8 @@ int main(void)
     null_slices();
     numbers_after_a_cut();
     trees();
+    hidden_data();
+    hidden_in_a_chain();
     fields_whole();
     on_a_device();
     texts();

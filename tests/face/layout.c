@@ -24,7 +24,8 @@ _Static_assert(TRIEFF_NOT_LINKED == 8 && TRIEFF_KEY_LENGTH == 9 && TRIEFF_LETTER
 _Static_assert(TRIEFF_NO_ADDRESS == 12 && TRIEFF_NO_ROOM == 13 && TRIEFF_SHORT_BUFFER == 14 &&
                    TRIEFF_NO_KEY == 15,
                "12 to 15");
-_Static_assert(TRIEFF_NOT_REACHED == 16 && TRIEFF_COUNTS_DIFFER == 25, "16 and 25");
+_Static_assert(TRIEFF_NOT_REACHED == 16 && TRIEFF_HIDDEN == 19 && TRIEFF_COUNTS_DIFFER == 25,
+               "16, 19 and 25");
 _Static_assert(TRIEFF_LENGTH(1, 3, 1, 1, 3) == 35 && TRIEFF_LENGTH(3, 3, 1, 1, 3) == 43,
                "P1 and P2");
 _Static_assert(TRIEFF_VERSION == 1, "raised with every changed prototype or layout");
