@@ -1,66 +1,84 @@
--- When every node is reached. Where each link leads upward, the parents of a node lead back to the
--- root, so the tally alone shows it. Elsewhere the search of `reaching` has met the nodes that are
--- reached, and the lowest working number that is still 0 is the place of 16.
-use Prim.Native.Nat.{ℕ, zero, suc, _+_, _-_, _≤_, _<_}
-use mathlib.Core.Path.{_≡_, sym, ap, _∙_}
+-- 16 and 19, from what a search has found. A mark is that of a depth in min..max exactly if the node
+-- is at such a depth: the key that leads to a node is the only one. After the search of `reaching`
+-- the lowest working number that is still 0 is the place of 16; where none is, the lowest node with
+-- data and a mark outside min..max is the place of 19.
+use Prim.Native.Nat.{ℕ, _+_, _-_, _≤_, _<_, min}
+use mathlib.Core.Path.{_≡_, refl, sym, ap, _∙_}
 use mathlib.Core.Logic.{_≢_}
-use mathlib.Core.List.{List, []}
+use mathlib.Core.Bool.{Bool, true, false, not, _&&_, true≢false}
+use mathlib.Core.Option.{none}
+use mathlib.Core.List.{List, [], _∷_}
 use native.Mathlib.Decide.{ℕ-discrete, decLe}
 use native.Mathlib.Omega.{arith}
 use lib.Dec.{eqb, ltb}
-use lib.ListN.{getD}
+use lib.ListN.{length, getD}
 use borrow.Author.Tests.{lt-ltb, le-ltb, eq-eqb, ne-eqb}
-use Rattle.trie.specs.Table.{Table, complete}
+use Rattle.field.specs.Range.{between}
+use Rattle.field.proofs.Range.{between-true, true-between}
+use Rattle.trie.specs.Table.{Table}
 use Rattle.trie.specs.Lowest.{lowest}
-use Rattle.trie.specs.Rules.{Framed, Named}
-use Rattle.trie.specs.Tree.{Parent, Reachable, depthOf}
-use Rattle.trie.proofs.Depth.{reached-depth, depth-reached}
-use Rattle.trie.proofs.Tree.{has-parent, parent-within, reached-on}
-use Rattle.trie.proofs.Walk.{descend-nil}
+use Rattle.trie.specs.Rules.{Framed, Once}
+use Rattle.trie.specs.Tree.{depthOf, depthWithin}
+use Rattle.trie.proofs.Depth.{reached-depth, depth-reached, walk-within, within-walk}
+use Rattle.trie.proofs.Lowest.{none-lowest}
+use Rattle.trie.proofs.Walk.{one-key}
 use Rattle.head.specs.declared.Head.{Head}
-use Rattle.node.specs.Image.{tableOf}
+use Rattle.node.specs.Image.{Open, tableOf}
 use Rattle.node.proofs.Tables.{framed}
+use Rattle.head.proofs.Permitted.{bounds}
 use Rattle.paper.specs.declared.Refusal.{Refusal}
 use Rattle.paper.specs.declared.Verdict.{Verdict}
 use Rattle.paper.specs.Answers.{rowOf}
-use Rattle.paper.specs.Rows.{row16}
+use Rattle.paper.specs.Rows.{row16, hidden, row19}
 use Rattle.paper.proofs.Hearing.{first-nil, first-some, first-none}
 use Rattle.paper.proofs.Linking.{row16-none, unreached}
-use Rattle.reaching.specs.Reaching.{Searched}
-use Rattle.tallying.specs.Tallied.{FoundFrom}
-use Rattle.audit.specs.Audit.{ReachedJudged}
+use Rattle.reaching.specs.Reaching.{Searched, Marked, markIn, deepest}
+use Rattle.tallying.specs.Tallied.{FoundFrom, hiddenAt, HiddenFrom}
 use Rattle.tallying.proofs.LowestFound.{lowest-same, given-at, given-nowhere}
+use Rattle.audit.specs.Audit.{ReachedJudged}
 
--- ---- links that lead upward
+-- ---- marks and depths
 
-module _ {t : Table} {g n : ℕ} (f : Framed t g n) (named : Named t g)
-    (upward : (q : ℕ) → q ≤ g → (j : ℕ) → j < n → t .child q j ≢ 0 → q < t .child q j) where
-  -- a parent comes before its child
-  before : {q c : ℕ} → Parent t q c → q < c
-  before {q} {c} a =
-      rw (a .link) at (upward q (parent-within f a) (a .letter) (go (decLe n (a .letter)))
-      (λ z. a .full (sym (a .link) ∙ z)))
+-- a mark is that of a depth from `least` to `most` exactly if the node is at such a depth
+module _ {t : Table} {g n : ℕ} (f : Framed t g n) (once : Once t) (least most : ℕ) (low : most ≤ 64)
+    {x mark : ℕ} (m : Marked t x mark) where
+  abbrev inside : Bool
+  inside = between mark (least + 1) (most + 1)
+
+  abbrev there : Bool
+  there = depthWithin t n g least most x
+
+  to : inside ≡ true → there ≡ true
+  to e =
+      let (a, b) = between-true mark (least + 1) (most + 1) e in
+      walk-within t n g f least most x (m .key) (m .leads) (omega (arith, m .told))
+      (omega (arith, m .told))
+
+  from : there ≡ true → inside ≡ true
+  from e =
+      let (k, w, a, b) = within-walk t n g least most x e in
+      let same : length k ≡ length (m .key) = ap length (one-key t k (m .key) once w (m .leads)) in
+      true-between mark (least + 1) (most + 1) (omega (arith, m .told)) (omega (arith, m .told))
+
+  mark-within : inside ≡ there
+  mark-within = go inside there refl refl
     where
-      go : Dec (n ≤ a .letter) → a .letter < n
-      go (no b) = omega arith
-      go (yes b) = absurd (a .full (sym (a .link) ∙ f .no-letter q (a .letter) b))
+      go : (a b : Bool) → inside ≡ a → there ≡ b → a ≡ b
+      go true true e d = refl
+      go true false e d = absurd (true≢false (sym (to e) ∙ d))
+      go false true e d = absurd (true≢false (sym (from d) ∙ e))
+      go false false e d = refl
 
-  below : (m c : ℕ) → c < m → c ≤ g → Reachable t c
-  below zero c low high = absurd (omega arith)
-  below (suc m) c low high = go (ℕ-discrete c 0) (below m)
-    where
-      go : Dec (c ≡ 0) → ((q : ℕ) → q < m → q ≤ g → Reachable t q) → Reachable t c
-      go (yes e) on = ([], descend-nil t 0 ∙ ap complete (sym e))
-      go (no z) on =
-          let (q, a) = has-parent named (omega arith) high in
-          let b = before a in
-          reached-on (on q (omega arith) (omega arith)) a
+-- so data is hidden by the mark exactly if it is
+pub mark-hidden : {h : Head} {l : List ℕ} → Open h l → Once (tableOf h l) → {x mark : ℕ}
+    → Marked (tableOf h l) x mark
+    → hiddenAt h (tableOf h l) x mark ≡ hidden h (tableOf h l) x
+unfolding hiddenAt hidden
+mark-hidden {h} {l} o once {x} m =
+    ap (λ (b : Bool). ltb 0 (tableOf h l .value x) && not b)
+    (mark-within (framed h l) once (h .min) (h .max) (bounds h (o .head-permitted) .max-most) m)
 
-  -- every node is reached
-  pub upward-reached : (c : ℕ) → c ≤ g → Reachable t c
-  upward-reached c high = below (suc c) c (omega arith) high
-
--- ---- 16, after the search
+-- ---- 16 and 19, after the search
 
 module _ {h : Head} {l work work′ : List ℕ} {met : ℕ} (s : Searched h l work met work′) where
   abbrev table : Table
@@ -71,17 +89,8 @@ module _ {h : Head} {l work work′ : List ℕ} {met : ℕ} (s : Searched h l wo
 
   shallow : (x : ℕ) → x ≤ h .g → getD work′ x 0 ≢ 0 → depth x ≤ h .g
   shallow x high d =
-      reached-depth table (h .n) (h .g) (framed h l) x high (s .marked x high d)
-
-  pub reached-all : met ≡ h .g + 1 → ReachedJudged h l work Verdict.Passed work′
-  unfolding rowOf
-  reached-all e =
-      record {
-        verdict =
-            sym (first-none _ _ (row16-none h table (λ x low high. shallow x high
-            (s .all e x high))) ∙ first-nil);
-        kept = s .kept;
-      }
+      let m = s .marked x high d in
+      reached-depth table (h .n) (h .g) (framed h l) x high (m .key, m .leads)
 
   -- a number that is still 0 is that of a node that is not reached
   same : (x : ℕ) → 1 ≤ x → x < 1 + h .g → eqb (getD work′ x 0) 0 ≡ unreached h table x
@@ -107,20 +116,61 @@ module _ {h : Head} {l work work′ : List ℕ} {met : ℕ} (s : Searched h l wo
         ∙ ap (lowest (λ y. eqb (getD work′ y 0) 0) 1) k
         ∙ lowest-same (λ y. eqb (getD work′ y 0) 0) (unreached h table) 1 (h .g) same
 
-    pub reached-not : x < h .g + 1
+    -- where fewer nodes were met than there are, one is found
+    pub unreached-found : met ≢ h .g + 1 → x < h .g + 1
+    unreached-found few =
+        let (y, low, high, z) = s .some few in
+        go y low high z (decLe (h .g + 1) x)
+      where
+        go : (y : ℕ) → 1 ≤ y → y ≤ h .g → getD work′ y 0 ≡ 0 → Dec (h .g + 1 ≤ x) → x < h .g + 1
+        go y low high z (no b) = omega arith
+        go y low high z (yes b) =
+            let none-is = none-lowest (λ w. eqb (getD work′ w 0) 0) 1 (h .g + 1 - 1)
+            (omega (arith, found)) y low (omega arith) in
+            absurd (true≢false (sym (eq-eqb (getD work′ y 0) 0 z) ∙ none-is))
+
+    pub reached-not : met ≢ h .g + 1
         → ReachedJudged h l work (Verdict.Refused (Refusal.NotReached x)) work′
     unfolding rowOf row16
-    reached-not low =
+    reached-not few =
         record {
-          verdict = sym (first-some _ _ (given-at 16 _ 1 (h .g) place (omega arith)));
+          verdict =
+              sym (first-some _ _ (given-at 16 _ 1 (h .g) place
+              (omega (arith, unreached-found few))));
           kept = s .kept;
         }
 
-    pub reached-found : h .g + 1 ≤ x → ReachedJudged h l work Verdict.Passed work′
-    unfolding rowOf row16
-    reached-found high =
+  -- every node is met, and 19 is judged by the marks
+  module _ (o : Open h l) (once : Once table) (all : met ≡ h .g + 1) {x : ℕ}
+      (found : HiddenFrom h l work′ x) where
+    past-16 : row16 h table ≡ none
+    past-16 = row16-none h table (λ y low high. shallow y high (s .all all y high))
+
+    place-19 : x ≡ lowest (hidden h table) 0 (h .g + 1)
+    place-19 =
+        found ∙ lowest-same (λ y. hiddenAt h table y (markIn work′ y)) (hidden h table) 0
+        (h .g + 1)
+        (λ y low high. mark-hidden o once
+        (s .marked y (omega arith) (s .all all y (omega arith))))
+
+    pub reached-hidden : x < h .g + 1
+        → ReachedJudged h l work (Verdict.Refused (Refusal.Hidden x)) work′
+    unfolding rowOf row19
+    reached-hidden low =
         record {
           verdict =
-              sym (first-none _ _ (given-nowhere 16 _ 1 (h .g) place (omega arith)) ∙ first-nil);
+              sym (first-none _ _ past-16 ∙ first-some _ _
+              (given-at 19 _ 0 (h .g + 1) place-19 (omega arith)));
+          kept = s .kept;
+        }
+
+    pub reached-shown : h .g + 1 ≤ x → ReachedJudged h l work Verdict.Passed work′
+    unfolding rowOf row19
+    reached-shown high =
+        record {
+          verdict =
+              sym (first-none _ _ past-16
+              ∙ first-none _ _ (given-nowhere 19 _ 0 (h .g + 1) place-19 (omega arith))
+              ∙ first-nil);
           kept = s .kept;
         }

@@ -1,12 +1,12 @@
-// The check of an image over lent working numbers: 1 to 8 and 16. It takes time linear in the
+// The check of an image over lent working numbers: 1 to 8, 16 and 19. It takes time linear in the
 // image and does not recurse, since a chain of links may be as long as the image. The links are
-// tallied. Where each leads to a greater address, every node is reached and no search for 16 is
-// needed.
+// tallied, and the nodes are marked with their depths. Where all is plain, each link leads to a
+// greater address and no data is hidden; then every node is reached, and no search is needed.
 ghost use mathlib.Core.Path.{_≡_};
 ghost use Prim.Native.Nat.{_≤_, _+_};
 ghost use mathlib.Core.List.{_++_};
 ghost use lib.ListN.{length, drop, replicate};
-ghost use Rattle.trie.specs.Rules.{Within};
+ghost use Rattle.trie.specs.Rules.{Within, Once};
 ghost use Rattle.head.specs.Fields.{longestImage};
 ghost use Rattle.node.specs.Image.{Open, tableOf};
 ghost use Rattle.audit.specs.Audit.{Checked, Audited, LinksJudged, ReachedJudged};
@@ -15,7 +15,8 @@ use opening::Opened;
 use paper::Refusal;
 use paper::Verdict;
 
-// Checks an image, and answers its head and letters as opening does. Refusals: 1 to 8 and 16.
+// Checks an image, and answers its head and letters as opening does. Refusals: 1 to 8, 16
+// and 19.
 pub fn check(image: &[u8], work: &mut [u32], codes: &mut [u32; Head::N_MOST as usize]) -> Opened
     ensures { λ r. ⌜ Checked (now (image .entry)) (now (work .entry)) r (now (work .exit))
         (now (codes .exit)) ⌝ }
@@ -35,8 +36,8 @@ pub fn check(image: &[u8], work: &mut [u32], codes: &mut [u32; Head::N_MOST as u
     }
 }
 
-// Judges 5 to 8 and 16. Once 5 is passed, the first G+1 working numbers are 0 when it returns, and
-// the rest keep what they held; at 5 all keep it.
+// Judges 5 to 8, 16 and 19. Once 5 is passed, the first G+1 working numbers are 0 when it returns,
+// and the rest keep what they held; at 5 all keep it.
 fn audit(image: &[u8], h: Head, work: &mut [u32]) -> Verdict
     requires { ⌜ Open h (now image) ⌝ ∗ ⌜ length (now image) ≤ longestImage ⌝ }
     ensures { λ r. ⌜ Audited h (now (image .entry)) (now (work .entry)) r (now (work .exit)) ⌝ }
@@ -51,7 +52,7 @@ fn audit(image: &[u8], h: Head, work: &mut [u32]) -> Verdict
     verdict
 }
 
-// Judges 6 to 8 and 16, with working numbers whose first G+1 are 0.
+// Judges 6 to 8, 16 and 19, with working numbers whose first G+1 are 0.
 fn links(image: &[u8], h: Head, work: &mut [u32]) -> Verdict
     requires { ⌜ Open h (now image) ⌝ ∗ ⌜ length (now image) ≤ longestImage ⌝ }
     requires { ⌜ h .g + 1 ≤ length (now work) ⌝ }
@@ -64,10 +65,10 @@ fn links(image: &[u8], h: Head, work: &mut [u32]) -> Verdict
     if bad < nodes {
         return Verdict::Refused(Refusal::Link(bad as u32));
     }
-    if tallying::all_once(work, nodes) & (work[0] == 0) {
+    if tallying::all_met(work, nodes) & (work[0] == 1) {
         return Verdict::Passed;
     }
-    let twice = tallying::first_holding(work, nodes, 2);
+    let twice = tallying::first_holding(work, nodes, tallying::AGAIN);
     if twice < nodes {
         return Verdict::Refused(Refusal::LinkedTwice(twice as u32));
     }
@@ -79,10 +80,11 @@ fn links(image: &[u8], h: Head, work: &mut [u32]) -> Verdict
     reached(image, h, work)
 }
 
-// Judges 16, where no link is above G, with working numbers whose first G+1 are 0.
+// Judges 16 and 19, where no link is above G and no address stands in two links, with working
+// numbers whose first G+1 are 0.
 fn reached(image: &[u8], h: Head, work: &mut [u32]) -> Verdict
     requires { ⌜ Open h (now image) ⌝ ∗ ⌜ length (now image) ≤ longestImage ⌝ }
-    requires { ⌜ Within (tableOf h (now image)) (h .g) ⌝ }
+    requires { ⌜ Within (tableOf h (now image)) (h .g) ⌝ ∗ ⌜ Once (tableOf h (now image)) ⌝ }
     requires { ⌜ h .g + 1 ≤ length (now work) ⌝ }
     requires { ⌜ now work ≡ replicate (h .g + 1) 0 ++ drop (h .g + 1) (now work) ⌝ }
     ensures { λ r. ⌜ ReachedJudged h (now (image .entry)) (now (work .entry)) r
@@ -90,12 +92,13 @@ fn reached(image: &[u8], h: Head, work: &mut [u32]) -> Verdict
 {
     let nodes = (h.g as usize) + 1;
     let met = reaching::reach(image, h, work);
-    if met as usize == nodes {
-        return Verdict::Passed;
-    }
-    let unreached = tallying::first_holding(work, nodes, 0);
-    if unreached < nodes {
+    if met as usize != nodes {
+        let unreached = tallying::first_holding(work, nodes, 0);
         return Verdict::Refused(Refusal::NotReached(unreached as u32));
+    }
+    let hidden = tallying::first_hidden(image, h, work);
+    if hidden < nodes {
+        return Verdict::Refused(Refusal::Hidden(hidden as u32));
     }
     Verdict::Passed
 }

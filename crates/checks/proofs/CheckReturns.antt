@@ -1,6 +1,5 @@
 -- The outcome of the calls that begin with the check, at each return of the code. The audit's
--- verdict is the first of the check's rows that is given, and an image that has passed them can be
--- walked through.
+-- verdict is the first of the check's rows that is given.
 use Prim.Native.Nat.{ℕ}
 use mathlib.Core.Path.{_≡_, sym, _∙_, ap}
 use mathlib.Core.Bool.{Bool}
@@ -22,8 +21,7 @@ use Rattle.paper.specs.Promises.{Checks, CountsKeys, Nexts}
 use Rattle.paper.proofs.Hearing.{first-part, heard-refused, heard-done, told-refused, told-passed}
 use Rattle.opening.specs.declared.Opened.{Opened}
 use Rattle.audit.specs.Audit.{Checked}
-use Rattle.audit.proofs.Verdicts.{checked-accepted, checked-head}
-use Rattle.depths.proofs.Walkable.{Walkable, walkable}
+use Rattle.audit.proofs.Verdicts.{checked-head}
 use Rattle.seeking.specs.Seeking.{Seeks}
 use Rattle.seeking.proofs.Seeking.{refuses}
 
@@ -48,9 +46,6 @@ module _ {l work : List ℕ} {r : Opened} {work′ codes : List ℕ} (o : Checke
     counts-refused e = left _ ∙ sym (heard-refused _ _ _ (told-refused (o .verdict) e))
 
     module _ (e : r .verdict ≡ Verdict.Passed) where
-      pub checked-walkable : Walkable (r .head) l
-      checked-walkable = walkable (checked-accepted o e) (checked-head o e)
-
       pub counts-done : {n : ℕ}
           → n ≡ length (listing (tableOf (r .head) l) (r .head .n) (r .head .min) (r .head .max))
           → CountsKeys l work (countedOf (Counted.Keys n)) work′

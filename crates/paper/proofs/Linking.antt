@@ -293,7 +293,7 @@ module _ (h : Head) (t : Table) (f : Framed t (h .g) (h .n)) where
       row6-none h t (λ q _. holds-none (h .g) t q (h .n)
       (λ i _. not-bad (h .g) (t .child q i) .1 (w q i)))
 
-  none-once : Within t (h .g) → row7 h t ≡ none → Once t
+  pub none-once : Within t (h .g) → row7 h t ≡ none → Once t
   none-once w e q i p j d s =
       let x : ℕ = t .child q i in
       let (a, b) = inside q i d in

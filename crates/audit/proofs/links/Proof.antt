@@ -1,5 +1,6 @@
 -- `audit::links` meets its contract: each way out has its law, from what the search for a bad
--- link, `all_once`, the two searches in the working numbers and the judging of 16 returned.
+-- link, `all_met`, the two searches in the working numbers and the judging of 16 and 19
+-- returned.
 -- Assumes nothing.
 use Prim.Native.Nat.{_+_}
 use native.Mathlib.Omega.{arith}
@@ -7,8 +8,8 @@ use borrow.Author.Needs.{needs}
 use borrow.Author.Tests.{eqb-true}
 use Rattle.field.proofs.Range.{both}
 use Rattle.tallying.proofs.Clearing.{cleared-again, kept-cleared}
-use Rattle.audit.proofs.Verdicts.{linked-bad, linked-once, linked-twice, linked-missing}
-use Rattle.audit.proofs.Verdicts.{linked-within, linked-reached}
+use Rattle.audit.proofs.Verdicts.{linked-bad, linked-plain, linked-twice, linked-missing}
+use Rattle.audit.proofs.Verdicts.{linked-within, linked-alone, linked-reached}
 use Rattle.audit.proofs.links.Statement.{statement}
 use Rattle.audit.proofs.links.Tie as tie
 
@@ -30,8 +31,8 @@ same-length c = search needs
 returns : tie.Need-returns
 returns c = linked-bad (c .before .before .before .first-bad-node .ensures) (c .if1 .taken)
 
-all-once-requires : tie.Need-all-once-requires
-all-once-requires c κs = search needs
+all-met-requires : tie.Need-all-met-requires
+all-met-requires c κs = search needs
 
 slice-read-if2 : tie.Need-slice-read-if2
 slice-read-if2 c = search needs
@@ -43,8 +44,9 @@ returns-2 : tie.Need-returns-2
 returns-2 c =
     let b = c .before .before .before .before in
     let t = both _ _ (c .if2 .taken) in
-    linked-once (b .before .before .before .first-bad-node .ensures) (b .if1 .left)
-    (c .before .before .all-once .ensures (t .0)) (eqb-true _ 0 (t .1))
+    let s = b .before .before .before .before .before .before .before .before in
+    linked-plain (b .before .before .before .first-bad-node .ensures) (b .if1 .left)
+    (eqb-true _ 1 (t .1)) (c .before .before .all-met .ensures (t .0)) (s .pre .0)
 
 first-holding-requires : tie.Need-first-holding-requires
 first-holding-requires c κs = search needs
@@ -96,8 +98,11 @@ reached-requires c κs =
         (
           linked-within f (b .if1 .left),
           (
-            omega (arith, room .long, f .kept .long, s .pre .1 .1 .0),
-            cleared-again (s .args .h .g + 1) _ e,
+            linked-alone f (b .if1 .left) (d .before .first-holding .ensures) (d .if3 .left),
+            (
+              omega (arith, room .long, f .kept .long, s .pre .1 .1 .0),
+              cleared-again (s .args .h .g + 1) _ e,
+            ),
           ),
         ),
       ),
@@ -129,7 +134,7 @@ links-spec =
     cast-t12
     same-length
     returns
-    all-once-requires
+    all-met-requires
     slice-read-if2
     same-length-2
     returns-2

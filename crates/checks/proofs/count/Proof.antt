@@ -1,8 +1,8 @@
 -- `checks::count` meets its contract: the audit judges the check's rows, and an image that has
--- passed them has at most as many stored keys as nodes, so their number fits 32 bits. Assumes
--- nothing.
+-- passed them is accepted, as the count requires. Assumes nothing.
 use borrow.Author.Needs.{needs}
-use Rattle.checks.proofs.CheckReturns.{checked-walkable, counts-refused, counts-done}
+use Rattle.audit.proofs.Verdicts.{checked-accepted, checked-head}
+use Rattle.checks.proofs.CheckReturns.{counts-refused, counts-done}
 use Rattle.checks.proofs.count.Statement.{statement}
 use Rattle.checks.proofs.count.Tie as tie
 
@@ -17,9 +17,8 @@ enum-told c = search needs
 
 count-requires : tie.Need-count-requires
 count-requires c κs =
-    let w = checked-walkable (c .before .before .before .before .check .ensures)
-    (c .enum-told .given .1) in
-    (w .opened, (w .within, w .few))
+    let o = c .before .before .before .before .check .ensures in
+    (checked-accepted o (c .enum-told .given .1), checked-head o (c .enum-told .given .1))
 
 same-length : tie.Need-same-length
 same-length c = search needs

@@ -71,8 +71,7 @@ roomy c =
 
 count-requires : tie.Need-count-requires Inv-loop μ-loop
 count-requires c κs =
-    let w = walkable (c .before .pre .0) (c .before .pre .1 .0) in
-    (w .opened, (w .within, w .few))
+    (c .before .pre .0, c .before .pre .1 .0)
 
 slice-aggregate-entries : tie.Need-slice-aggregate-entries Inv-loop μ-loop
 slice-aggregate-entries c = search needs
