@@ -1,7 +1,7 @@
--- 16 and 19, from what a search has found. A mark is that of a depth in min..max exactly if the node
--- is at such a depth: the key that leads to a node is the only one. After the search of `reaching`
--- the lowest working number that is still 0 is the place of 16; where none is, the lowest node with
--- data and a mark outside min..max is the place of 19.
+-- 16 and 19, from what a search has found. A mark is that of a depth in min..max exactly if the
+-- node is at such a depth: the key that leads to a node is the only one. After the search of
+-- `reaching` the lowest working number that is still 0 is the place of 16; where none is, the
+-- lowest node with data and a mark outside min..max is the place of 19.
 use Prim.Native.Nat.{ℕ, _+_, _-_, _≤_, _<_, min}
 use mathlib.Core.Path.{_≡_, refl, sym, ap, _∙_}
 use mathlib.Core.Logic.{_≢_}
@@ -29,7 +29,7 @@ use Rattle.head.proofs.Permitted.{bounds}
 use Rattle.paper.specs.declared.Refusal.{Refusal}
 use Rattle.paper.specs.declared.Verdict.{Verdict}
 use Rattle.paper.specs.Answers.{rowOf}
-use Rattle.paper.specs.Rows.{row16, hidden, row19}
+use Rattle.paper.specs.Rows.{row16, isHidden, row19}
 use Rattle.paper.proofs.Hearing.{first-nil, first-some, first-none}
 use Rattle.paper.proofs.Linking.{row16-none, unreached}
 use Rattle.reaching.specs.Reaching.{Searched, Marked, markIn, deepest}
@@ -40,8 +40,8 @@ use Rattle.audit.specs.Audit.{ReachedJudged}
 -- ---- marks and depths
 
 -- a mark is that of a depth from `least` to `most` exactly if the node is at such a depth
-module _ {t : Table} {g n : ℕ} (f : Framed t g n) (once : Once t) (least most : ℕ) (low : most ≤ 64)
-    {x mark : ℕ} (m : Marked t x mark) where
+module _ {t : Table} {g n : ℕ} (f : Framed t g n) (once : Once t) (least most : ℕ)
+    (low : most ≤ 64) {x mark : ℕ} (m : Marked t x mark) where
   abbrev inside : Bool
   inside = between mark (least + 1) (most + 1)
 
@@ -72,8 +72,8 @@ module _ {t : Table} {g n : ℕ} (f : Framed t g n) (once : Once t) (least most 
 -- so data is hidden by the mark exactly if it is
 pub mark-hidden : {h : Head} {l : List ℕ} → Open h l → Once (tableOf h l) → {x mark : ℕ}
     → Marked (tableOf h l) x mark
-    → hiddenAt h (tableOf h l) x mark ≡ hidden h (tableOf h l) x
-unfolding hiddenAt hidden
+    → hiddenAt h (tableOf h l) x mark ≡ isHidden h (tableOf h l) x
+unfolding hiddenAt isHidden
 mark-hidden {h} {l} o once {x} m =
     ap (λ (b : Bool). ltb 0 (tableOf h l .value x) && not b)
     (mark-within (framed h l) once (h .min) (h .max) (bounds h (o .head-permitted) .max-most) m)
@@ -146,9 +146,9 @@ module _ {h : Head} {l work work′ : List ℕ} {met : ℕ} (s : Searched h l wo
     past-16 : row16 h table ≡ none
     past-16 = row16-none h table (λ y low high. shallow y high (s .all all y high))
 
-    place-19 : x ≡ lowest (hidden h table) 0 (h .g + 1)
+    place-19 : x ≡ lowest (isHidden h table) 0 (h .g + 1)
     place-19 =
-        found ∙ lowest-same (λ y. hiddenAt h table y (markIn work′ y)) (hidden h table) 0
+        found ∙ lowest-same (λ y. hiddenAt h table y (markIn work′ y)) (isHidden h table) 0
         (h .g + 1)
         (λ y low high. mark-hidden o once
         (s .marked y (omega arith) (s .all all y (omega arith))))

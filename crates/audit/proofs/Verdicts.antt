@@ -25,7 +25,7 @@ use Rattle.paper.specs.declared.Refusal.{Refusal}
 use Rattle.paper.specs.declared.Verdict.{Verdict}
 use Rattle.paper.specs.Hearing.{Row, first}
 use Rattle.paper.specs.Answers.{rowOf}
-use Rattle.paper.specs.Rows.{row5, row6, row7, row8, row16, hidden, row19, times}
+use Rattle.paper.specs.Rows.{row5, row6, row7, row8, row16, isHidden, row19, times}
 use Rattle.paper.specs.Orders.{openingRowsOf, nodeRows, checkOrder}
 use Rattle.paper.specs.Calls.{clearedBy, workAfter}
 use Rattle.paper.specs.Accepted.{Accepted}
@@ -142,7 +142,8 @@ module _ {h : Head} {l work work′ : List ℕ} {bad : ℕ} (b : BadFrom h l wor
       none-once h (tableOf h l) (framed h l) (linked-within high)
       (given-nowhere 7 _ 1 (h .g) (seventh high sought) (omega arith))
 
-  -- where all is plain and each address has been met, the searches would find none and are left out
+  -- where all is plain and each address has been met, the searches would find none and are left
+  -- out
   module _ (high : h .g + 1 ≤ bad) (z : getD work′ 0 0 ≡ 1) (met : AllMet work′ (h .g + 1)) where
     plain : Plain h (tableOf h l) (h .g + 1) work′
     plain = b .plain (omega arith)
@@ -180,7 +181,7 @@ module _ {h : Head} {l work work′ : List ℕ} {bad : ℕ} (b : BadFrom h l wor
             let m = marked x below in
             reached-depth (tableOf h l) (h .n) (h .g) (framed h l) x below (m .key, m .leads)
 
-        shown : (x : ℕ) → x ≤ h .g → hidden h (tableOf h l) x ≡ false
+        shown : (x : ℕ) → x ≤ h .g → isHidden h (tableOf h l) x ≡ false
         shown x below =
             sym (mark-hidden o (linked-alone high no-two (omega arith)) (marked x below))
             ∙ plain-shown plain z met x below

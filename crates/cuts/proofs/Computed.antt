@@ -69,8 +69,8 @@ pub computed : (map left cuts ≡ expected)
     × (noted (writesIn before (2 ∷ 2 ∷ 2 ∷ []) 1) ≡ 43 ∷ 4 ∷ 47 ∷ 4 ∷ 51 ∷ 4 ∷ 0 ∷ 4 ∷ 33 ∷ 1 ∷ [])
     × (readBack (left 5) (noted (writesIn before (2 ∷ 2 ∷ 2 ∷ []) 1)) ≡ writesIn before
     (2 ∷ 2 ∷ 2 ∷ []) 1)
-unfolding row1 row2 row3 row4 row6 row7 row8 row16 row19 cutAfter mendedImage mendOf storedImage readBack
-    noted storeWrites tableIn
+unfolding row1 row2 row3 row4 row6 row7 row8 row16 row19 cutAfter mendedImage mendOf storedImage
+    readBack noted storeWrites tableIn
 computed = (refl, refl, refl, refl, refl)
 
 -- ---- with three flushes
@@ -152,8 +152,8 @@ unflushed lands =
 pub computed-needed :
     (mendOf (unflushed (λ i. eqb i 3)) work .numbers ≡ refusedNumbers (numberAt 6 3))
     × (mendOf (unflushed (λ i. not (eqb i 3))) work .numbers ≡ refusedNumbers (numberAt 6 0))
-unfolding row1 row2 row3 row4 row6 row7 row8 row16 row19 landed mendOf storeWrites tableIn descend headOf
-    usedLen
+unfolding row1 row2 row3 row4 row6 row7 row8 row16 row19 landed mendOf storeWrites tableIn descend
+    headOf usedLen
 computed-needed = (refl, refl)
 
 -- ---- where no store was cut

@@ -32,7 +32,7 @@ use Rattle.alphabet.specs.Letters.{among}
 use Rattle.paper.specs.Hearing.{Said, Row, rowWhen, first}
 use Rattle.paper.specs.Answers.{numberAt}
 use Rattle.paper.specs.Rows.{badLink, holdsBad, rowWhenLowest, row6, timesIn, times, row7}
-use Rattle.paper.specs.Rows.{row8, row16, hidden, row19}
+use Rattle.paper.specs.Rows.{row8, row16, isHidden, row19}
 use Rattle.paper.specs.Orders.{nodeRows}
 use Rattle.paper.proofs.Hearing.{not-given, is-given, was-false, first-nil, first-none}
 use Rattle.paper.proofs.Hearing.{first-some, passed-row}
@@ -234,8 +234,8 @@ module _ (h : Head) (t : Table) where
   pub within : ℕ → Bool
   within x = depthWithin t (h .n) (h .g) (h .min) (h .max) x
 
-  pub shown : (x : ℕ) → hidden h t x ≡ false → t .value x ≢ 0 → within x ≡ true
-  unfolding hidden within
+  pub shown : (x : ℕ) → isHidden h t x ≡ false → t .value x ≢ 0 → within x ≡ true
+  unfolding isHidden within
   shown x e full = go (within x) refl
     where
       go : (b : Bool) → within x ≡ b → within x ≡ true
@@ -244,8 +244,8 @@ module _ (h : Head) (t : Table) where
           let there : ltb 0 (t .value x) ≡ true = lt-ltb 0 (t .value x) (omega arith) in
           absurd (true≢false (rw (there, f) at e))
 
-  pub not-hidden : (x : ℕ) → (t .value x ≢ 0 → within x ≡ true) → hidden h t x ≡ false
-  unfolding hidden within
+  pub not-hidden : (x : ℕ) → (t .value x ≢ 0 → within x ≡ true) → isHidden h t x ≡ false
+  unfolding isHidden within
   not-hidden x f = go (ℕ-discrete (t .value x) 0)
     where
       neither : (b : Bool) → (b && false) ≡ false
@@ -256,13 +256,13 @@ module _ (h : Head) (t : Table) where
       go (yes z) = rw (le-ltb 0 (t .value x) (omega arith))
       go (no d) = rw (f d) (neither (ltb 0 (t .value x)))
 
-  pub row19-none : ((x : ℕ) → x ≤ h .g → hidden h t x ≡ false) → row19 h t ≡ none
+  pub row19-none : ((x : ℕ) → x ≤ h .g → isHidden h t x ≡ false) → row19 h t ≡ none
   unfolding row19
-  row19-none f = lowest-passed 19 (hidden h t) 0 (h .g + 1) (λ x _ b. f x (omega arith))
+  row19-none f = lowest-passed 19 (isHidden h t) 0 (h .g + 1) (λ x _ b. f x (omega arith))
 
-  pub none-row19 : row19 h t ≡ none → (x : ℕ) → x ≤ h .g → hidden h t x ≡ false
+  pub none-row19 : row19 h t ≡ none → (x : ℕ) → x ≤ h .g → isHidden h t x ≡ false
   unfolding row19
-  none-row19 e x b = passed-lowest 19 (hidden h t) 0 (h .g + 1) e x (omega arith) (omega arith)
+  none-row19 e x b = passed-lowest 19 (isHidden h t) 0 (h .g + 1) e x (omega arith) (omega arith)
 
 -- ---- 6 to 8, 16 and 19 pass exactly where the rules on links and data hold
 
@@ -384,7 +384,7 @@ linking-says h t =
     then lowest-says 7 (twice h t) 1 (h .g) refl
     then lowest-says 8 (nowhere h t) 1 (h .g) refl
     then lowest-says 16 (unreached h t) 1 (h .g) refl
-    then lowest-says 19 (hidden h t) 0 (h .g + 1) refl
+    then lowest-says 19 (isHidden h t) 0 (h .g + 1) refl
     then end
 
 -- ---- what is known where 8 is given
@@ -421,7 +421,7 @@ eight-place h t {s} e n =
     eighth none _ f =
         let says = first-says
         (lowest-says {numbers = 16 ∷ 19 ∷ []} 16 (unreached h t) 1 (h .g) refl
-        then lowest-says 19 (hidden h t) 0 (h .g + 1) refl
+        then lowest-says 19 (isHidden h t) 0 (h .g + 1) refl
         then end) in
         let said : among 8 (16 ∷ 19 ∷ []) ≡ true =
         subst (λ (m : ℕ). among m (16 ∷ 19 ∷ []) ≡ true) n (one-of says f) in

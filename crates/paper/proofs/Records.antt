@@ -1,6 +1,6 @@
--- 02, Ask 8: in an accepted image each record, which is a node whose data is not 0, can be looked up,
--- is listed once and is counted: "The check now refuses data at any depth outside min..max". All of
--- it is stated of the calls' own outcomes and of the stored keys that they speak of.
+-- 02, Ask 8: in an accepted image each record, which is a node whose data is not 0, can be looked
+-- up, is listed once and is counted: "The check now refuses data at any depth outside min..max".
+-- All of it is stated of the calls' own outcomes and of the stored keys that they speak of.
 use Prim.Native.Nat.{ℕ, _+_, _≤_}
 use mathlib.Core.Path.{_≡_, sym, ap, _∙_}
 use mathlib.Core.Logic.{_≢_}

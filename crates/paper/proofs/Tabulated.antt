@@ -22,7 +22,7 @@ use Rattle.paper.specs.Hearing.{rowWhen, first, refusedNumbers, doneNumb
 use Rattle.paper.specs.Rows.{row1, row2, row3, row4, row5, badLink, holdsBad, rowWhenLowest}
 use Rattle.paper.specs.Rows.{row6, timesIn, times, row7, row8, row9, row9next, allBelow}
 use Rattle.paper.specs.Rows.{row10, isNone, row10text, row11, row12, row13, row14, row15}
-use Rattle.paper.specs.Rows.{row6At, row6path, row16, hidden, row19}
+use Rattle.paper.specs.Rows.{row6At, row6path, row16, isHidden, row19}
 use Rattle.paper.specs.Given.{alphabetIn, meantBy, meantIn, keyIn}
 use Rattle.paper.specs.Orders.{openingRows, openingRowsOf, nodeRows, checkOrder, lettersRows}
 use Rattle.paper.specs.Orders.{textRows, keyRowsBy, keyRows, nextRows, lookUpOrder}
@@ -37,14 +37,15 @@ pub tabulated :
     × (map (λ (s : Sized). figuresOf (s .image)) sizes ≡ map (λ (s : Sized). s .figures) sizes)
 unfolding fieldAt digits inRange inRanges fitsRow lengthBy charLen charAt inFront charsFrom chars
     follow descend valueAt answer missing fault present ownKey byLetter keysUnder before meets
-    firstMeeting added changeOf lowest anyBelow holdsAddress atDepth depthOf depthWithin headOf permitted
-    nodeWidth nodePlace usedLen among allDifferent isAlphabet goodAlphabet orEmpty letters letterOf
-    withLetter lettersOfChars keyOfChars keyOfText linkPlace dataPlace tableOf carriedOut lastNode
-    pathNode newNodes totalWrite linkWrite dataWrite storeWrites rowWhen first refusedNumbers
-    doneNumbers heard row1 row2 row3 row4 row5 badLink holdsBad rowWhenLowest row6 timesIn times
-    row7 row8 row9 row9next allBelow row10 isNone row10text row11 row12 row13 row14 row15 row16
-    hidden row19 row6At row6path alphabetIn meantBy meantIn keyIn openingRows openingRowsOf nodeRows checkOrder
-    lettersRows textRows keyRowsBy keyRows nextRows lookUpOrder addingRows newOf storeOrder
-    nextKeyOrder tableIn clearedBy workAfter freshHead headBytes freshImage makeOf checkOf
-    storedKeys countOf lookUpOf storedImage storeOf nextIn foundIn nextKeyOf
+    firstMeeting added changeOf lowest anyBelow holdsAddress atDepth depthOf depthWithin headOf
+    permitted nodeWidth nodePlace usedLen among allDifferent isAlphabet goodAlphabet orEmpty
+    letters letterOf withLetter lettersOfChars keyOfChars keyOfText linkPlace dataPlace tableOf
+    carriedOut lastNode pathNode newNodes totalWrite linkWrite dataWrite storeWrites rowWhen first
+    refusedNumbers doneNumbers heard row1 row2 row3 row4 row5 badLink holdsBad rowWhenLowest row6
+    timesIn times row7 row8 row9 row9next allBelow row10 isNone row10text row11 row12 row13 row14
+    row15 row16 isHidden row19 row6At row6path alphabetIn meantBy meantIn keyIn openingRows
+    openingRowsOf nodeRows checkOrder lettersRows textRows keyRowsBy keyRows nextRows lookUpOrder
+    addingRows newOf storeOrder nextKeyOrder tableIn clearedBy workAfter freshHead headBytes
+    freshImage makeOf checkOf storedKeys countOf lookUpOf storedImage storeOf nextIn foundIn
+    nextKeyOf
 tabulated = (refl, refl)

@@ -1,7 +1,8 @@
--- 01, "Cases from one small file": those marked P, and cases of 02's Asks 3 and 8, as one table: of
--- calls and of what each must leave, and of the images that are left and of their G, W and U. N =
--- 3, A = 1, D = 1, letters ABC, min 1, max 3. The lent buffers hold rubbish (AA in images and key
--- buffers, 7 in working numbers), so that the table shows what a call keeps and what it changes.
+-- 01, "Cases from one small file": those marked P, and cases of 02's Asks 3 and 8, as one table:
+-- of calls and of what each must leave, and of the images that are left and of their G, W and U. N
+-- = 3, A = 1, D = 1, letters ABC, min 1, max 3. The lent buffers hold rubbish (AA in images and
+-- key buffers, 7 in working numbers), so that the table shows what a call keeps and what it
+-- changes.
 use Prim.Native.Nat.{ℕ, _+_}
 use mathlib.Core.Bool.{true, false}
 use mathlib.Core.List.{List, [], _∷_, _++_}
@@ -126,7 +127,8 @@ body11 = 0 ∷ 1 ∷ 0 ∷ 0 ∷ 0 ∷ 1 ∷ 0 ∷ 0 ∷ []
 abbrev lower3 : List ℕ
 lower3 = file 2 (0 ∷ 2 ∷ 0 ∷ 0 ∷ 0 ∷ 0 ∷ 0 ∷ 9 ∷ 1 ∷ 0 ∷ 0 ∷ 5 ∷ []) 0
 
--- five nodes under the root, in one chain, with data at two: node 1 is at depth 5, node 2 at depth 4
+-- five nodes under the root, in one chain, with data at two: node 1, at depth 5, and node 2, at
+-- depth 4
 abbrev chain : List ℕ
 chain =
     5 ∷ 0 ∷ 0 ∷ 0 ∷ 0 ∷ 0 ∷ 0 ∷ 9 ∷ 1 ∷ 0 ∷ 0 ∷ 8 ∷ 2 ∷ 0 ∷ 0 ∷ 0 ∷ 3 ∷ 0 ∷ 0 ∷ 0 ∷ 4 ∷ 0 ∷ 0 ∷ 0

@@ -93,15 +93,15 @@ unfolding rowWhenLowest depthOf
 row16 h t = rowWhenLowest 16 (λ x. ltb (h .g) (depthOf t (h .n) (h .g) x)) 1 (h .g)
 
 -- has node x data that is not 0, at no depth in min..max?
-unfoldable pub hidden : Head → Table → ℕ → Bool
+unfoldable pub isHidden : Head → Table → ℕ → Bool
 unfolding depthWithin
-hidden h t x =
+isHidden h t x =
     ltb 0 (t .value x) && not (depthWithin t (h .n) (h .g) (h .min) (h .max) x)
 
 -- 19, of 02's Ask 8: "data at any depth outside min..max"; "place the lowest such node"
 unfoldable pub row19 : Head → Table → Row
-unfolding rowWhenLowest hidden
-row19 h t = rowWhenLowest 19 (hidden h t) 0 (h .g + 1)
+unfolding rowWhenLowest isHidden
+row19 h t = rowWhenLowest 19 (isHidden h t) 0 (h .g + 1)
 
 -- 9: "key length outside min..max"
 unfoldable pub row9 : Head → List ℕ → Row

@@ -98,7 +98,8 @@ node-fits l = (six-fits l, (seven-fits l, (eight-fits l, (sixteen-fits l, (ninet
 
 node-tells : (l : List ℕ) → AllTell (RightPlace l) (nodeRows (headOf l) (tableOf (headOf l) l))
 unfolding nodeRows
-node-tells l = (six-tells l, (seven-tells l, (eight-tells l, (sixteen-tells l, (nineteen-tells l, tt)))))
+node-tells l =
+    (six-tells l, (seven-tells l, (eight-tells l, (sixteen-tells l, (nineteen-tells l, tt)))))
 
 module _ (l work : List ℕ) where
   -- 5 to 8, 16 and 19

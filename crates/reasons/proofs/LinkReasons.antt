@@ -1,6 +1,6 @@
--- 6 to 8, 16 and 19: each row is given exactly where its reason applies, and its place is the lowest
--- node or address that the reason speaks of. An address that is counted twice stands in two links:
--- in two of one node, or in one of each of two nodes.
+-- 6 to 8, 16 and 19: each row is given exactly where its reason applies, and its place is the
+-- lowest node or address that the reason speaks of. An address that is counted twice stands in two
+-- links: in two of one node, or in one of each of two nodes.
 use Prim.Native.Nat.{ℕ, zero, suc, _+_, _≤_, _<_}
 use mathlib.Core.Path.{_≡_, refl, sym, _∙_}
 use mathlib.Core.Logic.{_↔_, _≢_, _⊎_, inl, inr, ⊎-elim}
@@ -26,7 +26,7 @@ use Rattle.node.specs.Image.{tableOf}
 use Rattle.node.proofs.Tables.{framed}
 use Rattle.paper.specs.Hearing.{Row, rowWhen}
 use Rattle.paper.specs.Rows.{badLink, holdsBad, rowWhenLowest, row6, timesIn, times, row7}
-use Rattle.paper.specs.Rows.{row8, row16, hidden, row19}
+use Rattle.paper.specs.Rows.{row8, row16, isHidden, row19}
 use Rattle.paper.specs.Calls.{tableIn}
 use Rattle.reasons.specs.Reasons.{_when_}
 use Rattle.reasons.specs.CheckReasons.{Breaks, HoldsBreaking, StandsIn, InTwo, InNone}
@@ -289,8 +289,8 @@ module _ (l : List ℕ) where
       deep (no b) = omega arith
 
   -- a walk of min to max letters leads to a node exactly if it is at such a depth
-  nineteen-to : (x : ℕ) → 0 ≤ x → x < 0 + (head .g + 1) → hidden head table x ≡ true → Hidden l x
-  unfolding tableIn hidden
+  nineteen-to : (x : ℕ) → 0 ≤ x → x < 0 + (head .g + 1) → isHidden head table x ≡ true → Hidden l x
+  unfolding tableIn isHidden
   nineteen-to x low high e =
       let (full, deep) =
       both (ltb 0 (table .value x))
@@ -314,8 +314,8 @@ module _ (l : List ℕ) where
           ∙ f))
 
   nineteen-from : (x : ℕ) → Hidden l x
-      → (0 ≤ x) × (x < 0 + (head .g + 1)) × (hidden head table x ≡ true)
-  unfolding tableIn hidden
+      → (0 ≤ x) × (x < 0 + (head .g + 1)) × (isHidden head table x ≡ true)
+  unfolding tableIn isHidden
   nineteen-from x s = (
     omega arith,
     omega (arith, s .0),
@@ -350,7 +350,7 @@ module _ (l : List ℕ) where
 
   pub nineteen-fits : Fits (row19 head table) (19 when ((x : ℕ) × Hidden l x))
   unfolding row19
-  nineteen-fits = lowest-fits 19 (hidden head table) 0 (head .g + 1) nineteen-to nineteen-from
+  nineteen-fits = lowest-fits 19 (isHidden head table) 0 (head .g + 1) nineteen-to nineteen-from
 
   -- ---- their places
 
@@ -444,4 +444,4 @@ module _ (l : List ℕ) where
   pub nineteen-tells : Tells (RightPlace l) (row19 head table)
   unfolding row19
   nineteen-tells = tell-alike (row19 head table) nineteen-right
-      (lowest-tells 19 (hidden head table) 0 (head .g + 1) nineteen-to nineteen-from)
+      (lowest-tells 19 (isHidden head table) 0 (head .g + 1) nineteen-to nineteen-from)

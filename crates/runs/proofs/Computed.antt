@@ -85,6 +85,6 @@ pub computed : (end ≡ expected)
     ∷ 3 ∷ 0 ∷ [])
     × (map (lastOf (end .plain)) keys ≡ 0 ∷ 6 ∷ 0 ∷ 3 ∷ 0 ∷ [])
     × (plainKeys (end .plain) ≡ (1 ∷ []) ∷ (2 ∷ 0 ∷ []) ∷ [])
-unfolding keysUnder row1 row2 row3 row4 row6 row7 row8 row9 row10 row10text row11 row12 row13 row16 row19
-    row6path freshHead freshImage lastOf ran startOf plainKeys
+unfolding keysUnder row1 row2 row3 row4 row6 row7 row8 row9 row10 row10text row11 row12 row13 row16
+    row19 row6path freshHead freshImage lastOf ran startOf plainKeys
 computed = (refl, refl, refl, refl)

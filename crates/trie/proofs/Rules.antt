@@ -1,5 +1,6 @@
--- A store keeps the rules on links and on data. Every walk that ended at a node still ends there, so older
--- nodes are reached as before. A new node is reached through the node whose empty link it fills.
+-- A store keeps the rules on links and on data. Every walk that ended at a node still ends there,
+-- so older nodes are reached as before. A new node is reached through the node whose empty link it
+-- fills.
 use Prim.Native.Nat.{ℕ, suc, _+_, _≤_}
 use mathlib.Core.List.{List, [], _∷_, _++_, List-discrete}
 use mathlib.Core.Path.{_≡_, _∙_, ap}

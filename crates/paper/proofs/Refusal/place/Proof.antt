@@ -1,5 +1,5 @@
--- `paper::Refusal::place` meets its contract: each refusal has the place that `saidOf` lists for it.
--- Assumes nothing.
+-- `paper::Refusal::place` meets its contract: each refusal has the place that `saidOf` lists for
+-- it. Assumes nothing.
 use mathlib.Core.Path.{_≡_, sym, ap}
 use borrow.Author.Needs.{needs}
 use Rattle.paper.specs.declared.Refusal.{Refusal}
