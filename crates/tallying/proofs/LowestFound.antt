@@ -1,8 +1,8 @@
 -- A search upwards for the lowest number that passes a test. From the number reached the lowest
--- is still the same, since no number passed over passes. At the end, the loop of `all_once`,
--- after which two searches may be left out.
+-- is still the same, since no number passed over passes. At the end, the loop of `all_met`, after
+-- which a search may be left out.
 use mathlib.Core.Path.{_≡_, refl, ap, _∙_}
-use mathlib.Core.Bool.{Bool, true, false, _&&_}
+use mathlib.Core.Bool.{Bool, true, false, not, _&&_}
 use Prim.Native.Nat.{ℕ, zero, suc, _+_, _-_, _≤_, _<_}
 use native.Mathlib.Numerals.{add-one}
 use native.Mathlib.Decide.{ℕ-discrete}
@@ -11,13 +11,14 @@ use mathlib.Core.List.{List}
 use mathlib.Core.Option.{none, some}
 use lib.Dec.{eqb}
 use lib.ListN.{getD}
-use borrow.Author.Tests.{lt-ltb, le-ltb, eqb-true}
+use borrow.Author.Tests.{lt-ltb, le-ltb, eqb-false, not-true}
 use Rattle.trie.specs.Lowest.{lowest}
 use Rattle.field.proofs.Range.{both}
 use Rattle.paper.specs.Answers.{numberAt}
 use Rattle.paper.specs.Rows.{rowWhenLowest}
 use Rattle.paper.proofs.Hearing.{is-given, not-given}
-use Rattle.tallying.specs.Tallied.{AllOnce}
+use Rattle.reaching.specs.Reaching.{Met}
+use Rattle.tallying.specs.Tallied.{AllMet}
 
 -- of the k numbers from a on, those below x are passed over
 pub record Seeking (p : ℕ → Bool) (a k x : ℕ) : Type 0 where
@@ -72,23 +73,25 @@ pub given-nowhere : (number : ℕ) (test : ℕ → Bool) (a k : ℕ) {x : ℕ} �
 unfolding rowWhenLowest
 given-nowhere number test a k e b = rw (← e) (not-given number _ (le-ltb _ _ b))
 
--- the loop of `all_once`: if the answer is true, the working numbers from 1 on, below x, are 1
-pub record Sole (work : List ℕ) (once : Bool) (x : ℕ) : Type 0 where
-  pub told : once ≡ true → AllOnce work x
+-- the loop of `all_met`: if the answer is true, no working number from 1 on, below x, is 0
+pub record MetSoFar (work : List ℕ) (met : Bool) (x : ℕ) : Type 0 where
+  pub told : met ≡ true → AllMet work x
 
-pub sole-none : (work : List ℕ) → Sole work true 1
-sole-none work = record { told = λ e x low high. absurd (omega arith) }
+pub met-none : (work : List ℕ) → MetSoFar work true 1
+met-none work = record { told = λ e x low high. absurd (omega arith) }
 
-module _ {work : List ℕ} {once : Bool} {x : ℕ} (p : Sole work once x) where
-  pub sole-more : Sole work (once && eqb (getD work x 0) 1) (x + 1)
-  sole-more = record { told = λ e y low high. go e y low high (ℕ-discrete y x) }
+module _ {work : List ℕ} {met : Bool} {x : ℕ} (p : MetSoFar work met x) where
+  pub met-more : MetSoFar work (met && not (eqb (getD work x 0) 0)) (x + 1)
+  met-more = record { told = λ e y low high. go e y low high (ℕ-discrete y x) }
     where
-      go : (once && eqb (getD work x 0) 1) ≡ true → (y : ℕ) → 1 ≤ y → y < x + 1 → Dec (y ≡ x)
-          → getD work y 0 ≡ 1
-      go e y low high (yes same) =
-          rw same (eqb-true (getD work x 0) 1 (both once (eqb (getD work x 0) 1) e .1))
-      go e y low high (no other) =
-          p .told (both once (eqb (getD work x 0) 1) e .0) y low (omega arith)
+      here : Bool
+      here = not (eqb (getD work x 0) 0)
 
-  pub sole-all : {nodes : ℕ} → nodes ≤ x → once ≡ true → AllOnce work nodes
-  sole-all high e y low below = p .told e y low (omega arith)
+      go : (met && here) ≡ true → (y : ℕ) → 1 ≤ y → y < x + 1 → Dec (y ≡ x) → Met work y
+      go e y low high (yes same) =
+          rw same
+          (eqb-false (getD work x 0) 0 (not-true (eqb (getD work x 0) 0) (both met here e .1)))
+      go e y low high (no other) = p .told (both met here e .0) y low (omega arith)
+
+  pub met-all : {nodes : ℕ} → nodes ≤ x → met ≡ true → AllMet work nodes
+  met-all high e y low below = p .told e y low (omega arith)
