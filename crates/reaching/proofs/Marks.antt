@@ -10,7 +10,7 @@ use Rattle.trie.specs.Table.{Table}
 use Rattle.trie.specs.Tree.{Parent}
 use Rattle.trie.proofs.Walk.{descend-nil, descend-append}
 use Rattle.trie.proofs.Tree.{link-on}
-use Rattle.reaching.specs.Reaching.{marks, deeperOf, Marked, nextIn}
+use Rattle.reaching.specs.Reaching.{marks, deeperOf, Marked, belowIn}
 
 -- ---- the marks of nodes
 
@@ -37,5 +37,5 @@ pub mark-of : (a m : ℕ) → m < marks → (a * marks + m) % marks ≡ m
 mark-of a m b = omega arith
 
 -- number 0 names no node
-pub next-none : (work : List ℕ) (x : ℕ) → getD work x 0 ≡ 0 → nextIn work x ≡ 0
+pub next-none : (work : List ℕ) (x : ℕ) → getD work x 0 ≡ 0 → belowIn work x ≡ 0
 next-none work x z = omega arith

@@ -18,7 +18,7 @@ use Rattle.trie.proofs.Walk.{Walk, end, on, walk}
 use Rattle.head.specs.declared.Head.{Head}
 use Rattle.node.specs.Image.{tableOf}
 use Rattle.node.proofs.Tables.{framed}
-use Rattle.reaching.specs.Reaching.{RestKept, marks, deeperOf, Marked, markIn, nextIn, Met}
+use Rattle.reaching.specs.Reaching.{RestKept, marks, deeperOf, Marked, markIn, belowIn, Met}
 use Rattle.reaching.specs.Reaching.{Searched, Stack, vacant, LinksMet, Searching}
 use Rattle.reaching.proofs.Marks.{marked-root, marked-on, next-of, mark-of, next-none}
 use Rattle.reaching.proofs.Vacant.{vacant-all, vacant-none, vacant-some, vacant-set}
@@ -57,11 +57,11 @@ stack-set : (work : List ℕ) (top last : ℕ) (p : List ℕ) (c v : ℕ) → ge
 stack-set work top last [] c v z s = s
 stack-set work top last (x ∷ p) c v z (e, low, high, s) =
     let other : x ≢ c =
-    λ w. stack-top work (nextIn work x) last p s (next-none work x (rw w z)) in (
+    λ w. stack-top work (belowIn work x) last p s (next-none work x (rw w z)) in (
       e,
       low,
       high,
-      rw (getD-set-other work c x v 0 other) (stack-set work (nextIn work x) last p c v z s),
+      rw (getD-set-other work c x v 0 other) (stack-set work (belowIn work x) last p c v z s),
     )
 
 -- ---- the search
@@ -216,7 +216,7 @@ searching-new {work = work} s room low high link z e =
 module _ {t : Table} {g n q followed top : ℕ} {work : List ℕ}
     (s : Searching t g n q n followed top work) where
   -- the node at the top of the stack is the next whose links are followed
-  pub searching-pop : top < g + 1 → Searching t g n top 0 (followed + 1) (nextIn work top) work
+  pub searching-pop : top < g + 1 → Searching t g n top 0 (followed + 1) (belowIn work top) work
   searching-pop below = go (s .pending) (s .stack) (s .closed) (s .counted)
     where
       less : (y x : ℕ) (p : List ℕ) → top ≡ y → List·Memᴰ x (y ∷ p) ⊎ LinksMet t n q n work x
@@ -229,23 +229,23 @@ module _ {t : Table} {g n q followed top : ℕ} {work : List ℕ}
       go : (p : List ℕ) → Stack work (g + 1) top p
           → ((x : ℕ) → x ≤ g → Met work x → List·Memᴰ x p ⊎ LinksMet t n q n work x)
           → followed + length p + vacant work (g + 1) ≡ g + 1
-          → Searching t g n top 0 (followed + 1) (nextIn work top) work
+          → Searching t g n top 0 (followed + 1) (belowIn work top) work
       go [] e closed counted = absurd (omega arith)
       go (y ∷ p) (e, low, high, rest) closed counted =
           record {
             pending = p;
             stack = rw e rest;
             root = s .root;
-            here = rw e (λ z. stack-top work (nextIn work y) g p rest (next-none work y z));
+            here = rw e (λ z. stack-top work (belowIn work y) g p rest (next-none work y z));
             marked = s .marked;
             closed = λ x b m. less y x p e (closed x b m);
             counted = omega (arith, counted);
           }
 
   -- the node below it on the stack, or G+1
-  pub searching-below : top < g + 1 → nextIn work top ≤ g + 1
+  pub searching-below : top < g + 1 → belowIn work top ≤ g + 1
   searching-below below =
-      let r = searching-pop below in stack-most work (nextIn work top) g (r .pending) (r .stack)
+      let r = searching-pop below in stack-most work (belowIn work top) g (r .pending) (r .stack)
 
   -- no more nodes have been followed than there are
   pub searching-room : top < g + 1 → followed < g + 1

@@ -12,7 +12,7 @@ use Rattle.head.specs.Fields.{longestImage, nodeWidth}
 use Rattle.head.proofs.Permitted.{bounds}
 use Rattle.head.proofs.Places.{width-least, used}
 use Rattle.node.specs.Image.{Open, tableOf}
-use Rattle.reaching.specs.Reaching.{RestKept, marks, nextIn, Searched, Searching, Spread}
+use Rattle.reaching.specs.Reaching.{RestKept, marks, belowIn, Searched, Searching, Spread}
 use Rattle.reaching.proofs.Kept.{kept-none, kept-more, kept-set}
 use Rattle.reaching.proofs.OnStack.{searching-start, searching-pop, searching-below}
 use Rattle.reaching.proofs.OnStack.{searching-room, searched}
@@ -50,12 +50,12 @@ module _ {h : Head} {l work work′ : List ℕ} {followed top : ℕ}
   pub reaching-room : top < h .g + 1 → followed < h .g + 1
   reaching-room below = searching-room (p .searching) below
 
-  pub reaching-below : top < h .g + 1 → nextIn work′ top ≤ h .g + 1
+  pub reaching-below : top < h .g + 1 → belowIn work′ top ≤ h .g + 1
   reaching-below below = searching-below (p .searching) below
 
   -- after the node at the top of the stack
   pub reaching-more : {top′ : ℕ} {work″ : List ℕ} → top < h .g + 1
-      → Spread h l top (nextIn work′ top) work′ top′ work″
+      → Spread h l top (belowIn work′ top) work′ top′ work″
       → Reaching h l work work″ (followed + 1) top′
   reaching-more below s =
       record {

@@ -82,18 +82,14 @@ pub spread-all : {h : Head} {l : List ℕ} {q top : ℕ} {work : List ℕ} {i to
     → Spread h l q top work top′ work′
 spread-all {h} {l} {q} {top} {work} {i} p high =
     let e : i ≡ h .n = omega (arith, p .within) in
-    record { on = rw e at (p .on); top-most = p .top-most; kept = p .kept }
+    record { on = rw e at (p .on); kept = p .kept }
 
 -- a node without links has no child to meet: the root, which an empty link finds, has been met
 pub spread-childless : (h : Head) (l : List ℕ) (q top : ℕ) (work : List ℕ)
-    → top ≤ h .g + 1 → ((i : ℕ) → tableOf h l .child q i ≡ 0)
+    → ((i : ℕ) → tableOf h l .child q i ≡ 0)
     → Spread h l q top work top work
-spread-childless h l q top work most e =
-    record {
-      on = λ followed s. upto s (h .n);
-      top-most = most;
-      kept = kept-none (h .g) work;
-    }
+spread-childless h l q top work e =
+    record { on = λ followed s. upto s (h .n); kept = kept-none (h .g) work }
   where
     upto : {followed : ℕ} → Searching (tableOf h l) (h .g) (h .n) q 0 followed top work → (i : ℕ)
         → Searching (tableOf h l) (h .g) (h .n) q i followed top work

@@ -37,12 +37,12 @@ pub record Marked (t : Table) (x mark : ℕ) : Type 0 where
   pub leads : descend t 0 key ≡ complete x
   pub told : mark ≡ min deepest (length key + 1)
 
--- the mark in a working number, and the node that it names
+-- the mark in a working number, and the node that it names: the one below on the stack
 abbrev pub markIn : List ℕ → ℕ → ℕ
 markIn work x = getD work x 0 % marks
 
-abbrev pub nextIn : List ℕ → ℕ → ℕ
-nextIn work x = getD work x 0 / marks
+abbrev pub belowIn : List ℕ → ℕ → ℕ
+belowIn work x = getD work x 0 / marks
 
 -- ---- what the search finds
 
@@ -67,7 +67,7 @@ pub record Searched (h : Head) (l work : List ℕ) (met : ℕ) (work′ : List �
 abbrev pub Stack : List ℕ → ℕ → ℕ → List ℕ → Type 0
 Stack work end top [] = top ≡ end
 Stack work end top (x ∷ rest) =
-    (top ≡ x) × (1 ≤ x) × (x < end) × Stack work end (nextIn work x) rest
+    (top ≡ x) × (1 ≤ x) × (x < end) × Stack work end (belowIn work x) rest
 
 -- how many of the first m working numbers are 0
 unfoldable pub vacant : List ℕ → ℕ → ℕ
@@ -96,5 +96,4 @@ pub record Spread (h : Head) (l : List ℕ) (q top : ℕ) (work : List ℕ) (top
     : Type 0 where
   pub on : (followed : ℕ) → Searching (tableOf h l) (h .g) (h .n) q 0 followed top work
       → Searching (tableOf h l) (h .g) (h .n) q (h .n) followed top′ work′
-  pub top-most : top′ ≤ h .g + 1
   pub kept : RestKept (h .g) work work′

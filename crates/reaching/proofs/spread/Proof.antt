@@ -22,8 +22,7 @@ childless-requires : tie.Need-childless-requires Inv-loop μ-loop
 childless-requires c κs = search needs
 
 returns : tie.Need-returns Inv-loop μ-loop
-returns c =
-    spread-childless _ _ _ _ _ (omega arith) (c .before .childless .ensures (c .if1 .taken))
+returns c = spread-childless _ _ _ _ _ (c .before .childless .ensures (c .if1 .taken))
 
 mul-deeper : tie.Need-mul-deeper Inv-loop μ-loop
 mul-deeper c = omega arith
