@@ -148,7 +148,7 @@ static uint32_t open_image(const uint8_t *image, size_t len, struct head *h)
     return 0;
 }
 
-/* ---- 5 to 8, and 16 */
+/* ---- 5 to 8, 16 and 19 */
 
 /* 6 to 8, with working numbers that are 0 at first. Each then counts the links in which its
    address stands. */
@@ -196,7 +196,31 @@ static trieff_answer judge_reach(const uint8_t *image, const struct head *h, uin
     return valued(0);
 }
 
-/* 1 to 8, and 16. It is not inlined, so that what a call takes beyond it can be measured. */
+/* Makes the working number 1 for each node at or under a node whose depth is in min..max. */
+static void mark_allowed(const uint8_t *image, const struct head *h, uint32_t node, size_t depth,
+                         uint32_t *work)
+{
+    if (h->min <= depth)
+        work[node] = 1;
+    for (uint32_t i = 0; depth < h->max && i < h->n; i++) {
+        uint32_t link = link_of(image, h, node, i);
+        if (link != 0)
+            mark_allowed(image, h, link, depth + 1, work);
+    }
+}
+
+/* 19, with working numbers that are 0 at first, for an image that passes 16. The walk from the
+   root ends at max, so that it does not go down more than 64 levels in any image. */
+static trieff_answer judge_depths(const uint8_t *image, const struct head *h, uint32_t *work)
+{
+    mark_allowed(image, h, 0, 0, work);
+    for (uint32_t x = 0; x <= h->g; x++)
+        if (work[x] == 0 && data_of(image, h, x) != 0)
+            return refusal(19, x);
+    return valued(0);
+}
+
+/* 1 to 8, 16 and 19. It is not inlined, so that what a call takes beyond it can be measured. */
 __attribute__((noinline)) static trieff_answer check(
     const uint8_t *image, size_t len, uint32_t *work, size_t work_len, struct head *h)
 {
@@ -211,6 +235,10 @@ __attribute__((noinline)) static trieff_answer check(
     memset(work, 0, nodes * sizeof *work);
     if (answer.number == 0) {
         answer = judge_reach(image, h, work);
+        memset(work, 0, nodes * sizeof *work);
+    }
+    if (answer.number == 0) {
+        answer = judge_depths(image, h, work);
         memset(work, 0, nodes * sizeof *work);
     }
     return answer;
@@ -617,8 +645,8 @@ trieff_answer naive_counts(const uint8_t *image, size_t image_len, uint32_t *wor
     return valued(0);
 }
 
-/* 1 to 8, where 5 is for the counts too, 16 and 25. The fresh counts are in the working numbers
-   while they are compared. */
+/* 1 to 8, where 5 is for the counts too, 16, 19 and 25. The fresh counts are in the working
+   numbers while they are compared. */
 __attribute__((noinline)) static trieff_answer compare(
     const uint8_t *image, size_t len, uint32_t *work, size_t work_len, const uint32_t *counts,
     size_t counts_len, struct head *h)
