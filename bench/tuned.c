@@ -1,7 +1,7 @@
 /* The calls in C, tuned by hand for speed: masked loads of four bytes, 32 bytes of empty links at
    a time, one pass for the check. Where every child's address is above its node's, as our own
-   stores leave it, no node needs to be searched for from the root. No vector instruction is
-   written by hand. */
+   stores leave it, no node needs to be searched for from the root, and the pass knows each node's
+   depth before it comes to the node. No vector instruction is written by hand. */
 #include "calls.h"
 #include <string.h>
 #include <unistd.h>
@@ -227,46 +227,127 @@ static uint32_t open_image(const uint8_t *image, size_t len, struct opened *o, s
     return len < 28 + o->f + ((size_t)o->g + 1) * o->width ? 4 : 0;
 }
 
-/* ---- 5 to 8, and 16 */
+/* ---- 5 to 8, 16 and 19 */
 
-/* The results of one pass over all links. Once x has been met in a link, working number x holds
-   the node of that link, plus 1. */
-struct pass {
-    uint32_t bad;   /* the lowest node that holds a link above G; above G if there is none */
-    uint32_t links; /* the number of links that are not empty */
-    uint32_t twice; /* not 0 if an address was met again */
-    uint32_t falls; /* 1 if a link is not above its node */
+/* Once x has been met in a link, working number x holds the node of that link, plus 1, in its low
+   24 bits, and the depth of x, plus 1, in the bits above them. These are 0 while the depth is not
+   known. Once it is known, the low bits no longer matter. Depths above 64 are all written as 65,
+   since no max allows them. */
+#define DEPTH_SHIFT 24
+#define DEPTH_ONE (1u << DEPTH_SHIFT)
+#define DEPTH_TOP ((KEY_MOST + 2u) << DEPTH_SHIFT)
+_Static_assert(IMAGE_MOST / 2 < DEPTH_ONE, "a node, plus 1, takes 24 bits");
+
+/* The depths in min..max, as they are in working numbers: the first, and how many. */
+struct depths {
+    uint32_t first, many;
 };
 
-/* One test finds both a link above G and one that is not above its node. */
-__attribute__((always_inline)) static inline struct pass pass_links(
-    const struct opened *o, uint32_t *work, bool usual_len)
+static inline struct depths depths_of(const struct opened *o)
 {
-    struct pass p = {.bad = o->g + 1};
-    const uint8_t *node = o->nodes;
+    return (struct depths){.first = (o->min + 1) << DEPTH_SHIFT,
+                           .many = (o->max - o->min + 1) << DEPTH_SHIFT};
+}
+
+/* Is the depth of a working number outside min..max? It must be known. */
+static inline bool outside(struct depths open, uint32_t number)
+{
+    return number - open.first >= open.many;
+}
+
+/* The working number of a node's child, from the node's own one. The depth must be known. */
+static inline uint32_t one_deeper(uint32_t number)
+{
+    return number < DEPTH_TOP ? number + DEPTH_ONE : number;
+}
+
+/* The lowest child of a node that has data, if it is below `most`; else `most`. */
+__attribute__((noinline)) static uint32_t child_with_data(const struct opened *o,
+                                                          const uint8_t *node, uint32_t most)
+{
+    const uint8_t *end = node + o->a, *last = end + o->links_len;
+    for (; end != last; end += o->a) {
+        uint32_t link = field(end, o->link_mask);
+        if (link != 0 && link < most && data_of(o, node_at(o, link)) != 0)
+            most = link;
+    }
+    return most;
+}
+
+/* The results of one pass over all links. */
+struct pass {
+    uint32_t bad;    /* the lowest node that holds a link above G; above G if there is none */
+    uint32_t links;  /* the number of links that are not empty */
+    uint32_t twice;  /* not 0 if an address was met again */
+    uint32_t falls;  /* 1 if a link is not above its node */
+    uint32_t hidden; /* the lowest node whose depth was known and whose data is hidden; above G if
+                        there is none */
+    uint32_t keys;   /* the number of nodes with data, if they are counted */
+};
+
+/* Moves on from node q to the first node with links, past the leaves. The number of nodes on the
+   way that have data is added to `*keys`, that node's own included. */
+__attribute__((always_inline)) static inline uint32_t next_parent(
+    const struct opened *o, uint32_t q, bool usual_len, bool counting, uint32_t *keys)
+{
     size_t width = o->width, len = o->links_len;
-    uint32_t g = o->g, a = o->a, n = o->n, mask = o->link_mask;
-    for (uint32_t q = 0; q <= g; q++, node += width) {
-        if (usual_len ? leaf_of_64(node, len) : childless(o, node))
-            continue;
-        const uint8_t *end = node + a;
-        for (uint32_t i = 0; i < n; i++, end += a) {
+    const uint8_t *node = node_at(o, q);
+    uint32_t g = o->g, mask = __builtin_bswap32(o->data_mask), met = 0, data;
+    for (; q <= g; q++, node += width) {
+        if (counting) {
+            memcpy(&data, node + width - 4, 4);
+            met += (data & mask) != 0;
+        }
+        if (usual_len ? !leaf_of_64(node, len) : !childless(o, node))
+            break;
+    }
+    *keys += met;
+    return q;
+}
+
+/* One test finds both a link above G and one that is not above its node. All children of a node
+   have one depth, and their data is read only if that depth is known and outside min..max. Where
+   no link falls and every address stands in a link, each depth is known in time. */
+__attribute__((always_inline)) static inline struct pass pass_links(
+    const struct opened *o, uint32_t *work, bool usual_len, bool counting)
+{
+    struct pass p = {.bad = o->g + 1, .hidden = o->g + 1};
+    uint32_t g = o->g, mask = o->link_mask, q = 0;
+    size_t a = o->a, len = o->links_len;
+    work[0] = DEPTH_ONE;
+    if (o->min > 0 && data_of(o, o->nodes) != 0)
+        p.hidden = 0;
+    while ((q = next_parent(o, q, usual_len, counting, &p.keys)) <= g) {
+        uint32_t own = work[q], mark = own < DEPTH_ONE ? q + 1 : one_deeper(own);
+        const uint8_t *node = node_at(o, q), *end = node + a, *last = end + len;
+        uint32_t rest = g - q++;
+        for (; end != last; end += a) {
             uint32_t link = field(end, mask);
             if (link == 0)
                 continue;
-            if (link - q - 1 >= g - q) {
+            if (link - q >= rest) {
                 if (link > g) {
-                    p.bad = q;
+                    p.bad = q - 1;
                     return p;
                 }
                 p.falls = 1;
             }
             p.twice |= work[link];
-            work[link] = q + 1;
+            work[link] = mark;
             p.links++;
         }
+        if (mark >= DEPTH_ONE && outside(depths_of(o), mark))
+            p.hidden = child_with_data(o, node, p.hidden);
     }
     return p;
+}
+
+/* The pass that an image and a call need, each compiled by itself. */
+static struct pass pass_for(const struct opened *o, uint32_t *work, bool counting)
+{
+    if (usual(o))
+        return counting ? pass_links(o, work, true, true) : pass_links(o, work, true, false);
+    return counting ? pass_links(o, work, false, true) : pass_links(o, work, false, false);
 }
 
 /* 7, for an image that has one and no link above G. Counts the links in which each address
@@ -293,39 +374,63 @@ static trieff_answer not_linked(const uint32_t *work)
     return refusal(8, x);
 }
 
-#define CLIMBED 0x80000000u
-
-/* 16, or done, for an image that passes 6 to 8. Climbs from each address x, by the nodes in the
-   working numbers, to a node that is reached: one below x, or one that an earlier climb came
-   through. A climb leaves x, marked, in the working numbers on its way. If it comes to its own
-   mark, it ends in a ring, and no address below x does so. Each node is passed once. */
-static trieff_answer climb(uint32_t g, uint32_t *work)
+/* Climbs from a node, by the nodes in the working numbers, to one whose depth is known. A second
+   climb leaves the depths of the nodes on the way, and finds hidden data below `*hidden`. False if
+   the first one is in a ring: it takes more than G steps. */
+static bool climb(const struct opened *o, uint32_t *work, uint32_t from, uint32_t *hidden)
 {
-    for (uint32_t x = 1; x <= g; x++) {
-        uint32_t y = x, above = work[y];
-        while (above > x) {
-            if (above >= CLIMBED) {
-                if (above == (CLIMBED | x))
-                    return refusal(16, x);
-                break;
-            }
-            work[y] = CLIMBED | x;
-            y = above - 1;
-            above = work[y];
-        }
+    struct depths open = depths_of(o);
+    uint32_t y = from, steps = 0, g = o->g;
+    for (; work[y] < DEPTH_ONE; steps++) {
+        if (steps > g)
+            return false;
+        y = work[y] - 1;
     }
-    return (trieff_answer){.number = 0};
+    uint32_t depth = (work[y] >> DEPTH_SHIFT) + steps;
+    for (y = from; steps > 0; steps--, depth--) {
+        uint32_t above = work[y] - 1;
+        work[y] = depth < DEPTH_TOP >> DEPTH_SHIFT ? depth << DEPTH_SHIFT : DEPTH_TOP;
+        if (outside(open, work[y]) && y < *hidden && data_of(o, node_at(o, y)) != 0)
+            *hidden = y;
+        y = above;
+    }
+    return true;
 }
 
-/* 5 to 8, and 16. `*p` is what the pass found, unless 5 is given. */
-static inline trieff_answer judge_links(const struct opened *o, uint32_t *work, size_t work_len,
-                                        struct pass *p)
+/* 16, 19 or done, for an image that passes 6 to 8 and has a link that falls. `hidden` is that of
+   the pass. A node whose depth the pass did not know has it from the node above. That one may need
+   a climb. The first climb that is in a ring comes from the lowest node that is not reached. Each
+   node is passed at most three times. */
+static trieff_answer judge_reach(const struct opened *o, uint32_t *work, uint32_t hidden)
+{
+    struct depths open = depths_of(o);
+    uint32_t g = o->g;
+    for (uint32_t x = 1; x <= g; x++) {
+        uint32_t parent = work[x] - 1;
+        if (parent >= DEPTH_ONE - 1)
+            continue;
+        if (work[parent] < DEPTH_ONE && !climb(o, work, parent, &hidden))
+            return refusal(16, x);
+        uint32_t own = work[parent] + DEPTH_ONE;
+        if (outside(open, own)) {
+            own = one_deeper(work[parent]);
+            if (x < hidden && data_of(o, node_at(o, x)) != 0)
+                hidden = x;
+        }
+        work[x] = own;
+    }
+    return hidden <= g ? refusal(19, hidden) : (trieff_answer){.number = 0};
+}
+
+/* 5 to 8, 16 and 19. `*p` is what the pass found, unless 5 is given. */
+static trieff_answer judge_links(const struct opened *o, uint32_t *work, size_t work_len,
+                                 bool counting, struct pass *p)
 {
     size_t nodes = (size_t)o->g + 1;
     if (work_len < nodes)
         return refusal(5, 0);
     memset(work, 0, nodes * sizeof *work);
-    *p = usual(o) ? pass_links(o, work, true) : pass_links(o, work, false);
+    *p = pass_for(o, work, counting);
     trieff_answer answer = {.number = 0};
     if (p->bad <= o->g)
         answer = refusal(6, p->bad);
@@ -334,19 +439,21 @@ static inline trieff_answer judge_links(const struct opened *o, uint32_t *work, 
     else if (p->links != o->g)
         answer = not_linked(work);
     else if (p->falls != 0)
-        answer = climb(o->g, work);
+        answer = judge_reach(o, work, p->hidden);
+    else if (p->hidden <= o->g)
+        answer = refusal(19, p->hidden);
     memset(work, 0, nodes * sizeof *work);
     return answer;
 }
 
-/* 1 to 8, and 16. It is not inlined, so that what a call takes beyond it can be measured. */
+/* 1 to 8, 16 and 19. It is not inlined, so that what a call takes beyond it can be measured. */
 __attribute__((noinline)) static trieff_answer check(
     const uint8_t *image, size_t len, uint32_t *work, size_t work_len, struct opened *o,
     struct alphabet *al)
 {
     struct pass p;
     uint32_t number = open_image(image, len, o, al);
-    return number != 0 ? refusal(number, 0) : judge_links(o, work, work_len, &p);
+    return number != 0 ? refusal(number, 0) : judge_links(o, work, work_len, false, &p);
 }
 
 trieff_answer tuned_check(const uint8_t *image, size_t image_len, uint32_t *work, size_t work_len)
@@ -612,8 +719,9 @@ static uint32_t links_from(const struct opened *o, uint32_t q)
 }
 
 /* If 8 at p is given, each address from 1 to p - 1 stands in exactly one link. Where all links
-   rise, it is a link of a node below p. Then the image is accepted with p nodes exactly if these
-   hold p - 1 links, and no second pass over them is needed. */
+   rise, it is a link of a node below p, so the pass knew their depths. Then the image is accepted
+   with p nodes exactly if these hold p - 1 links and no hidden data, and no second pass over them
+   is needed. */
 trieff_answer tuned_mend(uint8_t *image, size_t image_len, uint32_t *work, size_t work_len)
 {
     struct opened o;
@@ -622,12 +730,13 @@ trieff_answer tuned_mend(uint8_t *image, size_t image_len, uint32_t *work, size_
     uint32_t number = open_image(image, image_len, &o, &al);
     if (number != 0)
         return refusal(number, 0);
-    trieff_answer answer = judge_links(&o, work, work_len, &p);
+    trieff_answer answer = judge_links(&o, work, work_len, false, &p);
     if (answer.number != 8)
         return answer;
     uint32_t links_below = p.links - links_from(&o, answer.place);
     o.g = answer.place - 1;
-    if (p.falls == 0 ? links_below != o.g : judge_links(&o, work, work_len, &trial).number != 0)
+    if (p.falls == 0 ? links_below != o.g || p.hidden <= o.g
+                     : judge_links(&o, work, work_len, false, &trial).number != 0)
         return answer;
     put_field(image + 4, 0xFFFFFFFF, o.g);
     return (trieff_answer){.number = 0};
@@ -673,7 +782,7 @@ static uint32_t move_on(const struct opened *o, struct path *p, uint32_t letter)
         p->letters[depth++] = (uint8_t)letter;
         p->nodes[depth] = node;
         letter = 0;
-        if (depth < o->min || data_of(o, node) == 0)
+        if (data_of(o, node) == 0)
             continue;
         p->depth = depth;
         return data_of(o, node);
@@ -693,7 +802,7 @@ static uint32_t seek(const struct opened *o, const uint8_t *letters, size_t len,
         p->letters[p->depth] = letter;
         p->nodes[p->depth + 1] = node_at(o, link);
     }
-    uint32_t own = after || len < o->min ? 0 : data_of(o, p->nodes[len]);
+    uint32_t own = after ? 0 : data_of(o, p->nodes[len]);
     return own != 0 ? own : move_on(o, p, 0);
 }
 
@@ -733,12 +842,13 @@ static inline bool leaf(const struct opened *o, const uint8_t *node)
 
 /* A walk from the root that judges the links on its way and leaves each node's count, plus 1, in
    its working number. So 0 means that a node was not met. It goes by links alone, so children may
-   have lower addresses. */
+   have lower addresses. The number of keys does not need it. */
 struct tally {
     const struct opened *o;
     uint32_t *work;
     uint32_t met;  /* the number of nodes that were met, without the root */
-    uint32_t odd;  /* not 0: a link above G, an address met again, or nodes deeper than max */
+    uint32_t odd;  /* not 0: a link above G, an address met again, data at a depth below min, or
+                      nodes deeper than max */
     uint32_t deep; /* 1 if nodes deeper than max are odd */
 };
 
@@ -754,7 +864,9 @@ __attribute__((always_inline)) static inline uint32_t tally_in(
     const struct opened *o = t->o;
     size_t a = o->a, width = o->width, len = o->links_len;
     uint32_t *work = t->work, mask = o->link_mask, g = o->g, odd = 0, keys = own, met = 0;
-    uint32_t data_mask = o->min <= ++depth ? __builtin_bswap32(o->data_mask) : 0;
+    uint32_t data_mask = __builtin_bswap32(o->data_mask);
+    if (++depth < o->min)
+        odd = child_with_data(o, node_at(o, q), g + 1) <= g;
     const uint8_t *nodes = o->nodes, *end = node_at(o, q) + a, *last = end + len;
     for (; end != last; end += a) {
         uint32_t link = field(end, mask);
@@ -799,7 +911,8 @@ static uint32_t tally_other(struct tally *t, uint32_t q, uint32_t depth, uint32_
 static struct tally tally(const struct opened *o, uint32_t *work, uint32_t deep)
 {
     struct tally t = {.o = o, .work = work, .deep = deep};
-    uint32_t own = o->min == 0 && data_of(o, o->nodes) != 0;
+    uint32_t own = data_of(o, o->nodes) != 0;
+    t.odd = o->min > 0 ? own : 0;
     work[0] = own + 1;
     if (o->max > 0)
         (usual(o) ? tally_usual : tally_other)(&t, 0, 0, own);
@@ -808,10 +921,9 @@ static struct tally tally(const struct opened *o, uint32_t *work, uint32_t deep)
     return t;
 }
 
-/* 5 to 8, and 16. When it is done, the answer's value is the number of stored keys, and every
-   working number is a count plus 1. If the walk meets every node and nothing odd, the image is
-   accepted. Otherwise the check decides. An image that it then accepts has nodes deeper than max,
-   whose counts are 0. */
+/* 5 to 8, 16 and 19. When it is done, every working number is a count plus 1. If the walk meets
+   every node and nothing odd, the image is accepted. Otherwise the check decides. An image that it
+   then accepts has nodes deeper than max, whose counts are 0. */
 static trieff_answer judge_by_walk(const struct opened *o, uint32_t *work, size_t work_len)
 {
     size_t nodes = (size_t)o->g + 1;
@@ -821,22 +933,24 @@ static trieff_answer judge_by_walk(const struct opened *o, uint32_t *work, size_
     struct tally t = tally(o, work, 1);
     if (t.odd != 0 || t.met != o->g) {
         struct pass p;
-        trieff_answer answer = judge_links(o, work, work_len, &p);
+        trieff_answer answer = judge_links(o, work, work_len, false, &p);
         if (answer.number != 0)
             return answer;
         tally(o, work, 0);
         for (size_t x = 0; x < nodes; x++)
             work[x] += work[x] == 0;
     }
-    return (trieff_answer){.value = work[0] - 1};
+    return (trieff_answer){.number = 0};
 }
 
-/* The same, and then the working numbers become 0. */
+/* 5 to 8, 16 and 19. When it is done, the answer's value is the number of stored keys: an accepted
+   image has no other data. */
 static trieff_answer keys_of(const struct opened *o, uint32_t *work, size_t work_len)
 {
-    trieff_answer answer = judge_by_walk(o, work, work_len);
+    struct pass p;
+    trieff_answer answer = judge_links(o, work, work_len, true, &p);
     if (answer.number == 0)
-        memset(work, 0, ((size_t)o->g + 1) * sizeof *work);
+        answer.value = p.keys;
     return answer;
 }
 
@@ -848,17 +962,15 @@ trieff_answer tuned_count(const uint8_t *image, size_t image_len, uint32_t *work
     return number != 0 ? refusal(number, 0) : keys_of(&o, work, work_len);
 }
 
-/* 1 to 8, where 5 is for the counts too, and 16. When it is done, every working number is a count
-   plus 1. */
+/* 1 to 8, where 5 is for the counts too, 16 and 19. When it is done, every working number is a
+   count plus 1. */
 static trieff_answer fresh(const uint8_t *image, size_t len, uint32_t *work, size_t work_len,
                            size_t counts_len, struct opened *o, struct alphabet *al)
 {
     uint32_t number = open_image(image, len, o, al);
     if (number != 0)
         return refusal(number, 0);
-    trieff_answer answer = judge_by_walk(o, work, work_len < counts_len ? work_len : counts_len);
-    answer.value = 0;
-    return answer;
+    return judge_by_walk(o, work, work_len < counts_len ? work_len : counts_len);
 }
 
 #define BLOCK 32
@@ -909,7 +1021,8 @@ trieff_answer tuned_counts(const uint8_t *image, size_t image_len, uint32_t *wor
     return answer;
 }
 
-/* 1 to 8, 16 and 25. It is not inlined, so that what a call takes beyond it can be measured. */
+/* 1 to 8, 16, 19 and 25. It is not inlined, so that what a call takes beyond it can be
+   measured. */
 __attribute__((noinline)) static trieff_answer compare(
     const uint8_t *image, size_t len, uint32_t *work, size_t work_len, const uint32_t *counts,
     size_t counts_len, struct opened *o, struct alphabet *al)
@@ -1001,7 +1114,7 @@ trieff_answer tuned_key_at(const uint8_t *image, size_t image_len, uint32_t *wor
     const uint8_t *node = o.nodes;
     uint32_t left = (uint32_t)position, a = o.a, mask = o.link_mask;
     for (uint32_t depth = 0;; depth++) {
-        uint32_t value = depth < o.min ? 0 : data_of(&o, node);
+        uint32_t value = data_of(&o, node);
         if (value != 0 && left == 0)
             return (trieff_answer){.length = depth, .value = value};
         left -= value != 0;
@@ -1027,8 +1140,7 @@ static inline trieff_answer position_of(const struct opened *o, const uint32_t *
     const uint8_t *node = o->nodes;
     uint32_t position = 0, a = o->a, mask = o->link_mask;
     for (size_t depth = 0; depth < len; depth++) {
-        if (depth >= o->min)
-            position += data_of(o, node) != 0;
+        position += data_of(o, node) != 0;
         const uint8_t *end = node + a, *own = end + (size_t)letters[depth] * a;
         for (; end != own; end += a)
             position += count_at(counts, field(end, mask));
@@ -1085,7 +1197,7 @@ static void walk_below(const struct opened *o, const uint8_t *node, size_t depth
         const uint8_t *child = node_at(o, link);
         letters[depth] = (uint8_t)i;
         uint32_t value = data_of(o, child);
-        if (value != 0 && depth + 1 >= o->min)
+        if (value != 0)
             sink(context, letters, depth + 1, value);
         if (depth + 1 < o->max && !childless(o, child))
             walk_below(o, child, depth + 1, letters, sink, context);
@@ -1191,7 +1303,7 @@ void tuned_list(const uint8_t *image, size_t image_len, uint32_t *work, size_t w
         to = add_number(add_text(to, " at "), answer.place);
     *to++ = '\n';
     out.len = (size_t)(to - out.text);
-    if (answer.number == 0 && o.min == 0 && data_of(&o, o.nodes) != 0)
+    if (answer.number == 0 && data_of(&o, o.nodes) != 0)
         add_line(&out, letters, 0, data_of(&o, o.nodes));
     if (answer.number == 0 && o.max > 0)
         walk_below(&o, o.nodes, 0, letters, add_line, &out);
