@@ -1,8 +1,8 @@
 #!/usr/bin/env python3
-"""Writes the images of bench/run in which links do not rise, into the folder that already has
-those of samples/make.py.
+"""Writes the images of bench/run that are not made by stores alone, into the folder that already
+has those of samples/make.py: links that do not rise, other bounds in the head, images refused.
 
-falling.py FOLDER
+images.py FOLDER
 """
 import os
 import random
@@ -31,17 +31,29 @@ def renumbered(image, seed):
     return image[:first] + body + image[first + len(body):]
 
 
+def bounded(image, least, most):
+    """The image with other bounds for the lengths of its keys."""
+    return image[:20] + struct.pack(">2I", least, most) + image[28:]
+
+
 def chain(room):
     """A chain of as many nodes as there is room for, N = 1, A = 3, D = 1. The root links to G, and
-    every other node to the one before it. Each has the value 1."""
-    g = (room - 28) // 4 - 1
-    body = b"".join((link << 8 | 1).to_bytes(4, "big") for link in [g, *range(g)])
-    return struct.pack(">7I", g, 1, 3, 1, 0, 0, 64) + body
+    every other node to the one before it. Each has the value 1, down to the depth max."""
+    g, most = (room - 28) // 4 - 1, 64
+    body = b"".join((link << 8 | (node == 0 or node > g - most)).to_bytes(4, "big")
+                    for node, link in enumerate([g, *range(g)]))
+    return struct.pack(">7I", g, 1, 3, 1, 0, 0, most) + body
 
 
 def ring():
     """Two nodes that link to each other, and no link from the root."""
     return struct.pack(">7I", 2, 3, 1, 1, 0, 0, 3) + bytes.fromhex("000000000200000001000000")
+
+
+def hidden():
+    """A chain from the root to 3, 2 and 1, with data in these. Only the depth of 2 is in min..max,
+    so the lowest node with hidden data is the deepest."""
+    return struct.pack(">7I", 3, 1, 1, 1, 0, 2, 2) + bytes.fromhex("0300000701070207")
 
 
 def read(name):
@@ -51,6 +63,7 @@ def read(name):
 
 for name, image in (("renumbered-16MiB", renumbered(read("full-16MiB"), 3)),
                     ("renumbered-65536", renumbered(read("listing-65536"), 3)),
-                    ("chain-falling", chain(16777216)), ("ring", ring())):
+                    ("nines-16MiB", bounded(read("full-16MiB"), 9, 9)),
+                    ("chain-falling", chain(16777216)), ("ring", ring()), ("hidden", hidden())):
     with open(os.path.join(folder, name + ".trieff"), "wb") as file:
         file.write(image)
