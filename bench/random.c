@@ -1,8 +1,10 @@
 /* Compares the three versions on random small images and calls. The images are whole or damaged,
-   with addresses that rise from node to child or not, the arguments are near the limits of 9 to
-   15, and the lists of counts are right, wrong or too short. The answers of naive C to the calls
-   with counts are compared with its other calls too. The run fails unless each number from 0 to 16
-   and 25 is answered, every call is done at least once, and each case of `struct heard` is met.
+   with addresses that rise from node to child or not, some with data at depths outside min..max.
+   The arguments are near the limits of 9 to 15, and the lists of counts are right, wrong or too
+   short. The answers of naive C to the calls with counts are compared with its other calls too,
+   and its 19 with a climb from every node. The run fails unless each number from 0 to 16, 19 and
+   25 is answered, 19 at PLACES_LEAST places or more, every call is done at least once and every
+   call that checks answers 19, and each case of `struct heard` is met.
    Usage: random SEED IMAGES */
 #include "calls.h"
 #include <stdio.h>
@@ -14,6 +16,7 @@
 #define CALLS_MOST 32
 #define NUMBERS 26
 #define NODES_MOST 600
+#define PLACES_LEAST 10
 
 static uint64_t state;
 
@@ -36,8 +39,9 @@ static bool one_in(uint32_t many)
 struct small {
     uint32_t g, n, a, d, f, min, max;
     size_t len;
+    bool hides;    /* data was put at a depth outside min..max */
     bool accepted; /* the check answers 0 */
-    bool falls;    /* the check answers 0 or 8, and a link is not above its node */
+    bool falls;    /* the check answers 0, 8 or 19, and a link is not above its node */
     uint8_t bytes[ROOM];
 };
 
@@ -143,6 +147,48 @@ static void renumber(struct small *s)
     }
 }
 
+/* Gives a node data that is not 0, at times in one of its bytes alone. */
+static void put_any_data(struct small *s, uint32_t node)
+{
+    uint8_t *data = link_at(s, node, s->n);
+    put_field(data, s->d, one_in(4) ? 1u << 8 * any_below(s->d) : any_below(0xFFFFFFFF));
+    if (get_field(data, s->d) == 0)
+        put_field(data, s->d, 1);
+}
+
+/* Puts data into one to three nodes at depths outside min..max, if there are any: the root, or
+   some that are found by trying. */
+static void hide(struct small *s, const uint32_t *depths)
+{
+    for (uint32_t many = 1 + any_below(3); many > 0; many--)
+        for (int tries = 0; tries < 20; tries++) {
+            uint32_t node = one_in(10) ? 0 : any_below(s->g + 1);
+            if (s->min <= depths[node] && depths[node] <= s->max)
+                continue;
+            put_any_data(s, node);
+            s->hides = true;
+            break;
+        }
+}
+
+/* Gives data to two of three nodes at depths in min..max, and in one of five images to other nodes
+   too. The links rise. */
+static void add_data(struct small *s)
+{
+    uint32_t depths[NODES_MOST] = {0};
+    for (uint32_t q = 0; q <= s->g; q++) {
+        for (uint32_t i = 0; i < s->n; i++) {
+            uint32_t link = get_field(link_at(s, q, i), s->a);
+            if (link != 0)
+                depths[link] = depths[q] + 1;
+        }
+        if (s->min <= depths[q] && depths[q] <= s->max && !one_in(3))
+            put_any_data(s, q);
+    }
+    if (one_in(5))
+        hide(s, depths);
+}
+
 /* A whole image of some nodes, with rubbish in its spare bytes. Now and then A is 1 and nearly all
    addresses are in use. Half of the images are renumbered. */
 static void make_whole(struct small *s)
@@ -165,9 +211,7 @@ static void make_whole(struct small *s)
             break;
         s->g = c;
     }
-    for (uint32_t q = 0; q <= s->g; q++)
-        if (!one_in(3))
-            put_field(node_of(s, q) + s->n * s->a, s->d, any_below(0xFFFFFFFF));
+    add_data(s);
     if (one_in(2))
         renumber(s);
     write_head(s);
@@ -222,13 +266,24 @@ static void entangle(struct small *s)
     put_field(other, s->a, to);
 }
 
+/* Raises min or lowers max by 1, if they differ. Data may be hidden then. */
+static void narrow(struct small *s)
+{
+    if (s->min == s->max)
+        return;
+    if (one_in(2))
+        put_field(s->bytes + 20, 4, s->min + 1);
+    else
+        put_field(s->bytes + 24, 4, s->max - 1);
+}
+
 /* Does one harm: to a head field, a link, two links, any byte, G or the length; or a link is
-   missing, or there is a ring. */
+   missing, there is a ring, or min..max is narrower. */
 static void harm(struct small *s)
 {
     static const uint32_t ODD[] = {0, 1, 2, 4, 5, 64, 65, 256, 257, 1024, 1025, 0xFFFFFFFF};
     static const uint32_t GREAT[] = {0xFFFFFFFF, 0x7FFFFFFF, 0x3FFFFFFF, 0x00FFFFFF};
-    switch (any_below(14)) {
+    switch (any_below(18)) {
     case 0:
         put_field(s->bytes + 4 * any_below(7), 4, ODD[any_below(sizeof ODD / sizeof *ODD)]);
         break;
@@ -256,6 +311,15 @@ static void harm(struct small *s)
         break;
     case 11:
         make_ring(s);
+        lose_link(s);
+        break;
+    case 12:
+        narrow(s);
+        break;
+    case 13:
+    case 14:
+    case 15:
+        narrow(s);
         lose_link(s);
         break;
     default:
@@ -297,13 +361,54 @@ static bool on_ring(const uint8_t *image, uint32_t node)
     return false;
 }
 
-/* Notes what the check says of an image. */
-static void judge(struct small *s)
+/* The nodes with data at a depth outside min..max, in an image that passes 1 to 8 and 16. */
+struct hidden {
+    uint32_t below, above; /* how many are at a depth below min, and how many above max */
+    uint32_t lowest;       /* the lowest address among them .. */
+    uint32_t depth;        /* .. and its depth */
+    uint32_t least;        /* the least depth among them */
+};
+
+/* Finds them by a climb from each node that has data to the root. */
+static struct hidden hidden_in(const uint8_t *image)
+{
+    uint32_t parents[NODES_MOST], g = get_field(image, 4), d = get_field(image + 12, 4);
+    uint32_t width = get_field(image + 4, 4) * get_field(image + 8, 4) + d;
+    uint32_t min = get_field(image + 20, 4), max = get_field(image + 24, 4);
+    const uint8_t *data = image + 28 + get_field(image + 16, 4) + width - d;
+    struct hidden h = {.lowest = NODES_MOST, .least = NODES_MOST};
+    parents_of(image, parents);
+    for (uint32_t x = 0; x <= g; x++, data += width) {
+        uint32_t depth = 0;
+        for (uint32_t at = x; at != 0; at = parents[at])
+            depth++;
+        if (get_field(data, d) == 0 || (min <= depth && depth <= max))
+            continue;
+        h.below += depth < min;
+        h.above += depth > max;
+        h.depth = h.lowest == NODES_MOST ? depth : h.depth;
+        h.lowest = h.lowest == NODES_MOST ? x : h.lowest;
+        h.least = depth < h.least ? depth : h.least;
+    }
+    return h;
+}
+
+/* Notes what the check says of an image. False if it is not right in 19. */
+static bool judge(struct small *s)
 {
     static uint32_t work[NODES_MOST], parents[NODES_MOST];
-    uint32_t number = naive_check(s->bytes, s->len, work, NODES_MOST).number;
+    trieff_answer answer = naive_check(s->bytes, s->len, work, NODES_MOST);
+    uint32_t number = answer.number;
     s->accepted = number == 0;
-    s->falls = (number == 0 || number == 8) && parents_of(s->bytes, parents);
+    s->falls = (number == 0 || number == 8 || number == 19) && parents_of(s->bytes, parents);
+    if (number != 0 && number != 19)
+        return true;
+    uint32_t lowest = hidden_in(s->bytes).lowest;
+    if (number == 0 ? lowest == NODES_MOST : lowest == answer.place)
+        return true;
+    fprintf(stderr, "check: naive C answers %u at %u, and a climb finds hidden data at %u\n",
+            number, answer.place, lowest);
+    return false;
 }
 
 /* ---- calls */
@@ -498,31 +603,81 @@ enum {
     LEFT_RISES,   /* mending leaves an image at 8 that does not fall .. */
     LEFT_FALLS,   /* .. or that falls */
     LEFT_RING,    /* .. since with G lowered the check answers 16 */
+    HIDES_RISES,  /* .. or 19, in an image that does not fall .. */
+    HIDES_FALLS,  /* .. or that falls */
     NO_COUNTS,    /* a store finds its list of counts too short for its new nodes */
     DONE_FALLS,   /* a call is done on an accepted image that falls .. */
     NODES_FALL,   /* .. and writes new nodes there */
     ON_RING,      /* 16 at a node that is on a ring */
     UNDER_RING,   /* 16 at a node that is under a ring */
+    BESIDE_6,     /* 6 where data was put at a depth outside min..max .. */
+    BESIDE_7,     /* .. and 7 .. */
+    BESIDE_8,     /* .. and 8 .. */
+    BESIDE_16,    /* .. and 16 */
+    ROOT_HIDES,   /* 19 at the root */
+    BELOW_MIN,    /* 19 at another node whose depth is below min */
+    ABOVE_MAX,    /* 19 at a node whose depth is above max .. */
+    ABOVE_64,     /* .. and above 64 */
+    BOTH_HIDE,    /* 19 where data is below min and above max */
+    DEEPER_FIRST, /* 19 at a node that is not the least deep of those with hidden data */
+    HIDDEN_RISES, /* 19 in an image that does not fall .. */
+    HIDDEN_FALLS, /* .. or that falls */
     CASES
 };
 static const char *const CASE_NAMES[CASES] = {
     "mended that rise", "mended that fall", "left that rise", "left that fall", "left for 16",
-    "too few counts for new nodes", "done on images that fall", "new nodes in images that fall",
-    "16 on a ring", "16 under a ring"};
+    "left for 19 that rise", "left for 19 that fall", "too few counts for new nodes",
+    "done on images that fall", "new nodes in images that fall", "16 on a ring",
+    "16 under a ring", "6 beside hidden data", "7 beside it", "8 beside it", "16 beside it",
+    "19 at the root", "19 below min", "19 above max", "19 deeper than 64", "19 on both sides",
+    "19 not at the least depth", "19 in images that rise", "19 in images that fall"};
 
-/* How often each number was answered, each call was done, and each case was met. */
+/* How often each number was answered, each call was done, each call answered 19, 19 had each
+   place, and each case was met. */
 struct heard {
-    uint64_t numbers[NUMBERS], done[CALLS_MOST], cases[CASES];
+    uint64_t numbers[NUMBERS], done[CALLS_MOST], hidden[CALLS_MOST], places[NODES_MOST];
+    uint64_t cases[CASES];
 };
 
-/* Is 16 what mending finds in an image that it leaves at 8? */
-static bool ring_below(const struct lent *lent, uint32_t place)
+/* The number that mending finds with G lowered in an image that it leaves at 8. */
+static uint32_t number_below(const struct lent *lent, uint32_t place)
 {
     static uint8_t image[ROOM];
     static uint32_t work[NODES_MOST];
     memcpy(image, lent->image, lent->image_len);
     put_field(image, 4, place - 1);
-    return naive_check(image, lent->image_len, work, NODES_MOST).number == 16;
+    return naive_check(image, lent->image_len, work, NODES_MOST).number;
+}
+
+/* Notes an answer of mend. */
+static void note_mend(uint64_t *cases, const struct small *s, const struct lent *lent,
+                      trieff_answer answer)
+{
+    bool mended = answer.number == 0 && !s->accepted;
+    cases[s->falls ? MENDED_FALLS : MENDED_RISES] += mended;
+    if (answer.number != 8)
+        return;
+    uint32_t below = number_below(lent, answer.place);
+    cases[s->falls ? LEFT_FALLS : LEFT_RISES]++;
+    cases[LEFT_RING] += below == 16;
+    cases[s->falls ? HIDES_FALLS : HIDES_RISES] += below == 19;
+}
+
+/* Notes an answer that is 19. */
+static void note_hidden(struct heard *heard, size_t place, const struct small *s,
+                        const struct lent *lent, trieff_answer answer)
+{
+    struct hidden h = hidden_in(lent->image);
+    uint64_t *cases = heard->cases;
+    heard->hidden[place]++;
+    heard->places[answer.place]++;
+    cases[ROOT_HIDES] += answer.place == 0;
+    cases[BELOW_MIN] += answer.place != 0 && h.depth < get_field(lent->image + 20, 4);
+    cases[ABOVE_MAX] += h.depth > get_field(lent->image + 24, 4);
+    cases[ABOVE_64] += h.depth > KEY_MOST;
+    cases[BOTH_HIDE] += h.below > 0 && h.above > 0;
+    cases[DEEPER_FIRST] += h.least < h.depth;
+    cases[s->falls ? HIDDEN_FALLS : HIDDEN_RISES]++;
 }
 
 /* Notes an answer. The image is as it was before the call. */
@@ -540,12 +695,14 @@ static void note(struct heard *heard, size_t place, const struct small *s, const
         cases[NODES_FALL] += number == 0 && answer.length > 1;
     if (number == 16)
         cases[on_ring(lent->image, answer.place) ? ON_RING : UNDER_RING]++;
-    if (strcmp(name, "mend") != 0)
-        return;
-    bool mended = number == 0 && !s->accepted;
-    cases[s->falls ? MENDED_FALLS : MENDED_RISES] += mended;
-    cases[s->falls ? LEFT_FALLS : LEFT_RISES] += number == 8;
-    cases[LEFT_RING] += number == 8 && ring_below(lent, answer.place);
+    cases[BESIDE_6] += s->hides && number == 6;
+    cases[BESIDE_7] += s->hides && number == 7;
+    cases[BESIDE_8] += s->hides && number == 8;
+    cases[BESIDE_16] += s->hides && number == 16;
+    if (number == 19)
+        note_hidden(heard, place, s, lent, answer);
+    if (strcmp(name, "mend") == 0)
+        note_mend(cases, s, lent, answer);
 }
 
 /* Makes a random call on an image and compares it. Its answer is noted. */
@@ -580,6 +737,25 @@ static bool try_call(struct small *s, struct heard *heard)
     return false;
 }
 
+/* Does a call check the image and say so? A look up does not, and a walk has no number. */
+static bool checks(const char *name)
+{
+    return strncmp(name, "look_up", 7) != 0 && strcmp(name, "walk") != 0;
+}
+
+/* Was 19 answered at enough places, by every call that checks, and by no other? */
+static bool hidden_heard(const struct heard *heard)
+{
+    bool all = true;
+    int places = 0;
+    for (uint32_t x = 0; x < NODES_MOST; x++)
+        places += heard->places[x] > 0;
+    for (size_t place = 0; call_at(place) != NULL; place++)
+        all = all && (heard->hidden[place] > 0) == checks(call_at(place)->name);
+    printf("; 19 at %d places%s", places, all ? "" : ", not by every call that checks, or others");
+    return all && places >= PLACES_LEAST;
+}
+
 /* Was everything met that must be? Prints how often. */
 static bool all_heard(const struct heard *heard)
 {
@@ -587,10 +763,12 @@ static bool all_heard(const struct heard *heard)
     for (int number = 0; number < NUMBERS; number++) {
         if (heard->numbers[number] > 0)
             printf(" %d:%llu", number, (unsigned long long)heard->numbers[number]);
-        all = all && (heard->numbers[number] > 0 || (16 < number && number < 25));
+        bool unused = 16 < number && number < 25 && number != 19;
+        all = all && (heard->numbers[number] > 0 || unused);
     }
     for (size_t place = 0; call_at(place) != NULL; place++)
         all = all && heard->done[place] > 0;
+    all = hidden_heard(heard) && all;
     for (int i = 0; i < CASES; i++) {
         printf("%s %s %llu", i == 0 ? ";" : ",", CASE_NAMES[i],
                (unsigned long long)heard->cases[i]);
@@ -614,7 +792,7 @@ int main(int argc, char **argv)
         make_whole(&s);
         for (uint32_t harms = one_in(3) ? 1 + one_in(4) : 0; harms > 0 && s.len > 0; harms--)
             harm(&s);
-        judge(&s);
+        good = judge(&s);
         for (int j = 0; j < CALLS_PER_IMAGE && good; j++)
             good = try_call(&s, &heard);
         if (!good)
