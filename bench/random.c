@@ -171,8 +171,8 @@ static void hide(struct small *s, const uint32_t *depths)
         }
 }
 
-/* Gives data to two of three nodes at depths in min..max, and in one of five images to other nodes
-   too. The links rise. */
+/* Gives data to two of three nodes at depths in min..max. In one of five images, and in half of
+   the long chains, other nodes get some too. The links rise. */
 static void add_data(struct small *s)
 {
     uint32_t depths[NODES_MOST] = {0};
@@ -185,24 +185,32 @@ static void add_data(struct small *s)
         if (s->min <= depths[q] && depths[q] <= s->max && !one_in(3))
             put_any_data(s, q);
     }
-    if (one_in(5))
+    if (one_in(s->g > 256 ? 2 : 5))
         hide(s, depths);
 }
 
-/* A whole image of some nodes, with rubbish in its spare bytes. Now and then A is 1 and nearly all
-   addresses are in use. Half of the images are renumbered. */
+/* Chooses the head but for G and F, and returns the number of nodes. Now and then A is 1 and
+   nearly all addresses are in use, or there is a chain so long that its depths do not fit a
+   byte. */
+static uint32_t any_sizes(struct small *s)
+{
+    bool crowded = one_in(8), chain = !crowded && one_in(16);
+    s->n = chain ? 1 : 1 + any_below(crowded ? 3 : one_in(4) ? 20 : 5);
+    s->a = crowded ? 1 : chain ? 2 + any_below(3) : 1 + any_below(4);
+    s->d = crowded || chain ? 1 : 1 + any_below(4);
+    s->max = chain || one_in(10) ? 64 : any_below(7);
+    s->min = any_below(s->max + 1) / (1 + any_below(3));
+    return crowded ? 250 + any_below(7) : chain ? 300 + any_below(250) : 1 + any_below(12);
+}
+
+/* A whole image of some nodes, with rubbish in its spare bytes. Half of the images are
+   renumbered. */
 static void make_whole(struct small *s)
 {
     memset(s, 0, sizeof *s);
-    bool crowded = one_in(8);
-    s->n = 1 + any_below(crowded ? 3 : one_in(4) ? 20 : 5);
-    s->a = crowded ? 1 : 1 + any_below(4);
-    s->d = crowded ? 1 : 1 + any_below(4);
-    s->max = one_in(10) ? 64 : any_below(7);
-    s->min = any_below(s->max + 1) / (1 + any_below(3));
+    uint32_t nodes = any_sizes(s);
     if (!one_in(5))
         add_alphabet(s);
-    uint32_t nodes = crowded ? 250 + any_below(7) : 1 + any_below(12);
     for (uint32_t c = 1; c < nodes; c++) {
         int tries = 0;
         while (tries < 50 && !link_up(s, c))
@@ -617,7 +625,8 @@ enum {
     ROOT_HIDES,   /* 19 at the root */
     BELOW_MIN,    /* 19 at another node whose depth is below min */
     ABOVE_MAX,    /* 19 at a node whose depth is above max .. */
-    ABOVE_64,     /* .. and above 64 */
+    ABOVE_64,     /* .. and above 64 .. */
+    AS_A_BYTE,    /* .. and in min..max if one byte were all that is kept of it */
     BOTH_HIDE,    /* 19 where data is below min and above max */
     DEEPER_FIRST, /* 19 at a node that is not the least deep of those with hidden data */
     HIDDEN_RISES, /* 19 in an image that does not fall .. */
@@ -629,8 +638,9 @@ static const char *const CASE_NAMES[CASES] = {
     "left for 19 that rise", "left for 19 that fall", "too few counts for new nodes",
     "done on images that fall", "new nodes in images that fall", "16 on a ring",
     "16 under a ring", "6 beside hidden data", "7 beside it", "8 beside it", "16 beside it",
-    "19 at the root", "19 below min", "19 above max", "19 deeper than 64", "19 on both sides",
-    "19 not at the least depth", "19 in images that rise", "19 in images that fall"};
+    "19 at the root", "19 below min", "19 above max", "19 deeper than 64",
+    "19 in min..max as a byte", "19 on both sides", "19 not at the least depth",
+    "19 in images that rise", "19 in images that fall"};
 
 /* How often each number was answered, each call was done, each call answered 19, 19 had each
    place, and each case was met. */
@@ -668,13 +678,15 @@ static void note_hidden(struct heard *heard, size_t place, const struct small *s
                         const struct lent *lent, trieff_answer answer)
 {
     struct hidden h = hidden_in(lent->image);
+    uint32_t min = get_field(lent->image + 20, 4), max = get_field(lent->image + 24, 4);
     uint64_t *cases = heard->cases;
     heard->hidden[place]++;
     heard->places[answer.place]++;
     cases[ROOT_HIDES] += answer.place == 0;
-    cases[BELOW_MIN] += answer.place != 0 && h.depth < get_field(lent->image + 20, 4);
-    cases[ABOVE_MAX] += h.depth > get_field(lent->image + 24, 4);
+    cases[BELOW_MIN] += answer.place != 0 && h.depth < min;
+    cases[ABOVE_MAX] += h.depth > max;
     cases[ABOVE_64] += h.depth > KEY_MOST;
+    cases[AS_A_BYTE] += min <= h.depth % 256 && h.depth % 256 <= max;
     cases[BOTH_HIDE] += h.below > 0 && h.above > 0;
     cases[DEEPER_FIRST] += h.least < h.depth;
     cases[s->falls ? HIDDEN_FALLS : HIDDEN_RISES]++;
