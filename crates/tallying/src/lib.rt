@@ -6,7 +6,7 @@
 // link, and to no hidden data. Else it is 0, and the caller must look closer.
 ghost use mathlib.Core.Path.{_≡_};
 ghost use mathlib.Core.Bool.{true};
-ghost use Prim.Native.Nat.{_≤_, _+_, _^_};
+ghost use Prim.Native.Nat.{_≤_, _+_};
 ghost use mathlib.Core.List.{_++_};
 ghost use lib.ListN.{length, drop, replicate};
 ghost use Rattle.node.specs.Image.{Open, Masks, tableOf};
@@ -26,16 +26,11 @@ pub fn first_bad_node(image: &[u8], h: Head, work: &mut [u32]) -> usize
     ensures { λ r. ⌜ BadFrom h (now (image .entry)) (now (work .entry)) r (now (work .exit)) ⌝ }
 {
     let mask = node::mask(h);
-    let data_mask = node::greatest(h);
     let nodes = (h.g as usize) + 1;
-    work[0] = if hides(image, h, data_mask, 0, 1) {
-        0
-    } else {
-        1
-    };
+    work[0] = if hides(image, h, 0, 1) { 0 } else { 1 };
     let mut q: usize = 0;
     while q < nodes {
-        if !tally(image, h, mask, data_mask, q as u32, work) {
+        if !tally(image, h, mask, q as u32, work) {
             return q;
         }
         q += 1;
@@ -45,9 +40,9 @@ pub fn first_bad_node(image: &[u8], h: Head, work: &mut [u32]) -> usize
 
 // Counts the links of node q in the working numbers and answers true, or stops at its first bad
 // link and answers false. A node that `childless` finds without links is passed over at once.
-fn tally(image: &[u8], h: Head, mask: u32, data_mask: u32, q: u32, work: &mut [u32]) -> bool
+fn tally(image: &[u8], h: Head, mask: u32, q: u32, work: &mut [u32]) -> bool
     requires { ⌜ Open h (now image) ⌝ }
-    requires { ⌜ Masks h mask ⌝ ∗ ⌜ data_mask + 1 ≡ 256 ^ h .d ⌝ }
+    requires { ⌜ Masks h mask ⌝ }
     requires { ⌜ q ≤ h .g ⌝ }
     requires { ⌜ h .g + 1 ≤ length (now work) ⌝ }
     ensures { λ r. ⌜ Tallied h (now (image .entry)) q (now (work .entry)) r (now (work .exit)) ⌝ }
@@ -66,7 +61,7 @@ fn tally(image: &[u8], h: Head, mask: u32, data_mask: u32, q: u32, work: &mut [u
         if paper::bad_link(h.g, c) {
             return false;
         }
-        if (c <= q) | hides(image, h, data_mask, c, mark) {
+        if (c <= q) | hides(image, h, c, mark) {
             work[0] = 0;
         }
         if work[c as usize] == 0 {
@@ -80,14 +75,14 @@ fn tally(image: &[u8], h: Head, mask: u32, data_mask: u32, q: u32, work: &mut [u
 }
 
 // Has node x hidden data: data that is not 0, where its mark is that of a depth outside min..max?
-fn hides(image: &[u8], h: Head, data_mask: u32, x: u32, mark: u32) -> bool
-    requires { ⌜ Open h (now image) ⌝ ∗ ⌜ data_mask + 1 ≡ 256 ^ h .d ⌝ ∗ ⌜ x ≤ h .g ⌝ }
+fn hides(image: &[u8], h: Head, x: u32, mark: u32) -> bool
+    requires { ⌜ Open h (now image) ⌝ ∗ ⌜ x ≤ h .g ⌝ }
     ensures { λ r. ⌜ r ≡ hiddenAt h (tableOf h (now (image .entry))) x mark ⌝ }
 {
     if (h.min < mark) & (mark <= h.max + 1) {
         return false;
     }
-    node::data_by(image, h, data_mask, x) != 0
+    node::data(image, h, x) != 0
 }
 
 // True only if no working number from number 1 on, below `nodes`, is 0. The loop has no early exit,
@@ -127,12 +122,11 @@ pub fn first_hidden(image: &[u8], h: Head, work: &[u32]) -> usize
     requires { ⌜ h .g + 1 ≤ length (now work) ⌝ }
     ensures { λ r. ⌜ HiddenFrom h (now (image .entry)) (now (work .entry)) r ⌝ }
 {
-    let data_mask = node::greatest(h);
     let nodes = (h.g as usize) + 1;
     let mut x: usize = 0;
     while x < nodes {
         let mark = work[x] % reaching::MARKS;
-        if hides(image, h, data_mask, x as u32, mark) {
+        if hides(image, h, x as u32, mark) {
             return x;
         }
         x += 1;

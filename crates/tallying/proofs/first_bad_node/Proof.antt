@@ -15,17 +15,14 @@ use Rattle.tallying.proofs.first_bad_node.Statement.{statement}
 use Rattle.tallying.proofs.first_bad_node.Tie as tie
 
 abbrev Inv-loop : tie.InvT-loop
-Inv-loop image h work₀ mask data-mask nodes q₀ work q =
+Inv-loop image h work₀ mask nodes q₀ work q =
     Tallying h (tableOf h image) work₀ work q
 
 abbrev μ-loop : tie.MeasureT-loop
-μ-loop image h work₀ mask data-mask nodes q₀ work q = nodes - q
+μ-loop image h work₀ mask nodes q₀ work q = nodes - q
 
 mask-requires : tie.Need-mask-requires Inv-loop μ-loop
 mask-requires c κs = search needs
-
-greatest-requires : tie.Need-greatest-requires Inv-loop μ-loop
-greatest-requires c κs = search needs
 
 cast-nodes : tie.Need-cast-nodes Inv-loop μ-loop
 cast-nodes c = omega arith
@@ -41,7 +38,7 @@ slice-write-work c = omega arith
 
 loop-holds : tie.Need-loop-holds Inv-loop μ-loop
 loop-holds c =
-    let pre = c .before .before .before .before .before .before .pre in
+    let pre = c .before .before .before .before .before .pre in
     tallying-none _ _ _ _ (pre .1 .0) (pre .1 .1) (c .before .hides .ensures)
     (⊎-elim (λ w e. absurd (omega (arith, w .1))) (λ w _. w .0 .left) (c .if1 .came))
 
@@ -51,15 +48,12 @@ cast-tally c = omega arith
 tally-requires : tie.Need-tally-requires Inv-loop μ-loop
 tally-requires c κs =
     let a = c .before .before in
-    let s = a .before .before .before .before .before .before .before in
+    let s = a .before .before .before .before .before .before in
     let long = length-set (s .args .work .now) 0 (a .before .if1 .work) in (
       s .pre .0,
       (
-        a .before .before .before .before .mask .ensures,
-        (
-          a .before .before .before .greatest .ensures,
-          (omega arith, omega (arith, a .loop .inv .kept .long, long, s .pre .1 .0)),
-        ),
+        a .before .before .before .mask .ensures,
+        (omega arith, omega (arith, a .loop .inv .kept .long, long, s .pre .1 .0)),
       ),
     )
 
@@ -98,7 +92,6 @@ first-bad-node-spec =
     Inv-loop
     μ-loop
     mask-requires
-    greatest-requires
     cast-nodes
     add-nodes
     hides-requires

@@ -16,11 +16,11 @@ use Rattle.tallying.proofs.tally.Statement.{statement}
 use Rattle.tallying.proofs.tally.Tie as tie
 
 abbrev Inv-loop : tie.InvT-loop
-Inv-loop image h mask data-mask q work₀ mark i₀ work i =
+Inv-loop image h mask q work₀ mark i₀ work i =
     Counting h (tableOf h image) q work₀ work i
 
 abbrev μ-loop : tie.MeasureT-loop
-μ-loop image h mask data-mask q work₀ mark i₀ work i = h .n - i
+μ-loop image h mask q work₀ mark i₀ work i = h .n - i
 
 childless-requires : tie.Need-childless-requires Inv-loop μ-loop
 childless-requires c κs = search needs
@@ -70,17 +70,14 @@ hides-requires c κs =
     let s = c .before .before .before .before .before .before .before .before .before .before
     .before .before .before in (
       s .pre .0,
-      (
-        s .pre .1 .1 .0,
-        not-bad _ _ .0 (sym (c .before .bad-link .ensures) ∙ c .if4 .left),
-      ),
+      not-bad _ _ .0 (sym (c .before .bad-link .ensures) ∙ c .if4 .left),
     )
 
 slice-write-work : tie.Need-slice-write-work Inv-loop μ-loop
 slice-write-work c =
     let a = c .before .before .before .before .before .before .before .before in
     let s = a .before .before .before .before .before .before .before in
-    omega (arith, a .loop .inv .kept .long, s .pre .1 .1 .1 .1)
+    omega (arith, a .loop .inv .kept .long, s .pre .1 .1 .1)
 
 -- whether the link leads upward, and to no hidden data, is noted in number 0
 noted : (c : tie.Joined5 Inv-loop μ-loop)
@@ -119,7 +116,7 @@ slice-read-if6 c =
     omega (
       arith,
       noted n .kept .long,
-      counting-room (a .loop .inv) (s .pre .1 .1 .1 .1)
+      counting-room (a .loop .inv) (s .pre .1 .1 .1)
           (sym (n .before .before .before .bad-link .ensures) ∙ n .before .before .if4 .left),
     )
 
