@@ -18,7 +18,8 @@ use head::Head;
 pub const AGAIN: u32 = reaching::DEEPEST + 1;
 
 // The lowest node that holds a bad link, or G+1 if none does. In that case the working numbers
-// have the tally of the addresses 1 to G, and number 0 tells whether all is plain.
+// have the tally of the addresses 1 to G, and number 0 tells whether all is plain. A node that
+// `childless` finds without links is passed over at once.
 pub fn first_bad_node(image: &[u8], h: Head, work: &mut [u32]) -> usize
     requires { ⌜ Open h (now image) ⌝ }
     requires { ⌜ h .g + 1 ≤ length (now work) ⌝ }
@@ -28,8 +29,15 @@ pub fn first_bad_node(image: &[u8], h: Head, work: &mut [u32]) -> usize
     let mask = node::mask(h);
     let nodes = (h.g as usize) + 1;
     work[0] = if hides(image, h, 0, 1) { 0 } else { 1 };
-    let mut q: usize = 0;
+    if !tally(image, h, mask, 0, work) {
+        return 0;
+    }
+    let mut q: usize = 1;
     while q < nodes {
+        if node::childless(image, h, q as u32) {
+            q += 1;
+            continue;
+        }
         if !tally(image, h, mask, q as u32, work) {
             return q;
         }
@@ -39,7 +47,7 @@ pub fn first_bad_node(image: &[u8], h: Head, work: &mut [u32]) -> usize
 }
 
 // Counts the links of node q in the working numbers and answers true, or stops at its first bad
-// link and answers false. A node that `childless` finds without links is passed over at once.
+// link and answers false.
 fn tally(image: &[u8], h: Head, mask: u32, q: u32, work: &mut [u32]) -> bool
     requires { ⌜ Open h (now image) ⌝ }
     requires { ⌜ Masks h mask ⌝ }
@@ -47,9 +55,6 @@ fn tally(image: &[u8], h: Head, mask: u32, q: u32, work: &mut [u32]) -> bool
     requires { ⌜ h .g + 1 ≤ length (now work) ⌝ }
     ensures { λ r. ⌜ Tallied h (now (image .entry)) q (now (work .entry)) r (now (work .exit)) ⌝ }
 {
-    if node::childless(image, h, q) {
-        return true;
-    }
     let mark = reaching::deeper(work[q as usize]);
     let mut i: u32 = 0;
     while i < h.n {
