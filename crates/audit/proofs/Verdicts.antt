@@ -39,8 +39,8 @@ use Rattle.opening.specs.declared.Opened.{Opened}
 use Rattle.opening.specs.Opened.{Opens}
 use Rattle.tallying.specs.Tallied.{again, Tells, Tally, Plain, BadFrom, AllMet, FoundFrom}
 use Rattle.audit.specs.Audit.{Checked, Audited, LinksJudged, ReachedJudged}
-use Rattle.tallying.proofs.Marks.{plain-marked, plain-shown}
-use Rattle.tallying.proofs.Telling.{tells-none, tells-again}
+use Rattle.tallying.proofs.PlainMarks.{plain-marked, plain-shown}
+use Rattle.tallying.proofs.Tells.{tells-none, tells-again}
 use Rattle.tallying.proofs.Clearing.{cleared-rest, kept-cleared}
 use Rattle.tallying.proofs.LowestFound.{lowest-same, given-at, given-nowhere}
 use Rattle.audit.proofs.EachReached.{mark-hidden}

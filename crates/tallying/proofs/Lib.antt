@@ -1,6 +1,6 @@
 pub mod Clearing
 pub mod Hiding
 pub mod LowestFound
-pub mod Marks
-pub mod Telling
+pub mod PlainMarks
+pub mod Tells
 pub mod Tallying

@@ -27,7 +27,7 @@ use Rattle.tallying.specs.Tallied.{again, Tells, Tally, hiddenAt, Marked
 use Rattle.tallying.specs.Tallied.{LinksCounted, Tallied, BadFrom}
 use Rattle.tallying.proofs.LowestFound.{Seeking, seeking-none, seeking-more, seeking-found}
 use Rattle.tallying.proofs.LowestFound.{seeking-all}
-use Rattle.tallying.proofs.Telling.{tells-start, tells-first, tells-more}
+use Rattle.tallying.proofs.Tells.{tells-start, tells-first, tells-more}
 
 -- ---- nodes marked by their parents
 

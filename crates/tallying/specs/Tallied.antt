@@ -33,8 +33,8 @@ Tally t n g k work = (x : ℕ) → 1 ≤ x → x ≤ g → Tells (times t n x k)
 unfoldable pub hiddenAt : Head → Table → ℕ → ℕ → Bool
 hiddenAt h t x mark = ltb 0 (t .value x) && not (between mark (h .min + 1) (h .max + 1))
 
--- one of the first k nodes is the parent of node x, comes before it and gave it its mark, and x has
--- no hidden data
+-- one of the first k nodes is the parent of node x, comes before it and gave it its mark, and x
+-- has no hidden data
 pub record MarkedBy (h : Head) (t : Table) (k : ℕ) (work : List ℕ) (x : ℕ) : Type 0 where
   pub node : ℕ
   pub letter : ℕ

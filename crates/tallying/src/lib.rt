@@ -1,9 +1,9 @@
 // The links of all nodes, counted over lent working numbers, and searches in the numbers. It takes
 // time linear in the image. Working number x is 0 while no link that holds the address x has been
-// met, then the mark of node x, and `AGAIN` once a second link is met. The mark is right where each
-// link leads to a greater address: then a node's parent comes before it. Number 0 is 1, the root's
-// mark, while all is plain: each link met leads to a greater address, which stands in no other
-// link, and to no hidden data. Else it is 0, and the caller must look closer.
+// met, then the mark of node x, and `AGAIN` once a second link is met. The mark is right where
+// each link leads to a greater address: then a node's parent comes before it. Number 0 is 1, the
+// root's mark, while all is plain: each link met leads to a greater address, which stands in no
+// other link, and to no hidden data. Else it is 0, and the caller must look closer.
 ghost use mathlib.Core.Path.{_≡_};
 ghost use mathlib.Core.Bool.{true};
 ghost use Prim.Native.Nat.{_≤_, _+_};
@@ -90,8 +90,8 @@ fn hides(image: &[u8], h: Head, x: u32, mark: u32) -> bool
     node::data(image, h, x) != 0
 }
 
-// True only if no working number from number 1 on, below `nodes`, is 0. The loop has no early exit,
-// so that it can handle several numbers at once. The answer false promises nothing.
+// True only if no working number from number 1 on, below `nodes`, is 0. The loop has no early
+// exit, so that it can handle several numbers at once. The answer false promises nothing.
 pub fn all_met(work: &[u32], nodes: usize) -> bool
     requires { ⌜ nodes ≤ length (now work) ⌝ }
     ensures { λ r. ⌜ (r ≡ true → AllMet (now (work .entry)) nodes) ⌝ }

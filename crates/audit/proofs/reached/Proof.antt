@@ -1,6 +1,6 @@
 -- `audit::reached` meets its contract: the search has met every node, and the lowest one with
--- hidden data is the place of 19; or the lowest one that it has not met is the place of 16. Assumes
--- nothing.
+-- hidden data is the place of 19; or the lowest one that it has not met is the place of 16.
+-- Assumes nothing.
 use native.Mathlib.Omega.{arith}
 use borrow.Author.Needs.{needs}
 use Rattle.audit.proofs.EachReached.{unreached-found, reached-not, reached-hidden}

@@ -101,7 +101,13 @@ tally-requires-2 c κs =
         j .before .before .mask .ensures,
         (
           omega arith,
-          omega (arith, a .loop .inv .kept .long, t .tally .ensures .kept .long, long, s .pre .1 .0),
+          omega (
+            arith,
+            a .loop .inv .kept .long,
+            t .tally .ensures .kept .long,
+            long,
+            s .pre .1 .0,
+          ),
         ),
       ),
     )
@@ -111,7 +117,8 @@ returns-2 c =
     let t = c .before .before .before in
     let a = t .before .before .before .before .before in
     tallying-bad (a .loop .inv)
-    (kept-more (kept-set _ _ (omega arith)) (a .before .before .before .before .tally .ensures .kept))
+    (kept-more (kept-set _ _ (omega arith))
+    (a .before .before .before .before .tally .ensures .kept))
     (omega arith) (not-true _ (c .if4 .taken)) (t .tally2 .ensures)
 
 same-length-2 : tie.Need-same-length-2 Inv-loop μ-loop
@@ -133,7 +140,8 @@ returns-3 : tie.Need-returns-3 Inv-loop μ-loop
 returns-3 c =
     let a = c .before in
     tallying-all (a .loop .inv)
-    (kept-more (kept-set _ _ (omega arith)) (a .before .before .before .before .tally .ensures .kept))
+    (kept-more (kept-set _ _ (omega arith))
+    (a .before .before .before .before .tally .ensures .kept))
     (c .loop-test .left)
 
 same-length-3 : tie.Need-same-length-3 Inv-loop μ-loop
