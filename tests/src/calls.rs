@@ -41,62 +41,66 @@ pub struct Kind {
 
 pub const KINDS: [Kind; 18] = [
     Kind { name: "make", given: "alphabet", numbers: &[0, 1, 2, 3, 4] },
-    Kind { name: "check", given: "nothing", numbers: &[0, 1, 2, 3, 4, 5, 6, 7, 8, 16] },
-    Kind { name: "count", given: "nothing", numbers: &[0, 1, 2, 3, 4, 5, 6, 7, 8, 16] },
+    Kind { name: "check", given: "nothing", numbers: &[0, 1, 2, 3, 4, 5, 6, 7, 8, 16, 19] },
+    Kind { name: "count", given: "nothing", numbers: &[0, 1, 2, 3, 4, 5, 6, 7, 8, 16, 19] },
     Kind { name: "look_up", given: "letters", numbers: &[0, 1, 2, 3, 4, 6, 9, 10] },
     Kind { name: "look_up_text", given: "text", numbers: &[0, 1, 2, 3, 4, 6, 9, 10] },
     Kind {
         name: "store",
         given: "letters",
-        numbers: &[0, 1, 2, 3, 4, 5, 6, 7, 8, 9, 10, 11, 12, 13, 16],
+        numbers: &[0, 1, 2, 3, 4, 5, 6, 7, 8, 9, 10, 11, 12, 13, 16, 19],
     },
     Kind {
         name: "store_text",
         given: "text",
-        numbers: &[0, 1, 2, 3, 4, 5, 6, 7, 8, 9, 10, 11, 12, 13, 16],
+        numbers: &[0, 1, 2, 3, 4, 5, 6, 7, 8, 9, 10, 11, 12, 13, 16, 19],
     },
     Kind {
         name: "store_writes",
         given: "letters",
-        numbers: &[0, 1, 2, 3, 4, 5, 6, 7, 8, 9, 10, 11, 12, 13, 16],
+        numbers: &[0, 1, 2, 3, 4, 5, 6, 7, 8, 9, 10, 11, 12, 13, 16, 19],
     },
     Kind {
         name: "store_text_writes",
         given: "text",
-        numbers: &[0, 1, 2, 3, 4, 5, 6, 7, 8, 9, 10, 11, 12, 13, 16],
+        numbers: &[0, 1, 2, 3, 4, 5, 6, 7, 8, 9, 10, 11, 12, 13, 16, 19],
     },
-    Kind { name: "mend", given: "nothing", numbers: &[0, 1, 2, 3, 4, 5, 6, 7, 8, 16] },
+    Kind { name: "mend", given: "nothing", numbers: &[0, 1, 2, 3, 4, 5, 6, 7, 8, 16, 19] },
     Kind {
         name: "next_key",
         given: "letters",
-        numbers: &[0, 1, 2, 3, 4, 5, 6, 7, 8, 9, 10, 14, 15, 16],
+        numbers: &[0, 1, 2, 3, 4, 5, 6, 7, 8, 9, 10, 14, 15, 16, 19],
     },
-    Kind { name: "counts", given: "nothing", numbers: &[0, 1, 2, 3, 4, 5, 6, 7, 8, 16] },
-    Kind { name: "check_counts", given: "nothing", numbers: &[0, 1, 2, 3, 4, 5, 6, 7, 8, 16, 25] },
+    Kind { name: "counts", given: "nothing", numbers: &[0, 1, 2, 3, 4, 5, 6, 7, 8, 16, 19] },
+    Kind {
+        name: "check_counts",
+        given: "nothing",
+        numbers: &[0, 1, 2, 3, 4, 5, 6, 7, 8, 16, 19, 25],
+    },
     Kind {
         name: "store_counts",
         given: "letters",
-        numbers: &[0, 1, 2, 3, 4, 5, 6, 7, 8, 9, 10, 11, 12, 13, 16, 25],
+        numbers: &[0, 1, 2, 3, 4, 5, 6, 7, 8, 9, 10, 11, 12, 13, 16, 19, 25],
     },
     Kind {
         name: "store_text_counts",
         given: "text",
-        numbers: &[0, 1, 2, 3, 4, 5, 6, 7, 8, 9, 10, 11, 12, 13, 16, 25],
+        numbers: &[0, 1, 2, 3, 4, 5, 6, 7, 8, 9, 10, 11, 12, 13, 16, 19, 25],
     },
     Kind {
         name: "key_at",
         given: "nothing",
-        numbers: &[0, 1, 2, 3, 4, 5, 6, 7, 8, 14, 15, 16, 25],
+        numbers: &[0, 1, 2, 3, 4, 5, 6, 7, 8, 14, 15, 16, 19, 25],
     },
     Kind {
         name: "position",
         given: "letters",
-        numbers: &[0, 1, 2, 3, 4, 5, 6, 7, 8, 9, 10, 15, 16, 25],
+        numbers: &[0, 1, 2, 3, 4, 5, 6, 7, 8, 9, 10, 15, 16, 19, 25],
     },
     Kind {
         name: "position_text",
         given: "text",
-        numbers: &[0, 1, 2, 3, 4, 5, 6, 7, 8, 9, 10, 15, 16, 25],
+        numbers: &[0, 1, 2, 3, 4, 5, 6, 7, 8, 9, 10, 15, 16, 19, 25],
     },
 ];
 

@@ -8,21 +8,20 @@ fn p7() -> Vec<u8> {
     abc("00000005", "00010300 02000005 00000009 00000400 00000500 00000001")
 }
 
-/// A chain by the letter A, with data at depths 0, 3 and 4. min 1 and max 3 hide the first and the
-/// last data.
-fn hiding() -> Vec<u8> {
-    abc("00000004", "01000007 02000000 03000000 04000008 00000009")
+/// A chain by the letter A, with data at depth 3 alone. Its last node is deeper than max.
+fn deeper() -> Vec<u8> {
+    abc("00000004", "01000000 02000000 03000000 04000008 00000000")
 }
 
 #[test]
 fn counts_of_the_small_file() {
     let cases: [(Vec<u8>, &[u32]); 6] = [
         (abc("00000000", "00000000"), &[0]),
-        (abc("00000000", "00000007"), &[0]),
+        (abc("00000001", "00010000 00000000"), &[0, 0]),
         (p2(), &[1, 1, 1]),
         (p3(), &[2, 2, 1]),
         (p7(), &[3, 2, 1, 1, 1, 1]),
-        (hiding(), &[1, 1, 1, 1, 0]),
+        (deeper(), &[1, 1, 1, 1, 0]),
     ];
     for (image, right) in cases {
         let nodes = right.len();
@@ -58,6 +57,12 @@ fn order_of_25() {
     let mut work = [7; 4];
     let unlinked = abc("00000001", "00000000 00000000");
     assert_eq!(check_counts(&unlinked, &mut work, &[9, 9]), refused(8, 1), "8 before 25");
+    assert_eq!(work, [0, 0, 7, 7]);
+    work = [7; 4];
+    let hidden = abc("00000001", "00010007 00000005");
+    assert_eq!(check_counts(&hidden, &mut work, &[1, 9]), refused(19, 0), "19 before 25");
+    assert_eq!(check_counts(&hidden, &mut work, &[1, 1]), refused(19, 0));
+    assert_eq!(check_counts(&hidden, &mut work, &[2, 1]), refused(19, 0));
     assert_eq!(work, [0, 0, 7, 7]);
     let mut wrong = [2, 2, 0, 1];
     work = [7; 4];
@@ -154,8 +159,8 @@ fn keys_at_positions() {
     assert_eq!(key, [B, A, 7, 7]);
     assert_eq!(key_at(&p7(), &mut [7; 6], &[3, 2, 1, 1, 1, 1], 2, &mut key), found(3, 1));
     assert_eq!(key, [C, C, C, 7]);
-    assert_eq!(key_at(&hiding(), &mut [7; 5], &[1, 1, 1, 1, 0], 0, &mut key), found(3, 8));
-    assert_eq!(key_at(&hiding(), &mut [7; 5], &[1, 1, 1, 1, 0], 1, &mut key), refused(15, 0));
+    assert_eq!(key_at(&deeper(), &mut [7; 5], &[1, 1, 1, 1, 0], 0, &mut key), found(3, 8));
+    assert_eq!(key_at(&deeper(), &mut [7; 5], &[1, 1, 1, 1, 0], 1, &mut key), refused(15, 0));
 }
 
 #[test]

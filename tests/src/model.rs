@@ -311,6 +311,41 @@ fn refusal_16(image: &[u8], head: &Head) -> Result<(), Refusal> {
     refuse_at((0..=u64::from(head.g)).find(|node| !reached[*node as usize]), 16)
 }
 
+/// The depth of each node from 0 to G: the number of links from the root to it. The root's is 0,
+/// and a link leads one deeper. The nodes are met level by level, so a node to which several ways
+/// lead has the least depth. One that is not reached has none. A link above G leads nowhere.
+pub fn depths(image: &[u8], head: &Head) -> Vec<Option<u64>> {
+    let mut depths = vec![None; head.g as usize + 1];
+    let (mut met, mut visited) = (vec![(0, 0)], 0);
+    while visited < met.len() {
+        let (node, depth) = met[visited];
+        visited += 1;
+        if depths[node as usize].is_none() {
+            depths[node as usize] = Some(depth);
+            let links = (0..u64::from(head.n)).map(|letter| link(image, head, node, letter));
+            let below = links.filter(|link| *link != 0 && !above_g(head, *link));
+            met.extend(below.map(|link| (link, depth + 1)));
+        }
+    }
+    depths
+}
+
+/// Whether a depth is outside min..max, so that data there is hidden.
+pub fn outside(head: &Head, depth: u64) -> bool {
+    depth < u64::from(head.min) || depth > u64::from(head.max)
+}
+
+/// "The check now refuses data at any depth outside min..max": "19, place the lowest such node".
+/// Only for an image in which every node is reached.
+fn refusal_19(image: &[u8], head: &Head) -> Result<(), Refusal> {
+    let depths = depths(image, head);
+    let hidden = |node: &u64| {
+        let depth = depths[*node as usize].expect("16 was passed");
+        data(image, head, *node) != 0 && outside(head, depth)
+    };
+    refuse_at((0..=u64::from(head.g)).find(hidden), 19)
+}
+
 fn refusal_9(head: &Head, length: usize) -> Result<(), Refusal> {
     refuse_if(length < head.min as usize || length > head.max as usize, 9)
 }
@@ -379,7 +414,7 @@ pub fn one_to_four(image: &[u8]) -> Result<Head, Refusal> {
     Ok(head)
 }
 
-/// The order of the check: 1 to 8, 16.
+/// The order of the check: 1 to 8, 16, 19.
 pub fn checked(image: &[u8], work: &mut [u32]) -> Result<Head, Refusal> {
     let head = one_to_four(image)?;
     refusal_5(&head, work.len())?;
@@ -394,7 +429,7 @@ fn checked_beside(image: &[u8], work: &mut [u32], counts: &[u32]) -> Result<Head
     checked_links(image, head, work)
 }
 
-/// 6, 7, 8, and 16 "right after 8".
+/// 6, 7, 8, then 16 "right after 8", and 19 "right after 16".
 ///
 /// "Once 5 is passed, the first G+1 of them are 0 when the call returns, with the G of entry". The
 /// model uses no working numbers, so it clears them here.
@@ -405,6 +440,7 @@ fn checked_links(image: &[u8], head: Head, work: &mut [u32]) -> Result<Head, Ref
     refusal_7(&head, &standing)?;
     refusal_8(&head, &standing)?;
     refusal_16(image, &head)?;
+    refusal_19(image, &head)?;
     Ok(head)
 }
 
@@ -528,7 +564,7 @@ fn try_make(
     Ok(Answer::default())
 }
 
-/// Check: 1 to 8, 16.
+/// Check: 1 to 8, 16, 19.
 pub fn check(image: &[u8], work: &mut [u32]) -> Answer {
     answer(checked(image, work).map(|_| Answer::default()))
 }
@@ -549,7 +585,7 @@ pub fn mend(image: &mut [u8], work: &mut [u32]) -> Answer {
     answered
 }
 
-/// Number of stored keys: 1 to 8, 16.
+/// Number of stored keys: 1 to 8, 16, 19.
 pub fn count(image: &[u8], work: &mut [u32]) -> Answer {
     answer(checked(image, work).map(|head| {
         let mut keys = 0;
@@ -596,7 +632,7 @@ fn walk(image: &[u8], head: &Head, letters: &[u8]) -> Result<Answer, Refusal> {
     Ok(Answer { value: data(image, head, node), ..Answer::default() })
 }
 
-/// Store by letters: 1 to 8, 16, 9, 10, 11, 12, 13.
+/// Store by letters: 1 to 8, 16, 19, 9, 10, 11, 12, 13.
 pub fn store(image: &mut [u8], work: &mut [u32], letters: &[u8], value: u32) -> Answer {
     answer(
         before_store(image, work, letters).and_then(|head| store_at(image, &head, letters, value)),
@@ -628,7 +664,7 @@ fn nine_and_ten(head: &Head, letters: &[u8]) -> Result<(), Refusal> {
     refusal_10_of_letters(head, letters)
 }
 
-/// Store by text: 1 to 8, 16, 10, 9, 11, 12, 13.
+/// Store by text: 1 to 8, 16, 19, 10, 9, 11, 12, 13.
 pub fn store_text(image: &mut [u8], work: &mut [u32], text: &[u8], value: u32) -> Answer {
     answer(
         before_store_text(image, work, text)
@@ -779,7 +815,7 @@ fn list(image: &[u8], head: &Head, letters: &[u8], value: u32) -> Vec<(usize, us
     writes
 }
 
-/// Next key: 1 to 8, 16, 9 (longer than max), 10, 14, 15. If `after` is false, it is "at or
+/// Next key: 1 to 8, 16, 19, 9 (longer than max), 10, 14, 15. If `after` is false, it is "at or
 /// after".
 pub fn next_key(
     image: &[u8],
@@ -817,7 +853,7 @@ fn try_next_key(
 
 // ---- calls with counts ----
 
-/// Work out counts: 1 to 8, 16 (5 for either list).
+/// Work out counts: 1 to 8, 16, 19 (5 for either list).
 pub fn counts(image: &[u8], work: &mut [u32], counts: &mut [u32]) -> Answer {
     answer(checked_beside(image, work, counts).map(|_| {
         write_counts(counts, image);
@@ -825,12 +861,12 @@ pub fn counts(image: &[u8], work: &mut [u32], counts: &mut [u32]) -> Answer {
     }))
 }
 
-/// Check with counts: 1 to 8, 16, 25.
+/// Check with counts: 1 to 8, 16, 19, 25.
 pub fn check_counts(image: &[u8], work: &mut [u32], counts: &[u32]) -> Answer {
     answer(compared(image, work, counts).map(|_| Answer::default()))
 }
 
-/// Store with counts by letters: 1 to 8, 16, 25, 9, 10, 11, 12, 13, 5 again.
+/// Store with counts by letters: 1 to 8, 16, 19, 25, 9, 10, 11, 12, 13, 5 again.
 pub fn store_counts(
     image: &mut [u8],
     work: &mut [u32],
@@ -853,7 +889,7 @@ fn try_store_counts(
     store_and_count(image, &head, letters, value, counts)
 }
 
-/// Store with counts by text: 1 to 8, 16, 25, 10, 9, 11, 12, 13, 5 again.
+/// Store with counts by text: 1 to 8, 16, 19, 25, 10, 9, 11, 12, 13, 5 again.
 pub fn store_text_counts(
     image: &mut [u8],
     work: &mut [u32],
@@ -876,7 +912,7 @@ fn try_store_text_counts(
     store_and_count(image, &head, &letters, value, counts)
 }
 
-/// Key at a position: 1 to 8, 16, 25, 14, 15.
+/// Key at a position: 1 to 8, 16, 19, 25, 14, 15.
 pub fn key_at(
     image: &[u8],
     work: &mut [u32],
@@ -903,7 +939,7 @@ fn try_key_at(
     Ok(Answer { length: found.len() as u32, value: *value, ..Answer::default() })
 }
 
-/// Position of a key by letters: 1 to 8, 16, 25, 9, 10, 15.
+/// Position of a key by letters: 1 to 8, 16, 19, 25, 9, 10, 15.
 pub fn position(image: &[u8], work: &mut [u32], counts: &[u32], letters: &[u8]) -> Answer {
     answer(compared(image, work, counts).and_then(|head| {
         nine_and_ten(&head, letters)?;
@@ -911,7 +947,7 @@ pub fn position(image: &[u8], work: &mut [u32], counts: &[u32], letters: &[u8]) 
     }))
 }
 
-/// Position of a key by text: 1 to 8, 16, 25, 10, 9, 15.
+/// Position of a key by text: 1 to 8, 16, 19, 25, 10, 9, 15.
 pub fn position_text(image: &[u8], work: &mut [u32], counts: &[u32], text: &[u8]) -> Answer {
     answer(compared(image, work, counts).and_then(|head| {
         let letters = ten_and_nine(image, &head, text)?;

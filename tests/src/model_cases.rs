@@ -276,14 +276,33 @@ fn mend_lowers_g_or_changes_nothing() {
         ("00000002", "00000000 02000000 01000000", refused(16, 1), "00000002"),
         // lowered, it is accepted, though node 2 links to node 1
         ("00000003", "00020000 00000009 01000005 00000000", Answer::default(), "00000002"),
+        // lowered, it has 19: at the root
+        ("00000001", "00000007 00000000", refused(8, 1), "00000001"),
+        // lowered, it has 19: node 4 is deeper than max
+        (
+            "00000005",
+            "01000000 02000000 03000000 04000000 00000009 00000000",
+            refused(8, 5),
+            "00000005",
+        ),
+        // lowered, it is accepted: the data of node 2 is cut off, and node 4 is empty
+        ("00000002", "01000000 00000005 00000009", Answer::default(), "00000001"),
+        (
+            "00000005",
+            "01000000 02000000 03000000 04000005 00000000 00000009",
+            Answer::default(),
+            "00000004",
+        ),
+        // 19 alone
+        ("00000001", "01000007 00000000", refused(19, 0), "00000001"),
     ];
     for (g, body, answered, left) in cases {
         let mut image = abc(g, body);
         let nodes = body.split(' ').count();
-        let mut work = [7; 5];
+        let mut work = [7; 7];
         assert_eq!(mend(&mut image, &mut work), answered);
         assert_eq!(image, abc(left, body));
-        let cleared: Vec<u32> = (0..5).map(|i| if i < nodes { 0 } else { 7 }).collect();
+        let cleared: Vec<u32> = (0..7).map(|i| if i < nodes { 0 } else { 7 }).collect();
         assert_eq!(work[..], cleared[..], "the first G+1 with the G of entry");
         let mut image = abc(g, body);
         let mut too_few = vec![7; nodes - 1];
@@ -348,11 +367,12 @@ fn lengths_of_1() {
 }
 
 #[test]
-fn order_of_6_7_8_16() {
-    // 16 at 1, 8 at 3, 7 at 4 and 6 at 5: all of 6 first, then all of 7, then all of 8
-    let mut image = abc("00000005", "04040000 02000000 01000000 00000000 05000000 00000600");
-    let mut repair = |at: usize, link: u8| {
-        image[31 + at] = link;
+fn order_of_6_7_8_16_19() {
+    // 19 at 0, 16 at 1, 8 at 3, 7 at 4 and 6 at 5: all of 6 first, then all of 7, then all of 8,
+    // then all of 16
+    let mut image = abc("00000005", "04040007 02000000 01000000 00000000 05000000 00000600");
+    let mut repair = |at: usize, byte: u8| {
+        image[31 + at] = byte;
         check(&image, &mut [7; 6])
     };
     assert_eq!(repair(0, 4), refused(6, 5));
@@ -360,7 +380,8 @@ fn order_of_6_7_8_16() {
     assert_eq!(repair(1, 0), refused(8, 3));
     assert_eq!(repair(1, 3), refused(16, 1));
     assert_eq!(repair(8, 0), refused(8, 1), "the cycle is broken, so node 1 stands in no link");
-    assert_eq!(repair(2, 1), Answer::default());
+    assert_eq!(repair(2, 1), refused(19, 0));
+    assert_eq!(repair(3, 0), Answer::default());
 }
 
 /// Images whose addresses all stand in one link, and the lowest node that is not reached.
@@ -393,16 +414,14 @@ fn sixteen_is_the_lowest_unreached() {
     }
 }
 
-#[test]
-fn sixteen_in_every_call_with_the_check() {
-    // the keys, the value, the counts and the key buffer are bad too: 16 stands before 25, 9, 10,
-    // 11 and 14
-    let (g, body, place) = UNREACHED[2];
-    let before = abc(g, body);
-    let answered = refused(16, place);
+/// Makes every call that checks on a refused image of 01's small file. The keys, the value, the
+/// counts and the key buffer are bad too: the check's answers stand before 25, 9, 10, 11 and 14.
+fn in_every_call_with_the_check(before: &[u8], answered: Answer) {
+    let nodes = Head::read(before).g as usize + 1;
     for (letters, text) in [(&[3, 3, 3, 3][..], &b"DDDD"[..]), (&[B], b"B")] {
-        let mut image = before.clone();
-        let (work, writes, counts) = (&mut [7; 4], &mut [7; WRITES], &mut [9; 4]);
+        let mut image = before.to_vec();
+        let (work, writes) = (&mut vec![7; nodes][..], &mut [7; WRITES]);
+        let counts = &mut vec![9; nodes][..];
         let answers = [
             check(&image, work),
             count(&image, work),
@@ -421,10 +440,132 @@ fn sixteen_in_every_call_with_the_check() {
             position_text(&image, work, counts, text),
         ];
         assert_eq!(answers, [answered; 15]);
-        assert_eq!((&image, &*counts, &*writes), (&before, &[9; 4], &[7; WRITES]));
+        assert_eq!((&image[..], &*writes), (before, &[7; WRITES]));
+        assert_eq!((&*counts, &*work), (&vec![9; nodes][..], &vec![0; nodes][..]));
     }
-    assert_eq!(look_up(&before, &[B]), value(0), "look up never gives 16");
-    assert_eq!(look_up_text(&before, b"B"), value(0));
+}
+
+#[test]
+fn sixteen_in_every_call_with_the_check() {
+    let (g, body, place) = UNREACHED[2];
+    let image = abc(g, body);
+    in_every_call_with_the_check(&image, refused(16, place));
+    assert_eq!(look_up(&image, &[B]), value(0), "look up never gives 16");
+    assert_eq!(look_up_text(&image, b"B"), value(0));
+}
+
+/// Images whose nodes are all reached, with data outside min 1 and max 3, and the lowest node that
+/// has some.
+const HIDDEN: [(&str, &str, u32); 6] = [
+    // the root alone
+    ("00000000", "00000007", 0),
+    // the root of P3
+    ("00000002", "00010007 02000005 00000009", 0),
+    // a chain of 5 nodes: at depth 3 data is in place, at depth 4 it is hidden
+    ("00000004", "01000000 02000000 03000000 04000008 00000009", 4),
+    // the root and depth 4
+    ("00000004", "01000007 02000000 03000000 04000008 00000009", 0),
+    // a chain of 6 nodes that falls: node 2 has depth 4, node 1 has depth 5
+    ("00000005", "05000000 00000009 01000009 02000000 03000000 04000000", 1),
+    // two chains from the root: node 2 has depth 4 in the one, node 5 in the other
+    (
+        "00000008",
+        "01080000 03000000 00000009 04000000 00000200 00000001 00050000 00060000 00070005",
+        2,
+    ),
+];
+
+#[test]
+fn nineteen_is_the_lowest_hidden() {
+    for (g, body, place) in HIDDEN {
+        let nodes = body.split(' ').count();
+        let mut work = vec![7; nodes + 1];
+        assert_eq!(check(&abc(g, body), &mut work), refused(19, place), "{body}");
+        assert_eq!(work, [&vec![0; nodes], &[7][..]].concat());
+        let mut too_few = vec![7; nodes - 1];
+        assert_eq!(check(&abc(g, body), &mut too_few), refused(5, 0));
+        assert_eq!(too_few, vec![7; nodes - 1]);
+        // without that data the place is a higher one, or the image is accepted
+        let mut image = abc(g, body);
+        image[31 + 4 * place as usize + 3] = 0;
+        let next = check(&image, &mut work);
+        assert!(next == Answer::default() || (next.number == 19 && next.place > place));
+    }
+}
+
+#[test]
+fn nineteen_in_every_call_with_the_check() {
+    for (g, body, place) in HIDDEN {
+        in_every_call_with_the_check(&abc(g, body), refused(19, place));
+    }
+    let (g, body, _) = HIDDEN[1];
+    assert_eq!(look_up(&abc(g, body), &[B, A]), value(9), "look up never gives 19");
+    assert_eq!(look_up_text(&abc(g, body), b"B"), value(5));
+    assert_eq!(look_up(&abc(g, body), &[]), refused(9, 0));
+}
+
+/// P3 with other lengths of keys.
+fn p3_within(min: u8, max: u8) -> Vec<u8> {
+    let mut image = p3();
+    (image[23], image[27]) = (min, max);
+    image
+}
+
+#[test]
+fn nineteen_by_min_and_max() {
+    // P3 has data at depth 1, in node 1, and at depth 2, in node 2
+    let hidden = [(0, 0, 1), (0, 1, 2), (1, 1, 2), (2, 2, 1), (2, 64, 1), (3, 3, 1), (64, 64, 1)];
+    for (min, max, place) in hidden {
+        assert_eq!(check(&p3_within(min, max), &mut [7; 3]), refused(19, place), "{min} {max}");
+    }
+    for (min, max) in [(0, 2), (1, 2), (0, 3), (1, 3), (1, 64)] {
+        assert_eq!(count(&p3_within(min, max), &mut [7; 3]), value(2), "{min} {max}");
+    }
+    // the root's data is the empty key, where min is 0
+    let mut image = p3_within(0, 3);
+    image[34] = 7;
+    assert_eq!(count(&image, &mut [7; 3]), value(3));
+    assert_eq!(look_up(&image, &[]), value(7));
+    image[23] = 1;
+    assert_eq!(check(&image, &mut [7; 3]), refused(19, 0));
+}
+
+/// A chain with one link of three bytes and one byte of data in a node. At one depth the data is
+/// 1. If the chain falls, the node after the root has the address G, and the last one has 1.
+fn chain(nodes: u32, depth: Option<u32>, falls: bool, (min, max): (u32, u32)) -> Vec<u8> {
+    let fields = [nodes - 1, 1, 3, 1, 0, min, max];
+    let mut image: Vec<u8> = fields.iter().flat_map(|field| field.to_be_bytes()).collect();
+    let address = |depth: u32| if falls && depth > 0 { nodes - depth } else { depth };
+    image.resize(28 + 4 * nodes as usize, 0);
+    for at in 0..nodes {
+        let start = 28 + 4 * address(at) as usize;
+        let next = if at + 1 < nodes { address(at + 1) } else { 0 };
+        image[start..start + 3].copy_from_slice(&next.to_be_bytes()[1..]);
+        image[start + 3] = u8::from(depth == Some(at));
+    }
+    image
+}
+
+#[test]
+fn nineteen_in_deep_chains() {
+    const NODES: u32 = 70_000;
+    let mut work = vec![7; NODES as usize];
+    for falls in [false, true] {
+        for lengths in [(0, 64), (64, 64), (1, 3), (0, 0)] {
+            let empty = chain(NODES, None, falls, lengths);
+            assert_eq!(check(&empty, &mut work), Answer::default(), "empty nodes at any depth");
+            for depth in [0, 1, 3, 4, 63, 64, 65, 66, 67, 128, 129, 192, 255, 256, 257, 259, 320]
+                .into_iter()
+                .chain([321, 65_535, 65_536, 65_537, 65_539, 65_600, 65_601, NODES - 1])
+            {
+                let image = chain(NODES, Some(depth), falls, lengths);
+                let place = if falls && depth > 0 { NODES - depth } else { depth };
+                let within = lengths.0 <= depth && depth <= lengths.1;
+                let expected = if within { Answer::default() } else { refused(19, place) };
+                assert_eq!(check(&image, &mut work), expected, "{lengths:?} {depth}");
+            }
+        }
+    }
 }
 
 /// P3 with the addresses 1 and 2 exchanged.
@@ -539,10 +680,50 @@ fn from_an_unreached_node_climbing_never_ends() {
 }
 
 #[test]
+fn hidden_data_by_climbing() {
+    // every tree with N = 3 and G = 2, and every one with N = 2 and G = 3; data in every set of
+    // nodes; keys of all lengths up to 4. The depth is the number of steps up to the root
+    let (mut accepted, mut hidden) = (0, 0);
+    for (n, g) in [(3, 2), (2, 3)] {
+        for links in crate::small::trees(n, g) {
+            for (set, min, max) in (0..1 << (g + 1)).flat_map(|set| {
+                (0..5).flat_map(move |max| (0..=max).map(move |min| (set, min, max)))
+            }) {
+                let fields = [g as u32, n as u32, 1, 1, 0, min, max];
+                let mut image: Vec<u8> = fields.iter().flat_map(|f| f.to_be_bytes()).collect();
+                for (node, links) in links.chunks(n).enumerate() {
+                    image.extend(links);
+                    image.push((set >> node & 1) as u8);
+                }
+                let head = Head::read(&image);
+                let up = |at: &u64| (*at > 0).then(|| parent(&image, &head, *at));
+                let depth = |node: u64| std::iter::successors(Some(node), up).count() as u32 - 1;
+                let lowest = (0..=g as u64)
+                    .filter(|node| set >> node & 1 == 1)
+                    .find(|node| depth(*node) < min || depth(*node) > max);
+                let expected = lowest.map_or(Answer::default(), |node| refused(19, node as u32));
+                assert_eq!(check(&image, &mut [7; 4]), expected, "{image:02X?}");
+                match expected.number {
+                    0 => {
+                        accepted += 1;
+                        let with_data = u64::from((set as u32).count_ones());
+                        assert_eq!(count(&image, &mut [7; 4]), value(with_data));
+                    }
+                    _ => hidden += 1,
+                }
+            }
+        }
+    }
+    assert_eq!(accepted + hidden, 15 * (12 * 2 * 8 + 14 * 6 * 16));
+    assert!(accepted > 2_000 && hidden > 10_000, "{accepted} {hidden}");
+}
+
+#[test]
 fn listing_of_the_small_file() {
     assert_eq!(listing(&p3()), "entries 2\n1 5\n1.0 9\n");
     assert_eq!(listing(&abc("00000001", "00010100 00000000")), "refused 7 at 1\n");
     assert_eq!(listing(&abc(UNREACHED[0].0, UNREACHED[0].1)), "refused 16 at 1\n");
+    assert_eq!(listing(&abc(HIDDEN[2].0, HIDDEN[2].1)), "refused 19 at 4\n");
     assert_eq!(
         listing(&hex("00000000 00000001 00000001 00000001 00000000 00000000 00000000 0007")),
         "entries 1\n- 7\n"
@@ -573,6 +754,24 @@ fn changes_add_up_to_the_number_of_keys() {
         assert_eq!(count(&image, &mut [7; 400]).value, sum as u64);
     }
     assert!(sum > 20);
+}
+
+#[test]
+fn stores_hide_nothing_and_deletes_prune_nothing() {
+    let mut image = vec![0xEE; 5_000];
+    make(&mut image, 3, 2, 2, b"ABC", 2, 3);
+    let mut refusals = 0;
+    for (i, letters) in some_keys(500).iter().enumerate() {
+        let before = Head::read(&image).g;
+        let stored = store(&mut image, &mut [7; 400], letters, i as u32 * 7 / 3 % 3);
+        refusals += u64::from(stored.number == 9);
+        assert!(Head::read(&image).g >= before, "a store of 0 leaves the nodes");
+        assert_eq!(check(&image, &mut [7; 400]), Answer::default());
+        let head = Head::read(&image);
+        let with_data = (0..=u64::from(head.g)).filter(|node| data(&image, &head, *node) > 0);
+        assert_eq!(count(&image, &mut [7; 400]), value(with_data.count() as u64));
+    }
+    assert!(refusals > 100 && count(&image, &mut [7; 400]).value > 5);
 }
 
 /// Compares well-formedness with Rust's own, which was not written from 01's table.

@@ -1,7 +1,7 @@
 //! Accepted images of many shapes: alphabets, heads, trees with rising addresses and renumbered
-//! ones, spare bytes.
+//! ones, nodes at every depth, data where min and max permit it, spare bytes.
 
-use crate::model::{greatest, write_number, Head};
+use crate::model::{greatest, outside, write_number, Head};
 use crate::renumbering::{self, renumbered};
 use crate::rng::Rng;
 
@@ -79,7 +79,8 @@ impl Shape {
         self.head.g = rng.pick(&[0, 1.min(most), any, any, most]) as u32;
     }
 
-    /// An accepted image with `spare` bytes of rubbish after U. Half of them are renumbered.
+    /// An accepted image with `spare` bytes of rubbish after U. Half of them are renumbered. Nodes
+    /// at a depth outside min..max have no data.
     pub fn grow(&self, rng: &mut Rng, spare: usize) -> Vec<u8> {
         let head = &self.head;
         let mut image = vec![0; head.u() as usize];
@@ -93,13 +94,16 @@ impl Shape {
             Growth::Bushy,
             Growth::Flat,
         ]);
+        let mut depths = vec![0];
         for address in 1..=u64::from(head.g) {
-            let at = self.free_link(rng, &image, growth, address);
+            let (parent, at) = self.free_link(rng, &image, growth, address);
             write_number(&mut image[at..at + head.a as usize], address);
+            depths.push(depths[parent as usize] + 1);
         }
         let full = rng.pick(&[1, 2, 2, 4]);
-        for node in 0..=u64::from(head.g) {
-            let value = if rng.below(full) > 0 || full == 1 { value(rng, head.d) } else { 0 };
+        for (node, depth) in (0..).zip(depths) {
+            let empty = outside(head, depth) || (rng.below(full) == 0 && full > 1);
+            let value = if empty { 0 } else { value(rng, head.d) };
             let at = head.data_at(node);
             write_number(&mut image[at..at + head.d as usize], value);
         }
@@ -111,9 +115,15 @@ impl Shape {
         image
     }
 
-    /// The offset of an empty link in a node below `address`, for the node at `address`. There is
-    /// one, since all links of the node before it are empty.
-    fn free_link(&self, rng: &mut Rng, image: &[u8], growth: Growth, address: u64) -> usize {
+    /// A node below `address` with an empty link, and that link's offset, for the node at
+    /// `address`. There is one, since all links of the node before it are empty.
+    fn free_link(
+        &self,
+        rng: &mut Rng,
+        image: &[u8],
+        growth: Growth,
+        address: u64,
+    ) -> (u64, usize) {
         let head = &self.head;
         let mut tries = 0;
         loop {
@@ -126,7 +136,7 @@ impl Shape {
             };
             let at = head.link_at(parent, rng.below(u64::from(head.n)));
             if image[at..at + head.a as usize].iter().all(|byte| *byte == 0) {
-                return at;
+                return (parent, at);
             }
             tries += 1;
         }

@@ -154,7 +154,7 @@ mod tests {
             let links = n as usize * (usize::from(g) + 1);
             let accepted = |links: &Vec<u8>| {
                 let setting = &settings()[0];
-                let image = image(&mut Rng::new(0), n, links, &[1; 5], setting);
+                let image = image(&mut Rng::new(0), n, links, &[0; 5], setting);
                 model::check(&image, &mut [0; 5]) == Answer::default()
             };
             let mut all: Vec<Vec<u8>> = tuples(&values, links).filter(accepted).collect();
