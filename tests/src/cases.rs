@@ -2,7 +2,7 @@
 //! while the image is damaged.
 
 use crate::calls::Call;
-use crate::damage::damage;
+use crate::damage::{damage, hide, readable};
 use crate::keys;
 use crate::lists;
 use crate::model::{self, Answer, Head, LONGEST_IMAGE};
@@ -19,6 +19,8 @@ enum Sort {
     Fresh,
     /// Mostly calls with counts, and mostly with the list that the call before left.
     Counted,
+    /// All calls on a deep image, often with data that max hides.
+    Deep,
     /// Only makes, at every limit.
     Makes,
     /// An image of 16,777,216 bytes, one less or one more: only a few calls, since they are slow.
@@ -31,6 +33,8 @@ pub struct Step {
     pub call: Call,
     pub key_len: usize,
     pub work_len: usize,
+    /// It is the check of what a store left.
+    pub after_store: bool,
 }
 
 pub struct Case {
@@ -50,6 +54,8 @@ pub struct Case {
     /// The image as it was before it was damaged.
     whole: Option<Vec<u8>>,
     last_found: Vec<u8>,
+    /// The last call was a store that was done.
+    stored: bool,
     asked: u64,
     calls: u64,
 }
@@ -62,7 +68,8 @@ impl Case {
             1..=12 => full_of_two_bytes(&mut rng),
             13..=130 => makes(&mut rng),
             131..=180 => rubbish(&mut rng),
-            181..=600 => full_of_one_byte(&mut rng),
+            181..=230 => deep(&mut rng),
+            231..=600 => full_of_one_byte(&mut rng),
             601..=1_100 => fresh(&mut rng),
             1_101..=1_700 => counted(&mut rng),
             _ => tree(&mut rng),
@@ -84,13 +91,19 @@ impl Case {
             shape,
             whole: None,
             last_found: Vec::new(),
+            stored: false,
             asked: 0,
             calls,
         }
     }
 
-    /// The next call, or nothing at the end of the case.
+    /// The next call, or nothing at the end of the case. After each store that was done it is a
+    /// check.
     pub fn next(&mut self) -> Option<Step> {
+        if std::mem::take(&mut self.stored) {
+            let work_len = self.g() + 1;
+            return Some(Step { call: Call::Check, key_len: 0, work_len, after_store: true });
+        }
         if self.asked == self.calls {
             return None;
         }
@@ -98,7 +111,8 @@ impl Case {
         self.damage_or_restore();
         let call = self.draw();
         let call = self.beside_counts(call);
-        Some(Step { call, key_len: self.draw_key_len(), work_len: self.draw_work_len(call) })
+        let (key_len, work_len) = (self.draw_key_len(), self.draw_work_len(call));
+        Some(Step { call, key_len, work_len, after_store: false })
     }
 
     /// The call that was drawn last, with what is lent to it.
@@ -120,6 +134,7 @@ impl Case {
             return;
         }
         self.image.copy_from_slice(left.image());
+        self.stored = call.stored().is_some();
         if let Call::NextKey { .. } | Call::KeyAt { .. } = call {
             self.last_found = left.key()[..answer.length as usize].to_vec();
         }
@@ -135,14 +150,19 @@ impl Case {
             Sort::Makes => return,
             Sort::Huge | Sort::Counted => 8,
             Sort::Fresh => 5,
-            Sort::Usual => 3,
+            Sort::Usual | Sort::Deep => 3,
         };
         match self.whole.take() {
             Some(whole) if self.rng.one_in(3) => self.image = whole,
             Some(whole) => self.whole = Some(whole),
             None if self.asked > 1 && self.rng.one_in(often) => {
                 self.whole = Some(self.image.clone());
-                damage(&mut self.rng, &mut self.image);
+                match readable(&self.image) {
+                    Some(head) if self.sort == Sort::Deep && !self.rng.one_in(4) => {
+                        return hide(&mut self.rng, &mut self.image, &head);
+                    }
+                    _ => damage(&mut self.rng, &mut self.image),
+                }
                 if self.rng.one_in(6) {
                     damage(&mut self.rng, &mut self.image);
                 }
@@ -227,7 +247,7 @@ impl Case {
         if !call.takes_counts() {
             return call;
         }
-        let right = lists::right(&self.image);
+        let right = lists::of_stored_keys(&self.image);
         let keys = right.as_ref().map_or(3, |counts| u64::from(counts[0]));
         self.draw_counts(call, right);
         match call {
@@ -237,7 +257,8 @@ impl Case {
     }
 
     /// Draws a list of counts that is right, wrong in one way, kept from the last call, or
-    /// rubbish. Its length is drawn independently.
+    /// rubbish. Where 19 alone refuses the image, a right list has the counts of its stored keys.
+    /// Its length is drawn independently.
     fn draw_counts(&mut self, call: Call, right: Option<Vec<u32>>) {
         let k = right.as_ref().map_or(0, |_| self.new_nodes(call));
         let len = self.draw_counts_len(k);
@@ -255,7 +276,8 @@ impl Case {
         self.counts = lists::of_length(&mut self.rng, counts, len);
     }
 
-    /// The k of a store in an accepted image; 0 for other calls, and if a letter is bad.
+    /// The k of a store in an image whose links are good; 0 for other calls, and if a letter is
+    /// bad.
     fn new_nodes(&self, call: Call) -> usize {
         let head = Head::read(&self.image);
         match call.stored() {
@@ -481,6 +503,18 @@ fn full_of_two_bytes(rng: &mut Rng) -> (Sort, Shape, Vec<u8>) {
     let spare = shape.draw_spare(rng);
     let image = shape.grow(rng, spare);
     (Sort::Usual, shape, image)
+}
+
+/// A chain deeper than 64 nodes, than 256, or than 65,536.
+fn deep(rng: &mut Rng) -> (Sort, Shape, Vec<u8>) {
+    let mut shape = Shape::narrow(rng, 3);
+    let lengths = [(0, 64), (0, 64), (1, 64), (64, 64), (0, 3), (2, 2), (0, 0)];
+    (shape.head.min, shape.head.max) = rng.pick(&lengths);
+    let (low, high) = rng.pick(&[(64, 68), (68, 250), (255, 330), (320, 700), (65_536, 70_000)]);
+    shape.head.g = rng.between(low, high) as u32;
+    let spare = shape.draw_spare(rng);
+    let image = shape.grow(rng, spare);
+    (Sort::Deep, shape, image)
 }
 
 /// An image of the greatest length, or one byte longer or shorter. It has all nodes that fit, in

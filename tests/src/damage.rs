@@ -1,6 +1,7 @@
-//! Spoils an image in one way: a head field, the alphabet, links, data, the length.
+//! Spoils an image in one way: a head field, the alphabet, links, data, the length. Or it spoils
+//! the image in two ways, so that the order of the refusals matters.
 
-use crate::model::{greatest, link, write_number, Head, LONGEST_IMAGE};
+use crate::model::{depths, greatest, link, outside, write_number, Head, LONGEST_IMAGE};
 use crate::renumbering::{self, renumbered};
 use crate::rng::Rng;
 use crate::shapes;
@@ -12,7 +13,7 @@ pub fn damage(rng: &mut Rng, image: &mut Vec<u8>) {
         image.extend(rubbish);
         return;
     }
-    match rng.below(20) {
+    match rng.below(26) {
         0..=2 => head_field(rng, image),
         3 => {
             head_field(rng, image);
@@ -189,12 +190,11 @@ fn body(rng: &mut Rng, image: &mut [u8]) {
         Some(head) => head,
         None => return,
     };
-    match rng.below(24) {
+    match rng.below(36) {
         0 => {
             let node = rng.between(0, u64::from(head.g));
             let value = if rng.one_in(3) { 0 } else { shapes::value(rng, head.d) };
-            let at = head.data_at(node);
-            write_number(&mut image[at..at + head.d as usize], value);
+            set_data(image, &head, node, value);
         }
         1 => {
             for _ in 0..rng.between(2, 4) {
@@ -221,7 +221,63 @@ fn body(rng: &mut Rng, image: &mut [u8]) {
                 link_above(rng, image, &head);
             }
         }
+        24..=27 => hide(rng, image, &head),
+        28..=35 => {
+            hide(rng, image, &head);
+            beside_hidden_data(rng, image, &head);
+        }
         _ => tear(rng, image, &head),
+    }
+}
+
+/// Puts data into one node or some that are at a depth outside min..max, if there are any.
+pub fn hide(rng: &mut Rng, image: &mut [u8], head: &Head) {
+    let depths = depths(image, head);
+    for _ in 0..rng.pick(&[1, 1, 1, 2, 3, 6]) {
+        if let Some(node) = node_outside(rng, head, &depths) {
+            let value = shapes::value(rng, head.d);
+            set_data(image, head, node, value);
+        }
+    }
+}
+
+/// A node at a depth outside min..max, if there is one. The depth is often just outside, or one
+/// that would be inside if it were counted in 6, 7, 8 or 16 bits, or only up to 64.
+fn node_outside(rng: &mut Rng, head: &Head, depths: &[Option<u64>]) -> Option<u64> {
+    let (min, max) = (u64::from(head.min), u64::from(head.max));
+    let inside = rng.between(min, max);
+    let near = [min.saturating_sub(1), max + 1, max + 2, 0, 1, 64, 65, 66];
+    let far = [65 + inside, 128 + inside, 255, 256, 256 + inside, 65_535, 65_536, 65_536 + inside];
+    let deepest = depths.iter().flatten().max().copied().unwrap_or(0);
+    let wanted = match rng.below(8) {
+        0..=2 => Some(rng.pick(&near)),
+        3..=5 => Some(rng.pick(&far)),
+        6 => Some(deepest),
+        _ => None,
+    };
+    let any: Vec<u64> = (0..)
+        .zip(depths)
+        .filter(|(_, depth)| depth.map_or(false, |depth| outside(head, depth)))
+        .map(|(node, _)| node)
+        .collect();
+    let there = any.iter().filter(|node| depths[**node as usize] == wanted);
+    let there: Vec<u64> = there.copied().collect();
+    let from = if there.is_empty() { any } else { there };
+    if from.is_empty() {
+        return None;
+    }
+    Some(rng.pick(&from))
+}
+
+/// A fault of the links beside hidden data: one of 6, 7, 8 or 16. Or none, but other addresses.
+fn beside_hidden_data(rng: &mut Rng, image: &mut [u8], head: &Head) {
+    match rng.below(8) {
+        0 => link_above(rng, image, head),
+        1 => copy_link(rng, image, head),
+        2..=3 => unlinked_nodes(rng, image, head),
+        4 => empty_link(rng, image, head),
+        5..=6 => cycle(rng, image, head),
+        _ => renumber(rng, image, head),
     }
 }
 
@@ -280,6 +336,11 @@ fn some_letter(rng: &mut Rng, head: &Head, fits: impl Fn(u64) -> bool) -> Option
     let n = u64::from(head.n);
     let start = rng.below(n);
     (0..n).map(|i| (start + i) % n).find(|letter| fits(*letter))
+}
+
+fn set_data(image: &mut [u8], head: &Head, node: u64, value: u64) {
+    let at = head.data_at(node);
+    write_number(&mut image[at..at + head.d as usize], value);
 }
 
 fn set_link(image: &mut [u8], head: &Head, node: u64, letter: u64, address: u64) {
@@ -395,7 +456,7 @@ fn copy_link(rng: &mut Rng, image: &mut [u8], head: &Head) {
 
 /// Raises G by some nodes, if there is room, as after a cut before the old link. The first of them
 /// stands in no link, and perhaps A bytes cannot hold its address. Each other one mostly stands in
-/// the node before it.
+/// the node before it. The last one mostly has data.
 fn unlinked_nodes(rng: &mut Rng, image: &mut [u8], head: &Head) {
     let (first, many) = (u64::from(head.g) + 1, rng.pick(&[1, 1, 2, 3]));
     let (start, end) = (head.node(first) as usize, head.node(first + many) as usize);
@@ -407,6 +468,10 @@ fn unlinked_nodes(rng: &mut Rng, image: &mut [u8], head: &Head) {
         if node <= greatest(head.a) && !rng.one_in(8) {
             set_link(image, head, node - 1, rng.below(u64::from(head.n)), node);
         }
+    }
+    if !rng.one_in(3) {
+        let value = shapes::value(rng, head.d);
+        set_data(image, head, first + many - 1, value);
     }
     write_number(&mut image[..4], first + many - 1);
 }

@@ -6,10 +6,19 @@ use crate::rng::Rng;
 
 /// The right counts of an image, if it is accepted.
 pub fn right(image: &[u8]) -> Option<Vec<u32>> {
+    counts_if(image, &[0])
+}
+
+/// The counts of the stored keys, if the image is accepted or would be without its hidden data.
+pub fn of_stored_keys(image: &[u8]) -> Option<Vec<u32>> {
+    counts_if(image, &[0, 19])
+}
+
+/// The counts of an image whose check answers one of these numbers.
+fn counts_if(image: &[u8], numbers: &[u32]) -> Option<Vec<u32>> {
     let head = model::one_to_four(image).ok()?;
-    let mut work = vec![0; head.g as usize + 1];
-    model::checked(image, &mut work).ok()?;
-    Some(model::fresh_counts(image, &head))
+    let answer = model::check(image, &mut vec![0; head.g as usize + 1]);
+    numbers.contains(&answer.number).then(|| model::fresh_counts(image, &head))
 }
 
 /// Random numbers: 0 alone, small ones as counts are, or any.
@@ -41,8 +50,8 @@ pub fn spoil(rng: &mut Rng, image: &[u8], counts: &mut [u32]) {
         }
         3 => counts[last] ^= 1,
         4 => count_where_none_is(rng, counts),
-        5 => recount(image, &Head { min: 0, ..head }, counts),
-        6 => recount(image, &Head { max: head.max + 1, ..head }, counts),
+        5 => counts.copy_from_slice(&too_many(image, |depth| depth < u64::from(head.min))),
+        6 => counts.copy_from_slice(&too_many(image, |depth| depth > u64::from(head.max))),
         7 => counts.rotate_right(1),
         _ => {
             counts[any] = counts[any].wrapping_add(1);
@@ -61,7 +70,27 @@ fn count_where_none_is(rng: &mut Rng, counts: &mut [u32]) {
     }
 }
 
-/// The counts that there would be if data that min or max hides were stored keys.
-fn recount(image: &[u8], wider: &Head, counts: &mut [u32]) {
-    counts.copy_from_slice(&model::fresh_counts(image, wider));
+/// The counts that there would be if each node at such a depth were a stored key, with or without
+/// data. Only for an image in which every node is reached.
+pub fn too_many(image: &[u8], at: impl Fn(u64) -> bool) -> Vec<u32> {
+    let head = Head::read(image);
+    let depth: Vec<u64> = model::depths(image, &head).into_iter().flatten().collect();
+    let stored = |node: u64, depth: u64| {
+        model::data(image, &head, node) != 0 && !model::outside(&head, depth)
+    };
+    let mut counts: Vec<u32> = (0..)
+        .zip(&depth)
+        .map(|(node, depth)| u32::from(at(*depth) || stored(node, *depth)))
+        .collect();
+    let mut deepest_first: Vec<u64> = (0..depth.len() as u64).collect();
+    deepest_first.sort_by_key(|node| std::cmp::Reverse(depth[*node as usize]));
+    for node in deepest_first {
+        for letter in 0..u64::from(head.n) {
+            match model::link(image, &head, node, letter) as usize {
+                0 => {}
+                child => counts[node as usize] += counts[child],
+            }
+        }
+    }
+    counts
 }

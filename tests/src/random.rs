@@ -1,14 +1,15 @@
 //! The random part: runs cases by their seeds, in two threads, and compares each call. And the
 //! self-test with the saboteurs.
 
-use crate::calls::{KINDS, NUMBERS};
-use crate::cases::Case;
+use crate::calls::{Call, KINDS, NUMBERS};
+use crate::cases::{Case, Step};
+use crate::model::{self, Answer, Head};
 use crate::progress::Progress;
 use crate::report::{self, say};
 use crate::rng::Rng;
 use crate::saboteurs::{self, Sabotage};
 use crate::situations::{Seen, SITUATIONS};
-use crate::twins::{Twins, IN_WRAPPER};
+use crate::twins::{Asked, Outcome, Twins, IN_WRAPPER};
 use std::sync::atomic::{AtomicU64, Ordering};
 use std::sync::Mutex;
 
@@ -39,7 +40,7 @@ impl Tally {
 
     fn see(&mut self, seen: &Seen) {
         self.calls += 1;
-        self.numbers[seen.asked.call.kind()][seen.answer.number as usize] += 1;
+        self.numbers[seen.kind()][seen.number() as usize] += 1;
         for (met, situation) in self.situations.iter_mut().zip(&SITUATIONS) {
             *met += u64::from((situation.met)(seen));
         }
@@ -109,6 +110,36 @@ impl Tally {
     }
 }
 
+/// What is claimed of an outcome besides: the check accepts what a store leaves, since "Our own
+/// calls never make" hidden data; and the number of keys is the number of nodes with data.
+/// Returns the claim that does not hold, as text.
+fn broken_claim(step: &Step, asked: &Asked, answer: &Answer) -> Option<String> {
+    if step.after_store && answer.number > 0 {
+        return Some("the check refuses what a store left".to_string());
+    }
+    if asked.call != Call::Count || answer.number > 0 {
+        return None;
+    }
+    let head = Head::read(asked.image);
+    let has_data = |node: &u64| model::data(asked.image, &head, *node) != 0;
+    let full = (0..=u64::from(head.g)).filter(has_data).count() as u64;
+    (answer.value != full).then(|| format!("{} keys, {full} nodes with data", answer.value))
+}
+
+/// Makes a call in all of them and compares. A claim that does not hold is a difference too.
+fn ask(
+    twins: &mut Twins,
+    case: &Case,
+    step: &Step,
+    guards: &mut Rng,
+    sabotage: Option<Sabotage>,
+) -> Outcome {
+    let asked = case.asked(step);
+    let outcome = twins.ask(&asked, guards, sabotage);
+    let broken = broken_claim(step, &asked, &outcome.library);
+    Outcome { difference: outcome.difference.or(broken), ..outcome }
+}
+
 /// Runs a case. The first difference ends it and is returned as text.
 fn run_case(
     seed: u64,
@@ -122,7 +153,7 @@ fn run_case(
     while let Some(step) = case.next() {
         number += 1;
         let asked = case.asked(&step);
-        let outcome = twins.ask(&asked, &mut guards, sabotage);
+        let outcome = ask(twins, &case, &step, &mut guards, sabotage);
         if outcome.difference.is_some() {
             let told = report::asked(&asked) + &report::outcome(&outcome);
             return Err(format!(
@@ -130,7 +161,7 @@ fn run_case(
                  replay with: tests/replay {seed}\n"
             ));
         }
-        tally.see(&Seen { asked, answer: outcome.model });
+        tally.see(&Seen::new(asked, outcome.model));
         case.learn(step.call, &outcome.model, &twins.model);
     }
     tally.cases += 1;
@@ -210,7 +241,7 @@ pub fn replay(seed: u64) -> bool {
             say(&format!("image of {} bytes:\n{}", printed.len(), report::hex_lines(&printed)));
         }
         say(&format!("call {number}: {}", report::asked(&asked)));
-        let outcome = twins.ask(&asked, &mut guards, None);
+        let outcome = ask(&mut twins, &case, &step, &mut guards, None);
         say(&report::outcome(&outcome));
         if outcome.difference.is_some() {
             say_images(&twins);

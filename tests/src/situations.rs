@@ -10,8 +10,11 @@ use crate::twins::Asked;
 
 /// A call with what was lent to it, and what the model answered.
 pub struct Seen<'a> {
-    pub asked: Asked<'a>,
-    pub answer: Answer,
+    asked: Asked<'a>,
+    answer: Answer,
+    /// The reached nodes with hidden data and their depths, if the call was refused with 19 in an
+    /// image that is not huge.
+    hidden: Vec<(u64, u64)>,
 }
 
 pub struct Situation {
@@ -19,8 +22,31 @@ pub struct Situation {
     pub met: fn(&Seen) -> bool,
 }
 
+/// The reached nodes that have data at a depth outside min..max, each with its depth. Only for an
+/// image that passed 4.
+fn hidden_data(image: &[u8]) -> Vec<(u64, u64)> {
+    let head = Head::read(image);
+    let depths = (0..).zip(model::depths(image, &head));
+    depths
+        .filter_map(|(node, depth)| Some((node, depth?)))
+        .filter(|(_, depth)| model::outside(&head, *depth))
+        .filter(|(node, _)| model::data(image, &head, *node) != 0)
+        .collect()
+}
+
 impl Seen<'_> {
-    fn number(&self) -> u32 {
+    pub fn new(asked: Asked<'_>, answer: Answer) -> Seen<'_> {
+        let nineteen = answer.number == 19 && asked.image.len() < 1_000_000;
+        let hidden = if nineteen { hidden_data(asked.image) } else { Vec::new() };
+        Seen { asked, answer, hidden }
+    }
+
+    /// The call's row in `calls::KINDS`.
+    pub fn kind(&self) -> usize {
+        self.call().kind()
+    }
+
+    pub fn number(&self) -> u32 {
         self.answer.number
     }
 
@@ -217,6 +243,50 @@ impl Seen<'_> {
         Some((self.under(0), self.under(u64::from(place))[place as usize]))
     }
 
+    /// Whether a small image has hidden data, for a call that passed 4.
+    fn hides(&self) -> bool {
+        self.small() && !hidden_data(self.asked.image).is_empty()
+    }
+
+    /// Whether the call is refused with 19 in an image that is not huge, and what is hidden is so.
+    fn nineteen(&self, is_so: impl Fn(&[(u64, u64)], &Head) -> bool) -> bool {
+        !self.hidden.is_empty() && is_so(&self.hidden, &self.head())
+    }
+
+    /// The same, where all that is hidden would be inside min..max if the depth were counted
+    /// otherwise.
+    fn nineteen_missed(&self, otherwise: fn(u64) -> u64) -> bool {
+        self.nineteen(|hidden, head| {
+            hidden.iter().all(|(_, depth)| !model::outside(head, otherwise(*depth)))
+        })
+    }
+
+    /// For a call that passed the check of a chain with one link in a node: the node at a depth,
+    /// if there is one.
+    fn chain_at(&self, depth: u64) -> Option<u64> {
+        if self.is_make() || self.is_look_up() || !matches!(self.number(), 0 | 25) {
+            return None;
+        }
+        let (image, head) = (self.asked.image, self.head());
+        if head.n > 1 || depth > u64::from(head.g) {
+            return None;
+        }
+        Some((0..depth).fold(0, |node, _| model::link(image, &head, node, 0)))
+    }
+
+    /// Whether a small image has a node at such a depth, for a call that passed 4.
+    fn has_node_at(&self, fits: impl Fn(u64, &Head) -> bool) -> bool {
+        let (image, head) = (self.asked.image, self.head());
+        self.small()
+            && model::depths(image, &head).into_iter().flatten().any(|depth| fits(depth, &head))
+    }
+
+    /// For a store by letters that took a key away: the key's own node.
+    fn emptied(&self) -> Option<u64> {
+        let taken = self.by_letters() && self.answer.change == -1;
+        taken.then(|| model::path(self.asked.image, &self.head(), self.asked.given).0)
+    }
+
     /// The nodes that the key of a call by letters passes, as far as its links go, if the call did
     /// not refuse the image or the key.
     fn passed(&self) -> Vec<u64> {
@@ -244,7 +314,7 @@ impl Seen<'_> {
     }
 }
 
-pub const SITUATIONS: [Situation; 127] = [
+pub const SITUATIONS: [Situation; 170] = [
     Situation {
         name: "1: the image is shorter than 28",
         met: |s| s.number() == 1 && s.image_len() < 28,
@@ -307,7 +377,162 @@ pub const SITUATIONS: [Situation; 127] = [
         name: "5: a node is not reached too",
         met: |s| s.number() == 5 && s.check().map_or(false, |answer| answer.number == 16),
     },
+    Situation {
+        name: "5: data is hidden too",
+        met: |s| s.number() == 5 && s.check().map_or(false, |answer| answer.number == 19),
+    },
     Situation { name: "6: a link to G+1", met: link_past_g },
+    Situation {
+        name: "6: data is hidden too",
+        met: |s| s.number() == 6 && !s.is_look_up() && s.hides(),
+    },
+    Situation { name: "7: data is hidden too", met: |s| s.number() == 7 && s.hides() },
+    Situation { name: "8: data is hidden too", met: |s| s.number() == 8 && s.hides() },
+    Situation { name: "16: data is hidden too", met: |s| s.number() == 16 && s.hides() },
+    Situation {
+        name: "16: data is hidden in a lower node",
+        met: |s| {
+            s.number() == 16
+                && s.hides()
+                && hidden_data(s.asked.image)[0].0 < u64::from(s.answer.place)
+        },
+    },
+    Situation { name: "19: the root alone", met: |s| s.nineteen(|hidden, _| hidden == [(0, 0)]) },
+    Situation {
+        name: "19: shorter than min, not at the root",
+        met: |s| s.nineteen(|hidden, head| hidden[0].0 > 0 && hidden[0].1 < u64::from(head.min)),
+    },
+    Situation {
+        name: "19: one node, one step above min",
+        met: |s| {
+            s.nineteen(|hidden, head| hidden.len() == 1 && hidden[0].1 + 1 == u64::from(head.min))
+        },
+    },
+    Situation {
+        name: "19: one node, one step below max",
+        met: |s| {
+            s.nineteen(|hidden, head| hidden.len() == 1 && hidden[0].1 == u64::from(head.max) + 1)
+        },
+    },
+    Situation {
+        name: "19: shorter than min and deeper than max",
+        met: |s| {
+            s.nineteen(|hidden, head| {
+                let shorter = hidden.iter().filter(|(_, depth)| *depth < u64::from(head.min));
+                (1..hidden.len()).contains(&shorter.count())
+            })
+        },
+    },
+    Situation {
+        name: "19: the lowest node has not the least depth",
+        met: |s| s.nineteen(|hidden, _| hidden.iter().any(|(_, depth)| *depth < hidden[0].1)),
+    },
+    Situation {
+        name: "19: the lowest node has the least depth, another is deeper",
+        met: |s| {
+            s.nineteen(|hidden, _| {
+                hidden.iter().all(|(_, depth)| *depth >= hidden[0].1)
+                    && hidden.iter().any(|(_, depth)| *depth > hidden[0].1)
+            })
+        },
+    },
+    Situation { name: "19: max is 0", met: |s| s.nineteen(|_, head| head.max == 0) },
+    Situation {
+        name: "19: min is max, above 0",
+        met: |s| s.nineteen(|_, head| head.min == head.max && head.max > 0),
+    },
+    Situation {
+        name: "19: all links rise",
+        met: |s| s.nineteen(|_, head| head.g > 3) && rises(s.asked.image),
+    },
+    Situation {
+        name: "19: a link does not rise",
+        met: |s| s.nineteen(|_, _| true) && !rises(s.asked.image),
+    },
+    Situation {
+        name: "19: one node, at depth 65",
+        met: |s| {
+            s.nineteen(|hidden, head| hidden.len() == 1 && hidden[0].1 == 65 && head.max == 64)
+        },
+    },
+    Situation {
+        name: "19: one node, at depth 66",
+        met: |s| {
+            s.nineteen(|hidden, head| hidden.len() == 1 && hidden[0].1 == 66 && head.max == 64)
+        },
+    },
+    Situation {
+        name: "19: inside min..max if the depth stops at 64",
+        met: |s| s.nineteen_missed(|depth| depth.min(64)),
+    },
+    Situation {
+        name: "19: inside min..max if the depth is counted modulo 65",
+        met: |s| s.nineteen_missed(|depth| depth % 65),
+    },
+    Situation {
+        name: "19: inside min..max if the depth is counted in 8 bits",
+        met: |s| s.nineteen_missed(|depth| depth % 256),
+    },
+    Situation {
+        name: "19: inside min..max if the depth is counted in 16 bits",
+        met: |s| s.nineteen_missed(|depth| depth % 65_536),
+    },
+    Situation {
+        name: "19: deeper than 65,536, at any depth",
+        met: |s| s.nineteen(|hidden, _| hidden.iter().any(|(_, depth)| *depth > 65_536)),
+    },
+    Situation {
+        name: "19: the last byte of its data is 0",
+        met: |s| {
+            s.number() == 19
+                && model::data(s.asked.image, &s.head(), u64::from(s.answer.place)) % 256 == 0
+        },
+    },
+    Situation {
+        name: "19: at an address above 255",
+        met: |s| s.number() == 19 && s.answer.place > 255,
+    },
+    Situation {
+        name: "19: at an address above 65,535",
+        met: |s| s.number() == 19 && s.answer.place > 65_535,
+    },
+    Situation {
+        name: "19: the key of a store is refused too",
+        met: |s| {
+            s.number() == 19
+                && s.by_letters()
+                && matches!(model::look_up(s.asked.image, s.asked.given).number, 9 | 10)
+        },
+    },
+    Situation {
+        name: "19: the key buffer is too short too",
+        met: |s| s.number() == 19 && s.is_next_key() && s.asked.key_len < s.head().max as usize,
+    },
+    Situation { name: "19: the counts differ too", met: |s| counts_beside_hidden(s, false) },
+    Situation {
+        name: "19: the counts are those of the stored keys",
+        met: |s| counts_beside_hidden(s, true),
+    },
+    Situation {
+        name: "accepted: data at depth 64",
+        met: |s| {
+            let node = s.chain_at(64);
+            node.map_or(false, |node| model::data(s.asked.image, &s.head(), node) > 0)
+        },
+    },
+    Situation { name: "accepted: empty nodes deeper than 64", met: |s| s.chain_at(65).is_some() },
+    Situation {
+        name: "accepted: empty nodes deeper than 65,536",
+        met: |s| s.chain_at(0).is_some() && s.head().g > 65_536,
+    },
+    Situation {
+        name: "accepted: stored keys beside empty nodes deeper than max",
+        met: |s| {
+            s.call() == Call::Count
+                && s.answer.value > 0
+                && s.has_node_at(|depth, head| depth > u64::from(head.max))
+        },
+    },
     Situation {
         name: "6: beside it a cycle that is not reached",
         met: |s| s.number() == 6 && !s.is_look_up() && s.cycle_apart(),
@@ -468,6 +693,28 @@ pub const SITUATIONS: [Situation; 127] = [
         met: |s| s.is_look_up() && s.done() && s.check().map_or(false, |a| a.number == 16),
     },
     Situation {
+        name: "look up: found where the check gives 19",
+        met: |s| {
+            s.is_look_up()
+                && s.answer.value > 0
+                && s.check().map_or(false, |answer| answer.number == 19)
+        },
+    },
+    Situation {
+        name: "look up: 9 for a key whose data is hidden",
+        met: |s| {
+            let asked_for = |hidden: &(u64, u64)| {
+                let (last, far) = model::path(s.asked.image, &s.head(), s.asked.given);
+                far == s.asked.given.len() && last == hidden.0
+            };
+            s.call() == Call::LookUp
+                && s.number() == 9
+                && s.asked.given.iter().all(|letter| u32::from(*letter) < s.head().n)
+                && s.check().map_or(false, |answer| answer.number == 19)
+                && hidden_data(s.asked.image).iter().any(asked_for)
+        },
+    },
+    Situation {
         name: "9: shorter than min",
         met: |s| s.number() == 9 && (s.asked.given.len() as u32) < s.head().min,
     },
@@ -567,6 +814,27 @@ pub const SITUATIONS: [Situation; 127] = [
         met: |s| s.by_letters() && s.answer.change == 1 && s.missing() == 0,
     },
     Situation {
+        name: "store: -1 at a node without links, which stays",
+        met: |s| {
+            s.emptied().map_or(false, |node| {
+                let link = |letter| model::link(s.asked.image, &s.head(), node, letter);
+                node > 0 && (0..u64::from(s.head().n)).all(|letter| link(letter) == 0)
+            })
+        },
+    },
+    Situation {
+        name: "store: -1 at a node above empty ones deeper than max",
+        met: |s| s.emptied().is_some() && s.has_node_at(|depth, head| depth > u64::from(head.max)),
+    },
+    Situation {
+        name: "store: new nodes beside empty ones deeper than max",
+        met: |s| {
+            s.missing() > 0
+                && s.answer.change == 1
+                && s.has_node_at(|depth, head| depth > u64::from(head.max))
+        },
+    },
+    Situation {
         name: "store: FFFFFFFF",
         met: |s| s.is_store() && s.done() && s.value() == u32::MAX,
     },
@@ -624,6 +892,19 @@ pub const SITUATIONS: [Situation; 127] = [
         met: |s| s.trial().map_or(false, |answer| answer.number == 16),
     },
     Situation {
+        name: "mend: 8 stays, for data is hidden in a lower node",
+        met: |s| s.trial().map_or(false, |answer| answer.number == 19),
+    },
+    Situation {
+        name: "mend: G lowered, data is cut off",
+        met: |s| {
+            let (image, head) = (s.asked.image, readable(s.asked.image));
+            let data = |node| head.map_or(0, |head| model::data(image, &head, u64::from(node)));
+            s.mended_at()
+                .map_or(false, |p| p > 0 && (p..s.nodes() as u32).any(|node| data(node) > 0))
+        },
+    },
+    Situation {
         name: "next key: the key given is shorter than min",
         met: |s| s.is_next_key() && s.done() && (s.asked.given.len() as u32) < s.head().min,
     },
@@ -636,13 +917,14 @@ pub const SITUATIONS: [Situation; 127] = [
         met: |s| s.is_next_key() && s.done() && (s.answer.length as usize) < s.asked.given.len(),
     },
     Situation {
-        name: "count: none though the root has data",
+        name: "count: above 2, and some nodes are empty",
         met: |s| {
-            s.call() == Call::Count
-                && s.done()
-                && s.answer.value == 0
-                && model::data(s.asked.image, &s.head(), 0) > 0
+            s.call() == Call::Count && s.answer.value > 2 && s.answer.value < s.nodes() as u64
         },
+    },
+    Situation {
+        name: "count: the number of nodes",
+        met: |s| s.call() == Call::Count && s.done() && s.answer.value == s.nodes() as u64,
     },
     Situation {
         name: "5 beside counts: the working numbers alone are short",
@@ -750,12 +1032,12 @@ pub const SITUATIONS: [Situation; 127] = [
     },
     Situation { name: "25: at a node deeper than max", met: deeper_than_max },
     Situation {
-        name: "25: data that min hides is counted",
-        met: |s| hidden_is_counted(s, |head| Head { min: 0, ..head }),
+        name: "25: nodes shorter than min are counted",
+        met: |s| nodes_are_counted(s, |depth, head| depth < u64::from(head.min)),
     },
     Situation {
-        name: "25: data that max hides is counted",
-        met: |s| hidden_is_counted(s, |head| Head { max: head.max + 1, ..head }),
+        name: "25: nodes deeper than max are counted",
+        met: |s| nodes_are_counted(s, |depth, head| depth > u64::from(head.max)),
     },
     Situation {
         name: "25: the key of a store is refused too",
@@ -806,12 +1088,22 @@ fn short_for_k(s: &Seen) -> bool {
     s.k().map_or(false, |k| s.asked.counts.len() < s.nodes() + k)
 }
 
-fn hidden_is_counted(s: &Seen, widen: fn(Head) -> Head) -> bool {
-    let wider = |right: Vec<u32>| {
-        let counts = model::fresh_counts(s.asked.image, &widen(s.head()));
-        s.asked.counts[..right.len()] == counts[..]
-    };
-    s.differing().map_or(false, wider)
+/// Whether the counts lent to a call that answered 25 count each node at such a depth as a key.
+fn nodes_are_counted(s: &Seen, at: fn(u64, &Head) -> bool) -> bool {
+    s.differing().map_or(false, |right| {
+        let wrong = lists::too_many(s.asked.image, |depth| at(depth, &s.head()));
+        s.asked.counts[..right.len()] == wrong[..]
+    })
+}
+
+/// Whether a call that compares counts answered 19 in a small image, and its list is or is not
+/// that of the stored keys.
+fn counts_beside_hidden(s: &Seen, of_stored_keys: bool) -> bool {
+    if s.number() != 19 || !s.call().compares_counts() || !s.small() {
+        return false;
+    }
+    let fresh = model::fresh_counts(s.asked.image, &s.head());
+    (s.asked.counts[..fresh.len()] == fresh[..]) == of_stored_keys
 }
 
 /// Whether the place of 25 is deeper than max. Its depth is found by climbing from it to the root.
