@@ -3,12 +3,14 @@
 //! data value of its family. The calls, without make, are made with every key of at most three
 //! letters from 0 to N, where the letter N is bad. With N and G up to 2, and the link values that
 //! matter, this is done on every image, refused or not. In some other families fewer calls, or
-//! none, are made on the refused images, as `Asks` says. The calls with counts are made with
-//! right, wrong and short lists; those that take a key or a position are made on accepted images
-//! only.
+//! none, are made on the images whose links are refused, as `Asks` says. The calls with counts are
+//! made with right, wrong and short lists; those that take a key or a position are made on images
+//! whose links are good, also if 19 refuses their data, and then with the counts of the stored
+//! keys. In an accepted image the number of keys must be the number of nodes with data.
 //!
 //! After the families, small accepted images are renumbered in every way. Each must answer as the
-//! one it was made from.
+//! one it was made from. With data in all nodes, 19 must name the lowest of the new addresses
+//! whose nodes are hidden in the one it was made from.
 
 use crate::calls::Call;
 use crate::lists;
@@ -24,15 +26,15 @@ use std::sync::Mutex;
 /// The run stops after this number of failures.
 const ENOUGH: usize = 5;
 
-/// Which calls are made on the images that the check refuses. All calls are made on those that it
-/// accepts.
+/// Which calls are made on the images whose links the check refuses. All calls are made on the
+/// others: those that it accepts, and those that 19 alone refuses.
 #[derive(Clone, Copy, PartialEq)]
 enum Asks {
     /// Every call with every key.
     All,
     /// The check and mend, with one choice of data.
     Check,
-    /// None: only accepted images are built.
+    /// None: only images whose links are good are built.
     Nothing,
 }
 
@@ -45,7 +47,7 @@ struct Family {
     /// The data values of every node.
     data: &'static [u8],
     refused: Asks,
-    /// An accepted image is tried in every n-th setting, where n is this number.
+    /// An image whose links are good is tried in every n-th setting, where n is this number.
     settings: usize,
 }
 
@@ -82,12 +84,15 @@ const FAMILIES: [Family; 16] = [
 /// The greatest G of the images that are renumbered, for N from 1 on.
 const RENUMBERED: [u32; 3] = [4, 4, 3];
 
-/// What was tried, and how many of the calls gave 16.
+/// What was tried, how many of the calls gave 16 and 19, and how many numbers of keys were
+/// compared with the nodes that have data.
 #[derive(Clone, Copy, Default)]
 pub struct Exhausted {
     pub images: u64,
     pub calls: u64,
     pub unreached: u64,
+    pub hidden: u64,
+    pub counted: u64,
     pub failed: usize,
 }
 
@@ -96,6 +101,8 @@ impl Exhausted {
         self.images += other.images;
         self.calls += other.calls;
         self.unreached += other.unreached;
+        self.hidden += other.hidden;
+        self.counted += other.counted;
         self.failed += other.failed;
     }
 }
@@ -133,12 +140,34 @@ impl Worker {
         let outcome = self.twins.ask(&asked, &mut self.rng, None);
         self.done.calls += 1;
         self.done.unreached += u64::from(outcome.model.number == 16);
-        if outcome.difference.is_some() && self.done.failed < ENOUGH {
-            self.done.failed += 1;
-            let told = report::asked(&asked) + &report::outcome(&outcome);
-            println!("FAILED: exhaustive: {told}    image [{}]", report::hex(image));
+        self.done.hidden += u64::from(outcome.model.number == 19);
+        if outcome.difference.is_some() {
+            self.fail(&(report::asked(&asked) + &report::outcome(&outcome)), image);
         }
         outcome.library
+    }
+
+    fn fail(&mut self, told: &str, image: &[u8]) {
+        if self.done.failed < ENOUGH {
+            self.done.failed += 1;
+            println!("FAILED: exhaustive: {told}    image [{}]", report::hex(image));
+        }
+    }
+
+    /// Makes the call for the number of keys. If the image is accepted, that is the number of
+    /// nodes with data.
+    fn ask_count(&mut self, image: &[u8], work_len: usize) -> Answer {
+        let counted = self.ask(Call::Count, image, &[], 0, work_len);
+        if counted.number == 0 {
+            let head = Head::read(image);
+            let nodes = 0..=u64::from(head.g);
+            let full = nodes.filter(|node| model::data(image, &head, *node) != 0).count() as u64;
+            self.done.counted += 1;
+            if counted.value != full {
+                self.fail(&format!("{} keys in {full} nodes with data\n", counted.value), image);
+            }
+        }
+        counted
     }
 
     fn image(&mut self, family: &Family, links: &[u8], data: &[u8], setting: &Setting) -> Vec<u8> {
@@ -152,7 +181,7 @@ impl Worker {
         self.ask(Call::Check, image, &[], 0, g);
         self.ask(Call::Mend, image, &[], 0, g + 2);
         self.ask(Call::Mend, image, &[], 0, g);
-        self.ask(Call::Count, image, &[], 0, g + 2);
+        self.ask_count(image, g + 2);
         self.ask(Call::Count, image, &[], 0, g);
     }
 
@@ -181,7 +210,8 @@ impl Worker {
     }
 
     /// Works the counts out and compares them, in lists that are long enough and in a short one.
-    /// `list` holds the right counts or, for a refused image, any counts.
+    /// `list` holds the counts of the stored keys or, for an image whose links are refused, any
+    /// counts.
     fn ask_counts(&mut self, image: &[u8], list: &[u32]) {
         let nodes = list.len();
         self.ask_beside(Call::Counts, image, &[], 0, nodes, &vec![9; nodes + 1]);
@@ -261,7 +291,7 @@ impl Worker {
             self.ask_look_ups(image, key, setting.alphabet);
             self.ask_others(image, key, setting, g);
         }
-        let right = lists::right(image);
+        let right = lists::of_stored_keys(image);
         self.ask_counts(image, right.as_ref().unwrap_or(&vec![1; g + 1]));
         if let Some(right) = right {
             if setting.spare == (0, 0) {
@@ -272,7 +302,7 @@ impl Worker {
         }
     }
 
-    /// Tries one pattern of links with all data and, if it is accepted, in all settings of the
+    /// Tries one pattern of links with all data and, if the links are good, in all settings of the
     /// family.
     fn try_links(
         &mut self,
@@ -285,13 +315,14 @@ impl Worker {
         let g = family.g as usize;
         let turn = |i: usize| &settings[(index + i) % settings.len()];
         let first = self.image(family, links, &[1; 5], turn(0));
-        let accepted = self.ask(Call::Check, &first, &[], 0, g + 1).number == 0;
+        let answer = self.ask(Call::Check, &first, &[], 0, g + 1);
+        let good = matches!(answer.number, 0 | 19);
         self.ask(Call::Mend, &first, &[], 0, g + 1);
-        if !accepted && matches!(family.refused, Asks::Check | Asks::Nothing) {
+        if !good && matches!(family.refused, Asks::Check | Asks::Nothing) {
             return;
         }
         for (i, data) in tuples(family.data, g + 1).enumerate() {
-            if accepted {
+            if good {
                 for setting in settings.iter().skip(i % family.settings).step_by(family.settings) {
                     let image = self.image(family, links, &data, setting);
                     self.ask_all(&image, keys, setting, g);
@@ -321,7 +352,7 @@ impl Worker {
         let max = setting.lengths.1 as usize;
         let mut answers = vec![
             self.ask(Call::Check, image, &[], 0, nodes),
-            self.ask(Call::Count, image, &[], 0, nodes),
+            self.ask_count(image, nodes),
             self.ask_beside(Call::Counts, image, &[], 0, nodes, &vec![9; nodes]),
         ];
         let counts = self.twins.library.counts().to_vec();
@@ -356,30 +387,67 @@ impl Worker {
             let mut its = self.told(&moved, keys, setting, nodes);
             its.counts = new.iter().map(|address| its.counts[*address as usize]).collect();
             self.done.images += 1;
-            if its != told && self.done.failed < ENOUGH {
-                self.done.failed += 1;
-                println!(
-                    "FAILED: exhaustive: renumbered, an image answers otherwise\n    \
-                     image [{}]\n    renumbered [{}]",
-                    report::hex(&image),
-                    report::hex(&moved)
-                );
+            if its != told {
+                let told = format!("renumbered, it answers otherwise [{}]\n", report::hex(&moved));
+                self.fail(&told, &image);
+            }
+        }
+    }
+
+    /// Renumbers one image with data in all nodes in every way. If some of them are hidden, the
+    /// check must name the lowest of their new addresses.
+    fn renumber_hidden(&mut self, n: u32, links: &[u8], depths: &[u32], setting: &Setting) {
+        let nodes = depths.len();
+        let image = small::image(&mut self.rng, n, links, &vec![1; nodes], setting);
+        let lengths = setting.lengths.0..=setting.lengths.1;
+        for new in renumbering::every(nodes as u32 - 1) {
+            let moved = renumbering::renumbered(&image, &new);
+            let hidden = new.iter().zip(depths).filter(|(_, depth)| !lengths.contains(*depth));
+            let expected = match hidden.map(|(address, _)| *address).min() {
+                Some(place) => Answer { number: 19, place: place as u32, ..Answer::default() },
+                None => Answer::default(),
+            };
+            self.done.images += 1;
+            if self.ask(Call::Check, &moved, &[], 0, nodes) != expected {
+                self.fail(&format!("renumbered, the check should give {expected:?}\n"), &moved);
             }
         }
     }
 }
 
-/// Renumbers the rising trees with this N and G. Each node has data of its own, or none.
+/// The depth of each node, by the links of a rising tree.
+fn depths(n: usize, links: &[u8]) -> Vec<u32> {
+    let mut depths = vec![0; links.len() / n];
+    for (node, links) in links.chunks(n).enumerate() {
+        for link in links.iter().filter(|link| **link > 0) {
+            depths[usize::from(*link)] = depths[node] + 1;
+        }
+    }
+    depths
+}
+
+/// Renumbers the rising trees with this N and G. Each node has data of its own, or none; none at a
+/// depth outside min..max. Then all nodes have data.
 fn run_renumbered(worker: &mut Worker, n: u32, g: u32, thread: usize, progress: &mut Progress) {
     let (keys, settings) = (keys(n), settings());
     let trees = rising_trees(n as usize, g as usize);
     for (index, links) in trees.iter().enumerate().skip(thread).step_by(2) {
         progress.at(&format!("exhaustive: renumbered: N {n} G {g} links {}", report::hex(links)));
+        let depths = depths(n as usize, links);
         for (i, empty) in [0, index + 1, 2 * index + 3].into_iter().enumerate() {
-            let value = |node: u32| if empty >> node & 1 == 1 { 0 } else { node as u8 + 1 };
-            let data: Vec<u8> = (0..=g).map(value).collect();
             let setting = &settings[(3 * index + i) % settings.len()];
+            let lengths = setting.lengths.0..=setting.lengths.1;
+            let value = |node: u32| {
+                let hidden = !lengths.contains(&depths[node as usize]);
+                if hidden || empty >> node & 1 == 1 {
+                    0
+                } else {
+                    node as u8 + 1
+                }
+            };
+            let data: Vec<u8> = (0..=g).map(value).collect();
             worker.renumber(n, links, &data, &keys, setting);
+            worker.renumber_hidden(n, links, &depths, setting);
         }
         if worker.done.failed >= ENOUGH {
             break;
@@ -387,7 +455,7 @@ fn run_renumbered(worker: &mut Worker, n: u32, g: u32, thread: usize, progress: 
     }
 }
 
-/// The patterns of links of a family: all of them, or only those of accepted images.
+/// The patterns of links of a family: all of them, or only the good ones.
 fn patterns(family: &Family) -> Box<dyn Iterator<Item = Vec<u8>>> {
     let (n, g) = (family.n as usize, family.g as usize);
     if family.refused == Asks::Nothing {
@@ -450,21 +518,30 @@ pub fn run() -> Exhausted {
     for (family, tried) in FAMILIES.iter().zip(&tried) {
         let every = if family.links.is_empty() { "" } else { ", every byte" };
         println!(
-            "exhaustive: N {} G {}{every}: {} images, {} calls, {} give 16",
-            family.n, family.g, tried.images, tried.calls, tried.unreached
+            "exhaustive: N {} G {}{every}: {} images, {} calls, {} give 16, {} give 19",
+            family.n, family.g, tried.images, tried.calls, tried.unreached, tried.hidden
         );
         all.add(tried);
         if family.g > 0 && family.refused != Asks::Nothing && tried.unreached == 0 {
             all.failed += 1;
             println!("FAILED: exhaustive: in this family no call gives 16");
         }
+        if tried.hidden == 0 || tried.counted == 0 {
+            all.failed += 1;
+            println!("FAILED: exhaustive: in this family no call gives 19, or none counts keys");
+        }
     }
     for ((n, g), tried) in (1..).zip(RENUMBERED).zip(&tried[FAMILIES.len()..]) {
         println!(
-            "exhaustive: N {n} G up to {g}, renumbered in every way: {} images, {} calls",
-            tried.images, tried.calls
+            "exhaustive: N {n} G up to {g}, renumbered in every way: {} images, {} calls, {} give \
+             19",
+            tried.images, tried.calls, tried.hidden
         );
         all.add(tried);
+        if tried.hidden == 0 || tried.counted == 0 {
+            all.failed += 1;
+            println!("FAILED: exhaustive: renumbered, no image gives 19, or none is counted");
+        }
     }
     all
 }
