@@ -15,7 +15,7 @@ use std::process::{Child, Command, Output, Stdio};
 use std::time::Duration;
 
 const PROGRAM: &str = "target/bin/list";
-const RANDOM: u64 = 400;
+const RANDOM: u64 = 600;
 
 #[derive(Default)]
 pub struct Listed {
@@ -170,37 +170,41 @@ fn ring(g: u32) -> Vec<u8> {
     image
 }
 
-/// A chain of nodes with one link of `a` bytes and one byte of data, which is 1 in every node.
+/// A chain of nodes with one link of `a` bytes and one byte of data. It is 1 where a key may end,
+/// at depths 0 to 3.
 fn chain(g: u32, a: usize) -> Vec<u8> {
     let node = |address: u32| {
         let next = if address < g { address + 1 } else { 0 };
-        [&next.to_be_bytes()[4 - a..], &[1]].concat()
+        [&next.to_be_bytes()[4 - a..], &[u8::from(address < 4)]].concat()
     };
     with_head([g, 1, a as u32, 1, 0, 0, 3], &(0..=g).flat_map(node).collect::<Vec<u8>>())
 }
 
-/// 65 nodes in a chain by letter 230, so keys of up to 64 letters with three digits each.
-fn deep() -> (Vec<u8>, String) {
+/// 65 nodes in a chain by letter 230, so keys of up to 64 letters with three digits each. Then one
+/// node more, which is deeper than any key and holds `data`.
+fn deep(data: u8) -> (Vec<u8>, String) {
     let mut body = Vec::new();
-    for node in 0..=64u8 {
+    for node in 0..=65u8 {
         let mut links = [0; 256];
-        links[230] = if node < 64 { node + 1 } else { 0 };
+        links[230] = if node < 65 { node + 1 } else { 0 };
         body.extend(links);
-        body.push(200);
+        body.push(if node < 65 { 200 } else { data });
     }
     let mut lines = "entries 65\n- 200\n".to_string();
     for length in 1..=64 {
         lines += &format!("{} 200\n", vec!["230"; length].join("."));
     }
-    (with_head([64, 256, 1, 1, 0, 0, 64], &body), lines)
+    (with_head([65, 256, 1, 1, 0, 0, 64], &body), lines)
 }
 
-/// The full tree of two letters with 8,191 nodes. Node q has the data q + 1. min hides the root's.
+/// The full tree of two letters with 8,191 nodes. Node q has the data q + 1; the root, which is
+/// shorter than min, has none.
 fn full_tree() -> (Vec<u8>, String) {
     let mut body = Vec::new();
     for node in 0..=8_190u16 {
         let (left, right) = if node < 4_095 { (2 * node + 1, 2 * node + 2) } else { (0, 0) };
-        [left, right, node + 1].iter().for_each(|number| body.extend(number.to_be_bytes()));
+        let data = if node > 0 { node + 1 } else { 0 };
+        [left, right, data].iter().for_each(|number| body.extend(number.to_be_bytes()));
     }
     fn below(node: u32, key: &str, lines: &mut String) {
         if !key.is_empty() {
@@ -262,9 +266,39 @@ fn small_cases(listed: &mut Listed) {
         "entries 1\n- 4294967295\n",
     );
     listed.case(
-        "hidden data",
+        "data shorter than min",
         &with_head([1, 2, 1, 1, 0, 1, 1], &[1, 0, 7, 0, 0, 0]),
-        "entries 0\n",
+        "refused 19 at 0\n",
+    );
+    listed.case(
+        "empty nodes shorter than min",
+        &with_head([2, 2, 1, 1, 0, 2, 2], &[1, 0, 0, 0, 2, 0, 0, 0, 9]),
+        "entries 1\n0.1 9\n",
+    );
+    listed.case(
+        "data shorter than min, not at the root",
+        &with_head([2, 2, 1, 1, 0, 2, 2], &[1, 0, 0, 0, 2, 5, 0, 0, 9]),
+        "refused 19 at 1\n",
+    );
+    listed.case(
+        "data deeper than max",
+        &with_head([2, 2, 1, 1, 0, 0, 1], &[1, 0, 7, 0, 2, 5, 0, 0, 9]),
+        "refused 19 at 2\n",
+    );
+    listed.case(
+        "an empty node deeper than max",
+        &with_head([2, 2, 1, 1, 0, 0, 1], &[1, 0, 7, 0, 2, 5, 0, 0, 0]),
+        "entries 2\n- 7\n0 5\n",
+    );
+    listed.case(
+        "the lowest hidden node is the deepest",
+        &with_head([3, 1, 1, 1, 0, 0, 1], &[3, 7, 0, 9, 1, 9, 2, 5]),
+        "refused 19 at 1\n",
+    );
+    listed.case(
+        "a cycle beside hidden data",
+        &abc(2, &[0, 0, 0, 7, 2, 0, 0, 0, 1, 0, 0, 0]),
+        "refused 16 at 1\n",
     );
     let mut last_letter = vec![0; 2 * 257];
     last_letter[255..257].copy_from_slice(&[1, 7]);
@@ -292,6 +326,15 @@ fn limits(listed: &mut Listed) {
     listed.case("16,384 nodes", &chain(most - 1, 2), all_data);
     listed.case("16,385 nodes", &chain(most, 2), "refused 5 at 0\n");
     listed.case("16,384 nodes in reverse", &reversed(&chain(most - 1, 2)), all_data);
+    let mut hiding = chain(most - 1, 2);
+    let last = hiding.len() - 1;
+    hiding[last] = 1;
+    listed.case("16,384 nodes, the last with data", &hiding, "refused 19 at 16383\n");
+    listed.case(
+        "16,384 nodes, the last with data, in reverse",
+        &reversed(&hiding),
+        "refused 19 at 1\n",
+    );
     listed.case("16,383 nodes in a ring", &ring(most - 1), "refused 16 at 1\n");
     listed.case(
         "16,383 nodes in a ring, in reverse",
@@ -306,7 +349,12 @@ fn limits(listed: &mut Listed) {
     write_number(&mut narrow[..4], u64::from(most));
     narrow.extend([0, 0]);
     listed.case("16,385 nodes of two bytes", &narrow, "refused 5 at 0\n");
-    let (image, lines) = deep();
+}
+
+/// Images with long lines and with many lines.
+fn long_listings(listed: &mut Listed) {
+    listed.case("data at depth 65", &deep(200).0, "refused 19 at 65\n");
+    let (image, lines) = deep(0);
     listed.case("long lines", &image, &lines);
     listed.case("long lines, renumbered", &reversed(&image), &lines);
     let (image, lines) = full_tree();
@@ -314,6 +362,9 @@ fn limits(listed: &mut Listed) {
     listed.case("many lines, renumbered", &reversed(&image), &lines);
     let shuffled = renumbered(&image, &renumbering::draw(&mut Rng::new(4), 8_190));
     listed.case("many lines, shuffled", &shuffled, &lines);
+    let mut hiding = image.clone();
+    hiding[33] = 1;
+    listed.case("many lines, and data of the root", &hiding, "refused 19 at 0\n");
     listed.hold(
         "many lines in pieces",
         &[&image[..1], &image[1..28], &image[28..40_000], &image[40_000..]],
@@ -359,15 +410,17 @@ pub fn run(start: u64) -> Listed {
     let mut listed = Listed::default();
     small_cases(&mut listed);
     limits(&mut listed);
+    long_listings(&mut listed);
     listed.compare("/dev/null", written_of_file(Path::new("/dev/null")), "refused 1 at 0\n");
     let samples = samples();
     samples.iter().for_each(|name| listed.sample(name));
-    let (mut refused, mut unreached, mut falling) = (0, 0, 0);
+    let (mut refused, mut unreached, mut hidden, mut falling) = (0, 0, 0, 0);
     for seed in start..start + RANDOM {
         let image = random_image(&mut Rng::new(seed));
         let expected = model::listing(&image);
         refused += u64::from(expected.starts_with("refused"));
         unreached += u64::from(expected.starts_with("refused 16 "));
+        hidden += u64::from(expected.starts_with("refused 19 "));
         falling += u64::from(expected.starts_with("entries") && !rises(&image));
         let short = &image[..image.len().min(2_000)];
         listed.hold(
@@ -378,7 +431,8 @@ pub fn run(start: u64) -> Listed {
     }
     println!(
         "listing: {} tried, {} samples, {RANDOM} random images, of which {refused} are refused, \
-         {unreached} with 16, and {falling} are accepted though a link does not rise",
+         {unreached} with 16, {hidden} with 19, and {falling} are accepted though a link does not \
+         rise",
         listed.tried,
         samples.len()
     );
@@ -386,9 +440,12 @@ pub fn run(start: u64) -> Listed {
         listed.failed += 1;
         println!("FAILED: listing: samples/ has too few images");
     }
-    if unreached < 5 || falling < RANDOM / 10 {
+    if unreached < 5 || hidden < 5 || falling < RANDOM / 10 {
         listed.failed += 1;
-        println!("FAILED: listing: too few random images have cycles, or links that do not rise");
+        println!(
+            "FAILED: listing: too few random images have cycles, hidden data, or links that do \
+             not rise"
+        );
     }
     if refused.min(RANDOM - refused) < RANDOM / 5 {
         listed.failed += 1;
