@@ -2,6 +2,7 @@
 
 use crate::calls::Call;
 use crate::model;
+use crate::safe::number_of;
 use crate::twins::Arena;
 use trieff::{Refusal, Stored};
 
@@ -67,7 +68,7 @@ fn by_crate(image: &[u8], work: &mut [u32], letters: &[u8], after: bool) -> Vec<
 fn met(stored: Result<Stored, Refusal>) -> Met {
     stored
         .map(|stored| (stored.letters().to_vec(), stored.value()))
-        .map_err(|refusal| (refusal.number(), refusal.place()))
+        .map_err(|refusal| (number_of(&refusal), refusal.place()))
 }
 
 /// The same by next key: from each key to the one after it, until none is left or the call is

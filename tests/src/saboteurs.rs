@@ -4,9 +4,10 @@
 
 use crate::calls::Call;
 use crate::iteration::Met;
+use crate::lists;
 use crate::model::{self, Answer, Head};
 use crate::renumbering::under;
-use crate::safe::SOME_ZERO;
+use crate::safe::{SOME_ZERO, UNKNOWN};
 use crate::twins::Arena;
 use std::ops::Range;
 
@@ -42,6 +43,13 @@ impl Sabotage {
             Sabotage::Library(saboteur) | Sabotage::Wrapper(saboteur) => saboteur.name,
         }
     }
+}
+
+/// A node of the image at entry that is reached from the root.
+struct Reached {
+    node: u64,
+    depth: u64,
+    data: u64,
 }
 
 impl Spoiled<'_> {
@@ -186,9 +194,9 @@ impl Spoiled<'_> {
         *self.answer = Answer { length: key.len() as u32, value, ..Answer::default() };
     }
 
-    /// Works the counts out as if the image had another head.
-    fn recount(&mut self, other: Head) {
-        let counts = model::fresh_counts(self.before.image(), &other);
+    /// Works the counts out as if each node at such a depth were a stored key.
+    fn recount(&mut self, at: impl Fn(u64) -> bool) {
+        let counts = lists::too_many(self.before.image(), at);
         self.counts()[..counts.len()].copy_from_slice(&counts);
     }
 
@@ -245,6 +253,116 @@ impl Spoiled<'_> {
         model::check(&trial, &mut vec![0; g as usize + 1])
     }
 
+    fn is_look_up(&self) -> bool {
+        matches!(self.call, Call::LookUp | Call::LookUpText)
+    }
+
+    /// Whether it is a store by letters, without counts.
+    fn by_letters(&self) -> bool {
+        matches!(self.call, Call::Store { .. } | Call::StoreWrites { .. })
+    }
+
+    /// The data of a node at entry.
+    fn data(&self, node: u64) -> u64 {
+        model::data(self.before.image(), &self.head().unwrap(), node)
+    }
+
+    /// The reached nodes of the image at entry, which passed 4, that fit.
+    fn reached_where(&self, fits: impl Fn(&Reached, &Head) -> bool) -> Vec<Reached> {
+        let head = self.head().unwrap();
+        let depths = (0..).zip(model::depths(self.before.image(), &head));
+        depths
+            .filter_map(|(node, depth)| Some((node, depth?)))
+            .map(|(node, depth)| Reached { node, depth, data: self.data(node) })
+            .filter(|reached| fits(reached, &head))
+            .collect()
+    }
+
+    /// The reached nodes at entry that have data at a depth outside min..max.
+    fn hidden(&self) -> Vec<Reached> {
+        self.reached_where(|at, head| model::outside(head, at.depth) && at.data != 0)
+    }
+
+    /// Moves the place of 19 to another of the hidden nodes.
+    fn name_hidden(&mut self, choose: impl Fn(Vec<Reached>) -> Option<Reached>) {
+        if self.number() == 19 {
+            if let Some(chosen) = choose(self.hidden()) {
+                self.refuse_at(19, chosen.node);
+            }
+        }
+    }
+
+    /// As if only some of the hidden data were seen: moves the place of 19 to the lowest node of
+    /// these. If there is none, the check accepts the image.
+    fn see_hidden(&mut self, seen: impl Fn(&Reached, &Head) -> bool) {
+        if self.number() == 19 {
+            let head = self.head().unwrap();
+            match self.hidden().iter().find(|at| seen(at, &head)) {
+                Some(at) => self.refuse_at(19, at.node),
+                None if self.call == Call::Check => self.refuse(0),
+                None => {}
+            }
+        }
+    }
+
+    /// As if the depth were counted otherwise.
+    fn count_depth(&mut self, otherwise: fn(u64) -> u64) {
+        self.see_hidden(|at, head| model::outside(head, otherwise(at.depth)));
+    }
+
+    /// As if such nodes were hidden in an image that the check accepts.
+    fn hide(&mut self, fits: impl Fn(&Reached, &Head) -> bool) {
+        if self.call == Call::Check && self.done() {
+            if let Some(at) = self.reached_where(fits).first() {
+                self.refuse_at(19, at.node);
+            }
+        }
+    }
+
+    /// Gives 19 in front of another refusal of the links, where reached data is hidden.
+    fn give_19_before(&mut self, number: u32) {
+        if self.number() == number && !self.is_look_up() {
+            if let Some(at) = self.hidden().first() {
+                self.refuse_at(19, at.node);
+            }
+        }
+    }
+
+    /// Whether the list lent holds the counts of the stored keys, for a call that passed 5.
+    fn counts_are_of_stored_keys(&self) -> bool {
+        let fresh = model::fresh_counts(self.before.image(), &self.head().unwrap());
+        self.before.counts()[..fresh.len()] == fresh[..]
+    }
+
+    /// The image at entry without its hidden data.
+    fn without_hidden(&self) -> Vec<u8> {
+        let (mut image, head) = (self.before.image().to_vec(), self.head().unwrap());
+        for Reached { node, .. } in self.hidden() {
+            let at = head.data_at(node);
+            image[at..at + head.d as usize].fill(0);
+        }
+        image
+    }
+
+    /// For a store by letters that answered 19: makes it as if the hidden data were not there. It
+    /// is kept or cleared.
+    fn store_beside_hidden(&mut self, keep: bool) {
+        if !self.by_letters() || self.number() != 19 {
+            return;
+        }
+        let (mut image, head) = (self.without_hidden(), self.head().unwrap());
+        let work = &mut vec![0; self.nodes()];
+        *self.answer = model::store(&mut image, work, self.before.given(), self.value());
+        if self.done() {
+            for Reached { node, .. } in self.hidden().into_iter().filter(|_| keep) {
+                let at = head.data_at(node);
+                let data = at..at + head.d as usize;
+                image[data.clone()].copy_from_slice(&self.before.image()[data]);
+            }
+            self.after.bytes[self.after.image.clone()].copy_from_slice(&image);
+        }
+    }
+
     /// The nodes on the key's path at return, from the root on.
     fn passed(&self) -> Vec<usize> {
         let (image, head) = (self.after.image(), Head::read(self.after.image()));
@@ -256,12 +374,16 @@ impl Spoiled<'_> {
 
 /// All saboteurs.
 pub fn all() -> impl Iterator<Item = Sabotage> {
-    let of_library =
-        SABOTEURS.iter().chain(&REACH_SABOTEURS).chain(&COUNT_SABOTEURS).chain(&CUT_SABOTEURS);
+    let of_library = SABOTEURS
+        .iter()
+        .chain(&REACH_SABOTEURS)
+        .chain(&HIDDEN_SABOTEURS)
+        .chain(&COUNT_SABOTEURS)
+        .chain(&CUT_SABOTEURS);
     of_library.map(Sabotage::Library).chain(WRAPPER_SABOTEURS.iter().map(Sabotage::Wrapper))
 }
 
-const SABOTEURS: [Saboteur; 39] = [
+const SABOTEURS: [Saboteur; 38] = [
     Saboteur {
         name: "the place of 7 is one too high",
         spoil: |s| {
@@ -505,17 +627,6 @@ const SABOTEURS: [Saboteur; 39] = [
                 let value = model::data(s.before.image(), &head.unwrap(), 0);
                 if value > 0 {
                     *s.answer = Answer { value, ..Answer::default() };
-                }
-            }
-        },
-    },
-    Saboteur {
-        name: "the number of keys counts hidden data of the root",
-        spoil: |s| {
-            if s.call == Call::Count && s.done() {
-                let head = s.head().unwrap();
-                if head.min > 0 && model::data(s.before.image(), &head, 0) > 0 {
-                    s.answer.value += 1;
                 }
             }
         },
@@ -886,6 +997,347 @@ const REACH_SABOTEURS: [Saboteur; 19] = [
     },
 ];
 
+/// The saboteurs of request 8: data at a depth outside min..max. No accepted image has any, so a
+/// number of keys or counts that take hidden data in must have accepted it first.
+const HIDDEN_SABOTEURS: [Saboteur; 51] = [
+    Saboteur {
+        name: "hidden data is accepted: check",
+        spoil: |s| {
+            if s.call == Call::Check && s.number() == 19 {
+                s.refuse(0);
+            }
+        },
+    },
+    Saboteur {
+        name: "hidden data is accepted: number of keys, without it",
+        spoil: |s| {
+            if s.call == Call::Count && s.number() == 19 {
+                let value = s.stored_keys().len() as u64;
+                *s.answer = Answer { value, ..Answer::default() };
+            }
+        },
+    },
+    Saboteur {
+        name: "hidden data is accepted: number of keys, with it",
+        spoil: |s| {
+            if s.call == Call::Count && s.number() == 19 {
+                let value = s.reached_where(|at, _| at.data != 0).len() as u64;
+                *s.answer = Answer { value, ..Answer::default() };
+            }
+        },
+    },
+    Saboteur {
+        name: "hidden data is accepted: next key",
+        spoil: |s| {
+            if matches!(s.call, Call::NextKey { .. }) && s.number() == 19 {
+                let next = |(key, _): &&(Vec<u8>, u64)| model::comes_before(s.before.given(), key);
+                let keys = s.stored_keys();
+                if let Some((key, value)) = keys.iter().find(next) {
+                    if key.len() <= s.after.key.len() {
+                        s.find(key, *value);
+                    }
+                }
+            }
+        },
+    },
+    Saboteur { name: "hidden data is accepted: store", spoil: |s| s.store_beside_hidden(true) },
+    Saboteur {
+        name: "a store clears hidden data and goes on",
+        spoil: |s| s.store_beside_hidden(false),
+    },
+    Saboteur {
+        name: "hidden data is accepted: the counts are worked out",
+        spoil: |s| {
+            if s.call == Call::Counts && s.number() == 19 {
+                s.refuse(0);
+                s.recount(|_| false);
+            }
+        },
+    },
+    Saboteur {
+        name: "hidden data is accepted: check with counts",
+        spoil: |s| {
+            if s.call == Call::CheckCounts && s.number() == 19 && s.counts_are_of_stored_keys() {
+                s.refuse(0);
+            }
+        },
+    },
+    Saboteur {
+        name: "hidden data is accepted: store with counts",
+        spoil: |s| {
+            if s.call.stores_counts() && s.number() == 19 && s.counts_are_of_stored_keys() {
+                s.refuse(0);
+            }
+        },
+    },
+    Saboteur {
+        name: "hidden data is accepted: key at",
+        spoil: |s| {
+            if let (Call::KeyAt { position }, 19) = (s.call, s.number()) {
+                let keys = s.stored_keys();
+                if let Some((key, value)) = keys.get(position as usize) {
+                    if key.len() <= s.after.key.len() && s.counts_are_of_stored_keys() {
+                        s.find(key, *value);
+                    }
+                }
+            }
+        },
+    },
+    Saboteur {
+        name: "hidden data is accepted: position",
+        spoil: |s| {
+            if s.call == Call::Position && s.number() == 19 && s.counts_are_of_stored_keys() {
+                let keys = s.stored_keys();
+                if let Some(at) = keys.iter().position(|(key, _)| key == s.before.given()) {
+                    *s.answer = Answer { value: at as u64, ..Answer::default() };
+                }
+            }
+        },
+    },
+    Saboteur {
+        name: "19 looks only for data shorter than min",
+        spoil: |s| s.see_hidden(|at, head| at.depth < u64::from(head.min)),
+    },
+    Saboteur {
+        name: "19 looks only for data deeper than max",
+        spoil: |s| s.see_hidden(|at, head| at.depth > u64::from(head.max)),
+    },
+    Saboteur { name: "19 forgets the root", spoil: |s| s.see_hidden(|at, _| at.node > 0) },
+    Saboteur { name: "19 looks only at the root", spoil: |s| s.see_hidden(|at, _| at.node == 0) },
+    Saboteur {
+        name: "19 forgets data one step above min",
+        spoil: |s| s.see_hidden(|at, head| at.depth + 1 != u64::from(head.min)),
+    },
+    Saboteur {
+        name: "19 forgets data one step below max",
+        spoil: |s| s.see_hidden(|at, head| at.depth != u64::from(head.max) + 1),
+    },
+    Saboteur {
+        name: "19 looks only at nodes without links",
+        spoil: |s| {
+            let before = s.before;
+            s.see_hidden(|at, head| {
+                let link = |letter| model::link(before.image(), head, at.node, letter);
+                (0..u64::from(head.n)).all(|letter| link(letter) == 0)
+            });
+        },
+    },
+    Saboteur {
+        name: "19 looks only at the last byte of the data",
+        spoil: |s| s.see_hidden(|at, _| at.data % 256 != 0),
+    },
+    Saboteur {
+        name: "19 looks only at the first byte of the data",
+        spoil: |s| s.see_hidden(|at, head| at.data >= 256u64.pow(head.d - 1)),
+    },
+    Saboteur {
+        name: "data at min counts as hidden",
+        spoil: |s| s.hide(|at, head| at.depth == u64::from(head.min) && at.data != 0),
+    },
+    Saboteur {
+        name: "data at max counts as hidden",
+        spoil: |s| s.hide(|at, head| at.depth == u64::from(head.max) && at.data != 0),
+    },
+    Saboteur {
+        name: "an empty node shorter than min counts as hidden",
+        spoil: |s| s.hide(|at, head| at.depth < u64::from(head.min)),
+    },
+    Saboteur {
+        name: "an empty node deeper than max counts as hidden",
+        spoil: |s| s.hide(|at, head| at.depth > u64::from(head.max)),
+    },
+    Saboteur {
+        name: "a store gives 19 for an empty node outside min..max",
+        spoil: |s| {
+            if s.is_store() && s.done() {
+                let empty = s.reached_where(|at, head| model::outside(head, at.depth));
+                if let Some(at) = empty.first() {
+                    s.restore_image();
+                    s.refuse_at(19, at.node);
+                }
+            }
+        },
+    },
+    Saboteur {
+        name: "a store of 0 that empties a node gives 19",
+        spoil: |s| {
+            if s.is_store() && s.answer.change == -1 {
+                s.restore_image();
+                s.refuse_at(19, 0);
+            }
+        },
+    },
+    Saboteur {
+        name: "the place of 19 is the hidden node of least depth",
+        spoil: |s| s.name_hidden(|all| all.into_iter().min_by_key(|at| (at.depth, at.node))),
+    },
+    Saboteur {
+        name: "the place of 19 is the deepest hidden node",
+        spoil: |s| s.name_hidden(|all| all.into_iter().max_by_key(|at| (at.depth, !at.node))),
+    },
+    Saboteur {
+        name: "the place of 19 is the highest hidden node",
+        spoil: |s| s.name_hidden(|mut all| all.pop()),
+    },
+    Saboteur {
+        name: "the place of 19 is the first hidden node in the order of keys",
+        spoil: |s| {
+            if s.number() == 19 {
+                let hidden: Vec<u64> = s.hidden().iter().map(|at| at.node).collect();
+                let mut to_visit = vec![0];
+                while let Some(node) = to_visit.pop() {
+                    if hidden.contains(&node) {
+                        return s.refuse_at(19, node);
+                    }
+                    to_visit.extend(s.links(node).into_iter().rev().filter(|link| *link > 0));
+                }
+            }
+        },
+    },
+    Saboteur {
+        name: "the place of 19 is the depth",
+        spoil: |s| {
+            if s.number() == 19 {
+                let depth = s.hidden()[0].depth;
+                s.refuse_at(19, depth);
+            }
+        },
+    },
+    Saboteur { name: "19 is given before 16", spoil: |s| s.give_19_before(16) },
+    Saboteur { name: "19 is given before 8", spoil: |s| s.give_19_before(8) },
+    Saboteur { name: "19 is given before 7", spoil: |s| s.give_19_before(7) },
+    Saboteur { name: "19 is given before 6", spoil: |s| s.give_19_before(6) },
+    Saboteur { name: "the depth stops at 64", spoil: |s| s.count_depth(|depth| depth.min(64)) },
+    Saboteur {
+        name: "the depth is counted in 6 bits",
+        spoil: |s| s.count_depth(|depth| depth % 64),
+    },
+    Saboteur {
+        name: "the depth is counted modulo 65",
+        spoil: |s| s.count_depth(|depth| depth % 65),
+    },
+    Saboteur {
+        name: "the depth is counted modulo 66",
+        spoil: |s| s.count_depth(|depth| depth % 66),
+    },
+    Saboteur {
+        name: "the depth is counted in 7 bits",
+        spoil: |s| s.count_depth(|depth| depth % 128),
+    },
+    Saboteur {
+        name: "the depth is counted in 8 bits",
+        spoil: |s| s.count_depth(|depth| depth % 256),
+    },
+    Saboteur {
+        name: "the depth is counted in 16 bits",
+        spoil: |s| s.count_depth(|depth| depth % 65_536),
+    },
+    Saboteur {
+        name: "depths are worked out in one pass by rising address",
+        spoil: |s| {
+            if s.call == Call::Check && matches!(s.number(), 0 | 19) {
+                let (head, mut depths) = (s.head().unwrap(), vec![0; s.nodes()]);
+                for node in 0..s.nodes() as u64 {
+                    for link in s.links(node).into_iter().filter(|link| *link > 0) {
+                        depths[link as usize] = depths[node as usize] + 1;
+                    }
+                }
+                let hidden = (0..s.nodes() as u64).find(|node| {
+                    s.data(*node) != 0 && model::outside(&head, depths[*node as usize])
+                });
+                match hidden {
+                    Some(node) => s.refuse_at(19, node),
+                    None => s.refuse(0),
+                }
+            }
+        },
+    },
+    Saboteur {
+        name: "a look up gives 19",
+        spoil: |s| {
+            if s.is_look_up() && s.done() {
+                let checked = s.check_with(s.head().unwrap().g);
+                if checked.number == 19 {
+                    *s.answer = checked;
+                }
+            }
+        },
+    },
+    Saboteur {
+        name: "a look up gives 19 before 9",
+        spoil: |s| {
+            if s.call == Call::LookUp && s.number() == 9 {
+                let checked = s.check_with(s.head().unwrap().g);
+                if checked.number == 19 {
+                    *s.answer = checked;
+                }
+            }
+        },
+    },
+    Saboteur {
+        name: "a store gives 9 before 19",
+        spoil: |s| {
+            if s.by_letters() && s.number() == 19 {
+                let looked_up = model::look_up(s.before.image(), s.before.given());
+                if looked_up.number == 9 {
+                    *s.answer = looked_up;
+                }
+            }
+        },
+    },
+    Saboteur {
+        name: "next key gives 14 before 19",
+        spoil: |s| {
+            let next_key = matches!(s.call, Call::NextKey { .. });
+            if next_key && s.number() == 19 && s.after.key.len() < s.head().unwrap().max as usize {
+                s.refuse(14);
+            }
+        },
+    },
+    Saboteur {
+        name: "25 is given before 19",
+        spoil: |s| {
+            if s.call.compares_counts() && s.number() == 19 {
+                let fresh = model::fresh_counts(s.before.image(), &s.head().unwrap());
+                let differs = |node: &usize| fresh[*node] != s.before.counts()[*node];
+                if let Some(node) = (0..fresh.len()).find(differs) {
+                    s.refuse_at(25, node as u64);
+                }
+            }
+        },
+    },
+    Saboteur {
+        name: "the working numbers are not cleared when 19 is given",
+        spoil: |s| {
+            if s.number() == 19 {
+                s.restore_work();
+            }
+        },
+    },
+    Saboteur {
+        name: "mend leaves hidden data",
+        spoil: |s| {
+            if s.call == Call::Mend && s.number() == 8 {
+                let below = s.answer.place - 1;
+                if s.check_with(below).number == 19 {
+                    s.set_g(below);
+                    s.refuse(0);
+                }
+            }
+        },
+    },
+    Saboteur {
+        name: "mend clears hidden data",
+        spoil: |s| {
+            if s.call == Call::Mend && s.number() == 19 {
+                let image = s.without_hidden();
+                s.after.bytes[s.after.image.clone()].copy_from_slice(&image);
+                s.refuse(0);
+            }
+        },
+    },
+];
+
 /// The saboteurs of the calls with counts.
 const COUNT_SABOTEURS: [Saboteur; 32] = [
     Saboteur {
@@ -968,19 +1420,20 @@ const COUNT_SABOTEURS: [Saboteur; 32] = [
         },
     },
     Saboteur {
-        name: "a key shorter than min is counted",
+        name: "a node shorter than min is counted",
         spoil: |s| {
             if s.call == Call::Counts && s.done() {
-                s.recount(Head { min: 0, ..s.head().unwrap() });
+                let min = u64::from(s.head().unwrap().min);
+                s.recount(|depth| depth < min);
             }
         },
     },
     Saboteur {
-        name: "a key longer than max is counted",
+        name: "a node deeper than max is counted",
         spoil: |s| {
             if s.call == Call::Counts && s.done() {
-                let head = s.head().unwrap();
-                s.recount(Head { max: head.max + 1, ..head });
+                let max = u64::from(s.head().unwrap().max);
+                s.recount(|depth| depth > max);
             }
         },
     },
@@ -1214,7 +1667,7 @@ const COUNT_SABOTEURS: [Saboteur; 32] = [
 
 /// The saboteurs that the cuts must report too, by the answers of a mended image and without the
 /// model's own list of writes and mend.
-pub const CUT_SABOTEURS: [Saboteur; 16] = [
+pub const CUT_SABOTEURS: [Saboteur; 18] = [
     Saboteur {
         name: "in the list of writes the old link comes before G",
         spoil: |s| {
@@ -1302,6 +1755,34 @@ pub const CUT_SABOTEURS: [Saboteur; 16] = [
         },
     },
     Saboteur {
+        name: "mend gives 19 for data that is cut off",
+        spoil: |s| {
+            if s.lowered() {
+                let cut_off = u64::from(s.g()) + 1..s.nodes() as u64;
+                if let Some(node) = cut_off.into_iter().find(|node| s.data(*node) != 0) {
+                    s.restore_image();
+                    s.refuse_at(19, node);
+                }
+            }
+        },
+    },
+    Saboteur {
+        name: "a store of 0 drops the last node",
+        spoil: |s| {
+            if s.by_letters() && s.answer.change == -1 && s.passed().len() > 1 {
+                let passed = s.passed();
+                let (node, above) = (passed[passed.len() - 1], passed[passed.len() - 2]);
+                if node as u32 == s.g() && s.links(node as u64).iter().all(|link| *link == 0) {
+                    let head = s.head().unwrap();
+                    let letter = s.before.given()[passed.len() - 2];
+                    let at = s.after.image.start + head.link_at(above as u64, u64::from(letter));
+                    s.after.bytes[at..at + head.a as usize].fill(0);
+                    s.set_g(s.g() - 1);
+                }
+            }
+        },
+    },
+    Saboteur {
         name: "a store leaves the root's count",
         spoil: |s| {
             if s.counted_store().is_some() {
@@ -1360,7 +1841,23 @@ pub const CUT_SABOTEURS: [Saboteur; 16] = [
 ];
 
 /// The saboteurs of the crate's safe functions: what a wrapper can get wrong.
-const WRAPPER_SABOTEURS: [Saboteur; 15] = [
+const WRAPPER_SABOTEURS: [Saboteur; 17] = [
+    Saboteur {
+        name: "the wrapper takes 19 for 16",
+        spoil: |s| {
+            if s.number() == 19 {
+                s.answer.number = 16;
+            }
+        },
+    },
+    Saboteur {
+        name: "the wrapper does not know 19",
+        spoil: |s| {
+            if s.number() == 19 {
+                s.answer.number = UNKNOWN;
+            }
+        },
+    },
     Saboteur {
         name: "the wrapper takes 16 for 15",
         spoil: |s| {

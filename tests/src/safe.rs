@@ -12,6 +12,10 @@ use trieff::{Counts, Found, Refusal, Shape, Writes};
 /// data field can hold this value, so it differs from all that the model answers.
 pub const SOME_ZERO: u64 = u64::MAX;
 
+/// What stands for the number of `Refusal::Unknown`. The crate knows every number that a call may
+/// give, so it differs from all that the model answers.
+pub const UNKNOWN: u32 = u32::MAX;
+
 /// The memory that is lent to the safe functions, and what they give besides.
 pub struct Wrapper {
     pub arena: Arena,
@@ -113,7 +117,15 @@ fn ask_safe(call: Call, lent: Lent, writes: &mut Writes) -> Answer {
 }
 
 fn refused(refusal: Refusal) -> Answer {
-    Answer { number: refusal.number(), place: refusal.place(), ..Answer::default() }
+    Answer { number: number_of(&refusal), place: refusal.place(), ..Answer::default() }
+}
+
+/// The number of a refusal that the crate knows.
+pub fn number_of(refusal: &Refusal) -> u32 {
+    match refusal {
+        Refusal::Unknown { .. } => UNKNOWN,
+        known => known.number(),
+    }
 }
 
 fn nothing(_: ()) -> Answer {
