@@ -14,7 +14,7 @@
 #include <ucontext.h>
 
 enum { DEEP = TRIEFF_KEY_MOST, NODES = DEEP + 1, ROOM = 65536 };
-enum { MOST = 2304, COUNT_MOST = 16384, NEXT_MOST = 32768, COUNTS_MOST = 32768 };
+enum { MOST = 2304, NEXT_MOST = 32768, COUNTS_MOST = 32768 };
 static uint8_t image[TRIEFF_LENGTH(NODES, 2, 1, 1, 2)];
 static uint32_t work[NODES], writes[TRIEFF_WRITES_LEN], counts[NODES];
 static uint8_t letters[DEEP], text[DEEP], key[DEEP];
@@ -134,7 +134,7 @@ int main(void)
         {"check, lower", lower, call_check, MOST, 0, 0},
         {"look_up", whole, call_look_up, MOST, 0, 7},
         {"look_up_text", whole, call_look_up_text, MOST, 0, 7},
-        {"count", whole, call_count, COUNT_MOST, 0, 1},
+        {"count", whole, call_count, MOST, 0, 1},
         {"next_key", whole, call_next_key, NEXT_MOST, DEEP, 7},
         {"next_key, lower", lower, call_next_key, NEXT_MOST, DEEP, 7},
         {"counts", whole, call_counts, COUNTS_MOST, 0, 0},

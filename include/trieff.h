@@ -24,8 +24,8 @@
    Calls may run at the same time if they share no slice that one of them writes to.
 
    As measured by examples/stack.c, a call takes at most 2,304 bytes of stack. The calls that
-   search below a node by recursion, up to TRIEFF_KEY_MOST levels deep, take more: count at most
-   16 KiB, next_key and each call with counts at most 32 KiB.
+   search below a node by recursion, up to TRIEFF_KEY_MOST levels deep, take more: next_key and
+   each call with counts at most 32 KiB.
 
    What is answered
    ----------------

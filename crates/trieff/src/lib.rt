@@ -29,7 +29,7 @@ pub extern "C" fn trieff_make(
     face::done(answer)
 }
 
-// Checks an image: its head, its alphabet and every link. Refusals: 1 to 8, 16, 19.
+// Checks an image: head, alphabet, links, and where data stands. Refusals: 1 to 8, 16, 19.
 #[no_mangle]
 pub extern "C" fn trieff_check(image: &[u8], work: &mut [u32]) -> TrieffAnswer
     ensures { λ r. ⌜ Checks (now (image .entry)) (now (work .entry)) (numbersOf r)
