@@ -360,17 +360,6 @@ module _ {h : Head} {l work work′ work″ : List ℕ} {q : ℕ}
         kept = kept-more kept (kept-more (p .kept) (s .kept));
       }
 
--- the same, with the numbers of now as those of before
-pub tallying-here : {h : Head} {t : Table} {work work′ : List ℕ} {q : ℕ}
-    → Tallying h t work work′ q → Tallying h t work′ work′ q
-tallying-here {h} {work′ = work′} p =
-    record {
-      seeking = p .seeking;
-      tally = p .tally;
-      plain = p .plain;
-      kept = kept-none (h .g) work′;
-    }
-
 pub tallying-all : {h : Head} {l before work work′ : List ℕ} {q : ℕ}
     → Tallying h (tableOf h l) work work′ q → RestKept (h .g) before work → h .g + 1 ≤ q
     → BadFrom h l before (h .g + 1) work′

@@ -6,7 +6,7 @@
 // other link, and to no hidden data. Else it is 0, and the caller must look closer.
 ghost use mathlib.Core.Path.{_≡_};
 ghost use mathlib.Core.Bool.{true};
-ghost use Prim.Native.Nat.{_≤_, _+_};
+ghost use Prim.Native.Nat.{_≤_, _+_, _^_};
 ghost use mathlib.Core.List.{_++_};
 ghost use lib.ListN.{length, drop, replicate};
 ghost use Rattle.node.specs.Image.{Open, Masks, tableOf};
@@ -18,8 +18,7 @@ use head::Head;
 pub const AGAIN: u32 = reaching::DEEPEST + 1;
 
 // The lowest node that holds a bad link, or G+1 if none does. In that case the working numbers
-// have the tally of the addresses 1 to G, and number 0 tells whether all is plain. A node that
-// `childless` finds without links is passed over at once.
+// have the tally of the addresses 1 to G, and number 0 tells whether all is plain.
 pub fn first_bad_node(image: &[u8], h: Head, work: &mut [u32]) -> usize
     requires { ⌜ Open h (now image) ⌝ }
     requires { ⌜ h .g + 1 ≤ length (now work) ⌝ }
@@ -27,18 +26,16 @@ pub fn first_bad_node(image: &[u8], h: Head, work: &mut [u32]) -> usize
     ensures { λ r. ⌜ BadFrom h (now (image .entry)) (now (work .entry)) r (now (work .exit)) ⌝ }
 {
     let mask = node::mask(h);
+    let data_mask = node::greatest(h);
     let nodes = (h.g as usize) + 1;
-    work[0] = if hides(image, h, 0, 1) { 0 } else { 1 };
-    if !tally(image, h, mask, 0, work) {
-        return 0;
-    }
-    let mut q: usize = 1;
+    work[0] = if hides(image, h, data_mask, 0, 1) {
+        0
+    } else {
+        1
+    };
+    let mut q: usize = 0;
     while q < nodes {
-        if node::childless(image, h, q as u32) {
-            q += 1;
-            continue;
-        }
-        if !tally(image, h, mask, q as u32, work) {
+        if !tally(image, h, mask, data_mask, q as u32, work) {
             return q;
         }
         q += 1;
@@ -47,14 +44,17 @@ pub fn first_bad_node(image: &[u8], h: Head, work: &mut [u32]) -> usize
 }
 
 // Counts the links of node q in the working numbers and answers true, or stops at its first bad
-// link and answers false.
-fn tally(image: &[u8], h: Head, mask: u32, q: u32, work: &mut [u32]) -> bool
+// link and answers false. A node that `childless` finds without links is passed over at once.
+fn tally(image: &[u8], h: Head, mask: u32, data_mask: u32, q: u32, work: &mut [u32]) -> bool
     requires { ⌜ Open h (now image) ⌝ }
-    requires { ⌜ Masks h mask ⌝ }
+    requires { ⌜ Masks h mask ⌝ ∗ ⌜ data_mask + 1 ≡ 256 ^ h .d ⌝ }
     requires { ⌜ q ≤ h .g ⌝ }
     requires { ⌜ h .g + 1 ≤ length (now work) ⌝ }
     ensures { λ r. ⌜ Tallied h (now (image .entry)) q (now (work .entry)) r (now (work .exit)) ⌝ }
 {
+    if node::childless(image, h, q) {
+        return true;
+    }
     let mark = reaching::deeper(work[q as usize]);
     let mut i: u32 = 0;
     while i < h.n {
@@ -66,7 +66,7 @@ fn tally(image: &[u8], h: Head, mask: u32, q: u32, work: &mut [u32]) -> bool
         if paper::bad_link(h.g, c) {
             return false;
         }
-        if (c <= q) | hides(image, h, c, mark) {
+        if (c <= q) | hides(image, h, data_mask, c, mark) {
             work[0] = 0;
         }
         if work[c as usize] == 0 {
@@ -80,14 +80,14 @@ fn tally(image: &[u8], h: Head, mask: u32, q: u32, work: &mut [u32]) -> bool
 }
 
 // Has node x hidden data: data that is not 0, where its mark is that of a depth outside min..max?
-fn hides(image: &[u8], h: Head, x: u32, mark: u32) -> bool
-    requires { ⌜ Open h (now image) ⌝ ∗ ⌜ x ≤ h .g ⌝ }
+fn hides(image: &[u8], h: Head, data_mask: u32, x: u32, mark: u32) -> bool
+    requires { ⌜ Open h (now image) ⌝ ∗ ⌜ data_mask + 1 ≡ 256 ^ h .d ⌝ ∗ ⌜ x ≤ h .g ⌝ }
     ensures { λ r. ⌜ r ≡ hiddenAt h (tableOf h (now (image .entry))) x mark ⌝ }
 {
     if (h.min < mark) & (mark <= h.max + 1) {
         return false;
     }
-    node::data(image, h, x) != 0
+    node::data_by(image, h, data_mask, x) != 0
 }
 
 // True only if no working number from number 1 on, below `nodes`, is 0. The loop has no early
@@ -127,11 +127,12 @@ pub fn first_hidden(image: &[u8], h: Head, work: &[u32]) -> usize
     requires { ⌜ h .g + 1 ≤ length (now work) ⌝ }
     ensures { λ r. ⌜ HiddenFrom h (now (image .entry)) (now (work .entry)) r ⌝ }
 {
+    let data_mask = node::greatest(h);
     let nodes = (h.g as usize) + 1;
     let mut x: usize = 0;
     while x < nodes {
         let mark = work[x] % reaching::MARKS;
-        if hides(image, h, x as u32, mark) {
+        if hides(image, h, data_mask, x as u32, mark) {
             return x;
         }
         x += 1;

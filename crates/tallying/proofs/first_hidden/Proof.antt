@@ -13,11 +13,14 @@ use Rattle.tallying.proofs.first_hidden.Statement.{statement}
 use Rattle.tallying.proofs.first_hidden.Tie as tie
 
 abbrev Inv-loop : tie.InvT-loop
-Inv-loop image h work nodes x₀ x =
+Inv-loop image h work data-mask nodes x₀ x =
     Seeking (λ y. hiddenAt h (tableOf h image) y (markIn work y)) 0 (h .g + 1) x
 
 abbrev μ-loop : tie.MeasureT-loop
-μ-loop image h work nodes x₀ x = nodes - x
+μ-loop image h work data-mask nodes x₀ x = nodes - x
+
+greatest-requires : tie.Need-greatest-requires Inv-loop μ-loop
+greatest-requires c κs = search needs
 
 cast-nodes : tie.Need-cast-nodes Inv-loop μ-loop
 cast-nodes c = omega arith
@@ -65,6 +68,7 @@ first-hidden-spec =
     (tie.spec
     Inv-loop
     μ-loop
+    greatest-requires
     cast-nodes
     add-nodes
     loop-holds

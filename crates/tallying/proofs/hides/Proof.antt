@@ -16,11 +16,11 @@ add-if1 c =
 returns : tie.Need-returns
 returns c = sym (hides-none _ _ _ _ (c .if1 .taken))
 
-data-requires : tie.Need-data-requires
-data-requires c κs = search needs
+data-by-requires : tie.Need-data-by-requires
+data-by-requires c κs = search needs
 
 returns-2 : tie.Need-returns-2
-returns-2 c = sym (hides-data _ _ _ _ (c .before .if1 .left) (c .«data» .ensures))
+returns-2 c = sym (hides-data _ _ _ _ (c .before .if1 .left) (c .data-by .ensures))
 
 pub hides-spec : {M : Type 1} → statement M
-hides-spec = tie.close (tie.spec add-if1 returns data-requires returns-2)
+hides-spec = tie.close (tie.spec add-if1 returns data-by-requires returns-2)
