@@ -36,6 +36,24 @@ def bounded(image, least, most):
     return image[:20] + struct.pack(">2I", least, most) + image[28:]
 
 
+def scattered(image, labels, seed):
+    """The head of an image with N = 16, A = 3, D = 4, and labels of nine letters drawn at random.
+    After some letters a label has nodes of its own, so most nodes have one child."""
+    draw, links, values = random.Random(seed), [[0] * 16], {}
+    for label in range(labels):
+        node = 0
+        for _ in range(9):
+            letter = draw.randrange(16)
+            if links[node][letter] == 0:
+                links[node][letter] = len(links)
+                links.append([0] * 16)
+            node = links[node][letter]
+        values[node] = label + 1
+    body = b"".join(b"".join(link.to_bytes(3, "big") for link in own)
+                    + values.get(node, 0).to_bytes(4, "big") for node, own in enumerate(links))
+    return struct.pack(">I", len(links) - 1) + image[4:44] + body
+
+
 def chain(room):
     """A chain of as many nodes as there is room for, N = 1, A = 3, D = 1. The root links to G, and
     every other node to the one before it. Each has the value 1, down to the depth max."""
@@ -64,6 +82,7 @@ def read(name):
 for name, image in (("renumbered-16MiB", renumbered(read("full-16MiB"), 3)),
                     ("renumbered-65536", renumbered(read("listing-65536"), 3)),
                     ("nines-16MiB", bounded(read("full-16MiB"), 9, 9)),
+                    ("scattered-40000", scattered(read("labels-1000"), 40000, 3)),
                     ("chain-falling", chain(16777216)), ("ring", ring()), ("hidden", hidden())):
     with open(os.path.join(folder, name + ".trieff"), "wb") as file:
         file.write(image)
