@@ -2,12 +2,12 @@
 -- node is at such a depth: the key that leads to a node is the only one. After the search of
 -- `reaching` the lowest working number that is still 0 is the place of 16; where none is, the
 -- lowest node with data and a mark outside min..max is the place of 19.
-use Prim.Native.Nat.{ℕ, _+_, _-_, _≤_, _<_, min}
+use Prim.Native.Nat.{ℕ, _+_, _-_, _≤_, _<_}
 use mathlib.Core.Path.{_≡_, refl, sym, ap, _∙_}
 use mathlib.Core.Logic.{_≢_}
 use mathlib.Core.Bool.{Bool, true, false, not, _&&_, true≢false}
 use mathlib.Core.Option.{none}
-use mathlib.Core.List.{List, [], _∷_}
+use mathlib.Core.List.{List}
 use native.Mathlib.Decide.{ℕ-discrete, decLe}
 use native.Mathlib.Omega.{arith}
 use lib.Dec.{eqb, ltb}
@@ -32,7 +32,7 @@ use Rattle.paper.specs.Answers.{rowOf}
 use Rattle.paper.specs.Rows.{row16, isHidden, row19}
 use Rattle.paper.proofs.Hearing.{first-nil, first-some, first-none}
 use Rattle.paper.proofs.Linking.{row16-none, unreached}
-use Rattle.reaching.specs.Reaching.{Searched, Marked, markIn, deepest}
+use Rattle.reaching.specs.Reaching.{Searched, Marked, markIn}
 use Rattle.tallying.specs.Tallied.{FoundFrom, hiddenAt, HiddenFrom}
 use Rattle.tallying.proofs.LowestFound.{lowest-same, given-at, given-nowhere}
 use Rattle.audit.specs.Audit.{ReachedJudged}

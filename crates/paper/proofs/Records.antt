@@ -2,9 +2,8 @@
 -- up, is listed once and is counted: "The check now refuses data at any depth outside min..max".
 -- All of it is stated of the calls' own outcomes and of the stored keys that they speak of.
 use Prim.Native.Nat.{ℕ, _+_, _≤_}
-use mathlib.Core.Path.{_≡_, sym, ap, _∙_}
+use mathlib.Core.Path.{_≡_, ap, _∙_}
 use mathlib.Core.Logic.{_≢_}
-use mathlib.Core.Option.{none}
 use mathlib.Core.List.{List, [], _∷_, List·Memᴰ}
 use lib.ListN.{length}
 use lib.IntN.{pos}
