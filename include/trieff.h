@@ -161,7 +161,7 @@ extern "C" {
 /* The version of this header. It is raised by one whenever a prototype, or the layout of a struct,
    changes. A program that declares the calls itself, as one in another language does, must follow
    the header of the library that it links. */
-#define TRIEFF_VERSION 1
+#define TRIEFF_VERSION 2
 
 /* The limits of an image's length in bytes. The least is the length of the seven fields. */
 #define TRIEFF_IMAGE_LEAST 28
@@ -172,7 +172,7 @@ extern "C" {
 /* The most bytes in a link (A). */
 #define TRIEFF_A_MOST 4
 /* The most bytes of data in a node (D). */
-#define TRIEFF_D_MOST 4
+#define TRIEFF_D_MOST 8
 /* The most bytes of alphabet (F). */
 #define TRIEFF_F_MOST 1024
 /* The most letters in a key (the limit of max). */
@@ -341,12 +341,12 @@ trieff_answer trieff_look_up_text(const uint8_t *image, size_t image_len,
    value of 0 changes nothing. Any other value writes the new nodes to the spare bytes at U, G, and
    the link to the first new node. */
 trieff_answer trieff_store(uint8_t *image, size_t image_len, uint32_t *work, size_t work_len,
-                           const uint8_t *letters, size_t letters_len, uint32_t value);
+                           const uint8_t *letters, size_t letters_len, uint64_t value);
 
 /* The same as trieff_store, for a key given as text in UTF-8.
    Refusals: 1 to 8, 16, 19, 10, 9, 11, 12, 13. */
 trieff_answer trieff_store_text(uint8_t *image, size_t image_len, uint32_t *work, size_t work_len,
-                                const uint8_t *text, size_t text_len, uint32_t value);
+                                const uint8_t *text, size_t text_len, uint64_t value);
 
 /* A store with writes: the same as trieff_store in every refusal, in `change` and in every byte of
    the image. It also leaves the list of its writes at the front of `writes`. `length` is the
@@ -362,14 +362,14 @@ trieff_answer trieff_store_text(uint8_t *image, size_t image_len, uint32_t *work
    after the list keep what they held. */
 trieff_answer trieff_store_writes(uint8_t *image, size_t image_len,
                                   uint32_t *work, size_t work_len,
-                                  const uint8_t *letters, size_t letters_len, uint32_t value,
+                                  const uint8_t *letters, size_t letters_len, uint64_t value,
                                   uint32_t writes[TRIEFF_WRITES_LEN]);
 
 /* The same as trieff_store_writes, for a key given as text in UTF-8.
    Refusals: 1 to 8, 16, 19, 10, 9, 11, 12, 13. */
 trieff_answer trieff_store_text_writes(uint8_t *image, size_t image_len,
                                        uint32_t *work, size_t work_len,
-                                       const uint8_t *text, size_t text_len, uint32_t value,
+                                       const uint8_t *text, size_t text_len, uint64_t value,
                                        uint32_t writes[TRIEFF_WRITES_LEN]);
 
 /* Mends an image after a cut. If the check answers 8 at p, and the image with G set to p-1 is
@@ -420,14 +420,14 @@ trieff_answer trieff_check_counts(const uint8_t *image, size_t image_len,
    change. The rest of the list keeps what it held. */
 trieff_answer trieff_store_counts(uint8_t *image, size_t image_len,
                                   uint32_t *work, size_t work_len,
-                                  const uint8_t *letters, size_t letters_len, uint32_t value,
+                                  const uint8_t *letters, size_t letters_len, uint64_t value,
                                   uint32_t *counts, size_t counts_len);
 
 /* The same as trieff_store_counts, for a key given as text in UTF-8.
    Refusals: 1 to 8 (5 for either list), 16, 19, 25, 10, 9, 11, 12, 13, then 5 again. */
 trieff_answer trieff_store_text_counts(uint8_t *image, size_t image_len,
                                        uint32_t *work, size_t work_len,
-                                       const uint8_t *text, size_t text_len, uint32_t value,
+                                       const uint8_t *text, size_t text_len, uint64_t value,
                                        uint32_t *counts, size_t counts_len);
 
 /* The stored key at a position: the first stored key moved on by `position` steps of next key.

@@ -152,7 +152,7 @@ impl<'a> Counts<'a> {
         image: &mut [u8],
         work: &mut [u32],
         letters: &[u8],
-        value: u32,
+        value: u64,
     ) -> Result<i32, Refusal> {
         // SAFETY: each slice's pointer and length; image, work and the counts are borrowed for
         // writing, so no two slices overlap.
@@ -194,7 +194,7 @@ impl<'a> Counts<'a> {
         image: &mut [u8],
         work: &mut [u32],
         text: &[u8],
-        value: u32,
+        value: u64,
     ) -> Result<i32, Refusal> {
         // SAFETY: each slice's pointer and length; image, work and the counts are borrowed for
         // writing, so no two slices overlap.

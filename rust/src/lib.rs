@@ -426,7 +426,7 @@ pub fn store(
     image: &mut [u8],
     work: &mut [u32],
     letters: &[u8],
-    value: u32,
+    value: u64,
 ) -> Result<i32, Refusal> {
     // SAFETY: each slice's pointer and length; image and work are borrowed for writing, so no two
     // slices overlap.
@@ -463,7 +463,7 @@ pub fn store_text(
     image: &mut [u8],
     work: &mut [u32],
     text: &[u8],
-    value: u32,
+    value: u64,
 ) -> Result<i32, Refusal> {
     // SAFETY: each slice's pointer and length; image and work are borrowed for writing, so no two
     // slices overlap.
@@ -516,7 +516,7 @@ pub fn store_writes(
     image: &mut [u8],
     work: &mut [u32],
     letters: &[u8],
-    value: u32,
+    value: u64,
     writes: &mut Writes,
 ) -> Result<i32, Refusal> {
     // SAFETY: each slice's pointer and length, and an array of 2 * WRITES_MOST numbers; image,
@@ -557,7 +557,7 @@ pub fn store_text_writes(
     image: &mut [u8],
     work: &mut [u32],
     text: &[u8],
-    value: u32,
+    value: u64,
     writes: &mut Writes,
 ) -> Result<i32, Refusal> {
     // SAFETY: each slice's pointer and length, and an array of 2 * WRITES_MOST numbers; image,

@@ -6,7 +6,7 @@
 //! slice during the call.
 
 /// The version of the header that these declarations follow, TRIEFF_VERSION.
-pub const VERSION: u32 = 1;
+pub const VERSION: u32 = 2;
 
 /// The answer of every call. A field that a call does not use is 0. In a refusal all fields but
 /// `number` and `place` are 0.
@@ -82,7 +82,7 @@ extern "C" {
         work_len: usize,
         letters: *const u8,
         letters_len: usize,
-        value: u32,
+        value: u64,
     ) -> TrieffAnswer;
 
     /// Stores a value under a key given by its text, 0 to delete.
@@ -94,7 +94,7 @@ extern "C" {
         work_len: usize,
         text: *const u8,
         text_len: usize,
-        value: u32,
+        value: u64,
     ) -> TrieffAnswer;
 
     /// As `trieff_store`, and also leaves the list of its writes in the 132 numbers lent.
@@ -106,7 +106,7 @@ extern "C" {
         work_len: usize,
         letters: *const u8,
         letters_len: usize,
-        value: u32,
+        value: u64,
         writes: *mut u32,
     ) -> TrieffAnswer;
 
@@ -119,7 +119,7 @@ extern "C" {
         work_len: usize,
         text: *const u8,
         text_len: usize,
-        value: u32,
+        value: u64,
         writes: *mut u32,
     ) -> TrieffAnswer;
 
@@ -175,7 +175,7 @@ extern "C" {
         work_len: usize,
         letters: *const u8,
         letters_len: usize,
-        value: u32,
+        value: u64,
         counts: *mut u32,
         counts_len: usize,
     ) -> TrieffAnswer;
@@ -189,7 +189,7 @@ extern "C" {
         work_len: usize,
         text: *const u8,
         text_len: usize,
-        value: u32,
+        value: u64,
         counts: *mut u32,
         counts_len: usize,
     ) -> TrieffAnswer;

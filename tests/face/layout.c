@@ -28,7 +28,7 @@ _Static_assert(TRIEFF_NOT_REACHED == 16 && TRIEFF_HIDDEN == 19 && TRIEFF_COUNTS_
                "16, 19 and 25");
 _Static_assert(TRIEFF_LENGTH(1, 3, 1, 1, 3) == 35 && TRIEFF_LENGTH(3, 3, 1, 1, 3) == 43,
                "P1 and P2");
-_Static_assert(TRIEFF_VERSION == 1, "raised with every changed prototype or layout");
+_Static_assert(TRIEFF_VERSION == 2, "raised with every changed prototype or layout");
 _Static_assert(TRIEFF_WRITES_MOST == 66 && TRIEFF_WRITES_LEN == 132, "the list of writes");
 trieff_answer trieff_make(uint8_t *image, size_t image_len, uint32_t n, uint32_t a, uint32_t d,
                           const uint8_t *alphabet, size_t alphabet_len,
