@@ -6,11 +6,11 @@ pub struct Line {
     // The call, then an `n` for each number and a `b` for bytes, filled up with blanks.
     pub form: [u8; 24],
     // The numbers, in order.
-    pub a: u32,
-    pub b: u32,
-    pub c: u32,
-    pub d: u32,
-    pub e: u32,
+    pub a: u64,
+    pub b: u64,
+    pub c: u64,
+    pub d: u64,
+    pub e: u64,
     // The bytes.
     pub bytes: [u8; Line::BYTES],
     // How many bytes there are.
@@ -48,6 +48,9 @@ const TIMES: u8 = 6;
 
 // Nothing more is read, since the line is not a case.
 const WRONG: u8 = 7;
+
+// The greatest number of 64 bits without its last digit.
+const MOST_TENTH: u64 = 1844674407370955161;
 
 impl Line {
     // The most bytes that a line gives.
@@ -131,24 +134,30 @@ impl Line {
         self.at(WRONG, 0)
     }
 
-    // A digit of a number, or the blank after it.
+    // A digit of a number, or the blank after it. A number is at most 2^64 - 1, whose digits are
+    // those of MOST_TENTH and a 5.
     fn number(self, b: u8) -> Line {
         let value = self.value;
-        if 4294967295 < value {
-            return self.at(WRONG, 0);
-        }
         let d = digit(b);
         if d < 10 {
+            if MOST_TENTH < value {
+                return self.at(WRONG, 0);
+            }
+            if value == MOST_TENTH {
+                if 5 < d {
+                    return self.at(WRONG, 0);
+                }
+            }
             return self.at(NUMBER, value * 10 + d as u64);
         }
         if b != 32 {
             return self.at(WRONG, 0);
         }
-        self.kept(value as u32).formed(b'n', GAP)
+        self.kept(value).formed(b'n', GAP)
     }
 
     // The next number. No form has a sixth.
-    fn kept(mut self, n: u32) -> Line {
+    fn kept(mut self, n: u64) -> Line {
         let count = self.count;
         match count {
             0 => self.a = n,

@@ -284,10 +284,21 @@ fn first(bytes: &[u8; Line::BYTES], len: usize) -> &[u8] {
 fn fits(call: usize, line: Line) -> bool {
     let first = line.a as usize <= LENT_MOST;
     match call {
-        4..=6 => true,
+        4 => narrow(line.a) & narrow(line.b) & narrow(line.c) & narrow(line.d) & narrow(line.e),
+        5 | 6 => true,
         9 | 10 => first & (line.b as usize <= LENT_MOST),
         _ => first & (call < CALLS),
     }
+}
+
+// Whether a number has 32 bits, as those of `make`.
+fn narrow(n: u64) -> bool {
+    n <= 4294967295
+}
+
+// A number that `narrow` has tested.
+fn low(n: u64) -> u32 {
+    (n % 4294967296) as u32
 }
 
 // Writes what is after the bar and a blank.
@@ -315,7 +326,15 @@ fn run(call: usize, line: Line, image: &mut [u8]) {
 }
 
 fn make(line: Line, alphabet: &[u8], image: &mut [u8]) {
-    plain(images::make(image, line.a, line.b, line.c, alphabet, line.d, line.e));
+    plain(images::make(
+        image,
+        low(line.a),
+        low(line.b),
+        low(line.c),
+        alphabet,
+        low(line.d),
+        low(line.e),
+    ));
     bytes(image, image.len());
 }
 
@@ -326,7 +345,7 @@ fn lend(call: usize, line: Line, given: &[u8], image: &mut [u8]) {
     work(call, line.b, given, image, &mut space[0..size]);
 }
 
-fn work(call: usize, second: u32, given: &[u8], image: &mut [u8], numbers: &mut [u32]) {
+fn work(call: usize, second: u64, given: &[u8], image: &mut [u8], numbers: &mut [u32]) {
     match call {
         7 => {
             plain(checks::check(image, numbers));
@@ -342,14 +361,14 @@ fn work(call: usize, second: u32, given: &[u8], image: &mut [u8], numbers: &mut 
 }
 
 // A size that `fits` has tested. The slice that is lent needs its bound.
-fn least(n: u32) -> usize
+fn least(n: u64) -> usize
     ensures { λ r. ⌜ r ≤ 300 ⌝ }
 {
     let size = n as usize;
     if size <= LENT_MOST { size } else { LENT_MOST }
 }
 
-fn next_key(after: bool, second: u32, key: &[u8], image: &[u8], numbers: &mut [u32]) {
+fn next_key(after: bool, second: u64, key: &[u8], image: &[u8], numbers: &mut [u32]) {
     let mut space = [0xAAu8; LENT_MOST];
     let room = least(second);
     let buffer = &mut space[0..room];
@@ -359,7 +378,7 @@ fn next_key(after: bool, second: u32, key: &[u8], image: &[u8], numbers: &mut [u
 }
 
 // Runs a call that changes the image.
-fn store(call: usize, value: u32, key: &[u8], image: &mut [u8], numbers: &mut [u32]) {
+fn store(call: usize, value: u64, key: &[u8], image: &mut [u8], numbers: &mut [u32]) {
     let mut before = [0u8; IMAGE_MOST];
     changes(&mut before, image);
     change(call, value, key, image, numbers);
@@ -367,7 +386,7 @@ fn store(call: usize, value: u32, key: &[u8], image: &mut [u8], numbers: &mut [u
     decimals(WORK, numbers, LENT_MOST);
 }
 
-fn change(call: usize, value: u32, key: &[u8], image: &mut [u8], numbers: &mut [u32]) {
+fn change(call: usize, value: u64, key: &[u8], image: &mut [u8], numbers: &mut [u32]) {
     match call {
         11 => stored(stores::store(image, numbers, key, value)),
         12 => stored(stores::store_text(image, numbers, key, value)),
@@ -376,7 +395,7 @@ fn change(call: usize, value: u32, key: &[u8], image: &mut [u8], numbers: &mut [
     }
 }
 
-fn store_with_writes(call: usize, value: u32, key: &[u8], image: &mut [u8], numbers: &mut [u32]) {
+fn store_with_writes(call: usize, value: u64, key: &[u8], image: &mut [u8], numbers: &mut [u32]) {
     let mut list = [7u32; Head::NOTED_MOST as usize];
     if call == 13 {
         let answer = stores::store_writes(image, numbers, key, value, &mut list);

@@ -47,7 +47,7 @@ pub fn store_counts(
     image: &mut [u8],
     work: &mut [u32],
     letters: &[u8],
-    value: u32,
+    value: u64,
     list: &mut [u32],
 ) -> Stored
     ensures { λ r. ⌜ StoresCounts (now (image .entry)) (now (work .entry))
@@ -59,7 +59,7 @@ pub fn store_counts(
     let head = asked.head;
     match verdict {
         Verdict::Refused(why) => Stored::Refused(why),
-        Verdict::Passed => tracking::store_counted(image, head, asked.key, value as u64, list),
+        Verdict::Passed => tracking::store_counted(image, head, asked.key, value, list),
     }
 }
 
@@ -69,7 +69,7 @@ pub fn store_text_counts(
     image: &mut [u8],
     work: &mut [u32],
     text: &[u8],
-    value: u32,
+    value: u64,
     list: &mut [u32],
 ) -> Stored
     ensures { λ r. ⌜ StoresCounts (now (image .entry)) (now (work .entry))
@@ -81,6 +81,6 @@ pub fn store_text_counts(
     let head = named.head;
     match verdict {
         Verdict::Refused(at_text) => Stored::Refused(at_text),
-        Verdict::Passed => tracking::store_counted(image, head, named.key, value as u64, list),
+        Verdict::Passed => tracking::store_counted(image, head, named.key, value, list),
     }
 }

@@ -13,11 +13,11 @@ pub fn own_value(image: &[u8], h: Head, node: u32, depth: usize) -> u64
     requires { ⌜ Open h (now image) ⌝ ∗ ⌜ node ≤ h .g ⌝ }
     ensures { λ r. ⌜ r ≡ ownValue h (tableOf h (now (image .entry))) node depth ⌝ }
 {
-    own_value_by(image, h, node::greatest(h), node, depth) as u64
+    own_value_by(image, h, node::greatest(h), node, depth)
 }
 
 // The same, with the mask of the data's bytes. A walk that meets many nodes makes the mask once.
-pub fn own_value_by(image: &[u8], h: Head, mask: u32, node: u32, depth: usize) -> u32
+pub fn own_value_by(image: &[u8], h: Head, mask: u64, node: u32, depth: usize) -> u64
     requires { ⌜ Open h (now image) ⌝ ∗ ⌜ mask + 1 ≡ 256 ^ h .d ⌝ ∗ ⌜ node ≤ h .g ⌝ }
     ensures { λ r. ⌜ r ≡ ownValue h (tableOf h (now (image .entry))) node depth ⌝ }
 {

@@ -12,6 +12,7 @@ use borrow.Author.Count.{below-more}
 use mathlib.Core.List.{List, [], _∷_, _++_}
 use lib.Bits.{bitAnd, and-mask}
 use lib.Arith.{digits-lt, digits-div, digits-mod, mod-mul}
+use lib.Pow.{pow-add}
 use lib.ListN.{length, getD, set, take, drop, replicate, length-append, length-drop}
 use lib.ListN.{List·getD-append}
 use lib.Seq.{sets, getD-drop, getD-at, take-suc}
@@ -79,26 +80,35 @@ field-last l at u w p =
     rw (field-join l at u w) (digits-mod (fieldAt l at u) (field-bound l (at + u) w p))
 
 -- 256 ^ w - 1 has all bits of w bytes set
-low : (w : ℕ) → w ≤ 4 → 256 ^ w ≡ 2 ^ (8 * w)
-low zero h = refl
-low (suc zero) h = refl
-low (suc (suc zero)) h = refl
-low (suc (suc (suc zero))) h = refl
-low (suc (suc (suc (suc zero)))) h = refl
-low (suc (suc (suc (suc (suc w))))) h = absurd (omega arith)
+pub bytes-bits : (w : ℕ) → 256 ^ w ≡ 2 ^ (8 * w)
+bytes-bits zero = refl
+bytes-bits (suc w) =
+    let more : 8 * w + 8 ≡ 8 * suc w = omega arith in
+    pow-suc 256 w
+    ∙ ap (λ (x : ℕ). x * 256) (bytes-bits w)
+    ∙ sym (pow-add 2 (8 * w) 8)
+    ∙ ap (λ (x : ℕ). 2 ^ x) more
 
--- so such a mask leaves the last w of the four bytes that end at `end`
-pub field-masked : (l : List ℕ) (end w mask : ℕ) → Bytes l → w ≤ 4 → 4 ≤ end → mask + 1 ≡ 256 ^ w
-    → bitAnd (fieldAt l (end - 4) 4) mask ≡ fieldAt l (end - w) w
-field-masked l end w mask p h four e =
-    let m : mask ≡ 2 ^ (8 * w) - 1 = omega (arith, e ∙ low w h) in
-    let width : (4 - w) + w ≡ 4 = omega arith in
-    let from : (end - 4) + (4 - w) ≡ end - w = omega arith in
-    ap (λ (x : ℕ). bitAnd (fieldAt l (end - 4) 4) x) m
-    ∙ and-mask (fieldAt l (end - 4) 4) (8 * w)
-    ∙ ap₂ (λ (x y : ℕ). fieldAt l (end - 4) x % y) (sym width) (sym (low w h))
-    ∙ field-last l (end - 4) (4 - w) w p
+-- so such a mask leaves the last w of the n bytes that end at `end`
+pub field-masked : (l : List ℕ) (end n w mask : ℕ) → Bytes l → w ≤ n → n ≤ end
+    → mask + 1 ≡ 256 ^ w → bitAnd (fieldAt l (end - n) n) mask ≡ fieldAt l (end - w) w
+field-masked l end n w mask p h long e =
+    let m : mask ≡ 2 ^ (8 * w) - 1 = omega (arith, e ∙ bytes-bits w) in
+    let width : (n - w) + w ≡ n = omega arith in
+    let from : (end - n) + (n - w) ≡ end - w = omega arith in
+    ap (λ (x : ℕ). bitAnd (fieldAt l (end - n) n) x) m
+    ∙ and-mask (fieldAt l (end - n) n) (8 * w)
+    ∙ ap₂ (λ (x y : ℕ). fieldAt l (end - n) x % y) (sym width) (sym (bytes-bits w))
+    ∙ field-last l (end - n) (n - w) w p
     ∙ ap (λ (x : ℕ). fieldAt l x w) from
+
+-- the eight bytes that end at `end` are two halves of four
+pub field-halves : (l : List ℕ) (end : ℕ) → 8 ≤ end
+    → fieldAt l (end - 8) 4 * 4294967296 + fieldAt l (end - 4) 4 ≡ fieldAt l (end - 8) 8
+field-halves l end h =
+    let from : end - 4 ≡ (end - 8) + 4 = omega arith in
+    ap (λ (x : ℕ). fieldAt l (end - 8) 4 * 4294967296 + fieldAt l x 4) from
+    ∙ sym (field-join l (end - 8) 4 4)
 
 -- ---- a field of two lists joined, and of zeros
 

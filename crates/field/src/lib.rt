@@ -1,4 +1,4 @@
-// Big-endian fields in a slice of bytes: read, written and cleared. A read takes 1 to 4 bytes; a
+// Big-endian fields in a slice of bytes: read, written and cleared. A read takes up to 8 bytes; a
 // write takes a 64-bit number and any width. The caller shows that the field is inside the
 // slice, and nothing else is assumed.
 ghost use mathlib.Core.Path.{_≡_};
@@ -41,15 +41,18 @@ pub fn read_few(s: &[u8], at: usize, w: usize) -> u32
     (three * 256 + wide(s[at + 3])) as u32
 }
 
-// The number in the w bytes that end at `end`, where the mask is 256^w - 1. It loads four bytes
+// The number in the w bytes that end at `end`, where the mask is 256^w - 1. It loads eight bytes
 // for every width, so that a caller who reads many fields has neither a loop nor a branch for
-// the width. The caller shows that there are four bytes before `end`.
-pub fn load_masked(s: &[u8], end: usize, mask: u32) -> u32
-    requires { ⌜ (4 ≤ end) × (end ≤ length (now s)) ⌝ }
-    ensures { λ r. ⌜ ((w : ℕ) → w ≤ 4 → mask + 1 ≡ 256 ^ w → r ≡ fieldAt (now (s .entry))
+// the width. The caller shows that there are eight bytes before `end`. The compiler makes one
+// load of the two halves, and of the last half alone where the mask has 32 bits.
+pub fn load_masked(s: &[u8], end: usize, mask: u64) -> u64
+    requires { ⌜ (8 ≤ end) × (end ≤ length (now s)) ⌝ }
+    ensures { λ r. ⌜ ((w : ℕ) → w ≤ 8 → mask + 1 ≡ 256 ^ w → r ≡ fieldAt (now (s .entry))
         (end - w) w) ⌝ }
 {
-    read4(s, end - 4) & mask
+    let high = read4(s, end - 8) as u64;
+    let low = read4(s, end - 4) as u64;
+    (high * 4294967296 + low) & mask
 }
 
 // True only if the bytes from `from` up to `to` are all 0. It answers false for fewer than eight

@@ -1,5 +1,5 @@
 -- Where nodes begin, and how many bytes are used. Each node begins W bytes after the one before
--- it, so all follows from the laws of products. In a permitted head W is at most 1028, so for an
+-- it, so all follows from the laws of products. In a permitted head W is at most 1032, so for an
 -- address up to 2^32 a node's place is below 2^43.
 use mathlib.Core.Path.{_≡_, refl}
 use Prim.Native.Nat.{ℕ, _+_, _*_, _^_, _≤_, _<_}

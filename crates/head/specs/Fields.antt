@@ -18,7 +18,7 @@ mostLinkBytes = 4
 
 -- the greatest D
 abbrev pub mostDataBytes : ℕ
-mostDataBytes = 4
+mostDataBytes = 8
 
 -- the greatest F
 abbrev pub mostAlphabet : ℕ

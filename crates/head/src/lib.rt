@@ -45,7 +45,7 @@ impl Head {
     pub const A_MOST: u32 = 4;
 
     // The greatest D: bytes of data.
-    pub const D_MOST: u32 = 4;
+    pub const D_MOST: u32 = 8;
 
     // The greatest F: bytes of alphabet.
     pub const F_MOST: u32 = 1024;

@@ -19,11 +19,11 @@ pub fn mask(h: Head) -> u32
     requires { ⌜ permitted h ≡ true ⌝ }
     ensures { λ r. ⌜ Masks h r ⌝ }
 {
-    ones(h.a)
+    ones(h.a) as u32
 }
 
 // The greatest value that D bytes hold. It is also the mask of the data's bytes.
-pub fn greatest(h: Head) -> u32
+pub fn greatest(h: Head) -> u64
     requires { ⌜ permitted h ≡ true ⌝ }
     ensures { λ r. ⌜ r + 1 ≡ 256 ^ h .d ⌝ }
 {
@@ -35,7 +35,8 @@ pub fn link(image: &[u8], h: Head, mask: u32, q: u32, i: u32) -> u32
     requires { ⌜ Open h (now image) ⌝ ∗ ⌜ Masks h mask ⌝ ∗ ⌜ q ≤ h .g ⌝ ∗ ⌜ i < h .n ⌝ }
     ensures { λ r. ⌜ r ≡ tableOf h (now (image .entry)) .child q i ⌝ }
 {
-    field::load_masked(image, link_place(h, q, i) + (h.a as usize), mask)
+    let end = link_place(h, q, i) + (h.a as usize);
+    field::load_masked(image, end, mask as u64) as u32
 }
 
 // True only if all links of node q are empty. It answers false if they take fewer than eight
@@ -52,12 +53,12 @@ pub fn data(image: &[u8], h: Head, q: u32) -> u64
     requires { ⌜ Open h (now image) ⌝ ∗ ⌜ q ≤ h .g ⌝ }
     ensures { λ r. ⌜ r ≡ tableOf h (now (image .entry)) .value q ⌝ }
 {
-    data_by(image, h, greatest(h), q) as u64
+    data_by(image, h, greatest(h), q)
 }
 
 // Reads the data of node q by the mask of its bytes, `greatest`. A caller who reads many nodes
 // makes the mask once.
-pub fn data_by(image: &[u8], h: Head, mask: u32, q: u32) -> u32
+pub fn data_by(image: &[u8], h: Head, mask: u64, q: u32) -> u64
     requires { ⌜ Open h (now image) ⌝ ∗ ⌜ mask + 1 ≡ 256 ^ h .d ⌝ ∗ ⌜ q ≤ h .g ⌝ }
     ensures { λ r. ⌜ r ≡ tableOf h (now (image .entry)) .value q ⌝ }
 {
@@ -133,19 +134,12 @@ fn wipe(image: &mut [u8], h: Head, q: u32)
     );
 }
 
-// The number with all bits of 1 to 4 bytes set.
-fn ones(w: u32) -> u32
-    requires { ⌜ (1 ≤ w) × (w ≤ 4) ⌝ }
+// The number with all bits of 1 to 8 bytes set. It is built from the highest of these bits: a
+// shift to the bit above would be one by 64 for 8 bytes.
+fn ones(w: u32) -> u64
+    requires { ⌜ (1 ≤ w) × (w ≤ 8) ⌝ }
     ensures { λ r. ⌜ r + 1 ≡ 256 ^ w ⌝ }
 {
-    if w == 4 {
-        return 0xFFFFFFFF;
-    }
-    if w == 3 {
-        return 0xFFFFFF;
-    }
-    if w == 2 {
-        return 0xFFFF;
-    }
-    0xFF
+    let high: u64 = 1 << (8 * w - 1);
+    high - 1 + high
 }

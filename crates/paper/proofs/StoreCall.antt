@@ -359,8 +359,8 @@ module _ (h : Head) where
     λ b. not-given 11 0 (le-ltb (256 ^ h .d - 1) value (omega arith)),
   )
 
-  -- "Values passed are 32 bits wide, so 11 is never given for D = 4."
-  pub eleven-never : (value : ℕ) → h .d ≡ 4 → value < 2 ^ 32 → row11 h value ≡ none
+  -- 02, Ask 6: "values are 64 bits wide in every call" and "11 is never given for D = 8"
+  pub eleven-never : (value : ℕ) → h .d ≡ 8 → value < 2 ^ 64 → row11 h value ≡ none
   eleven-never value e b = none-11 value .1 (rw e b)
 
   pub none-12 : (k : ℕ) → (row12 h k ≡ none) ↔ (0 < k → h .g + k < 256 ^ h .a)

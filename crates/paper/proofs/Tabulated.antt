@@ -1,7 +1,6 @@
 -- 01: "Prove those marked P, together, as a single tabulated fact about the written rules", with
--- cases of 02's Ask 3. Each
--- call of the table leaves what the table says, and each image that is left has the G, W and U
--- that the table says; the checker computes both.
+-- cases of 02's Asks 3, 6 and 8. Each call of the table leaves what the table says, and each image
+-- that is left has the G, W and U that the table says; the checker computes both.
 use mathlib.Core.Path.{_≡_, refl}
 use mathlib.Core.List.{map}
 use Rattle.field.specs.Field.{fieldAt, digits}

@@ -1,12 +1,12 @@
--- 01, "Cases from one small file": those marked P, and cases of 02's Asks 3 and 8, as one table:
--- of calls and of what each must leave, and of the images that are left and of their G, W and U. N
--- = 3, A = 1, D = 1, letters ABC, min 1, max 3. The lent buffers hold rubbish (AA in images and
--- key buffers, 7 in working numbers), so that the table shows what a call keeps and what it
--- changes.
+-- 01, "Cases from one small file": those marked P, and cases of 02's Asks 3, 6 and 8, as one
+-- table: of calls and of what each must leave, and of the images that are left and of their G, W
+-- and U. N = 3, A = 1, D = 1, letters ABC, min 1, max 3; for Ask 6 a root alone, with more bytes
+-- of data. The lent buffers hold rubbish (AA in images and key buffers, 7 in working numbers), so
+-- that the table shows what a call keeps and what it changes.
 use Prim.Native.Nat.{ℕ, _+_}
 use mathlib.Core.Bool.{true, false}
 use mathlib.Core.List.{List, [], _∷_, _++_}
-use lib.ListN.{replicate, set}
+use lib.ListN.{length, replicate, set}
 use lib.IntN.{ℤ, pos}
 use Rattle.head.specs.Fields.{headOf, nodeWidth, usedLen}
 use Rattle.paper.specs.Hearing.{Outcome, outcome, refusedNumbers, doneNumbers}
@@ -139,7 +139,35 @@ abbrev longer3 : ℕ → List ℕ
 longer3 value =
     0 ∷ 1 ∷ 0 ∷ 0 ∷ 2 ∷ 0 ∷ 0 ∷ 5 ∷ 0 ∷ 3 ∷ 0 ∷ 9 ∷ 4 ∷ 0 ∷ 0 ∷ 0 ∷ 0 ∷ 0 ∷ 0 ∷ value ∷ []
 
--- P1 to P12, and Asks 3 and 8
+-- a root with these bytes of data and one empty link of one byte, where the empty key alone can be
+-- stored: N = 1, A = 1, F = 0, min and max 0
+abbrev root : List ℕ → List ℕ
+root bytes =
+    (0 ∷ 0 ∷ 0 ∷ 0 ∷ 0 ∷ 0 ∷ 0 ∷ 1 ∷ 0 ∷ 0 ∷ 0 ∷ 1 ∷ 0 ∷ 0 ∷ 0 ∷ length bytes
+    ∷ 0 ∷ 0 ∷ 0 ∷ 0 ∷ 0 ∷ 0 ∷ 0 ∷ 0 ∷ 0 ∷ 0 ∷ 0 ∷ 0 ∷ 0 ∷ [])
+    ++ bytes
+
+-- a store of this value under the empty key, over D bytes of data 0, is done and leaves these bytes
+abbrev puts : ℕ → ℕ → List ℕ → Case
+puts d value bytes =
+    record {
+      call = storeOf (root (replicate d 0)) (7 ∷ []) (asLetters []) value;
+      leaves = done 0 (pos 1) 0 (root bytes ∷ (0 ∷ []) ∷ []);
+    }
+
+-- it is refused with 11
+abbrev tooGreat : ℕ → ℕ → Case
+tooGreat d value =
+    record {
+      call = storeOf (root (replicate d 0)) (7 ∷ []) (asLetters []) value;
+      leaves = refused 11 0 (root (replicate d 0) ∷ (0 ∷ []) ∷ []);
+    }
+
+-- a value of eight bytes of which the last four are 0: 2^32
+abbrev highOne : List ℕ
+highOne = 0 ∷ 0 ∷ 0 ∷ 1 ∷ 0 ∷ 0 ∷ 0 ∷ 0 ∷ []
+
+-- P1 to P12, and Asks 3, 6 and 8
 abbrev pub cases : List Case
 cases =
     -- P1: "fresh in 35 bytes .. With 34 bytes, 4"
@@ -221,6 +249,30 @@ cases =
       call = nextKeyOf lower3 work (1 ∷ []) true buffer;
       leaves = done 2 (pos 0) 9 (cleared ∷ (1 ∷ 0 ∷ 0xAA ∷ []) ∷ []);
     }
+    -- Ask 6: "D may be 1 to 8". D = 9 is refused; 256^D - 1 fits and 256^D gives 11, but "11 is
+    -- never given for D = 8"; a value counts as stored where its last four bytes are 0
+    ∷ record {
+      call = checkOf (root (replicate 9 0)) (7 ∷ []);
+      leaves = refused 2 0 ((7 ∷ []) ∷ []);
+    }
+    ∷ puts 8 18446744073709551615 (replicate 8 0xFF)
+    ∷ puts 8 4294967296 highOne
+    ∷ puts 5 1099511627775 (replicate 5 0xFF)
+    ∷ tooGreat 5 1099511627776
+    ∷ puts 4 4294967295 (replicate 4 0xFF)
+    ∷ tooGreat 4 4294967296
+    ∷ record {
+      call = lookUpOf (root (replicate 8 0xFF)) (asLetters []);
+      leaves = done 0 (pos 0) 18446744073709551615 [];
+    }
+    ∷ record {
+      call = lookUpOf (root highOne) (asLetters []);
+      leaves = done 0 (pos 0) 4294967296 [];
+    }
+    ∷ record {
+      call = countOf (root highOne) (7 ∷ []);
+      leaves = done 0 (pos 0) 1 ((0 ∷ []) ∷ []);
+    }
     -- Ask 8: data below min, in the root and in P3's file with min 2; data above max; "place the
     -- lowest such node", which here is not the one of least depth; 16 stands before it
     ∷ checks 0 (0 ∷ 0 ∷ 0 ∷ 4 ∷ []) 19 0
@@ -251,11 +303,13 @@ cases =
     }
     ∷ []
 
--- W is 4 in every image that is left, and U is P1's 35 bytes, P2's 43, which P3 keeps, and P7's 55
+-- W is 4 in every image of P1 to P12 that is left, and U is P1's 35 bytes, P2's 43, which P3
+-- keeps, and P7's 55. Ask 6: W has eight bytes of data.
 abbrev pub sizes : List Sized
 sizes =
     record { image = file1; figures = record { g = 0; w = 4; u = 35 } }
     ∷ record { image = file2; figures = record { g = 2; w = 4; u = 43 } }
     ∷ record { image = file3; figures = record { g = 2; w = 4; u = 43 } }
     ∷ record { image = file7; figures = record { g = 5; w = 4; u = 55 } }
+    ∷ record { image = root highOne; figures = record { g = 0; w = 9; u = 37 } }
     ∷ []

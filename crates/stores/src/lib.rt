@@ -11,7 +11,7 @@ use paper::Verdict;
 
 // Stores a value under a key given by its letters; 0 deletes the key. Answers the change in the
 // number of stored keys. Refusals: 1 to 8, 16, 19, 9, 10, 11, 12, 13.
-pub fn store(image: &mut [u8], work: &mut [u32], letters: &[u8], value: u32) -> Stored
+pub fn store(image: &mut [u8], work: &mut [u32], letters: &[u8], value: u64) -> Stored
     ensures { λ r. ⌜ Stores (now (image .entry)) (now (work .entry))
         (asLetters (now (letters .entry))) value (storedOf r) (now (image .exit))
         (now (work .exit)) ⌝ }
@@ -21,12 +21,12 @@ pub fn store(image: &mut [u8], work: &mut [u32], letters: &[u8], value: u32) -> 
     let head = asked.head;
     match verdict {
         Verdict::Refused(why) => Stored::Refused(why),
-        Verdict::Passed => storing::store(image, head, asked.key, value as u64),
+        Verdict::Passed => storing::store(image, head, asked.key, value),
     }
 }
 
 // The same for a key given as text. Refusals: 1 to 8, 16, 19, 10, 9, 11, 12, 13.
-pub fn store_text(image: &mut [u8], work: &mut [u32], text: &[u8], value: u32) -> Stored
+pub fn store_text(image: &mut [u8], work: &mut [u32], text: &[u8], value: u64) -> Stored
     ensures { λ r. ⌜ Stores (now (image .entry)) (now (work .entry)) (asText (now (text .entry)))
         value (storedOf r) (now (image .exit)) (now (work .exit)) ⌝ }
 {
@@ -35,7 +35,7 @@ pub fn store_text(image: &mut [u8], work: &mut [u32], text: &[u8], value: u32) -
     let head = named.head;
     match verdict {
         Verdict::Refused(at_text) => Stored::Refused(at_text),
-        Verdict::Passed => storing::store(image, head, named.key, value as u64),
+        Verdict::Passed => storing::store(image, head, named.key, value),
     }
 }
 
@@ -45,7 +45,7 @@ pub fn store_writes(
     image: &mut [u8],
     work: &mut [u32],
     letters: &[u8],
-    value: u32,
+    value: u64,
     writes: &mut [u32; Head::NOTED_MOST as usize],
 ) -> Noted
     ensures { λ r. ⌜ StoresWrites (now (image .entry)) (now (work .entry))
@@ -57,7 +57,7 @@ pub fn store_writes(
     let head = asked.head;
     match verdict {
         Verdict::Refused(why) => Noted::Refused(why),
-        Verdict::Passed => noting::store_noted(image, head, asked.key, value as u64, writes),
+        Verdict::Passed => noting::store_noted(image, head, asked.key, value, writes),
     }
 }
 
@@ -66,7 +66,7 @@ pub fn store_text_writes(
     image: &mut [u8],
     work: &mut [u32],
     text: &[u8],
-    value: u32,
+    value: u64,
     writes: &mut [u32; Head::NOTED_MOST as usize],
 ) -> Noted
     ensures { λ r. ⌜ StoresWrites (now (image .entry)) (now (work .entry))
@@ -78,6 +78,6 @@ pub fn store_text_writes(
     let head = named.head;
     match verdict {
         Verdict::Refused(at_text) => Noted::Refused(at_text),
-        Verdict::Passed => noting::store_noted(image, head, named.key, value as u64, writes),
+        Verdict::Passed => noting::store_noted(image, head, named.key, value, writes),
     }
 }

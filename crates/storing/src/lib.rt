@@ -73,7 +73,7 @@ pub fn judge(h: Head, len: usize, new: usize, value: u64) -> Verdict
     requires { ⌜ permitted h ≡ true ⌝ ∗ ⌜ new ≤ mostLetters ⌝ }
     ensures { λ r. ⌜ rowOf r ≡ first (addingRows h value new len) ⌝ }
 {
-    if (node::greatest(h) as u64) < value {
+    if node::greatest(h) < value {
         return Verdict::Refused(Refusal::ValueTooGreat);
     }
     if new == 0 {

@@ -45,7 +45,7 @@ pub fn first_bad_node(image: &[u8], h: Head, work: &mut [u32]) -> usize
 
 // Counts the links of node q in the working numbers and answers true, or stops at its first bad
 // link and answers false. A node that `childless` finds without links is passed over at once.
-fn tally(image: &[u8], h: Head, mask: u32, data_mask: u32, q: u32, work: &mut [u32]) -> bool
+fn tally(image: &[u8], h: Head, mask: u32, data_mask: u64, q: u32, work: &mut [u32]) -> bool
     requires { ⌜ Open h (now image) ⌝ }
     requires { ⌜ Masks h mask ⌝ ∗ ⌜ data_mask + 1 ≡ 256 ^ h .d ⌝ }
     requires { ⌜ q ≤ h .g ⌝ }
@@ -80,7 +80,7 @@ fn tally(image: &[u8], h: Head, mask: u32, data_mask: u32, q: u32, work: &mut [u
 }
 
 // Has node x hidden data: data that is not 0, where its mark is that of a depth outside min..max?
-fn hides(image: &[u8], h: Head, data_mask: u32, x: u32, mark: u32) -> bool
+fn hides(image: &[u8], h: Head, data_mask: u64, x: u32, mark: u32) -> bool
     requires { ⌜ Open h (now image) ⌝ ∗ ⌜ data_mask + 1 ≡ 256 ^ h .d ⌝ ∗ ⌜ x ≤ h .g ⌝ }
     ensures { λ r. ⌜ r ≡ hiddenAt h (tableOf h (now (image .entry))) x mark ⌝ }
 {

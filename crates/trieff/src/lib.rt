@@ -76,7 +76,7 @@ pub extern "C" fn trieff_store(
     image: &mut [u8],
     work: &mut [u32],
     letters: &[u8],
-    value: u32,
+    value: u64,
 ) -> TrieffAnswer
     ensures { λ r. ⌜ Stores (now (image .entry)) (now (work .entry))
         (asLetters (now (letters .entry))) value (numbersOf r) (now (image .exit))
@@ -92,7 +92,7 @@ pub extern "C" fn trieff_store_text(
     image: &mut [u8],
     work: &mut [u32],
     text: &[u8],
-    value: u32,
+    value: u64,
 ) -> TrieffAnswer
     ensures { λ r. ⌜ Stores (now (image .entry)) (now (work .entry)) (asText (now (text .entry)))
         value (numbersOf r) (now (image .exit)) (now (work .exit)) ⌝ }
@@ -108,7 +108,7 @@ pub extern "C" fn trieff_store_writes(
     image: &mut [u8],
     work: &mut [u32],
     letters: &[u8],
-    value: u32,
+    value: u64,
     writes: &mut [u32; Head::NOTED_MOST as usize],
 ) -> TrieffAnswer
     ensures { λ r. ⌜ StoresWrites (now (image .entry)) (now (work .entry))
@@ -125,7 +125,7 @@ pub extern "C" fn trieff_store_text_writes(
     image: &mut [u8],
     work: &mut [u32],
     text: &[u8],
-    value: u32,
+    value: u64,
     writes: &mut [u32; Head::NOTED_MOST as usize],
 ) -> TrieffAnswer
     ensures { λ r. ⌜ StoresWrites (now (image .entry)) (now (work .entry))
@@ -192,7 +192,7 @@ pub extern "C" fn trieff_store_counts(
     image: &mut [u8],
     work: &mut [u32],
     letters: &[u8],
-    value: u32,
+    value: u64,
     list: &mut [u32],
 ) -> TrieffAnswer
     ensures { λ r. ⌜ StoresCounts (now (image .entry)) (now (work .entry))
@@ -210,7 +210,7 @@ pub extern "C" fn trieff_store_text_counts(
     image: &mut [u8],
     work: &mut [u32],
     text: &[u8],
-    value: u32,
+    value: u64,
     list: &mut [u32],
 ) -> TrieffAnswer
     ensures { λ r. ⌜ StoresCounts (now (image .entry)) (now (work .entry))

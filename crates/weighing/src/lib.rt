@@ -52,7 +52,7 @@ fn weighed(
     image: &[u8],
     h: Head,
     mask: u32,
-    data_mask: u32,
+    data_mask: u64,
     node: u32,
     depth: usize,
     own: u32,

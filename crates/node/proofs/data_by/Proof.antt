@@ -1,5 +1,5 @@
 -- `node::data_by` meets its contract: the number in the data's field is the table's value. The
--- head comes before all data, so there are four bytes before the field's end. Assumes nothing.
+-- head comes before all data, so there are eight bytes before the field's end. Assumes nothing.
 use mathlib.Core.Path.{_≡_, sym, ap, _∙_}
 use Prim.Native.Nat.{ℕ, _+_, _-_}
 use native.Mathlib.Omega.{arith}

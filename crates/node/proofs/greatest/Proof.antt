@@ -1,4 +1,4 @@
--- `node::greatest` meets its contract: D is 1 to 4. Assumes nothing.
+-- `node::greatest` meets its contract: D is 1 to 8. Assumes nothing.
 use native.Mathlib.Omega.{arith}
 use Rattle.head.proofs.Permitted.{bounds}
 use Rattle.node.proofs.greatest.Statement.{statement}

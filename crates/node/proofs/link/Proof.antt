@@ -1,11 +1,12 @@
 -- `node::link` meets its contract: the number in the link's field is the table's entry. The head
--- comes before every link, so there are four bytes before the field's end. Assumes nothing.
+-- comes before every link, so there are eight bytes before the field's end, and A bytes fit 32 bits. Assumes nothing.
 use mathlib.Core.Path.{_≡_, sym, ap, _∙_}
 use Prim.Native.Nat.{ℕ, _+_, _-_}
 use native.Mathlib.Omega.{arith}
 use borrow.Author.Needs.{needs}
 use Rattle.field.specs.Field.{fieldAt}
-use Rattle.head.proofs.Permitted.{bounds}
+use Rattle.field.proofs.Field.{field-bound}
+use Rattle.head.proofs.Permitted.{bounds, addresses-fit}
 use Rattle.node.specs.Image.{linkPlace}
 use Rattle.node.proofs.FieldPlaces.{link-inside, inside-least, inside-room}
 use Rattle.node.proofs.Tables.{child-in}
@@ -15,11 +16,11 @@ use Rattle.node.proofs.link.Tie as tie
 link-place-requires : tie.Need-link-place-requires
 link-place-requires c κs = search needs
 
-cast-load-masked : tie.Need-cast-load-masked
-cast-load-masked c = search needs
+cast-end : tie.Need-cast-end
+cast-end c = search needs
 
-add-load-masked : tie.Need-add-load-masked
-add-load-masked c =
+add-end : tie.Need-add-end
+add-end c =
     let a = c .before .before .before .args in
     let p = c .before .before .before .pre in
     omega (
@@ -42,8 +43,13 @@ load-masked-requires c κs =
       inside-room i (p .0) (p .1 .1 .0),
     )
 
-returns : tie.Need-returns
-returns c =
+-- the number that was read is the link's field
+read : (c : tie.After-load-masked) → c .load-masked .result ≡ fieldAt
+    (c .before .before .before .before .args .image .now)
+    (linkPlace (c .before .before .before .before .args .h)
+    (c .before .before .before .before .args .q) (c .before .before .before .before .args .i))
+    (c .before .before .before .before .args .h .a)
+read c =
     let a = c .before .before .before .before .args in
     let p = c .before .before .before .before .pre in
     let place : c .before .before .link-place .result + a .h .a - a .h .a ≡ linkPlace (a .h) (a .q)
@@ -51,9 +57,26 @@ returns c =
     c .load-masked .ensures (a .h .a) (omega (arith, bounds (a .h) (p .0 .head-permitted)))
     (p .1 .0)
     ∙ ap (λ (k : ℕ). fieldAt (a .image .now) k (a .h .a)) place
-    ∙ sym (child-in (a .h) (a .image .now) (a .q) (a .i) (p .1 .1 .0) (p .1 .1 .1))
+
+cast-result : tie.Need-cast-result
+cast-result c =
+    let a = c .before .before .before .before .args in
+    let p = c .before .before .before .before .pre in
+    omega (
+      arith,
+      read c,
+      field-bound (a .image .now) (linkPlace (a .h) (a .q) (a .i)) (a .h .a)
+          (λ k. c .before .before .before .shared-slice-known .given k .fits),
+      addresses-fit (bounds (a .h) (p .0 .head-permitted)),
+    )
+
+returns : tie.Need-returns
+returns c =
+    let a = c .before .before .before .before .args in
+    let p = c .before .before .before .before .pre in
+    read c ∙ sym (child-in (a .h) (a .image .now) (a .q) (a .i) (p .1 .1 .0) (p .1 .1 .1))
 
 pub link-spec : {M : Type 1} → statement M
 link-spec =
-    tie.close (tie.spec link-place-requires cast-load-masked add-load-masked load-masked-requires
-    returns)
+    tie.close
+    (tie.spec link-place-requires cast-end add-end load-masked-requires cast-result returns)

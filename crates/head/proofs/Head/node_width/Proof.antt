@@ -1,4 +1,4 @@
--- `head::Head::node_width` meets its contract. In a permitted head N*A + D is at most 1028, so
+-- `head::Head::node_width` meets its contract. In a permitted head N*A + D is at most 1032, so
 -- neither the product nor the sum wraps. Assumes nothing.
 use native.Mathlib.Omega.{arith}
 use mathlib.Core.Path.{refl}
