@@ -4,6 +4,7 @@ pub mod CountsReasons
 pub mod FirstReason
 pub mod KeyReasons
 pub mod LinkReasons
+pub mod NeverEleven
 pub mod OpeningReasons
 pub mod PathReasons
 pub mod Reasons

@@ -23,9 +23,6 @@ few c = omega (arith, c .if3 .left, c .before .mask .ensures)
 greatest-requires : tie.Need-greatest-requires
 greatest-requires c κs = search needs
 
-cast-if1 : tie.Need-cast-if1
-cast-if1 c = search needs
-
 returns : tie.Need-returns
 returns c = judged-11 _ _ _ _ (c .before .greatest .ensures) (c .if1 .taken)
 
@@ -50,8 +47,8 @@ returns-3 c =
     judged-12 _ _ _ (fits (some .before)) _ (some .if2 .left) (c .before .mask .ensures)
     (c .if3 .taken)
 
-cast-t7 : tie.Need-cast-t7
-cast-t7 c = search needs
+cast-t11 : tie.Need-cast-t11
+cast-t11 c = search needs
 
 fits-requires : tie.Need-fits-requires
 unfolding permitted
@@ -76,7 +73,6 @@ judge-spec =
     tie.close
     (tie.spec
     greatest-requires
-    cast-if1
     returns
     returns-2
     cast-total
@@ -84,7 +80,7 @@ judge-spec =
     mask-requires
     cast-if3
     returns-3
-    cast-t7
+    cast-t11
     fits-requires
     returns-4
     returns-5)
