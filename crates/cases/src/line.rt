@@ -49,8 +49,8 @@ const TIMES: u8 = 6;
 // Nothing more is read, since the line is not a case.
 const WRONG: u8 = 7;
 
-// The greatest number of 64 bits without its last digit.
-const MOST_TENTH: u64 = 1844674407370955161;
+// The greatest number of 64 bits.
+const MOST: u64 = 18446744073709551615;
 
 impl Line {
     // The most bytes that a line gives.
@@ -134,21 +134,20 @@ impl Line {
         self.at(WRONG, 0)
     }
 
-    // A digit of a number, or the blank after it. A number is at most 2^64 - 1, whose digits are
-    // those of MOST_TENTH and a 5.
+    // A digit of a number of 64 bits, or the blank after it.
     fn number(self, b: u8) -> Line {
         let value = self.value;
         let d = digit(b);
         if d < 10 {
-            if MOST_TENTH < value {
+            if MOST / 10 < value {
                 return self.at(WRONG, 0);
             }
-            if value == MOST_TENTH {
-                if 5 < d {
-                    return self.at(WRONG, 0);
-                }
+            let tens = value * 10;
+            let last = d as u64;
+            if MOST - last < tens {
+                return self.at(WRONG, 0);
             }
-            return self.at(NUMBER, value * 10 + d as u64);
+            return self.at(NUMBER, tens + last);
         }
         if b != 32 {
             return self.at(WRONG, 0);

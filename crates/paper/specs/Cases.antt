@@ -141,26 +141,27 @@ longer3 value =
 
 -- a root with these bytes of data and one empty link of one byte, where the empty key alone can be
 -- stored: N = 1, A = 1, F = 0, min and max 0
-abbrev root : List ℕ → List ℕ
-root bytes =
+abbrev pub rootFile : List ℕ → List ℕ
+rootFile bytes =
     (0 ∷ 0 ∷ 0 ∷ 0 ∷ 0 ∷ 0 ∷ 0 ∷ 1 ∷ 0 ∷ 0 ∷ 0 ∷ 1 ∷ 0 ∷ 0 ∷ 0 ∷ length bytes
     ∷ 0 ∷ 0 ∷ 0 ∷ 0 ∷ 0 ∷ 0 ∷ 0 ∷ 0 ∷ 0 ∷ 0 ∷ 0 ∷ 0 ∷ 0 ∷ [])
     ++ bytes
 
--- a store of this value under the empty key, over D bytes of data 0, is done and leaves these bytes
+-- a store of this value under the empty key, over D bytes of data 0, is done and leaves these
+-- bytes
 abbrev puts : ℕ → ℕ → List ℕ → Case
 puts d value bytes =
     record {
-      call = storeOf (root (replicate d 0)) (7 ∷ []) (asLetters []) value;
-      leaves = done 0 (pos 1) 0 (root bytes ∷ (0 ∷ []) ∷ []);
+      call = storeOf (rootFile (replicate d 0)) (7 ∷ []) (asLetters []) value;
+      leaves = done 0 (pos 1) 0 (rootFile bytes ∷ (0 ∷ []) ∷ []);
     }
 
 -- it is refused with 11
 abbrev tooGreat : ℕ → ℕ → Case
 tooGreat d value =
     record {
-      call = storeOf (root (replicate d 0)) (7 ∷ []) (asLetters []) value;
-      leaves = refused 11 0 (root (replicate d 0) ∷ (0 ∷ []) ∷ []);
+      call = storeOf (rootFile (replicate d 0)) (7 ∷ []) (asLetters []) value;
+      leaves = refused 11 0 (rootFile (replicate d 0) ∷ (0 ∷ []) ∷ []);
     }
 
 -- a value of eight bytes of which the last four are 0: 2^32
@@ -252,7 +253,7 @@ cases =
     -- Ask 6: "D may be 1 to 8". D = 9 is refused; 256^D - 1 fits and 256^D gives 11, but "11 is
     -- never given for D = 8"; a value counts as stored where its last four bytes are 0
     ∷ record {
-      call = checkOf (root (replicate 9 0)) (7 ∷ []);
+      call = checkOf (rootFile (replicate 9 0)) (7 ∷ []);
       leaves = refused 2 0 ((7 ∷ []) ∷ []);
     }
     ∷ puts 8 18446744073709551615 (replicate 8 0xFF)
@@ -262,15 +263,15 @@ cases =
     ∷ puts 4 4294967295 (replicate 4 0xFF)
     ∷ tooGreat 4 4294967296
     ∷ record {
-      call = lookUpOf (root (replicate 8 0xFF)) (asLetters []);
+      call = lookUpOf (rootFile (replicate 8 0xFF)) (asLetters []);
       leaves = done 0 (pos 0) 18446744073709551615 [];
     }
     ∷ record {
-      call = lookUpOf (root highOne) (asLetters []);
+      call = lookUpOf (rootFile highOne) (asLetters []);
       leaves = done 0 (pos 0) 4294967296 [];
     }
     ∷ record {
-      call = countOf (root highOne) (7 ∷ []);
+      call = countOf (rootFile highOne) (7 ∷ []);
       leaves = done 0 (pos 0) 1 ((0 ∷ []) ∷ []);
     }
     -- Ask 8: data below min, in the root and in P3's file with min 2; data above max; "place the
@@ -311,5 +312,5 @@ sizes =
     ∷ record { image = file2; figures = record { g = 2; w = 4; u = 43 } }
     ∷ record { image = file3; figures = record { g = 2; w = 4; u = 43 } }
     ∷ record { image = file7; figures = record { g = 5; w = 4; u = 55 } }
-    ∷ record { image = root highOne; figures = record { g = 0; w = 9; u = 37 } }
+    ∷ record { image = rootFile highOne; figures = record { g = 0; w = 9; u = 37 } }
     ∷ []

@@ -1,5 +1,6 @@
 -- `node::link` meets its contract: the number in the link's field is the table's entry. The head
--- comes before every link, so there are eight bytes before the field's end, and A bytes fit 32 bits. Assumes nothing.
+-- comes before every link, so there are eight bytes before the field's end, and A bytes fit 32
+-- bits. Assumes nothing.
 use mathlib.Core.Path.{_≡_, sym, ap, _∙_}
 use Prim.Native.Nat.{ℕ, _+_, _-_}
 use native.Mathlib.Omega.{arith}
