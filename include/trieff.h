@@ -54,6 +54,9 @@
    then D bytes of data. Keys have min to max letters. The used length is U = 28 + F + (G+1)*W. The
    bytes from U on are spare and are never judged.
 
+   A value is 64 bits wide in every call. An image holds it in D bytes, so there it is at most
+   256^D - 1. With D = 8 every value fits. 0 means that nothing is stored.
+
    A link is the address of a node, or 0 if it is empty. The nodes of an accepted image are one
    tree: each address from 1 to G stands in exactly one link, and each node is reached from the
    root. A child may have a lower address than its parent, as in a file that another tool has
@@ -103,9 +106,9 @@
    The device must promise:
    - What was written before a flush has landed once the flush has returned without a failure. What
      comes after a flush is not begun before that.
-   - A write of G, of a link, of a data field or of the first 28 bytes lands whole or not at all.
-     Devices promise this within a sector. So the image begins at the start of a sector, and no
-     field lies across the end of one: see TRIEFF_FIELDS_WHOLE.
+   - A write of G, of a link, of a data field (up to 8 bytes) or of the first 28 bytes lands whole
+     or not at all. Devices promise this within a sector. So the image begins at the start of a
+     sector, and no field lies across the end of one: see TRIEFF_FIELDS_WHOLE.
    - Of nodes that were written since the last flush any bytes may have landed, in any order. They
      go to spare bytes.
    - No byte changes that was not written.
@@ -113,9 +116,23 @@
    Bare flash does not promise this: a field can be changed only by erasing its block and writing
    it again, and a cut meanwhile loses the neighbours. A layer that moves sectors, or a card,
    promises it if its maker says so. FRAM and EEPROM take single bytes: there the supply must last
-   until a field is written whole. The order in which a call writes to the image in memory is not
-   promised. So do not lend FRAM or memory with a battery as the image: also there keep two images,
-   and go by the list of writes.
+   until the longest field is written whole, 8 bytes if D is 8. The order in which a call writes to
+   the image in memory is not promised. So do not lend FRAM or memory with a battery as the image:
+   also there keep two images, and go by the list of writes.
+
+   A device may promise words, and not sectors. Then the image begins at the start of a word,
+   TRIEFF_FIELDS_WHOLE holds, and a field is written by one write of its word. Words of 8 bytes are
+   enough for every D, words of 4 only for a D of 1, 2 or 4. The first 28 bytes are longer than a
+   word. So a fresh image is put there with D (bytes 12 to 15) as the guard: write D as zeros,
+   flush, all other bytes, flush, D, flush. If a start finds D = 0, the making was cut.
+
+   With words of 4 bytes, half of an 8-byte data field may land. Then the key has a value that was
+   never stored, and no check can tell. No order of the two words avoids it. So do one of these:
+   - Keep D at most 4. Longer values go into a table beside the image: write the value to a row
+     that nothing refers to, flush, then store the row's number.
+   - Put a layer between, such as a journal, which makes a write of 8 bytes land whole or not at
+     all, and repairs the kept image before it is read at a start.
+   Only a list of one write needs this. New nodes have their data in spare bytes.
 
    With these promises, wherever the cut was, mending answers TRIEFF_DONE if enough working numbers
    are lent. After that, all answers are those from before the store, or all answers are those from
@@ -160,7 +177,14 @@ extern "C" {
 
 /* The version of this header. It is raised by one whenever a prototype, or the layout of a struct,
    changes. A program that declares the calls itself, as one in another language does, must follow
-   the header of the library that it links. */
+   the header of the library that it links.
+   1: the value that a store takes is 32 bits wide, and D is at most 4.
+   2: the value is 64 bits wide in all six stores, and D is at most 8.
+   Do not link a program with this library that was compiled with version 1: compile it anew. The
+   linker does not notice, since the names are the same. Such a program passes 32 bits, and the
+   upper half of the value is whatever stood there before. So the store is refused with 11, or it
+   stores another value. And do not link a program of version 2 with a library of version 1, which
+   drops the upper half. There trieff_make answers TRIEFF_HEAD_FIELD for D = 8. */
 #define TRIEFF_VERSION 2
 
 /* The limits of an image's length in bytes. The least is the length of the seven fields. */
@@ -191,15 +215,18 @@ extern "C" {
     ((size_t)TRIEFF_IMAGE_LEAST + (size_t)(f) +  \
      (size_t)(nodes) * ((size_t)(n) * (size_t)(a) + (size_t)(d)))
 
-/* Whether A and D are 1, 2 or 4, and both divide 28 + F and W. Then each link and each data field
-   stands at a multiple of its length, and none lies across the end of a sector, if the image
-   begins at the start of a sector, and sectors have 512 bytes or another power of two from 4 on:
-   `_Static_assert(TRIEFF_FIELDS_WHOLE(n, a, d, f), "..")`. G never does. */
-#define TRIEFF_FIELDS_WHOLE(n, a, d, f)            \
-    (TRIEFF_FIELD_WHOLE_(a, (n) * (a) + (d), f) && \
+/* Whether A is 1, 2 or 4, D is 1, 2, 4 or 8, and both divide 28 + F and W. Then each link and each
+   data field stands at a multiple of its length, and none lies across the end of a sector, if the
+   image begins at the start of a sector, and sectors have 512 bytes or another power of two from 8
+   on: `_Static_assert(TRIEFF_FIELDS_WHOLE(n, a, d, f), "..")`. G never does.
+   For D = 8 it says that 28 + F and N*A are multiples of 8. So F is 4, 12, 20 or such, and never
+   0. If the alphabet has another length, add characters that no label has. For D = 3, 5, 6 or 7 it
+   is false: take 4 or 8. */
+#define TRIEFF_FIELDS_WHOLE(n, a, d, f)                                       \
+    ((a) <= TRIEFF_A_MOST && TRIEFF_FIELD_WHOLE_(a, (n) * (a) + (d), f) &&    \
      TRIEFF_FIELD_WHOLE_(d, (n) * (a) + (d), f))
-#define TRIEFF_FIELD_WHOLE_(length, w, f)                       \
-    (((length) & ((length) - 1)) == 0 &&                        \
+#define TRIEFF_FIELD_WHOLE_(length, w, f)                                     \
+    (((length) == 1 || (length) == 2 || (length) == 4 || (length) == 8) &&    \
      (TRIEFF_IMAGE_LEAST + (f)) % (length) == 0 && (w) % (length) == 0)
 
 /* The number of an answer. The place is 0 where the comment names none. */
@@ -231,7 +258,7 @@ enum trieff_number {
     /* A letter number is N or more. Or the text is not well-formed, or has a character outside the
        alphabet. */
     TRIEFF_LETTER = 10,
-    /* The value is above 256^D - 1. */
+    /* The value is above 256^D - 1. It is never given for D = 8. */
     TRIEFF_VALUE_TOO_GREAT = 11,
     /* New nodes are needed, and G with them would exceed 256^A - 1. */
     TRIEFF_NO_ADDRESS = 12,
