@@ -1,8 +1,9 @@
 //! What a bench's firmware does with the library, in short. It stores, finds, lists and deletes
 //! labels. It meets refusals: wrong labels, too little memory, damaged images. It mends an image
 //! after a cut, and finds a label by its position, also in a file that another tool has
-//! renumbered. It refuses a file with records that no lookup finds. rust/examples/bench.txt holds
-//! what it must print.
+//! renumbered. It takes over a file with data of four bytes into one with data of eight. It
+//! refuses a file with records that no lookup finds. rust/examples/bench.txt holds what it must
+//! print.
 //!
 //! ```sh
 //! cargo run --manifest-path rust/Cargo.toml --example bench
@@ -13,12 +14,17 @@ use trieff::{
     Shape, Writes,
 };
 
-const ALPHABET: &[u8] = b"0123456789ABCDE-";
-const SHAPE: Shape = Shape { n: 16, a: 2, d: 4, min: 1, max: 12 };
+/// A record number begins with the year and the bench, as in 2026 04 000002402. It does not fit
+/// four bytes, so D is 8. With 20 letters no field lies across the end of a sector.
+const ALPHABET: &[u8] = b"0123456789ABCDEFGHI-";
+const SHAPE: Shape = Shape { n: 20, a: 2, d: 8, min: 1, max: 12 };
+const _: () = assert!(SHAPE.fields_whole(ALPHABET.len()));
 const NODES: usize = 30;
-/// A season's labels, in an image made with the same numbers but A = 3. `jump` adds room for more
-/// nodes.
+/// A season's labels in a file from before, with data of four bytes and an alphabet of its own.
+/// `jump` adds room for more nodes.
 const SEASON: &[u8] = include_bytes!("../../samples/season.trieff");
+const SEASON_ALPHABET: &[u8] = b"0123456789ABCDE-";
+const SEASON_SHAPE: Shape = Shape { n: 16, a: 3, d: 4, min: 1, max: 12 };
 /// The same labels. Many a node has a lower address than its parent.
 const RENUMBERED: &[u8] = include_bytes!("../../samples/renumbered.trieff");
 /// The same labels, with min = 9, and two records at nodes of fewer letters.
@@ -29,7 +35,8 @@ const SEASON_NODES: usize = 700;
 /// compile until a new one has its line here.
 fn advice(refusal: Refusal) -> &'static str {
     match refusal {
-        Refusal::KeyLength | Refusal::Letter | Refusal::ValueTooGreat => "tap again",
+        Refusal::KeyLength | Refusal::Letter => "tap again",
+        Refusal::ValueTooGreat => "tap again, or begin an image with a greater D",
         Refusal::NoAddress | Refusal::NoRoom => "begin a greater image",
         Refusal::TooFewNumbers | Refusal::ShortBuffer => "lend more memory",
         Refusal::NoKey => "end of the list",
@@ -52,8 +59,8 @@ fn show<T: std::fmt::Debug>(asked: &str, heard: Result<T, Refusal>) {
 }
 
 /// A key's letters as the label that the worker taps in.
-fn label(letters: &[u8]) -> String {
-    letters.iter().map(|&letter| ALPHABET[letter as usize] as char).collect()
+fn label(alphabet: &[u8], letters: &[u8]) -> String {
+    letters.iter().map(|&letter| alphabet[letter as usize] as char).collect()
 }
 
 /// Every label in order.
@@ -61,14 +68,14 @@ fn list(image: &[u8], work: &mut [u32]) -> Result<(), Refusal> {
     println!("labels: {}", count(image, work)?);
     for stored in keys(image, work) {
         let stored = stored?;
-        println!("{} {}", label(stored.letters()), stored.value());
+        println!("{} {}", label(ALPHABET, stored.letters()), stored.value());
     }
     Ok(())
 }
 
 /// Stores a label in memory and carries out the first `cut` writes on the kept image. Then the
 /// power is cut.
-fn cut_off(image: &[u8], label: &str, record: u32, cut: usize) -> Result<(), Refusal> {
+fn cut_off(image: &[u8], label: &str, record: u64, cut: usize) -> Result<(), Refusal> {
     let (mut memory, mut kept) = (image.to_vec(), image.to_vec());
     let mut work = [0; NODES];
     let mut writes = Writes::new();
@@ -87,13 +94,13 @@ fn cut_off(image: &[u8], label: &str, record: u32, cut: usize) -> Result<(), Ref
 /// keeps them right. A store without counts does not, so they are worked out afresh after it.
 fn jump(season: &[u8]) -> Result<(), Refusal> {
     let mut image = season.to_vec();
-    image.resize(Shape { a: 3, ..SHAPE }.length(SEASON_NODES, ALPHABET.len()), 0);
+    image.resize(SEASON_SHAPE.length(SEASON_NODES, SEASON_ALPHABET.len()), 0);
     let (mut work, mut numbers) = ([0; SEASON_NODES], [0; SEASON_NODES]);
     let mut counts = Counts::new(&mut numbers);
     counts.work_out(&image, &mut work)?;
     let mut key = [0; 12];
     let found = counts.nth(&image, &mut work, 199, &mut key)?;
-    let name = label(&key[..found.length]);
+    let name = label(SEASON_ALPHABET, &key[..found.length]);
     println!("label 200 of {}: {name} {}", counts.numbers()[0], found.value);
     let asked = format!("position of {name}");
     show(&asked, counts.position_text(&image, &mut work, name.as_bytes()));
@@ -104,6 +111,29 @@ fn jump(season: &[u8]) -> Result<(), Refusal> {
     show("work out", counts.work_out(&image, &mut work));
     show(&asked, counts.position_text(&image, &mut work, name.as_bytes()));
     show("label 395", counts.nth(&image, &mut work, 394, &mut key));
+    Ok(())
+}
+
+/// Takes the season over into a file with data of eight bytes. D cannot be changed in a file. So
+/// a fresh image is made, and each label of the listing is stored in it anew, as text: the letters
+/// have other numbers there.
+fn widen(season: &[u8]) -> Result<(), Refusal> {
+    let record = 202604000002400;
+    let (mut old, mut wide) =
+        (season.to_vec(), vec![0; SHAPE.length(SEASON_NODES, ALPHABET.len())]);
+    let (mut work, mut numbers) = ([0; SEASON_NODES], [0; SEASON_NODES]);
+    show("store in the season", store_text(&mut old, &mut work, b"A01-101-1", record));
+    make(&mut wide, SHAPE, ALPHABET)?;
+    for stored in keys(season, &mut numbers) {
+        let stored = stored?;
+        let name = label(SEASON_ALPHABET, stored.letters());
+        store_text(&mut wide, &mut work, name.as_bytes(), stored.value())?;
+    }
+    let labels = (count(season, &mut work)?, count(&wide, &mut work)?);
+    println!("labels in the season and in the wider file: {labels:?}");
+    show("look up B03-145-1", look_up_text(&wide, b"B03-145-1"));
+    show("store in the wider file", store_text(&mut wide, &mut work, b"A01-101-1", record));
+    show("look up A01-101-1", look_up_text(&wide, b"A01-101-1"));
     Ok(())
 }
 
@@ -123,9 +153,12 @@ fn main() {
     let mut image = [0; SHAPE.length(NODES, ALPHABET.len())];
     let mut work = [0; NODES];
     show("make", make(&mut image, SHAPE, ALPHABET));
-    for (label, record) in
-        [("B04-117-2", 2402), ("B04-117-1", 2401), ("A01-101-1", 2400), ("B04-117-2", 2409)]
-    {
+    for (label, record) in [
+        ("B04-117-2", 202604000002402),
+        ("B04-117-1", 202604000002401),
+        ("A01-101-1", 202604000002400),
+        ("B04-117-2", 202604000002409),
+    ] {
         show(
             &format!("store {label} = {record}"),
             store_text(&mut image, &mut work, label.as_bytes(), record),
@@ -137,16 +170,18 @@ fn main() {
     show("delete B04-117-1", store_text(&mut image, &mut work, b"B04-117-1", 0));
     show("list", list(&image, &mut work));
     for cut in 1..=3 {
-        show("cut", cut_off(&image, "B04-118", 2412, cut));
+        show("cut", cut_off(&image, "B04-118", 202604000002412, cut));
     }
     show("jump", jump(SEASON));
     show("jump in the renumbered season", jump(RENUMBERED));
+    show("widen", widen(SEASON));
     came_in(HIDDEN);
 
     show("look up B04/117", look_up_text(&image, b"B04/117"));
     show("look up 13 letters", look_up_text(&image, b"0123456789ABC"));
-    show("store C02-140-12", store_text(&mut image, &mut work, b"C02-140-12", 2410));
-    show("store C02-140-123", store_text(&mut image, &mut work, b"C02-140-123", 2411));
+    let record = 202604000002410;
+    show("store C02-140-12", store_text(&mut image, &mut work, b"C02-140-12", record));
+    show("store C02-140-123", store_text(&mut image, &mut work, b"C02-140-123", record + 1));
     show("check, 19 working numbers", check(&image, &mut work[..19]));
     show("check, cut off", check(&image[..100], &mut work));
     image[SHAPE.length(5, ALPHABET.len()) + 1] = 200;

@@ -30,7 +30,8 @@
 //! What it depends on: the system writes the few bytes of a field whole or not at all. So does the
 //! disk with a sector, and it leaves the neighbours as they are. A flush returns when all is safe
 //! from a power cut, or fails. A rename leaves the old file or the new one under the name. In this
-//! image no field lies across the end of a sector: an assertion below says so.
+//! image no field lies across the end of a sector: an assertion below says so. With D = 8, for
+//! record numbers of more than four bytes, that needs another alphabet: bench.rs has one.
 #![allow(clippy::incompatible_msrv)] // the crate itself needs Rust 1.63
 
 use std::env;
@@ -124,7 +125,7 @@ impl Bench {
     /// answer that all is well. So nothing goes on from here.
     fn store(&mut self, label: &[u8], record: u32) -> Result<Vec<u8>, Stop> {
         let (image, work) = (&mut self.image, &mut self.work);
-        let change = match store_text_writes(image, work, label, record, &mut self.writes) {
+        let change = match store_text_writes(image, work, label, record.into(), &mut self.writes) {
             Ok(change) => change,
             Err(refusal) => return Ok(refused(label, refusal)),
         };
@@ -237,7 +238,7 @@ fn with_ending(name: &Path, ending: &str) -> PathBuf {
     whole.into()
 }
 
-/// A record number as it was tapped in: digits alone, and a number of at most 32 bits.
+/// A record number as it was tapped in: digits alone, and a number that fits the D = 4 bytes.
 fn record_of(digits: &[u8]) -> Option<u32> {
     let digits = std::str::from_utf8(digits).ok()?;
     digits.parse().ok().filter(|_| digits.bytes().all(|byte| byte.is_ascii_digit()))

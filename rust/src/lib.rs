@@ -20,6 +20,9 @@
 //! leaves such an image, and mending does not help: refuse the file and restore a copy. Do the
 //! same if [`mend`] gives [`Refusal::NotLinked`].
 //!
+//! A value is 64 bits wide in every call. An image holds it in D bytes, so there it is at most
+//! 256^D - 1. With D = 8 every value fits. 0 means that nothing is stored.
+//!
 //! Working numbers: every call but [`make`] and the lookups needs G+1 of them, one for each node
 //! in use. No answer depends on what they held. If the call stops at [`Refusal::TooFewNumbers`],
 //! where its order first names it, or before that, all of them keep what they held. Otherwise the
@@ -80,9 +83,11 @@
 //!
 //! - What was written before a flush has landed once the flush has returned without a failure.
 //!   What comes after a flush is not begun before that.
-//! - A write of G, of a link, of a data field or of the first 28 bytes lands whole or not at all.
-//!   Devices promise this within a sector. So the image begins at the start of a sector, and no
-//!   field lies across the end of one: see [`Shape::fields_whole`].
+//! - A write of G, of a link, of a data field (up to 8 bytes) or of the first 28 bytes lands whole
+//!   or not at all. Devices promise this within a sector. So the image begins at the start of a
+//!   sector, and no field lies across the end of one: see [`Shape::fields_whole`]. A device that
+//!   promises only words of 4 bytes does not promise a data field of 8: the header says what to do
+//!   there.
 //! - Of nodes that were written since the last flush any bytes may have landed, in any order. They
 //!   go to spare bytes.
 //! - No byte changes that was not written.
@@ -172,7 +177,7 @@ pub struct Shape {
     pub n: u32,
     /// Bytes in a link: 1 to 4. An image has at most 256^A nodes.
     pub a: u32,
-    /// Bytes of data: 1 to 4. A value is at most 256^D - 1.
+    /// Bytes of data: 1 to 8. A value is at most 256^D - 1, and with 8 bytes it is any `u64`.
     pub d: u32,
     /// Letters of the shortest key: 0 to `max`.
     pub min: u32,
@@ -199,24 +204,34 @@ impl Shape {
         28 + f + nodes * self.width()
     }
 
-    /// Whether every link and every data field of an image with these numbers and an alphabet of
-    /// `f` bytes is 1, 2 or 4 bytes long and stands at a multiple of its length. Then none lies
-    /// across the end of a sector, if the image begins at the start of a sector, and sectors have
-    /// 512 bytes or another power of two from 4 on. G never does.
+    /// Whether every link of an image with these numbers and an alphabet of `f` bytes has 1, 2 or
+    /// 4 bytes, every data field has 1, 2, 4 or 8, and each stands at a multiple of its length.
+    /// Then none lies across the end of a sector, if the image begins at the start of a sector,
+    /// and sectors have 512 bytes or another power of two from 8 on. G never does.
+    ///
+    /// For D = 8 it says that 28 + F and N*A are multiples of 8. So F is 4, 12, 20 or such, and
+    /// never 0. If the alphabet has another length, add characters that no label has.
     ///
     /// ```
-    /// const LABELS: trieff::Shape = trieff::Shape { n: 16, a: 2, d: 4, min: 1, max: 64 };
-    /// const _: () = assert!(LABELS.fields_whole(16));
-    /// assert!(!LABELS.fields_whole(17));
+    /// use trieff::Shape;
+    ///
+    /// const LABELS: Shape = Shape { n: 20, a: 2, d: 8, min: 1, max: 64 };
+    /// const _: () = assert!(LABELS.fields_whole(20));
+    /// assert!(!LABELS.fields_whole(21));
+    /// assert!(!Shape { n: 16, ..LABELS }.fields_whole(16));
+    /// assert!(Shape { n: 16, d: 4, ..LABELS }.fields_whole(16));
     /// ```
     pub const fn fields_whole(&self, f: usize) -> bool {
-        self.stands_whole(self.a as usize, f) && self.stands_whole(self.d as usize, f)
+        matches!(self.a, 1 | 2 | 4)
+            && matches!(self.d, 1 | 2 | 4 | 8)
+            && self.stands_whole(self.a as usize, f)
+            && self.stands_whole(self.d as usize, f)
     }
 
     /// It holds of the data too, though that begins after the links: if D divides W = N*A + D, it
     /// divides N*A.
     const fn stands_whole(&self, length: usize, f: usize) -> bool {
-        matches!(length, 1 | 2 | 4) && (28 + f) % length == 0 && self.width() % length == 0
+        (28 + f) % length == 0 && self.width() % length == 0
     }
 
     /// The node width W.
@@ -252,6 +267,7 @@ pub struct Found {
 ///
 /// assert_eq!(make(&mut image[..27], shape, b"ABC"), Err(Refusal::ImageLength));
 /// assert_eq!(make(&mut image, Shape { n: 257, ..shape }, b"ABC"), Err(Refusal::HeadField));
+/// assert_eq!(make(&mut image, Shape { d: 9, ..shape }, b"ABC"), Err(Refusal::HeadField));
 /// assert_eq!(make(&mut image, shape, b"ABA"), Err(Refusal::Alphabet));
 /// assert_eq!(make(&mut image[..34], shape, b"ABC"), Err(Refusal::ImageRoom));
 /// ```
@@ -420,6 +436,27 @@ pub fn look_up_text(image: &[u8], text: &[u8]) -> Result<Option<u64>, Refusal> {
 /// assert_eq!(store(&mut image, &mut work, &[1, 0], 256), Err(Refusal::ValueTooGreat));
 /// assert_eq!(store(&mut image, &mut work, &[2, 2, 2], 1), Err(Refusal::NoRoom));
 /// assert_eq!(store(&mut image, &mut work, &[2, 2, 2], 0)?, 0);
+/// # Ok::<(), Refusal>(())
+/// ```
+///
+/// A record number that needs more than four bytes, in an image with D = 8:
+///
+/// ```
+/// use trieff::{look_up, make, store, Refusal, Shape};
+///
+/// const WIDE: Shape = Shape { n: 4, a: 2, d: 8, min: 1, max: 3 };
+/// let mut image = [0; WIDE.length(3, 4)];
+/// let mut work = [0; 3];
+/// make(&mut image, WIDE, b"ABC-")?;
+/// store(&mut image, &mut work, &[1, 0], 202_604_000_002_402)?;
+/// store(&mut image, &mut work, &[1], u64::MAX)?;
+/// assert_eq!(look_up(&image, &[1, 0])?, Some(202_604_000_002_402));
+/// assert_eq!(look_up(&image, &[1])?, Some(u64::MAX));
+///
+/// // with D = 4 it is refused
+/// make(&mut image, Shape { d: 4, ..WIDE }, b"ABC-")?;
+/// let refused = store(&mut image, &mut work, &[1, 0], 202_604_000_002_402);
+/// assert_eq!(refused, Err(Refusal::ValueTooGreat));
 /// # Ok::<(), Refusal>(())
 /// ```
 pub fn store(

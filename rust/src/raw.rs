@@ -5,7 +5,8 @@
 //! slice that a call may write to overlaps no other slice of that call. Nobody else changes a
 //! slice during the call.
 
-/// The version of the header that these declarations follow, TRIEFF_VERSION.
+/// The version of the header that these declarations follow, TRIEFF_VERSION. In version 1 a store
+/// took a value of 32 bits. A library of version 1 links all the same, and drops the upper half.
 pub const VERSION: u32 = 2;
 
 /// The answer of every call. A field that a call does not use is 0. In a refusal all fields but

@@ -41,7 +41,7 @@ pub enum Refusal {
     /// 10: a letter number is N or more; or the text is not well-formed or has a character outside
     /// the alphabet.
     Letter,
-    /// 11: the value is above 256^D - 1.
+    /// 11: the value is above 256^D - 1. It is never given for D = 8, where every `u64` fits.
     ValueTooGreat,
     /// 12: new nodes are needed, and G with them would exceed 256^A - 1.
     NoAddress,

@@ -37,11 +37,12 @@ fn a_season_by_position() {
     assert_eq!(counts.numbers()[0], 394);
 }
 
+/// The values are multiples of a unit: 2^32, whose low 32 bits are 0, and one that makes the first
+/// value the greatest of all.
 #[test]
 fn stores_keep_the_counts() {
-    const SHAPE: Shape = Shape { n: 3, a: 1, d: 1, min: 1, max: 3 };
-    const STORES: [(&[u8], u32, i32); 8] = [
-        (&[1, 0], 9, 1),
+    const STORES: [(&[u8], u64, i32); 8] = [
+        (&[1, 0], 15, 1),
         (&[1], 5, 1),
         (&[1], 6, 0),
         (&[2, 2, 2], 0, 0),
@@ -50,19 +51,22 @@ fn stores_keep_the_counts() {
         (&[1, 0], 0, -1),
         (&[1, 0], 0, 0),
     ];
-    let mut image = [255; SHAPE.length(8, 3)];
-    let (mut work, mut numbers) = ([7; 9], [0; 9]);
-    make(&mut image, SHAPE, b"ABC").unwrap();
-    numbers[1..].fill(77); // a store writes these before they are read
-    let mut counts = Counts::new(&mut numbers);
-    for (letters, value, change) in STORES {
-        assert_eq!(counts.store(&mut image, &mut work, letters, value), Ok(change));
-        let mut fresh = [77; 9];
-        Counts::new(&mut fresh).work_out(&image, &mut work).unwrap();
-        assert_eq!(counts.numbers(), fresh);
-        agree(&image, &counts, &mut work);
+    for (d, unit) in [(1, 1), (5, 1 << 32), (8, 1 << 32), (8, u64::MAX / 15)] {
+        let shape = Shape { n: 3, a: 1, d, min: 1, max: 3 };
+        let mut image = vec![255; shape.length(8, 3)];
+        let (mut work, mut numbers) = ([7; 9], [0; 9]);
+        make(&mut image, shape, b"ABC").unwrap();
+        numbers[1..].fill(77); // a store writes these before they are read
+        let mut counts = Counts::new(&mut numbers);
+        for (letters, value, change) in STORES {
+            assert_eq!(counts.store(&mut image, &mut work, letters, value * unit), Ok(change));
+            let mut fresh = [77; 9];
+            Counts::new(&mut fresh).work_out(&image, &mut work).unwrap();
+            assert_eq!(counts.numbers(), fresh);
+            agree(&image, &counts, &mut work);
+        }
+        assert_eq!(counts.numbers(), [3, 1, 0, 1, 1, 1, 1, 77, 77]);
     }
-    assert_eq!(counts.numbers(), [3, 1, 0, 1, 1, 1, 1, 77, 77]);
 }
 
 #[test]
@@ -78,6 +82,7 @@ fn a_refusal_leaves_image_and_counts() {
         ("", 1, Refusal::KeyLength),
         ("ABCx", 1, Refusal::Letter),
         ("BA", 256, Refusal::ValueTooGreat),
+        ("BA", 1 << 32 | 9, Refusal::ValueTooGreat),
         ("CCC", 1, Refusal::NoRoom), // three nodes, room for two: 13 before the second 5
         ("CC", 1, Refusal::TooFewNumbers), // two nodes and room for them, but one more count
     ] {

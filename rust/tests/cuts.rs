@@ -6,25 +6,27 @@ use trieff::{
     Stored, Writes,
 };
 
-const SHAPE: Shape = Shape { n: 3, a: 2, d: 3, min: 0, max: 3 };
-const ROOM: usize = SHAPE.length(20, 0);
-const STORES: [(&[u8], u32); 9] = [
-    (&[1, 0], 9),
-    (&[1], 5),
-    (&[2, 2, 2], 70_000),
-    (&[1, 0], 9),
-    (&[1, 0], 0),
+const NODES: usize = 20;
+/// The keys of the stores, each with the number of writes in its list. Every shape stores under
+/// them, with values of its own.
+const KEYS: [(&[u8], usize); 9] = [
+    (&[1, 0], 4),
+    (&[1], 1),
+    (&[2, 2, 2], 5),
+    (&[1, 0], 1),
+    (&[1, 0], 1),
     (&[0, 0, 0], 0),
-    (&[], 3),
-    (&[2, 2, 1], 1),
-    (&[0, 1, 2], 2),
+    (&[], 1),
+    (&[2, 2, 1], 3),
+    (&[0, 1, 2], 5),
 ];
 
 /// What an image answers: the keys of the listing. The count must be their number, and each key's
 /// lookup must give its value. There are no more keys than nodes.
 fn answers(image: &[u8]) -> Vec<Stored> {
-    let mut work = [0; 20];
-    let all: Vec<Stored> = keys(image, &mut work).take(21).collect::<Result<_, _>>().unwrap();
+    let mut work = [0; NODES];
+    let all: Vec<Stored> =
+        keys(image, &mut work).take(NODES + 1).collect::<Result<_, _>>().unwrap();
     for stored in &all {
         assert_eq!(look_up(image, stored.letters()), Ok(Some(stored.value())));
     }
@@ -32,32 +34,33 @@ fn answers(image: &[u8]) -> Vec<Stored> {
     all
 }
 
-#[test]
-fn after_any_cut_the_store_is_whole_or_has_not_been() {
+/// Stores the values one after the other, and cuts each store at each of its writes.
+fn every_cut(shape: Shape, alphabet: &[u8], values: [u64; 9]) {
     // spare bytes may hold anything
-    let mut image: [u8; ROOM] = std::array::from_fn(|i| (i * 37 % 251) as u8);
-    let mut work = [0; 20];
+    let room = shape.length(NODES, alphabet.len());
+    let mut image: Vec<u8> = (0..room).map(|i| (i * 37 % 251) as u8).collect();
+    let mut work = [0; NODES];
     let mut writes = Writes::new();
-    let mut lists = Vec::new();
-    make(&mut image, SHAPE, b"").unwrap();
-    for (letters, value) in STORES {
-        let before = image;
+    make(&mut image, shape, alphabet).unwrap();
+    for ((letters, count), value) in KEYS.into_iter().zip(values) {
+        let before = image.clone();
         store_writes(&mut image, &mut work, letters, value, &mut writes).unwrap();
         let list: Vec<_> = writes.iter().collect();
+        assert_eq!(list.len(), count);
         for cut in 0..=list.len() {
-            let mut kept = before;
+            let mut kept = before.clone();
             for write in &list[..cut] {
                 kept[write.clone()].copy_from_slice(&image[write.clone()]);
             }
             // of the write that is hit, if it is a node's, some bytes land: four choices
             for lot in 0..4 {
-                let mut torn = kept;
+                let mut torn = kept.clone();
                 if cut + 2 < list.len() {
                     for i in list[cut].clone().filter(|i| i * 7 / 4 % 4 == lot) {
                         torn[i] = image[i];
                     }
                 }
-                let hit = torn;
+                let hit = torn.clone();
                 assert_eq!(mend(&mut torn, &mut work), Ok(()));
                 assert_eq!(torn[4..], hit[4..]);
                 assert_eq!(check(&torn, &mut work), Ok(()));
@@ -70,9 +73,26 @@ fn after_any_cut_the_store_is_whole_or_has_not_been() {
                 assert_eq!(kept, image);
             }
         }
-        lists.push(list.len());
+        // G, the link, the data field: each inside a sector of eight bytes
+        let fields = &list[list.len().saturating_sub(2)..];
+        let inside = fields.iter().all(|write| write.start / 8 == (write.end - 1) / 8);
+        assert!(inside || !shape.fields_whole(alphabet.len()));
     }
-    assert_eq!(lists, [4, 1, 5, 1, 1, 0, 1, 3, 5]);
+}
+
+#[test]
+fn after_any_cut_the_store_is_whole_or_has_not_been() {
+    const SHAPE: Shape = Shape { n: 3, a: 2, d: 3, min: 0, max: 3 };
+    every_cut(SHAPE, b"", [9, 5, 70_000, 9, 0, 0, 3, 1, 2]);
+}
+
+/// The same with data of eight bytes: the greatest value, and values whose low 32 bits are 0.
+#[test]
+fn after_any_cut_eight_bytes_are_whole_or_have_not_been() {
+    const EIGHT: Shape = Shape { n: 4, a: 2, d: 8, min: 0, max: 3 };
+    const _: () = assert!(EIGHT.fields_whole(4));
+    let (most, low) = (u64::MAX, 1 << 32);
+    every_cut(EIGHT, b"ABC-", [most, low, most - low + 1, low, 0, 0, 1 << 63, most - 1, most]);
 }
 
 /// Also in an image that another tool has renumbered, a cut leaves an accepted image, or 8 at the

@@ -1,6 +1,8 @@
 //! The iterator over the stored keys gives what next key gives, step by step, and then ends.
 
-use trieff::{count, keys, keys_from, make, next_key, store, Found, Keys, Refusal, Shape};
+use trieff::{
+    count, keys, keys_from, look_up, make, next_key, store, Found, Keys, Refusal, Shape,
+};
 
 const SEASON: &[u8] = include_bytes!("../../samples/season.trieff");
 const RENUMBERED: &[u8] = include_bytes!("../../samples/renumbered.trieff");
@@ -102,6 +104,63 @@ fn a_key_given_of_any_length() {
     image[28] = 77; // the root links to a node that is not there
     assert_eq!(agree(&image, 66, &[2; 65], true), (0, Refusal::Link(0)));
     assert_eq!(agree(&image[..27], 66, &[2; 65], true), (0, Refusal::ImageLength));
+}
+
+/// The greatest value of each length of data is given back whole, and every greater one is
+/// refused; with D = 8 there is none. A value whose low 32 bits are 0 is not absent.
+#[test]
+fn values_of_each_length_of_data() {
+    for d in 1..=8 {
+        let shape = Shape { n: 2, a: 1, d, min: 0, max: 3 };
+        let greatest = u64::MAX >> (64 - 8 * d);
+        let one = if d > 4 { 1 << 32 } else { 1 };
+        let (mut image, mut work) = (vec![0xA5; shape.length(6, 0)], [0; 6]);
+        make(&mut image, shape, b"").unwrap();
+        let stored: [(&[u8], u64); 5] = [
+            (&[], greatest),
+            (&[0], greatest / 2 + 1), // the highest bit alone
+            (&[0, 1], one),
+            (&[1], greatest - 1),
+            (&[1, 1], greatest - one + 1),
+        ];
+        for (letters, value) in stored {
+            assert_eq!(store(&mut image, &mut work, letters, value), Ok(1), "{d} {value}");
+            assert_eq!(store(&mut image, &mut work, letters, value), Ok(0));
+            assert_eq!(look_up(&image, letters), Ok(Some(value)));
+        }
+        assert_eq!(image[30..30 + d as usize], greatest.to_be_bytes()[8 - d as usize..]);
+        let given: Vec<_> = keys(&image, &mut work).collect::<Result<_, _>>().unwrap();
+        assert!(given.iter().map(|s| (s.letters(), s.value())).eq(stored));
+        assert_eq!(agree(&image, 6, &[], false), (5, Refusal::NoKey));
+        assert_eq!(count(&image, &mut work), Ok(5));
+
+        let before = image.clone();
+        for value in [greatest.wrapping_add(1), 1 << 32, 1 << 32 | 1, 1 << 63, u64::MAX] {
+            if value > greatest {
+                let refused = Err(Refusal::ValueTooGreat);
+                assert_eq!(store(&mut image, &mut work, &[1], value), refused, "{d} {value}");
+                assert_eq!(store(&mut image, &mut work, &[1, 1, 1], value), refused);
+                assert_eq!(image, before);
+            }
+        }
+        for (letters, _) in stored {
+            assert_eq!(store(&mut image, &mut work, letters, 0), Ok(-1));
+            assert_eq!(look_up(&image, letters), Ok(None));
+        }
+    }
+}
+
+#[test]
+fn data_of_no_other_length() {
+    let mut image = [0; DEEP.length(2, 0)];
+    make(&mut image, DEEP, b"").unwrap();
+    for d in [0, 9, 256 + 8, u32::MAX] {
+        assert_eq!(make(&mut image, Shape { d, ..DEEP }, b""), Err(Refusal::HeadField));
+        image[12..16].copy_from_slice(&d.to_be_bytes());
+        assert_eq!(count(&image, &mut [0; 2]), Err(Refusal::HeadField));
+        assert_eq!(look_up(&image, &[1]), Err(Refusal::HeadField));
+        assert_eq!(store(&mut image, &mut [0; 2], &[1], 1), Err(Refusal::HeadField));
+    }
 }
 
 #[test]
