@@ -1,9 +1,9 @@
 /* What a bench's firmware does with the library. It keeps the labels of buckets in an image, each
    with its record number. It meets every refusal at least once, mends an image after a cut, jumps
    by position in samples/season.trieff, and does so in the same labels as another tool numbers
-   their nodes. It refuses a file with records that no lookup finds. All memory is static.
-   (bench_file.c keeps its image in a file.) From the repository's root, after
-   `rt staticlib trieff`:
+   their nodes. It takes that season over into an image with more bytes of data. It refuses a file
+   with records that no lookup finds. All memory is static. (bench_file.c keeps its image in a
+   file.) From the repository's root, after `rt staticlib trieff`:
 
      gcc -std=c11 -O2 -Iinclude -o target/bench-c examples/bench.c \
          target/staticlib/libtrieff.a && target/bench-c
@@ -14,10 +14,14 @@
 #include <stdio.h>
 #include <string.h>
 
-/* The labels' image: 16 letters, room for 64 nodes. A node takes 16 * 2 + 4 bytes. */
-enum { N = 16, A = 2, D = 4, MIN = 1, MAX = 12, NODES = 64 };
-static const char alphabet[] = "0123456789ABCDE-";
-static uint8_t image[TRIEFF_LENGTH(NODES, N, A, D, sizeof alphabet - 1)];
+/* The labels' image: 20 letters, room for 64 nodes. A record number begins with the year and the
+   bench, as in 2026 04 000002402. It does not fit four bytes, so D is 8. A node takes 20 * 2 + 8
+   bytes. With 20 letters no field lies across the end of a sector; with 16 some would. */
+enum { N = 20, A = 2, D = 8, MIN = 1, MAX = 12, NODES = 64 };
+static const char alphabet[] = "0123456789ABCDEFGHI-";
+enum { F = sizeof alphabet - 1 };
+_Static_assert(TRIEFF_FIELDS_WHOLE(N, A, D, F), "no field lies across the end of a sector");
+static uint8_t image[TRIEFF_LENGTH(NODES, N, A, D, F)];
 static uint32_t work[NODES];
 
 /* TEXT: a text as the calls take it, a pointer and a length in bytes. ALL: a whole array as a
@@ -25,12 +29,13 @@ static uint32_t work[NODES];
 #define TEXT(s) (const uint8_t *)(s), strlen(s)
 #define ALL(array) (array), sizeof(array) / sizeof *(array)
 
-/* What the bench shows for an answer. After 9 to 11 the worker taps again. 12 and 13 need a
-   greater image. 5 and 14 are mistakes of the firmware. 15 is the end of the list. 8 may come from
-   a cut, and then mending helps. After 25 the counts are worked out afresh. After any other
-   refusal, and after an 8 of mending, the bench cannot go on with the image and loads its copy. A
-   file that came in with 19 can also be repaired where it was made: it holds a record under a
-   label that is too short or too long. The place says where to look. */
+/* What the bench shows for an answer. After 9 to 11 the worker taps again. If the record number
+   was right, 11 needs an image with a greater D. 12 and 13 need a greater image. 5 and 14 are
+   mistakes of the firmware. 15 is the end of the list. 8 may come from a cut, and then mending
+   helps. After 25 the counts are worked out afresh. After any other refusal, and after an 8 of
+   mending, the bench cannot go on with the image and loads its copy. A file that came in with 19
+   can also be repaired where it was made: it holds a record under a label that is too short or too
+   long. The place says where to look. */
 static void show(const char *asked, trieff_answer heard)
 {
     printf("%s: ", asked);
@@ -46,7 +51,7 @@ static void show(const char *asked, trieff_answer heard)
     case TRIEFF_NOT_LINKED: printf("no link to node %u", (unsigned)heard.place); break;
     case TRIEFF_KEY_LENGTH: printf("label too short or too long, tap again"); break;
     case TRIEFF_LETTER: printf("no label has this character, tap again"); break;
-    case TRIEFF_VALUE_TOO_GREAT: printf("record number too great, tap again"); break;
+    case TRIEFF_VALUE_TOO_GREAT: printf("record number too great for this image"); break;
     case TRIEFF_NO_ADDRESS: printf("out of addresses, begin an image with a greater A"); break;
     case TRIEFF_NO_ROOM: printf("image full, lend more memory"); break;
     case TRIEFF_SHORT_BUFFER: printf("lend a key buffer of max letters"); break;
@@ -61,11 +66,12 @@ static void show(const char *asked, trieff_answer heard)
     printf("\n");
 }
 
-static void store(const char *label, uint32_t record)
+static void store(const char *label, uint64_t record)
 {
     trieff_answer heard = trieff_store_text(ALL(image), ALL(work), TEXT(label), record);
     if (heard.number == TRIEFF_DONE)
-        printf("store %s = %u: change %d\n", label, (unsigned)record, (int)heard.change);
+        printf("store %s = %llu: change %d\n", label, (unsigned long long)record,
+               (int)heard.change);
     else
         show(label, heard);
 }
@@ -81,11 +87,11 @@ static void look_up(const char *label)
         printf("look up %s: record %llu\n", label, (unsigned long long)heard.value);
 }
 
-/* A key's letters are numbers: letter i is the i-th character of the alphabet, from 0. */
-static void print_label(const uint8_t *key, size_t length)
+/* A key's letters are numbers: letter i is the i-th character of the image's alphabet, from 0. */
+static void print_label(const char *characters, const uint8_t *key, size_t length)
 {
     for (size_t i = 0; i < length; i++)
-        putchar(alphabet[key[i]]);
+        putchar(characters[key[i]]);
 }
 
 /* Every label in order: first the one at or after the empty key, then always the one after the
@@ -105,7 +111,7 @@ static void list(void)
     while (heard.number == TRIEFF_DONE) {
         length = heard.length;
         memcpy(last, key, length);
-        print_label(key, length);
+        print_label(alphabet, key, length);
         printf(" %llu\n", (unsigned long long)heard.value);
         heard = trieff_next_key(ALL(image), ALL(work), last, length, true, ALL(key));
     }
@@ -216,12 +222,13 @@ static void cut_off(void)
            (unsigned)kept[3]);
 }
 
-/* A season of labels, in an image with the same alphabet and with room for more nodes. The counts
-   are a list beside it, one for each node. In renumbered.trieff the same nodes have other
-   addresses: many a child has a lower one than its parent. In hidden.trieff min is 9, and two
-   nodes of fewer letters hold a record. */
-enum { SEASON_A = 3, SEASON_NODES = 700 };
-static uint8_t season[TRIEFF_LENGTH(SEASON_NODES, N, SEASON_A, D, sizeof alphabet - 1)];
+/* A season of labels from before, in an image with data of four bytes, an alphabet of its own and
+   room for more nodes. The counts are a list beside it, one for each node. In renumbered.trieff
+   the same nodes have other addresses: many a child has a lower one than its parent. In
+   hidden.trieff min is 9, and two nodes of fewer letters hold a record. */
+enum { SEASON_N = 16, SEASON_A = 3, SEASON_D = 4, SEASON_F = 16, SEASON_NODES = 700 };
+static const char season_alphabet[] = "0123456789ABCDE-";
+static uint8_t season[TRIEFF_LENGTH(SEASON_NODES, SEASON_N, SEASON_A, SEASON_D, SEASON_F)];
 static uint32_t season_work[SEASON_NODES], counts[SEASON_NODES];
 #define SEASON ALL(season), ALL(season_work)
 
@@ -246,7 +253,7 @@ static void label_at(uint64_t position)
         return;
     }
     printf("label %llu of %u: ", (unsigned long long)position + 1, (unsigned)counts[0]);
-    print_label(key, heard.length);
+    print_label(season_alphabet, key, heard.length);
     printf(", record %llu\n", (unsigned long long)heard.value);
 }
 
@@ -278,6 +285,53 @@ static void jump(void)
     show("check with counts", trieff_check_counts(SEASON, ALL(counts)));
 }
 
+/* Takes the season over into a fresh image with D = 8, since D cannot be changed in an image: each
+   label of the listing is stored anew. It is stored as text, for the letters have other numbers
+   there. Nodes that a delete has left empty stay behind. The answer is that of the count. */
+static uint8_t wide[TRIEFF_LENGTH(SEASON_NODES, N, A, D, F)];
+#define WIDE ALL(wide), ALL(season_work)
+
+static trieff_answer widen(void)
+{
+    uint8_t last[MAX] = {0}, key[MAX], label[MAX];
+    size_t length = 0;
+    trieff_answer heard = trieff_make(ALL(wide), N, A, D, TEXT(alphabet), MIN, MAX);
+    while (heard.number == TRIEFF_DONE) {
+        heard = trieff_next_key(SEASON, last, length, true, ALL(key));
+        if (heard.number != TRIEFF_DONE)
+            break;
+        length = heard.length;
+        memcpy(last, key, length);
+        for (size_t i = 0; i < length; i++)
+            label[i] = (uint8_t)season_alphabet[key[i]];
+        heard = trieff_store_text(WIDE, label, length, heard.value);
+    }
+    return heard.number == TRIEFF_NO_KEY ? trieff_count(WIDE) : heard;
+}
+
+static void before_and_now(const char *label)
+{
+    printf("%s: record %llu before, %llu now\n", label,
+           (unsigned long long)trieff_look_up_text(ALL(season), TEXT(label)).value,
+           (unsigned long long)trieff_look_up_text(ALL(wide), TEXT(label)).value);
+}
+
+/* A record number of more than four bytes is refused in the season's image. In the wider one every
+   label has its record number as before, and the new one is stored. */
+static void more_bytes_of_data(void)
+{
+    const uint64_t record = 202604000002400;
+    const char *asked = "store A01-101-1 = 202604000002400";
+    show(asked, trieff_store_text(SEASON, TEXT("A01-101-1"), record));
+    trieff_answer heard = widen();
+    show("store each label in a wider image", heard);
+    printf("labels: %llu before, %llu now\n", (unsigned long long)trieff_count(SEASON).value,
+           (unsigned long long)heard.value);
+    show(asked, trieff_store_text(WIDE, TEXT("A01-101-1"), record));
+    before_and_now("A01-101-1");
+    before_and_now("B03-145-1");
+}
+
 /* What the bench does with a file from elsewhere: it checks it before it goes by it. */
 static void from_elsewhere(void)
 {
@@ -304,10 +358,10 @@ static void hidden_records(void)
 int main(void)
 {
     show("make the labels' image", trieff_make(ALL(image), N, A, D, TEXT(alphabet), MIN, MAX));
-    store("B04-117-2", 2402);
-    store("B04-117-1", 2401);
-    store("A01-101-1", 2400);
-    store("B04-117-2", 2409);
+    store("B04-117-2", 202604000002402);
+    store("B04-117-1", 202604000002401);
+    store("A01-101-1", 202604000002400);
+    store("B04-117-2", 202604000002409);
     look_up("B04-117-2");
     look_up("B04-117-3");
     list();
@@ -321,6 +375,7 @@ int main(void)
     if (!read_season("samples/season.trieff"))
         return 1;
     jump();
+    more_bytes_of_data();
     if (!read_season("samples/renumbered.trieff"))
         return 1;
     from_elsewhere();

@@ -27,7 +27,8 @@
    What it depends on: the system writes the few bytes of a field whole or not at all. So does the
    disk with a sector, and it leaves the neighbours as they are. A flush returns when all is safe
    from a power cut, or fails. A rename leaves the old file or the new one under the name. In this
-   image no field lies across the end of a sector: a static assertion says so. */
+   image no field lies across the end of a sector: a static assertion says so. With D = 8, for
+   record numbers of more than four bytes, that needs another alphabet: bench.c has one. */
 #define _DEFAULT_SOURCE
 #include "trieff.h"
 
@@ -283,7 +284,7 @@ static void list(void)
         refused("list", heard);
 }
 
-/* A record number as it was tapped in: digits alone, and a number of at most 32 bits. */
+/* A record number as it was tapped in: digits alone, and a number that fits the D = 4 bytes. */
 static bool record_of(const char *digits, uint32_t *record)
 {
     unsigned long long number = 0;

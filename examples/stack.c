@@ -1,8 +1,8 @@
-/* Measures the stack that each call takes, on an image with a key of the greatest length. A
-   firmware engineer needs these figures, and the header gives their limits. Each call runs on a
-   stack of its own, which was filled with the byte A5. The part that no longer holds it was used.
-   The program fails if a call takes more than the header says. From the repository's root, after
-   `rt staticlib trieff`:
+/* Measures the stack that each call takes, on an image with a key of the greatest length and data
+   of eight bytes. A firmware engineer needs these figures, and the header gives their limits. Each
+   call runs on a stack of its own, which was filled with the byte A5. The part that no longer
+   holds it was used. The program fails if a call takes more than the header says. From the
+   repository's root, after `rt staticlib trieff`:
 
      gcc -std=c11 -O2 -Iinclude -o target/stack examples/stack.c target/staticlib/libtrieff.a \
          && target/stack */
@@ -14,8 +14,10 @@
 #include <ucontext.h>
 
 enum { DEEP = TRIEFF_KEY_MOST, NODES = DEEP + 1, ROOM = 65536 };
+enum { N = 2, A = 1, D = TRIEFF_D_MOST, F = 2 };
 enum { MOST = 2304, NEXT_MOST = 32768, COUNTS_MOST = 32768 };
-static uint8_t image[TRIEFF_LENGTH(NODES, 2, 1, 1, 2)];
+#define VALUE (UINT64_MAX - 7)
+static uint8_t image[TRIEFF_LENGTH(NODES, N, A, D, F)];
 static uint32_t work[NODES], writes[TRIEFF_WRITES_LEN], counts[NODES];
 static uint8_t letters[DEEP], text[DEEP], key[DEEP];
 static uint8_t stack[ROOM];
@@ -24,21 +26,22 @@ static trieff_answer heard;
 #define IMAGE image, sizeof image
 #define WORK work, NODES
 #define COUNTS counts, NODES
+#define NODE(address) (image + TRIEFF_LENGTH(address, N, A, D, F))
 
 /* The calls, with one key of TRIEFF_KEY_MOST letters, so that each goes down as far as it can. */
 static void call_make(void)
 {
-    heard = trieff_make(IMAGE, 2, 1, 1, (const uint8_t *)"AB", 2, 0, DEEP);
+    heard = trieff_make(IMAGE, N, A, D, (const uint8_t *)"AB", F, 0, DEEP);
 }
-static void call_store(void) { heard = trieff_store(IMAGE, WORK, letters, DEEP, 7); }
-static void call_store_text(void) { heard = trieff_store_text(IMAGE, WORK, text, DEEP, 7); }
+static void call_store(void) { heard = trieff_store(IMAGE, WORK, letters, DEEP, VALUE); }
+static void call_store_text(void) { heard = trieff_store_text(IMAGE, WORK, text, DEEP, VALUE); }
 static void call_store_writes(void)
 {
-    heard = trieff_store_writes(IMAGE, WORK, letters, DEEP, 7, writes);
+    heard = trieff_store_writes(IMAGE, WORK, letters, DEEP, VALUE, writes);
 }
 static void call_store_text_writes(void)
 {
-    heard = trieff_store_text_writes(IMAGE, WORK, text, DEEP, 7, writes);
+    heard = trieff_store_text_writes(IMAGE, WORK, text, DEEP, VALUE, writes);
 }
 static void call_mend(void) { heard = trieff_mend(IMAGE, WORK); }
 static void call_check(void) { heard = trieff_check(IMAGE, WORK); }
@@ -53,11 +56,11 @@ static void call_counts(void) { heard = trieff_counts(IMAGE, WORK, COUNTS); }
 static void call_check_counts(void) { heard = trieff_check_counts(IMAGE, WORK, COUNTS); }
 static void call_store_counts(void)
 {
-    heard = trieff_store_counts(IMAGE, WORK, letters, DEEP, 7, COUNTS);
+    heard = trieff_store_counts(IMAGE, WORK, letters, DEEP, VALUE, COUNTS);
 }
 static void call_store_text_counts(void)
 {
-    heard = trieff_store_text_counts(IMAGE, WORK, text, DEEP, 7, COUNTS);
+    heard = trieff_store_text_counts(IMAGE, WORK, text, DEEP, VALUE, COUNTS);
 }
 static void call_key_at(void) { heard = trieff_key_at(IMAGE, WORK, COUNTS, 1, key, DEEP); }
 static void call_position(void) { heard = trieff_position(IMAGE, WORK, COUNTS, letters, DEEP); }
@@ -80,22 +83,21 @@ static void whole(void)
 static void lower(void)
 {
     whole();
-    for (size_t node = 0; node <= DEEP; node++) {
-        uint8_t *bytes = image + TRIEFF_LENGTH(node, 2, 1, 1, 2);
-        bytes[1] = (uint8_t)(node == 0 ? DEEP : node - 1);
-        bytes[2] = node == 1 ? 7 : 0;
-    }
+    for (size_t node = 0; node <= DEEP; node++)
+        NODE(node)[1] = (uint8_t)(node == 0 ? DEEP : node - 1);
+    memcpy(NODE(1) + N * A, NODE(DEEP) + N * A, D);
+    memset(NODE(DEEP) + N * A, 0, D);
 }
 static void cut(void)
 {
     whole();
-    image[TRIEFF_IMAGE_LEAST + 2 + 1] = 0;
+    NODE(0)[1] = 0;
 }
 
 static void whole_counted(void)
 {
     whole();
-    trieff_store(IMAGE, WORK, letters, 0, 5);
+    trieff_store(IMAGE, WORK, letters, 0, VALUE - 1);
     call_counts();
 }
 
@@ -132,16 +134,16 @@ int main(void)
         {"mend", cut, call_mend, MOST, 0, 0},
         {"check", whole, call_check, MOST, 0, 0},
         {"check, lower", lower, call_check, MOST, 0, 0},
-        {"look_up", whole, call_look_up, MOST, 0, 7},
-        {"look_up_text", whole, call_look_up_text, MOST, 0, 7},
+        {"look_up", whole, call_look_up, MOST, 0, VALUE},
+        {"look_up_text", whole, call_look_up_text, MOST, 0, VALUE},
         {"count", whole, call_count, MOST, 0, 1},
-        {"next_key", whole, call_next_key, NEXT_MOST, DEEP, 7},
-        {"next_key, lower", lower, call_next_key, NEXT_MOST, DEEP, 7},
+        {"next_key", whole, call_next_key, NEXT_MOST, DEEP, VALUE},
+        {"next_key, lower", lower, call_next_key, NEXT_MOST, DEEP, VALUE},
         {"counts", whole, call_counts, COUNTS_MOST, 0, 0},
         {"check_counts", whole_counted, call_check_counts, COUNTS_MOST, 0, 0},
         {"store_counts", whole_counted, call_store_counts, COUNTS_MOST, 0, 0},
         {"store_text_counts", whole_counted, call_store_text_counts, COUNTS_MOST, 0, 0},
-        {"key_at", whole_counted, call_key_at, COUNTS_MOST, DEEP, 7},
+        {"key_at", whole_counted, call_key_at, COUNTS_MOST, DEEP, VALUE},
         {"position", whole_counted, call_position, COUNTS_MOST, 0, 1},
         {"position_text", whole_counted, call_position_text, COUNTS_MOST, 0, 1},
     };
