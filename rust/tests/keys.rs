@@ -150,6 +150,19 @@ fn values_of_each_length_of_data() {
     }
 }
 
+/// One byte of the root's data that is not 0, whichever it is, is hidden data where min is 1.
+#[test]
+fn each_byte_of_hidden_data_counts() {
+    const SHORTEST: Shape = Shape { n: 2, a: 1, d: 8, min: 1, max: 2 };
+    for byte in 0..8 {
+        let mut image = [0; SHORTEST.length(1, 0)];
+        make(&mut image, SHORTEST, b"").unwrap();
+        assert_eq!(agree(&image, 1, &[], false), (0, Refusal::NoKey));
+        image[28 + 2 + byte] = 1;
+        assert_eq!(agree(&image, 1, &[], false), (0, Refusal::Hidden(0)));
+    }
+}
+
 #[test]
 fn data_of_no_other_length() {
     let mut image = [0; DEEP.length(2, 0)];
