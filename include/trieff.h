@@ -132,7 +132,7 @@
      that nothing refers to, flush, then store the row's number.
    - Put a layer between, such as a journal, which makes a write of 8 bytes land whole or not at
      all, and repairs the kept image before it is read at a start.
-   Only a list of one write needs this. New nodes have their data in spare bytes.
+   This concerns a list of one write alone. New nodes have their data in spare bytes.
 
    With these promises, wherever the cut was, mending answers TRIEFF_DONE if enough working numbers
    are lent. After that, all answers are those from before the store, or all answers are those from
