@@ -50,8 +50,8 @@
    The image
    ---------
    An image is seven big-endian 32-bit fields G, N, A, D, F, min, max, then F bytes of alphabet,
-   then the nodes 0 to G. Node 0 is the root. A node takes W = N*A + D bytes, at most 1,032: N links
-   of A bytes, then D bytes of data. Keys have min to max letters. The used length is
+   then the nodes 0 to G. Node 0 is the root. A node takes W = N*A + D bytes, at most 1,032: N
+   links of A bytes, then D bytes of data. Keys have min to max letters. The used length is
    U = 28 + F + (G+1)*W. The bytes from U on are spare and are never judged.
 
    A value is 64 bits wide in every call. An image holds it in D bytes, so there it is at most
