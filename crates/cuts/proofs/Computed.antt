@@ -1,9 +1,9 @@
 -- P7's store, CCC = 1 in 55 bytes after P3, cut before, between and after its five writes,
 -- computed: what the cut leaves, and what mending leaves then. Of a write to spare bytes that is
 -- hit, the bytes at odd places land; G and the link have such bytes too, but land whole or not
--- at all. Then the same store with three flushes, and with fewer, which are too few. Then mending
--- where no store was cut: P10's image, P8's, and one whose 8 is not mended, since with the lower
--- G the link to node 2 is above G.
+-- at all. Then the same store with three flushes, and with fewer, which are too few. Then a data
+-- field of eight bytes. Then mending where no store was cut: P10's image, P8's, and one whose 8 is
+-- not mended, since with the lower G the link to node 2 is above G.
 use Prim.Native.Nat.{ℕ, _%_}
 use mathlib.Core.Path.{_≡_, refl}
 use mathlib.Core.Bool.{Bool, true, false, not, cond}
@@ -19,7 +19,7 @@ use Rattle.paper.specs.Hearing.{Outcome, outcome, doneNumbers, refusedNumbers}
 use Rattle.paper.specs.Answers.{numberAt}
 use Rattle.paper.specs.Rows.{row1, row2, row3, row4, row6, row7, row8, row16, row19}
 use Rattle.paper.specs.Calls.{tableIn, storedKeys, writesIn, storedImage, mendOf}
-use Rattle.paper.specs.Cases.{file}
+use Rattle.paper.specs.Cases.{file, rootFile}
 use Rattle.cuts.specs.Cut.{cutAfter}
 use Rattle.cuts.specs.Flushed.{flushed, groupsIn, landed, cutSince}
 use Rattle.cuts.specs.Mended.{mendedImage, readBack}
@@ -155,6 +155,22 @@ pub computed-needed :
 unfolding row1 row2 row3 row4 row6 row7 row8 row16 row19 landed mendOf storeWrites tableIn descend
     headOf usedLen
 computed-needed = (refl, refl)
+
+-- ---- a data field of eight bytes
+
+-- a root whose data is 0, in eight bytes
+abbrev empty : List ℕ
+empty = rootFile (replicate 8 0)
+
+-- 02, Ask 6: "Ask 1's whole-field premise covers the longer field". The store of 2^64 - 1 there is
+-- one write of eight bytes from place 29 on. It lands whole or not at all, also where only the
+-- bytes at odd places, or only those at even places, are named.
+pub computed-eight : (map noted (groupsIn empty [] 18446744073709551615) ≡ (29 ∷ 8 ∷ []) ∷ [])
+    × (map (λ (lands : ℕ → ℕ → Bool).
+    cutSince 0 (lands ∷ []) empty (groupsIn empty [] 18446744073709551615))
+    (odds ∷ (λ i p. not (odd p)) ∷ []) ≡ rootFile (replicate 8 0xFF) ∷ empty ∷ [])
+unfolding flushed cutSince noted storeWrites tableIn
+computed-eight = (refl, refl)
 
 -- ---- where no store was cut
 

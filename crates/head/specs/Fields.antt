@@ -16,7 +16,7 @@ mostLinks = 256
 abbrev pub mostLinkBytes : ℕ
 mostLinkBytes = 4
 
--- the greatest D
+-- the greatest D; 02, Ask 6: "D may be 1 to 8"
 abbrev pub mostDataBytes : ℕ
 mostDataBytes = 8
 
