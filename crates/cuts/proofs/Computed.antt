@@ -169,7 +169,7 @@ pub computed-eight : (map noted (groupsIn empty [] 18446744073709551615) ≡ (29
     × (map (λ (lands : ℕ → ℕ → Bool).
     cutSince 0 (lands ∷ []) empty (groupsIn empty [] 18446744073709551615))
     (odds ∷ (λ i p. not (odd p)) ∷ []) ≡ rootFile (replicate 8 0xFF) ∷ empty ∷ [])
-unfolding flushed cutSince noted storeWrites tableIn
+unfolding flushed cutSince noted storeWrites tableIn descend
 computed-eight = (refl, refl)
 
 -- ---- where no store was cut
