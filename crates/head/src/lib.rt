@@ -128,17 +128,20 @@ impl Head {
         );
     }
 
-    // Whether every field is as 01's table permits. If not, the refusal is 2.
+    // Whether every field is as 01's table permits. If not, the refusal is 2. F is tested by itself:
+    // the compiler would put four tests of one kind into a vector, which costs more than it saves.
     pub fn permitted(self) -> bool
         ensures { λ r. ⌜ r ≡ permitted self ⌝ }
     {
+        if Head::F_MOST < self.f {
+            return false;
+        }
         (1 <= self.n)
             & (self.n <= Head::N_MOST)
             & (1 <= self.a)
             & (self.a <= Head::A_MOST)
             & (1 <= self.d)
             & (self.d <= Head::D_MOST)
-            & (self.f <= Head::F_MOST)
             & (self.min <= self.max)
             & (self.max <= Head::MAX_MOST)
     }

@@ -1,23 +1,25 @@
 -- What a write does to the table. A write outside the nodes changes nothing. A write of a link
 -- or of data changes its own entry only, since no other field has a byte in common with it.
-use mathlib.Core.Path.{_≡_, sym, _∙_}
+use mathlib.Core.Path.{_≡_, sym, ap, _∙_}
 use mathlib.Core.Logic.{_⊎_, inl, inr, ⊎-elim, Dec·and}
 use Prim.Native.Nat.{ℕ, _+_, _^_, _≤_, _<_}
 use native.Mathlib.Decide.{ℕ-discrete}
 use native.Mathlib.Omega.{arith}
-use mathlib.Core.List.{List}
+use mathlib.Core.List.{List, [], _∷_}
 use lib.ListN.{length}
 use lib.Seq.{sets}
-use Rattle.field.specs.Field.{fieldAt, digits, putField}
-use Rattle.field.proofs.Field.{field-outside, length-digits, read-written-fits}
+use Rattle.field.specs.Field.{Bytes, fieldAt, digits, putField}
+use Rattle.field.proofs.Field.{field-outside, length-digits, read-written-fits, write-back}
 use Rattle.trie.specs.Table.{Table}
 use Rattle.trie.specs.Storing.{put, grow}
 use Rattle.trie.proofs.Grow.{grow-child, grow-child-other}
 use Rattle.trie.proofs.Put.{put-value, put-value-other}
 use Rattle.head.specs.declared.Head.{Head}
 use Rattle.head.specs.Fields.{fieldsLen, totalAt, totalLen, putTotal, usedLen}
-use Rattle.node.specs.Image.{linkPlace, dataPlace, tableOf}
-use Rattle.node.proofs.FieldPlaces.{inside-least, inside-used, link-inside, data-inside}
+use Rattle.node.specs.Image.{Open, linkPlace, dataPlace, tableOf}
+use Rattle.node.specs.Writes.{carriedOut, dataWrite}
+use Rattle.node.proofs.FieldPlaces.{inside-least, inside-used, inside-room, link-inside}
+use Rattle.node.proofs.FieldPlaces.{data-inside}
 use Rattle.node.proofs.FieldPlaces.{Apart, links-apart, link-data-apart, data-apart}
 use Rattle.node.proofs.Tables.{table-eq, child-in, value-in, child-same, value-same}
 use Rattle.node.proofs.Tables.{table-same}
@@ -92,3 +94,11 @@ module _ (h : Head) (l : List ℕ) (room : usedLen h ≤ length l) where
           value-same h m l p (λ _. kept l (dataPlace h q) (h .d) v (dataPlace h p) (h .d)
           (data-apart h q p s))
           ∙ sym (put-value-other t q v p s)
+
+-- the data that a node has, written once more, changes no byte
+pub data-again : (h : Head) (l : List ℕ) (q : ℕ) → Bytes l → Open h l → q ≤ h .g
+    → carriedOut l (dataWrite h q (tableOf h l .value q) ∷ []) ≡ l
+unfolding carriedOut dataWrite
+data-again h l q bytes o b =
+    ap (λ (v : ℕ). putField l (dataPlace h q) (h .d) v) (value-in h l q b)
+    ∙ write-back l (dataPlace h q) (h .d) bytes (inside-room (data-inside h q) o b)

@@ -115,7 +115,9 @@ pub fn write_at(image: &mut [u8], h: Head, key: Key, walked: Walked, value: u64)
     }
 }
 
-// The path is complete: writes the data field of the key's own node, and nothing else.
+// The path is complete: writes the data field of the key's own node, and nothing else. Where the
+// value is there already, nothing is left to write; the test also keeps the read of the data
+// before the write, so that the compiler makes one load of it.
 fn replace(image: &mut [u8], h: Head, node: u32, value: u64) -> i32
     requires { ⌜ Open h (now image) ⌝ ∗ ⌜ node ≤ h .g ⌝ ∗ ⌜ value < 256 ^ h .d ⌝ }
     ensures { λ _. ⌜ now (image .exit) ≡ carriedOut (now (image .entry))
@@ -123,6 +125,9 @@ fn replace(image: &mut [u8], h: Head, node: u32, value: u64) -> i32
     ensures { λ r. ⌜ r ≡ changeOf (tableOf h (now (image .entry)) .value node) value ⌝ }
 {
     let old = node::data(image, h, node);
+    if old == value {
+        return 0;
+    }
     node::set_data(image, h, node, value);
     change(old, value)
 }
