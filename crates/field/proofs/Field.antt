@@ -80,7 +80,7 @@ field-last l at u w p =
     rw (field-join l at u w) (digits-mod (fieldAt l at u) (field-bound l (at + u) w p))
 
 -- 256 ^ w - 1 has all bits of w bytes set
-pub bytes-bits : (w : ℕ) → 256 ^ w ≡ 2 ^ (8 * w)
+bytes-bits : (w : ℕ) → 256 ^ w ≡ 2 ^ (8 * w)
 bytes-bits zero = refl
 bytes-bits (suc w) =
     let more : 8 * w + 8 ≡ 8 * suc w = omega arith in

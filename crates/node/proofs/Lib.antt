@@ -7,7 +7,6 @@ pub mod FieldPlaces
 pub mod Tables
 pub mod Writes
 pub mod Heads
-pub mod Masks
 pub mod Nodes
 pub mod StoreOnTable
 pub mod Frame

@@ -134,12 +134,31 @@ fn wipe(image: &mut [u8], h: Head, q: u32)
     );
 }
 
-// The number with all bits of 1 to 8 bytes set. It is built from the highest of these bits: a
-// shift to the bit above would be one by 64 for 8 bytes.
+// The number with all bits of 1 to 8 bytes set. The compiler makes a table of it.
 fn ones(w: u32) -> u64
     requires { ⌜ (1 ≤ w) × (w ≤ 8) ⌝ }
     ensures { λ r. ⌜ r + 1 ≡ 256 ^ w ⌝ }
 {
-    let high: u64 = 1 << (8 * w - 1);
-    high - 1 + high
+    if w == 8 {
+        return 0xFFFFFFFFFFFFFFFF;
+    }
+    if w == 7 {
+        return 0xFFFFFFFFFFFFFF;
+    }
+    if w == 6 {
+        return 0xFFFFFFFFFFFF;
+    }
+    if w == 5 {
+        return 0xFFFFFFFFFF;
+    }
+    if w == 4 {
+        return 0xFFFFFFFF;
+    }
+    if w == 3 {
+        return 0xFFFFFF;
+    }
+    if w == 2 {
+        return 0xFFFF;
+    }
+    0xFF
 }
