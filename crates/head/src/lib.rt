@@ -128,8 +128,9 @@ impl Head {
         );
     }
 
-    // Whether every field is as 01's table permits. If not, the refusal is 2. F is tested by itself:
-    // the compiler would put four tests of one kind into a vector, which costs more than it saves.
+    // Whether every field is as 01's table permits. If not, the refusal is 2. F is tested by
+    // itself: the compiler would put four tests of one kind into a vector, which costs more than
+    // it saves.
     pub fn permitted(self) -> bool
         ensures { λ r. ⌜ r ≡ permitted self ⌝ }
     {

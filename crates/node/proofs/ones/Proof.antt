@@ -25,7 +25,8 @@ returns-5 c =
 
 returns-6 : tie.Need-returns-6
 returns-6 c =
-    let e : c .before .before .before .before .before .before .args .w ≡ 3 = omega arith in rw e refl
+    let start = c .before .before .before .before .before .before in
+    let e : start .args .w ≡ 3 = omega arith in rw e refl
 
 returns-7 : tie.Need-returns-7
 returns-7 c =
