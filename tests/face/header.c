@@ -1,8 +1,8 @@
 /* What include/trieff.h says, tried against the library: slices of no elements at NULL, the
    working numbers that mending needs, images whose children have lower addresses, images that are
-   no tree or hold data that no lookup finds and that mending leaves, the shapes whose fields stay
-   inside a sector, a fresh image on a device, and a text for each number. It prints what is wrong,
-   and ends with 1 if anything is. */
+   no tree or hold data that no lookup finds and that mending leaves, values of 64 bits and data of
+   each length, the shapes whose fields stay inside a sector, a fresh image on a device, and a text
+   for each number. It prints what is wrong, and ends with 1 if anything is. */
 #include "trieff.h"
 
 #include <stdio.h>
@@ -290,15 +290,15 @@ static void hidden_data(void)
    the data, with each of its bytes alone. */
 static void hidden_in_a_chain(void)
 {
-    enum { DEPTHS = 140, KINDS = 6 };
+    enum { DEPTHS = 140, KINDS = 6, BYTES = TRIEFF_D_MOST * (TRIEFF_D_MOST + 1) / 2 };
     static const uint8_t keys[KINDS][2] = {{0, 64}, {0, 0}, {1, 63}, {64, 64}, {63, 64}, {2, 3}};
     static uint8_t chain[TRIEFF_LENGTH(DEPTHS, 1, 1, TRIEFF_D_MOST, 0)];
     static uint32_t numbers[DEPTHS];
     for (uint32_t depth = 0; depth < DEPTHS; depth++)
         for (uint32_t kind = 0; kind < 2 * KINDS; kind++)
-            for (uint32_t byte = 0; byte < 10; byte++) {
+            for (uint32_t byte = 0, d = 1; byte < BYTES; byte++) {
                 uint8_t min = keys[kind / 2][0], max = keys[kind / 2][1];
-                uint32_t d = byte < 1 ? 1 : byte < 3 ? 2 : byte < 6 ? 3 : 4;
+                d += byte == d * (d + 1) / 2; /* the bytes of all lengths before d are done */
                 uint32_t down = kind % 2, at = depth == 0 || !down ? depth : DEPTHS - depth;
                 int allowed = min <= depth && depth <= max;
                 trieff_answer heard = trieff_make(chain, sizeof chain, 1, 1, d, NULL, 0, min, max);
@@ -317,33 +317,183 @@ static void hidden_in_a_chain(void)
             }
 }
 
+/* An image with D bytes of data. It has room for NODES nodes with the longest data. */
+static uint8_t wide[TRIEFF_LENGTH(NODES, N, A, TRIEFF_D_MOST, F)];
+#define WIDE wide, sizeof wide
+static const uint8_t BA[] = {1, 0};
+
+enum { STORES = 6 };
+
+/* Stores a value under BA, by each of the stores in turn. */
+static trieff_answer store_by(uint32_t way, uint64_t value)
+{
+    switch (way) {
+    case 0: return trieff_store(WIDE, WORK, BA, 2, value);
+    case 1: return trieff_store_text(WIDE, WORK, TEXT("BA"), value);
+    case 2: return trieff_store_writes(WIDE, WORK, BA, 2, value, writes);
+    case 3: return trieff_store_text_writes(WIDE, WORK, TEXT("BA"), value, writes);
+    case 4: return trieff_store_counts(WIDE, WORK, BA, 2, value, COUNTS);
+    default: return trieff_store_text_counts(WIDE, WORK, TEXT("BA"), value, COUNTS);
+    }
+}
+
+/* A fresh image with D bytes of data, and its counts. */
+static void fresh_wide(uint32_t d)
+{
+    EXPECT(trieff_make(WIDE, N, A, d, TEXT("ABC"), 1, MAX).number == TRIEFF_DONE);
+    EXPECT(trieff_counts(WIDE, WORK, COUNTS).number == TRIEFF_DONE);
+}
+
+/* Every call that reads meets BA with this value, and it stands big-endian in the last node. */
+static void holds(uint32_t d, uint64_t value)
+{
+    uint8_t key[MAX], *data = wide + TRIEFF_LENGTH(3, N, A, d, F) - d;
+    trieff_answer found = {.length = 2, .value = value};
+    EXPECT(same(trieff_check(WIDE, WORK), (trieff_answer){0}));
+    EXPECT(same(trieff_mend(WIDE, WORK), (trieff_answer){0}));
+    EXPECT(same(trieff_count(WIDE, WORK), (trieff_answer){.value = 1}));
+    EXPECT(same(trieff_look_up(WIDE, BA, 2), (trieff_answer){.value = value}));
+    EXPECT(same(trieff_look_up_text(WIDE, TEXT("BA")), (trieff_answer){.value = value}));
+    EXPECT(same(trieff_next_key(WIDE, WORK, BA, 0, false, key, MAX), found));
+    EXPECT(trieff_counts(WIDE, WORK, COUNTS).number == TRIEFF_DONE);
+    EXPECT(counts[0] == 1 && counts[1] == 1 && counts[2] == 1);
+    EXPECT(trieff_check_counts(WIDE, WORK, COUNTS).number == TRIEFF_DONE);
+    EXPECT(same(trieff_key_at(WIDE, WORK, COUNTS, 0, key, MAX), found));
+    EXPECT(same(trieff_position(WIDE, WORK, COUNTS, BA, 2), (trieff_answer){0}));
+    EXPECT(same(trieff_position_text(WIDE, WORK, COUNTS, TEXT("BA")), (trieff_answer){0}));
+    EXPECT(refuses(trieff_next_key(WIDE, WORK, BA, 2, true, key, MAX), TRIEFF_NO_KEY, 0));
+    for (uint32_t i = d; i > 0; i--, value >>= 8)
+        EXPECT(data[i - 1] == (uint8_t)value);
+    EXPECT(value == 0);
+}
+
+/* Values at the limits of every length, by every store, for every D. Where D bytes hold the value,
+   it is stored in new nodes, over 1, over itself, and is deleted. Else the answer is 11, and
+   nothing changes. With eight bytes it never is. A value whose low 32 bits are 0 is not absent. */
+static void values(void)
+{
+    static uint8_t kept[sizeof wide];
+    uint64_t limits[3 * TRIEFF_D_MOST + 4] = {1, 0x100000001, 0xFFFFFFFF00000000, UINT64_MAX - 1};
+    for (uint32_t i = 0; i < TRIEFF_D_MOST; i++) {
+        limits[3 * i + 4] = UINT64_MAX >> 8 * i;
+        limits[3 * i + 5] = (uint64_t)1 << 8 * i;
+        limits[3 * i + 6] = (uint64_t)0x80 << 8 * i;
+    }
+    for (uint32_t d = 1; d <= TRIEFF_D_MOST; d++)
+        for (uint32_t way = 0; way < STORES; way++)
+            for (size_t i = 0; i < sizeof limits / sizeof *limits; i++) {
+                uint64_t most = UINT64_MAX >> 8 * (TRIEFF_D_MOST - d), value = limits[i];
+                fresh_wide(d);
+                if (value > most) {
+                    EXPECT(d < TRIEFF_D_MOST);
+                    memcpy(kept, wide, sizeof wide);
+                    EXPECT(refuses(store_by(way, value), TRIEFF_VALUE_TOO_GREAT, 0));
+                    EXPECT(memcmp(kept, wide, sizeof wide) == 0 && counts[0] == 0);
+                    continue;
+                }
+                EXPECT(store_by(way, value).change == 1);
+                holds(d, value);
+                EXPECT(store_by(way, value).change == 0);
+                EXPECT(store_by(way, 1).change == 0);
+                holds(d, 1);
+                EXPECT(store_by(way, value).change == 0);
+                holds(d, value);
+                EXPECT(store_by(way, 0).change == -1);
+                EXPECT(trieff_count(WIDE, WORK).value == 0);
+                EXPECT(trieff_counts(WIDE, WORK, COUNTS).number == TRIEFF_DONE && counts[0] == 0);
+                EXPECT(store_by(way, value).change == 1);
+                holds(d, value);
+            }
+}
+
+/* The list of writes of a data field has all of its bytes, and a new node W bytes. */
+static void writes_of_wide_data(void)
+{
+    for (uint32_t d = 1; d <= TRIEFF_D_MOST; d++)
+        for (uint32_t way = 2; way <= 3; way++) {
+            uint32_t w = N * A + d, root = TRIEFF_LENGTH(0, N, A, d, F);
+            trieff_answer heard;
+            fresh_wide(d);
+            heard = store_by(way, 1);
+            EXPECT(heard.length == 4 && writes[0] == root + w && writes[1] == w);
+            EXPECT(writes[2] == root + 2 * w && writes[3] == w);
+            EXPECT(writes[4] == 0 && writes[5] == 4 && writes[6] == root + 1 && writes[7] == A);
+            heard = store_by(way, 2);
+            EXPECT(heard.length == 1 && writes[0] == root + 3 * w - d && writes[1] == d);
+        }
+}
+
+/* Every call answers 2, and changes nothing, where D is not 1 to 8. */
+#define HEAD_REFUSED(call)                                                        \
+    do {                                                                          \
+        EXPECT(refuses(call, TRIEFF_HEAD_FIELD, 0));                              \
+        EXPECT(memcmp(kept, wide, sizeof wide) == 0 && work[0] == 99);            \
+    } while (0)
+
+static void data_too_long(void)
+{
+    static const uint32_t refused_d[] = {0, 9, 10, 16, 256 + 8, 0x08000000, UINT32_MAX};
+    for (size_t i = 0; i < sizeof refused_d / sizeof *refused_d; i++) {
+        uint32_t d = refused_d[i];
+        uint8_t kept[sizeof wide], key[MAX];
+        fresh_wide(8);
+        for (int byte = 0; byte < 4; byte++)
+            wide[12 + byte] = (uint8_t)(d >> (24 - 8 * byte));
+        memcpy(kept, wide, sizeof wide);
+        work[0] = 99;
+        HEAD_REFUSED(trieff_make(WIDE, N, A, d, TEXT("ABC"), 1, MAX));
+        HEAD_REFUSED(trieff_check(WIDE, WORK));
+        HEAD_REFUSED(trieff_count(WIDE, WORK));
+        HEAD_REFUSED(trieff_look_up(WIDE, BA, 2));
+        HEAD_REFUSED(trieff_look_up_text(WIDE, TEXT("BA")));
+        for (uint32_t way = 0; way < STORES; way++)
+            HEAD_REFUSED(store_by(way, 5));
+        HEAD_REFUSED(trieff_mend(WIDE, WORK));
+        HEAD_REFUSED(trieff_next_key(WIDE, WORK, BA, 0, false, key, MAX));
+        HEAD_REFUSED(trieff_counts(WIDE, WORK, COUNTS));
+        HEAD_REFUSED(trieff_check_counts(WIDE, WORK, COUNTS));
+        HEAD_REFUSED(trieff_key_at(WIDE, WORK, COUNTS, 0, key, MAX));
+        HEAD_REFUSED(trieff_position(WIDE, WORK, COUNTS, BA, 2));
+        HEAD_REFUSED(trieff_position_text(WIDE, WORK, COUNTS, TEXT("BA")));
+    }
+}
+
 /* Whether a field at an offset lies across the end of a sector. */
 static int lies_across(size_t place, size_t length, size_t sector)
 {
     return place / sector != (place + length - 1) / sector;
 }
 
-/* Where TRIEFF_FIELDS_WHOLE says so, no field does, for every small shape. */
+/* Where TRIEFF_FIELDS_WHOLE says so, no field does, for every small shape, with the usual sectors
+   and with the shortest. It says so for data of one, two, four and eight bytes, and for no other
+   length. */
 static void fields_whole(void)
 {
-    unsigned shapes = 0;
+    unsigned shapes[TRIEFF_D_MOST + 1] = {0};
     for (size_t n = 1; n <= 9; n++)
-        for (size_t a = 1; a <= 4; a++)
-            for (size_t d = 1; d <= 4; d++)
+        for (size_t a = 1; a <= TRIEFF_A_MOST; a++)
+            for (size_t d = 1; d <= TRIEFF_D_MOST; d++)
                 for (size_t f = 0; f <= 12; f++) {
                     size_t width = n * a + d, across = 0;
                     for (size_t node = 0; node < 600; node++) {
                         size_t place = 28 + f + node * width;
-                        for (size_t link = 0; link < n; link++)
-                            across += (size_t)lies_across(place + link * a, a, 512);
-                        across += (size_t)lies_across(place + n * a, d, 512);
+                        for (size_t sector = 8; sector <= 512; sector += 504) {
+                            for (size_t link = 0; link < n; link++)
+                                across += (size_t)lies_across(place + link * a, a, sector);
+                            across += (size_t)lies_across(place + n * a, d, sector);
+                        }
                     }
-                    shapes += TRIEFF_FIELDS_WHOLE(n, a, d, f);
+                    shapes[d] += TRIEFF_FIELDS_WHOLE(n, a, d, f);
                     EXPECT(!TRIEFF_FIELDS_WHOLE(n, a, d, f) || across == 0);
                 }
-    EXPECT(shapes > 100);
+    for (size_t d = 1; d <= TRIEFF_D_MOST; d++)
+        EXPECT((shapes[d] > 0) == (d == 1 || d == 2 || d == 4 || d == 8));
     EXPECT(TRIEFF_FIELDS_WHOLE(16, 2, 4, 16) && !TRIEFF_FIELDS_WHOLE(16, 3, 4, 16));
     EXPECT(!TRIEFF_FIELDS_WHOLE(16, 2, 4, 15) && !TRIEFF_FIELDS_WHOLE(3, 2, 4, 16));
+    /* for D = 8, F + 28 and N*A are multiples of 8 */
+    EXPECT(TRIEFF_FIELDS_WHOLE(16, 2, 8, 12) && TRIEFF_FIELDS_WHOLE(2, 4, 8, 4));
+    EXPECT(!TRIEFF_FIELDS_WHOLE(16, 2, 8, 16) && !TRIEFF_FIELDS_WHOLE(3, 4, 8, 12));
+    EXPECT(!TRIEFF_FIELDS_WHOLE(16, 2, 6, 14) && !TRIEFF_FIELDS_WHOLE(16, 2, 8, 10));
 }
 
 /* A fresh image is put on a device that holds other bytes. A cut before the last write leaves a
@@ -387,6 +537,9 @@ int main(void)
     trees();
     hidden_data();
     hidden_in_a_chain();
+    values();
+    writes_of_wide_data();
+    data_too_long();
     fields_whole();
     on_a_device();
     texts();

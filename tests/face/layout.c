@@ -30,6 +30,11 @@ _Static_assert(TRIEFF_LENGTH(1, 3, 1, 1, 3) == 35 && TRIEFF_LENGTH(3, 3, 1, 1, 3
                "P1 and P2");
 _Static_assert(TRIEFF_VERSION == 2, "raised with every changed prototype or layout");
 _Static_assert(TRIEFF_WRITES_MOST == 66 && TRIEFF_WRITES_LEN == 132, "the list of writes");
+_Static_assert(TRIEFF_IMAGE_LEAST == 28 && TRIEFF_IMAGE_MOST == 16777216 &&
+                   TRIEFF_N_MOST == 256 && TRIEFF_A_MOST == 4 && TRIEFF_D_MOST == 8 &&
+                   TRIEFF_F_MOST == 1024 && TRIEFF_KEY_MOST == 64,
+               "the limits of an image");
+_Static_assert(TRIEFF_LENGTH(1, 256, 4, 8, 0) == 28 + 1032, "the widest node");
 trieff_answer trieff_make(uint8_t *image, size_t image_len, uint32_t n, uint32_t a, uint32_t d,
                           const uint8_t *alphabet, size_t alphabet_len,
                           uint32_t min, uint32_t max);
@@ -42,16 +47,16 @@ trieff_answer trieff_look_up(const uint8_t *image, size_t image_len,
 trieff_answer trieff_look_up_text(const uint8_t *image, size_t image_len,
                                   const uint8_t *text, size_t text_len);
 trieff_answer trieff_store(uint8_t *image, size_t image_len, uint32_t *work, size_t work_len,
-                           const uint8_t *letters, size_t letters_len, uint32_t value);
+                           const uint8_t *letters, size_t letters_len, uint64_t value);
 trieff_answer trieff_store_text(uint8_t *image, size_t image_len, uint32_t *work, size_t work_len,
-                                const uint8_t *text, size_t text_len, uint32_t value);
+                                const uint8_t *text, size_t text_len, uint64_t value);
 trieff_answer trieff_store_writes(uint8_t *image, size_t image_len,
                                   uint32_t *work, size_t work_len,
-                                  const uint8_t *letters, size_t letters_len, uint32_t value,
+                                  const uint8_t *letters, size_t letters_len, uint64_t value,
                                   uint32_t writes[132]);
 trieff_answer trieff_store_text_writes(uint8_t *image, size_t image_len,
                                        uint32_t *work, size_t work_len,
-                                       const uint8_t *text, size_t text_len, uint32_t value,
+                                       const uint8_t *text, size_t text_len, uint64_t value,
                                        uint32_t writes[132]);
 trieff_answer trieff_mend(uint8_t *image, size_t image_len, uint32_t *work, size_t work_len);
 trieff_answer trieff_next_key(const uint8_t *image, size_t image_len,
@@ -66,11 +71,11 @@ trieff_answer trieff_check_counts(const uint8_t *image, size_t image_len,
                                   const uint32_t *counts, size_t counts_len);
 trieff_answer trieff_store_counts(uint8_t *image, size_t image_len,
                                   uint32_t *work, size_t work_len,
-                                  const uint8_t *letters, size_t letters_len, uint32_t value,
+                                  const uint8_t *letters, size_t letters_len, uint64_t value,
                                   uint32_t *counts, size_t counts_len);
 trieff_answer trieff_store_text_counts(uint8_t *image, size_t image_len,
                                        uint32_t *work, size_t work_len,
-                                       const uint8_t *text, size_t text_len, uint32_t value,
+                                       const uint8_t *text, size_t text_len, uint64_t value,
                                        uint32_t *counts, size_t counts_len);
 trieff_answer trieff_key_at(const uint8_t *image, size_t image_len,
                             uint32_t *work, size_t work_len,
