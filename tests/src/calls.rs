@@ -16,16 +16,16 @@ pub enum Call {
     Count,
     LookUp,
     LookUpText,
-    Store { value: u32 },
-    StoreText { value: u32 },
-    StoreWrites { value: u32 },
-    StoreTextWrites { value: u32 },
+    Store { value: u64 },
+    StoreText { value: u64 },
+    StoreWrites { value: u64 },
+    StoreTextWrites { value: u64 },
     Mend,
     NextKey { after: bool },
     Counts,
     CheckCounts,
-    StoreCounts { value: u32 },
-    StoreTextCounts { value: u32 },
+    StoreCounts { value: u64 },
+    StoreTextCounts { value: u64 },
     KeyAt { position: u64 },
     Position,
     PositionText,
@@ -133,7 +133,7 @@ impl Call {
     }
 
     /// The value of a store; nothing for other calls.
-    pub fn stored(&self) -> Option<u32> {
+    pub fn stored(&self) -> Option<u64> {
         match *self {
             Call::Store { value } | Call::StoreText { value } => Some(value),
             Call::StoreWrites { value } | Call::StoreTextWrites { value } => Some(value),

@@ -355,7 +355,7 @@ impl Case {
                 let limits: [&[u32]; 5] = [
                     &[0, 257, u32::MAX],
                     &[0, 5, u32::MAX],
-                    &[0, 5, u32::MAX],
+                    &[0, 9, 9, 16, u32::MAX],
                     &[65, u32::MAX],
                     &[65, u32::MAX],
                 ];
@@ -508,6 +508,7 @@ fn full_of_two_bytes(rng: &mut Rng) -> (Sort, Shape, Vec<u8>) {
 /// A chain deeper than 64 nodes, than 256, or than 65,536.
 fn deep(rng: &mut Rng) -> (Sort, Shape, Vec<u8>) {
     let mut shape = Shape::narrow(rng, 3);
+    shape.head.d = rng.pick(&[1, 1, 5, 8]);
     let lengths = [(0, 64), (0, 64), (1, 64), (64, 64), (0, 3), (2, 2), (0, 0)];
     (shape.head.min, shape.head.max) = rng.pick(&lengths);
     let (low, high) = rng.pick(&[(64, 68), (68, 250), (255, 330), (320, 700), (65_536, 70_000)]);

@@ -89,7 +89,7 @@ fn order_of_25() {
 fn store_both_ways(
     image: &mut Vec<u8>,
     key: (&[u8], &[u8]),
-    value: u32,
+    value: u64,
     list: &[u32],
     answered: Answer,
 ) -> Vec<u32> {
@@ -220,7 +220,7 @@ fn a_store_changes_counts_on_its_path_alone() {
         let before = list.clone();
         let g = Head::read(&image).g as usize;
         let stored = (letters[0] + letters[letters.len() - 1]) % 3;
-        let done = store_counts(&mut image, &mut [7; 400], &letters, u32::from(stored), &mut list);
+        let done = store_counts(&mut image, &mut [7; 400], &letters, u64::from(stored), &mut list);
         assert_eq!(done.number, 0);
         let head = Head::read(&image);
         let mut passed = vec![0];

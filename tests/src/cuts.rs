@@ -6,7 +6,7 @@
 
 use crate::calls::{ask_library, Call, Pointers};
 use crate::keys;
-use crate::model::{self, Answer, Head};
+use crate::model::{self, greatest, Answer, Head};
 use crate::progress::Progress;
 use crate::renumbering::{self, renumbered, rises};
 use crate::report;
@@ -48,13 +48,15 @@ impl Held {
 }
 
 /// What was tried: the images to begin with, those of them in which a link does not rise, the
-/// stores that were not refused, the images that their cuts left, and of these images those with a
-/// write that landed in part and those whose G was lowered.
+/// stores that were not refused, those of them that change a data field of more than four bytes
+/// alone, the images that the cuts left, and of these images those with a write that landed in
+/// part and those whose G was lowered.
 #[derive(Clone, Copy, Default)]
 pub struct Tried {
     pub images: u64,
     pub falling: u64,
     pub stores: u64,
+    pub wide: u64,
     pub cuts: u64,
     pub partly: u64,
     pub lowered: u64,
@@ -66,6 +68,7 @@ impl Tried {
         self.images += other.images;
         self.falling += other.falling;
         self.stores += other.stores;
+        self.wide += other.wide;
         self.cuts += other.cuts;
         self.partly += other.partly;
         self.lowered += other.lowered;
@@ -268,7 +271,7 @@ impl Worker {
         &mut self,
         held: &Held,
         key: &Key,
-        value: u32,
+        value: u64,
         keys: &[Key],
     ) -> Result<Option<Held>, String> {
         self.try_store(held, key, value, keys).map_err(|why| {
@@ -284,7 +287,7 @@ impl Worker {
         &mut self,
         held: &Held,
         key: &Key,
-        value: u32,
+        value: u64,
         keys: &[Key],
     ) -> Result<Option<Held>, String> {
         let answer = if has_text(key) && self.rng.one_in(2) {
@@ -298,6 +301,7 @@ impl Worker {
         self.done.stores += 1;
         let list = listed(self.twins.library.writes(), answer.length as usize, held.image.len())?;
         let after = self.twins.library.image().to_vec();
+        self.done.wide += u64::from(list.len() == 1 && list[0].len() > 4 && held.image != after);
         self.ask(Call::Store { value }, &held.image, &key.letters)?;
         claim(self.twins.library.image() == after, || {
             "the store leaves other bytes than the store with writes".to_string()
@@ -314,7 +318,7 @@ impl Worker {
         &mut self,
         held: &Held,
         key: &Key,
-        value: u32,
+        value: u64,
         after: &[u8],
     ) -> Result<Vec<u32>, String> {
         let mut list = match &held.counts {
@@ -348,7 +352,7 @@ impl Worker {
         &mut self,
         held: &Held,
         key: &Key,
-        value: u32,
+        value: u64,
         list: &[Range<usize>],
         after: &[u8],
         keys: &[Key],
@@ -382,7 +386,7 @@ impl Worker {
         })?;
         let mut stored = held.stored.clone();
         if value > 0 {
-            stored.insert(key.letters.clone(), u64::from(value));
+            stored.insert(key.letters.clone(), value);
         } else {
             stored.remove(&key.letters);
         }
@@ -484,36 +488,50 @@ fn keys_of(image: &[u8], mut keys: Vec<Vec<u8>>) -> Vec<Key> {
 
 // ---- small images ----
 
-/// All accepted images with A = D = 1 and this N and G. Those with hidden data are passed over.
+/// All accepted images with A = 1 and this N, G and D. Those with hidden data are passed over.
 struct Family {
     n: u32,
     g: u32,
+    d: u32,
     /// The data values of every node.
-    data: &'static [u8],
+    data: &'static [u64],
     /// An image is tried in every n-th of the 56 settings, where n is this number. If n is above
     /// 56, some images are left out.
     settings: usize,
 }
 
-const FAMILIES: [Family; 14] = [
-    Family { n: 1, g: 0, data: &[0, 1, 255], settings: 1 },
-    Family { n: 1, g: 1, data: &[0, 1, 255], settings: 1 },
-    Family { n: 1, g: 2, data: &[0, 1, 255], settings: 1 },
-    Family { n: 1, g: 3, data: &[0, 1, 255], settings: 3 },
-    Family { n: 1, g: 4, data: &[0, 1], settings: 11 },
-    Family { n: 2, g: 0, data: &[0, 1, 255], settings: 1 },
-    Family { n: 2, g: 1, data: &[0, 1, 255], settings: 1 },
-    Family { n: 2, g: 2, data: &[0, 1, 255], settings: 5 },
-    Family { n: 2, g: 3, data: &[0, 1], settings: 13 },
-    Family { n: 2, g: 4, data: &[0, 1], settings: 181 },
-    Family { n: 3, g: 0, data: &[0, 1, 255], settings: 1 },
-    Family { n: 3, g: 1, data: &[0, 1, 255], settings: 3 },
-    Family { n: 3, g: 2, data: &[0, 1], settings: 5 },
-    Family { n: 3, g: 3, data: &[0, 1], settings: 67 },
+const FAMILIES: [Family; 25] = [
+    Family { n: 1, g: 0, d: 1, data: &[0, 1, 255], settings: 1 },
+    Family { n: 1, g: 1, d: 1, data: &[0, 1, 255], settings: 1 },
+    Family { n: 1, g: 2, d: 1, data: &[0, 1, 255], settings: 1 },
+    Family { n: 1, g: 3, d: 1, data: &[0, 1, 255], settings: 3 },
+    Family { n: 1, g: 4, d: 1, data: &[0, 1], settings: 11 },
+    Family { n: 2, g: 0, d: 1, data: &[0, 1, 255], settings: 1 },
+    Family { n: 2, g: 1, d: 1, data: &[0, 1, 255], settings: 1 },
+    Family { n: 2, g: 2, d: 1, data: &[0, 1, 255], settings: 5 },
+    Family { n: 2, g: 3, d: 1, data: &[0, 1], settings: 13 },
+    Family { n: 2, g: 4, d: 1, data: &[0, 1], settings: 181 },
+    Family { n: 3, g: 0, d: 1, data: &[0, 1, 255], settings: 1 },
+    Family { n: 3, g: 1, d: 1, data: &[0, 1, 255], settings: 3 },
+    Family { n: 3, g: 2, d: 1, data: &[0, 1], settings: 5 },
+    Family { n: 3, g: 3, d: 1, data: &[0, 1], settings: 67 },
+    Family { n: 1, g: 0, d: 5, data: &[0, 1, 1 << 32], settings: 1 },
+    Family { n: 1, g: 1, d: 5, data: &[0, 1, 1 << 32], settings: 1 },
+    Family { n: 1, g: 2, d: 5, data: &[0, 1, 1 << 32], settings: 5 },
+    Family { n: 2, g: 1, d: 5, data: &[0, 1, 1 << 32], settings: 3 },
+    Family { n: 2, g: 2, d: 5, data: &[0, 1 << 32], settings: 13 },
+    Family { n: 1, g: 0, d: 8, data: &[0, 1, 1 << 56], settings: 1 },
+    Family { n: 1, g: 1, d: 8, data: &[0, 1, 1 << 56], settings: 1 },
+    Family { n: 1, g: 2, d: 8, data: &[0, 1, 1 << 56], settings: 5 },
+    Family { n: 2, g: 1, d: 8, data: &[0, 1, 1 << 56], settings: 3 },
+    Family { n: 2, g: 2, d: 8, data: &[0, 1 << 56], settings: 13 },
+    Family { n: 3, g: 1, d: 8, data: &[0, 1 << 56], settings: 13 },
 ];
 
-/// Each of these values is stored under every key.
-const VALUES: [u32; 3] = [0, 1, 255];
+/// The values that are stored under every key: 0, 256^(D-1) and 256^D - 1.
+fn values(d: u32) -> [u64; 3] {
+    [0, greatest(d - 1) + 1, greatest(d)]
+}
 
 fn run_tree(
     worker: &mut Worker,
@@ -525,7 +543,8 @@ fn run_tree(
         for setting in
             small::settings().iter().skip((index + i) % family.settings).step_by(family.settings)
         {
-            let image = small::image(&mut worker.rng, family.n, links, &data, setting);
+            let (rng, widths) = (&mut worker.rng, (family.n, family.d));
+            let image = small::image(rng, widths, links, &data, setting);
             if model::check(&image, &mut [0; 5]).number > 0 {
                 continue;
             }
@@ -536,7 +555,7 @@ fn run_tree(
                 small::keys(family.n).into_iter().map(|key| key.letters).collect(),
             );
             for key in &keys {
-                for value in VALUES {
+                for value in values(family.d) {
                     worker.store(&held, key, value, &keys)?;
                 }
             }
@@ -564,9 +583,10 @@ pub fn run_small() -> Tried {
                     FAMILIES.iter().flat_map(trees).skip(thread).step_by(2)
                 {
                     progress.at(&format!(
-                        "cuts: N {} G {} links {}",
+                        "cuts: N {} G {} D {} links {}",
                         family.n,
                         family.g,
+                        family.d,
                         report::hex(&links)
                     ));
                     if let Err(failure) = run_tree(&mut worker, family, index, &links) {

@@ -1,7 +1,9 @@
 //! Spoils an image in one way: a head field, the alphabet, links, data, the length. Or it spoils
 //! the image in two ways, so that the order of the refusals matters.
 
-use crate::model::{depths, greatest, link, outside, write_number, Head, LONGEST_IMAGE};
+use crate::model::{
+    depths, greatest, link, outside, write_number, Head, LONGEST_IMAGE, WIDEST_DATA,
+};
 use crate::renumbering::{self, renumbered};
 use crate::rng::Rng;
 use crate::shapes;
@@ -37,7 +39,7 @@ pub fn readable(image: &[u8]) -> Option<Head> {
     let head = Head::read(image);
     let widths = (1..=256).contains(&head.n)
         && (1..=4).contains(&head.a)
-        && (1..=4).contains(&head.d)
+        && (1..=WIDEST_DATA).contains(&head.d)
         && head.f <= 1_024;
     if widths && head.u() <= image.len() as u128 {
         Some(head)
@@ -76,7 +78,7 @@ fn head_field(rng: &mut Rng, image: &mut [u8]) {
             u32::MAX,
         ],
         2 => vec![0, 1, 2, 3, 4, 5, a | 256, u32::MAX],
-        3 => vec![0, 1, 2, 3, 4, 5, 8, d | 256, u32::MAX],
+        3 => vec![0, 1, 4, 5, 7, 8, 9, 9, 9, 12, 16, d ^ 4, d | 256, u32::MAX],
         4 => vec![
             0,
             f.wrapping_add(1),
@@ -250,6 +252,7 @@ fn node_outside(rng: &mut Rng, head: &Head, depths: &[Option<u64>]) -> Option<u6
     let far = [65 + inside, 128 + inside, 255, 256, 256 + inside, 65_535, 65_536, 65_536 + inside];
     let deepest = depths.iter().flatten().max().copied().unwrap_or(0);
     let wanted = match rng.below(8) {
+        _ if deepest > 65_600 && rng.one_in(2) => Some(65_536 + inside),
         0..=2 => Some(rng.pick(&near)),
         3..=5 => Some(rng.pick(&far)),
         6 => Some(deepest),

@@ -1,12 +1,16 @@
-//! The exhaustive part: all small images with A = D = 1, in families. Every link takes every link
+//! The exhaustive part: all small images with A = 1, in families. Every link takes every link
 //! value of its family: those that matter (0 to G+1, and 255) or all 256. Every node takes every
 //! data value of its family. The calls, without make, are made with every key of at most three
-//! letters from 0 to N, where the letter N is bad. With N and G up to 2, and the link values that
-//! matter, this is done on every image, refused or not. In some other families fewer calls, or
-//! none, are made on the images whose links are refused, as `Asks` says. The calls with counts are
-//! made with right, wrong and short lists; those that take a key or a position are made on images
-//! whose links are good, also if 19 refuses their data, and then with the counts of the stored
-//! keys. In an accepted image the number of keys must be the number of nodes with data.
+//! letters from 0 to N, where the letter N is bad. With D = 1, N and G up to 2, and the link
+//! values that matter, this is done on every image, refused or not. In some other families fewer
+//! calls, or none, are made on the images whose links are refused, as `Asks` says. The calls with
+//! counts are made with right, wrong and short lists; those that take a key or a position are made
+//! on images whose links are good, also if 19 refuses their data, and then with the counts of the
+//! stored keys. In an accepted image the number of keys must be the number of nodes with data.
+//!
+//! In the families with D = 4, 5 and 8 the data is 0, 1, or 1 in its first byte alone: with D = 5
+//! and 8 its low 32 bits are 0 then. In the smallest images each byte of the data alone takes
+//! every value.
 //!
 //! After the families, small accepted images are renumbered in every way. Each must answer as the
 //! one it was made from. With data in all nodes, 19 must name the lowest of the new addresses
@@ -14,7 +18,7 @@
 
 use crate::calls::Call;
 use crate::lists;
-use crate::model::{self, Answer, Head};
+use crate::model::{self, greatest, Answer, Head};
 use crate::progress::Progress;
 use crate::renumbering;
 use crate::report;
@@ -38,19 +42,32 @@ enum Asks {
     Nothing,
 }
 
-/// All images with this N and G.
+/// All images with this N, G and D.
 struct Family {
     n: u32,
     g: u32,
-    /// The values of every link; an empty list stands for the values that matter.
+    d: u32,
+    /// The values of every link, or `MATTERING`.
     links: &'static [u8],
     /// The data values of every node.
-    data: &'static [u8],
+    data: &'static [u64],
     refused: Asks,
     /// An image whose links are good is tried in every n-th setting, where n is this number.
     settings: usize,
 }
 
+const fn family(
+    (n, g, d): (u32, u32, u32),
+    links: &'static [u8],
+    data: &'static [u64],
+    refused: Asks,
+    settings: usize,
+) -> Family {
+    Family { n, g, d, links, data, refused, settings }
+}
+
+/// Stands for the link values that matter: 0 to G+1, and 255.
+const MATTERING: &[u8] = &[];
 /// Every value of a byte.
 const BYTES: [u8; 256] = {
     let mut all = [0; 256];
@@ -62,27 +79,75 @@ const BYTES: [u8; 256] = {
     all
 };
 
-const FAMILIES: [Family; 16] = [
-    Family { n: 1, g: 0, links: &BYTES, data: &BYTES, refused: Asks::All, settings: 1 },
-    Family { n: 1, g: 1, links: &BYTES, data: &[0, 1, 255], refused: Asks::Check, settings: 1 },
-    Family { n: 2, g: 0, links: &BYTES, data: &[0, 1, 255], refused: Asks::Check, settings: 1 },
-    Family { n: 1, g: 1, links: &[], data: &[0, 1, 255], refused: Asks::All, settings: 1 },
-    Family { n: 1, g: 2, links: &[], data: &[0, 1, 255], refused: Asks::All, settings: 1 },
-    Family { n: 1, g: 3, links: &[], data: &[0, 1], refused: Asks::All, settings: 1 },
-    Family { n: 2, g: 0, links: &[], data: &[0, 1, 255], refused: Asks::All, settings: 1 },
-    Family { n: 2, g: 1, links: &[], data: &[0, 1, 255], refused: Asks::All, settings: 1 },
-    Family { n: 2, g: 2, links: &[], data: &[0, 1, 255], refused: Asks::All, settings: 1 },
-    Family { n: 3, g: 0, links: &[], data: &[0, 1, 255], refused: Asks::All, settings: 1 },
-    Family { n: 3, g: 1, links: &[], data: &[0, 1, 255], refused: Asks::All, settings: 1 },
-    Family { n: 1, g: 4, links: &[], data: &[0, 1], refused: Asks::Check, settings: 3 },
-    Family { n: 2, g: 3, links: &[], data: &[0, 1], refused: Asks::Check, settings: 3 },
-    Family { n: 3, g: 2, links: &[], data: &[0, 1], refused: Asks::Check, settings: 3 },
-    Family { n: 3, g: 3, links: &[], data: &[0, 1], refused: Asks::Nothing, settings: 24 },
-    Family { n: 2, g: 4, links: &[], data: &[0, 1], refused: Asks::Nothing, settings: 56 },
+/// Every value of each byte of D bytes alone, and 0: 255 * D + 1 values.
+const fn each_byte<const MANY: usize>() -> [u64; MANY] {
+    let mut all = [0; MANY];
+    let mut i = 1;
+    while i < MANY {
+        all[i] = ((i - 1) % 255 + 1 << 8 * ((i - 1) / 255)) as u64;
+        i += 1;
+    }
+    all
+}
+
+const EACH_1: [u64; 256] = each_byte();
+const EACH_5: [u64; 1_276] = each_byte();
+const EACH_8: [u64; 2_041] = each_byte();
+
+/// Data of D bytes: none, and 1 in the last byte or in the first.
+const ENDS_4: [u64; 3] = [0, 1, 1 << 24];
+const ENDS_5: [u64; 3] = [0, 1, 1 << 32];
+const ENDS_8: [u64; 3] = [0, 1, 1 << 56];
+
+const FAMILIES: [Family; 38] = [
+    family((1, 0, 1), &BYTES, &EACH_1, Asks::All, 1),
+    family((1, 1, 1), &BYTES, &[0, 1, 255], Asks::Check, 1),
+    family((2, 0, 1), &BYTES, &[0, 1, 255], Asks::Check, 1),
+    family((1, 1, 1), MATTERING, &[0, 1, 255], Asks::All, 1),
+    family((1, 2, 1), MATTERING, &[0, 1, 255], Asks::All, 1),
+    family((1, 3, 1), MATTERING, &[0, 1], Asks::All, 1),
+    family((2, 0, 1), MATTERING, &[0, 1, 255], Asks::All, 1),
+    family((2, 1, 1), MATTERING, &[0, 1, 255], Asks::All, 1),
+    family((2, 2, 1), MATTERING, &[0, 1, 255], Asks::All, 1),
+    family((3, 0, 1), MATTERING, &[0, 1, 255], Asks::All, 1),
+    family((3, 1, 1), MATTERING, &[0, 1, 255], Asks::All, 1),
+    family((1, 4, 1), MATTERING, &[0, 1], Asks::Check, 3),
+    family((2, 3, 1), MATTERING, &[0, 1], Asks::Check, 3),
+    family((3, 2, 1), MATTERING, &[0, 1], Asks::Check, 3),
+    family((3, 3, 1), MATTERING, &[0, 1], Asks::Nothing, 24),
+    family((2, 4, 1), MATTERING, &[0, 1], Asks::Nothing, 56),
+    family((1, 0, 4), MATTERING, &ENDS_4, Asks::All, 1),
+    family((2, 1, 4), MATTERING, &ENDS_4, Asks::All, 1),
+    family((1, 0, 5), MATTERING, &EACH_5, Asks::All, 8),
+    family((1, 1, 5), MATTERING, &ENDS_5, Asks::All, 1),
+    family((1, 2, 5), MATTERING, &ENDS_5, Asks::All, 1),
+    family((1, 3, 5), MATTERING, &ENDS_5, Asks::Check, 3),
+    family((2, 0, 5), MATTERING, &ENDS_5, Asks::All, 1),
+    family((2, 1, 5), MATTERING, &ENDS_5, Asks::All, 1),
+    family((2, 2, 5), MATTERING, &ENDS_5, Asks::Check, 3),
+    family((2, 3, 5), MATTERING, &ENDS_5, Asks::Nothing, 56),
+    family((3, 1, 5), MATTERING, &ENDS_5, Asks::Check, 3),
+    family((3, 2, 5), MATTERING, &ENDS_5, Asks::Nothing, 24),
+    family((1, 0, 8), MATTERING, &EACH_8, Asks::All, 8),
+    family((1, 1, 8), MATTERING, &ENDS_8, Asks::All, 1),
+    family((1, 2, 8), MATTERING, &ENDS_8, Asks::All, 1),
+    family((1, 3, 8), MATTERING, &ENDS_8, Asks::Check, 3),
+    family((2, 0, 8), MATTERING, &ENDS_8, Asks::All, 1),
+    family((2, 1, 8), MATTERING, &ENDS_8, Asks::All, 1),
+    family((2, 2, 8), MATTERING, &ENDS_8, Asks::Check, 3),
+    family((2, 3, 8), MATTERING, &ENDS_8, Asks::Nothing, 56),
+    family((3, 1, 8), MATTERING, &ENDS_8, Asks::Check, 3),
+    family((3, 2, 8), MATTERING, &ENDS_8, Asks::Nothing, 24),
 ];
 
-/// The greatest G of the images that are renumbered, for N from 1 on.
+/// The greatest G of the images that are renumbered, for N from 1 on, and their D.
 const RENUMBERED: [u32; 3] = [4, 4, 3];
+const RENUMBERED_D: [u32; 3] = [1, 5, 8];
+
+/// The value of D bytes with 1 in the first of them alone: 256^(D-1).
+fn first_byte(d: u32) -> u64 {
+    greatest(d - 1) + 1
+}
 
 /// What was tried, how many of the calls gave 16 and 19, and how many numbers of keys were
 /// compared with the nodes that have data.
@@ -170,9 +235,15 @@ impl Worker {
         counted
     }
 
-    fn image(&mut self, family: &Family, links: &[u8], data: &[u8], setting: &Setting) -> Vec<u8> {
+    fn image(
+        &mut self,
+        family: &Family,
+        links: &[u8],
+        data: &[u64],
+        setting: &Setting,
+    ) -> Vec<u8> {
         self.done.images += 1;
-        small::image(&mut self.rng, family.n, links, data, setting)
+        small::image(&mut self.rng, (family.n, family.d), links, data, setting)
     }
 
     /// Makes check, mend and number of keys, with enough working numbers and with too few.
@@ -192,10 +263,11 @@ impl Worker {
         }
     }
 
-    /// Makes the stores and next keys with one key, each on the image as it was.
+    /// Makes the stores and next keys with one key, each on the image as it was. The last value
+    /// is 256^D, but with D = 8 the greatest.
     fn ask_others(&mut self, image: &[u8], key: &Key, setting: &Setting, g: usize) {
-        let max = setting.lengths.1 as usize;
-        for value in [0, 1, 256] {
+        let (max, d) = (setting.lengths.1 as usize, Head::read(image).d);
+        for value in [0, first_byte(d), greatest(d).saturating_add(1)] {
             self.ask(Call::Store { value }, image, &key.letters, 0, g + 1);
             self.ask(Call::StoreWrites { value }, image, &key.letters, 0, g + 1);
             if setting.alphabet || key.letters.is_empty() {
@@ -256,32 +328,20 @@ impl Worker {
     }
 
     /// Makes the stores with counts of one key, with a list that is just long enough and with one
-    /// that is one number too short.
+    /// that is one number too short. The value is 0, or the greatest in D bytes.
     fn ask_stores_beside(&mut self, image: &[u8], key: &Key, right: &[u32], text: bool) {
         let nodes = right.len();
         let (head, letters) = (Head::read(image), &key.letters);
         let good = letters.iter().all(|letter| u32::from(*letter) < head.n);
         let k = if good { model::new_nodes(image, &head, letters, 1) as usize } else { 0 };
-        let list = [right, &[9; 4]].concat();
+        let (list, value) = ([right, &[9; 4]].concat(), greatest(head.d));
         self.ask_beside(Call::StoreCounts { value: 0 }, image, letters, 0, nodes, right);
-        self.ask_beside(
-            Call::StoreCounts { value: 1 },
-            image,
-            letters,
-            0,
-            nodes,
-            &list[..nodes + k],
-        );
-        self.ask_beside(
-            Call::StoreCounts { value: 1 },
-            image,
-            letters,
-            0,
-            nodes,
-            &list[..nodes + k - 1],
-        );
+        for len in [nodes + k, nodes + k - 1] {
+            let (call, list) = (Call::StoreCounts { value }, &list[..len]);
+            self.ask_beside(call, image, letters, 0, nodes, list);
+        }
         if text || letters.is_empty() {
-            self.ask_beside(Call::StoreTextCounts { value: 1 }, image, &key.text, 0, nodes, &list);
+            self.ask_beside(Call::StoreTextCounts { value }, image, &key.text, 0, nodes, &list);
         }
     }
 
@@ -378,9 +438,16 @@ impl Worker {
 
     /// Renumbers one image in every way. Each image must tell the same, with the counts at the new
     /// addresses.
-    fn renumber(&mut self, n: u32, links: &[u8], data: &[u8], keys: &[Key], setting: &Setting) {
+    fn renumber(
+        &mut self,
+        widths: (u32, u32),
+        links: &[u8],
+        data: &[u64],
+        keys: &[Key],
+        setting: &Setting,
+    ) {
         let nodes = data.len();
-        let image = small::image(&mut self.rng, n, links, data, setting);
+        let image = small::image(&mut self.rng, widths, links, data, setting);
         let told = self.told(&image, keys, setting, nodes);
         for new in renumbering::every(nodes as u32 - 1) {
             let moved = renumbering::renumbered(&image, &new);
@@ -396,9 +463,16 @@ impl Worker {
 
     /// Renumbers one image with data in all nodes in every way. If some of them are hidden, the
     /// check must name the lowest of their new addresses.
-    fn renumber_hidden(&mut self, n: u32, links: &[u8], depths: &[u32], setting: &Setting) {
+    fn renumber_hidden(
+        &mut self,
+        (n, d): (u32, u32),
+        links: &[u8],
+        depths: &[u32],
+        setting: &Setting,
+    ) {
         let nodes = depths.len();
-        let image = small::image(&mut self.rng, n, links, &vec![1; nodes], setting);
+        let data = vec![first_byte(d); nodes];
+        let image = small::image(&mut self.rng, (n, d), links, &data, setting);
         let lengths = setting.lengths.0..=setting.lengths.1;
         for new in renumbering::every(nodes as u32 - 1) {
             let moved = renumbering::renumbered(&image, &new);
@@ -426,13 +500,20 @@ fn depths(n: usize, links: &[u8]) -> Vec<u32> {
     depths
 }
 
-/// Renumbers the rising trees with this N and G. Each node has data of its own, or none; none at a
-/// depth outside min..max. Then all nodes have data.
-fn run_renumbered(worker: &mut Worker, n: u32, g: u32, thread: usize, progress: &mut Progress) {
+/// Renumbers the rising trees with this N and G. Each node has data of its own, which is only in
+/// the first byte, or none; none at a depth outside min..max. Then all nodes have data.
+fn run_renumbered(
+    worker: &mut Worker,
+    (n, d): (u32, u32),
+    g: u32,
+    thread: usize,
+    progress: &mut Progress,
+) {
     let (keys, settings) = (keys(n), settings());
     let trees = rising_trees(n as usize, g as usize);
     for (index, links) in trees.iter().enumerate().skip(thread).step_by(2) {
-        progress.at(&format!("exhaustive: renumbered: N {n} G {g} links {}", report::hex(links)));
+        let links_in_hex = report::hex(links);
+        progress.at(&format!("exhaustive: renumbered: N {n} G {g} D {d} links {links_in_hex}"));
         let depths = depths(n as usize, links);
         for (i, empty) in [0, index + 1, 2 * index + 3].into_iter().enumerate() {
             let setting = &settings[(3 * index + i) % settings.len()];
@@ -442,12 +523,12 @@ fn run_renumbered(worker: &mut Worker, n: u32, g: u32, thread: usize, progress: 
                 if hidden || empty >> node & 1 == 1 {
                     0
                 } else {
-                    node as u8 + 1
+                    (u64::from(node) + 1) * first_byte(d)
                 }
             };
-            let data: Vec<u8> = (0..=g).map(value).collect();
-            worker.renumber(n, links, &data, &keys, setting);
-            worker.renumber_hidden(n, links, &depths, setting);
+            let data: Vec<u64> = (0..=g).map(value).collect();
+            worker.renumber((n, d), links, &data, &keys, setting);
+            worker.renumber_hidden((n, d), links, &depths, setting);
         }
         if worker.done.failed >= ENOUGH {
             break;
@@ -470,9 +551,10 @@ fn run_family(worker: &mut Worker, family: &Family, thread: usize, progress: &mu
     let (keys, settings) = (keys(family.n), settings());
     for (index, links) in patterns(family).enumerate().skip(thread).step_by(2) {
         progress.at(&format!(
-            "exhaustive: N {} G {} links {}",
+            "exhaustive: N {} G {} D {} links {}",
             family.n,
             family.g,
+            family.d,
             report::hex(&links)
         ));
         worker.try_links(family, &links, index, &keys, &settings);
@@ -504,8 +586,8 @@ pub fn run() -> Exhausted {
                     }
                 }
                 for (n, most) in (1..).zip(RENUMBERED) {
-                    for g in 1..=most {
-                        run_renumbered(&mut worker, n, g, thread, &mut progress);
+                    for (g, d) in (1..=most).flat_map(|g| RENUMBERED_D.map(|d| (g, d))) {
+                        run_renumbered(&mut worker, (n, d), g, thread, &mut progress);
                     }
                     let done = std::mem::take(&mut worker.done);
                     tried.lock().unwrap()[FAMILIES.len() + n as usize - 1].add(&done);
@@ -517,9 +599,11 @@ pub fn run() -> Exhausted {
     let (mut all, tried) = (Exhausted::default(), tried.into_inner().unwrap());
     for (family, tried) in FAMILIES.iter().zip(&tried) {
         let every = if family.links.is_empty() { "" } else { ", every byte" };
+        let Exhausted { images, calls, unreached, hidden, .. } = tried;
         println!(
-            "exhaustive: N {} G {}{every}: {} images, {} calls, {} give 16, {} give 19",
-            family.n, family.g, tried.images, tried.calls, tried.unreached, tried.hidden
+            "exhaustive: N {} G {} D {}{every}: {images} images, {calls} calls, {unreached} give \
+             16, {hidden} give 19",
+            family.n, family.g, family.d
         );
         all.add(tried);
         if family.g > 0 && family.refused != Asks::Nothing && tried.unreached == 0 {

@@ -2,9 +2,9 @@
 //! and texts that are ill-formed in every way.
 
 use crate::damage::{readable, taken_letter, ILL_FORMED};
-use crate::model::{greatest, link, Head};
+use crate::model::{greatest, link, Head, WIDEST_DATA};
 use crate::rng::Rng;
-use crate::shapes::character;
+use crate::shapes::{self, character};
 
 /// N, min and max, kept within their limits; if the head cannot be read, those of 01's small file.
 fn limits(image: &[u8]) -> (u64, u64, u64) {
@@ -139,17 +139,19 @@ fn near_character(rng: &mut Rng, alphabet: &[Vec<u8>]) -> Vec<u8> {
     character
 }
 
-pub fn value(rng: &mut Rng, image: &[u8]) -> u32 {
-    let d = if image.len() < 28 { 1 } else { Head::read(image).d.clamp(1, 4) };
+/// The value of a store: 0, one that D bytes can hold, or one that they cannot, if D is not 8:
+/// 256^D, one whose low 32 bits they can hold, or any.
+pub fn value(rng: &mut Rng, image: &[u8]) -> u64 {
+    let d = if image.len() < 28 { 1 } else { Head::read(image).d.clamp(1, WIDEST_DATA) };
     let most = greatest(d);
-    let any = rng.between(1, most);
-    let past = (most + 1).min(u64::from(u32::MAX));
-    match rng.below(10) {
+    let fits = shapes::value(rng, d);
+    let any = shapes::value(rng, WIDEST_DATA);
+    match rng.below(12) {
         0..=1 => 0,
         2 => 1,
-        3 => most as u32,
-        4 => past as u32,
-        5 if rng.one_in(2) => u32::MAX,
-        _ => any as u32,
+        3 => most,
+        4 => most.saturating_add(1),
+        5 if rng.one_in(2) => rng.pick(&[any, any >> 32 << 32 | fits, u64::MAX]),
+        _ => fits,
     }
 }

@@ -180,21 +180,22 @@ fn chain(g: u32, a: usize) -> Vec<u8> {
     with_head([g, 1, a as u32, 1, 0, 0, 3], &(0..=g).flat_map(node).collect::<Vec<u8>>())
 }
 
-/// 65 nodes in a chain by letter 230, so keys of up to 64 letters with three digits each. Then one
-/// node more, which is deeper than any key and holds `data`.
-fn deep(data: u8) -> (Vec<u8>, String) {
+/// 65 nodes in a chain by letter 230, so keys of up to 64 letters with three digits each. Their
+/// values are the greatest of D bytes, with this number of digits. Then one node more, which is
+/// deeper than any key and holds `data` in each byte.
+fn deep(d: usize, value: &str, data: u8) -> (Vec<u8>, String) {
     let mut body = Vec::new();
     for node in 0..=65u8 {
         let mut links = [0; 256];
         links[230] = if node < 65 { node + 1 } else { 0 };
         body.extend(links);
-        body.push(if node < 65 { 200 } else { data });
+        body.extend(vec![if node < 65 { 255 } else { data }; d]);
     }
-    let mut lines = "entries 65\n- 200\n".to_string();
+    let mut lines = format!("entries 65\n- {value}\n");
     for length in 1..=64 {
-        lines += &format!("{} 200\n", vec!["230"; length].join("."));
+        lines += &format!("{} {value}\n", vec!["230"; length].join("."));
     }
-    (with_head([65, 256, 1, 1, 0, 0, 64], &body), lines)
+    (with_head([65, 256, 1, d as u32, 0, 0, 64], &body), lines)
 }
 
 /// The full tree of two letters with 8,191 nodes. Node q has the data q + 1; the root, which is
@@ -310,6 +311,76 @@ fn small_cases(listed: &mut Listed) {
     );
 }
 
+/// Values at their limits: of each D, of 32 and of 64 bits, of the number of digits, of which there
+/// are 1 to 20. Data with a single 1 in each of its bytes. And D outside its limits.
+fn values(listed: &mut Listed) {
+    const TEN_19: u64 = 10_000_000_000_000_000_000;
+    let of_eight = [
+        (1, "1"),
+        (9, "9"),
+        (10, "10"),
+        (4_294_967_295, "4294967295"),
+        (4_294_967_296, "4294967296"),
+        (4_294_967_297, "4294967297"),
+        (9_999_999_999, "9999999999"),
+        (10_000_000_000, "10000000000"),
+        (1_099_511_627_776, "1099511627776"),
+        (72_057_594_037_927_936, "72057594037927936"),
+        (9_007_199_254_740_993, "9007199254740993"),
+        (999_999_999_999_999_999, "999999999999999999"),
+        (1_000_000_000_000_000_000, "1000000000000000000"),
+        (9_223_372_036_854_775_807, "9223372036854775807"),
+        (9_223_372_036_854_775_808, "9223372036854775808"),
+        (TEN_19 - 1, "9999999999999999999"),
+        (TEN_19, "10000000000000000000"),
+        (18_446_744_069_414_584_320, "18446744069414584320"),
+        (18_446_744_073_709_551_614, "18446744073709551614"),
+        (18_446_744_073_709_551_615, "18446744073709551615"),
+    ];
+    for (value, digits) in of_eight {
+        let data = [&[0][..], &value.to_be_bytes()].concat();
+        let image = with_head([0, 1, 1, 8, 0, 0, 0], &data);
+        listed.case(&format!("the value {digits}"), &image, &format!("entries 1\n- {digits}\n"));
+    }
+    // the greatest value of each D, under a root without data
+    let greatest = [
+        "255",
+        "65535",
+        "16777215",
+        "4294967295",
+        "1099511627775",
+        "281474976710655",
+        "72057594037927935",
+        "18446744073709551615",
+    ];
+    for (d, digits) in (1..).zip(greatest) {
+        let body = [&[1][..], &vec![0; d], &[0], &vec![255; d]].concat();
+        let image = with_head([1, 1, 1, d as u32, 0, 1, 1], &body);
+        let lines = format!("entries 1\n0 {digits}\n");
+        listed.case(&format!("the greatest value, D = {d}"), &image, &lines);
+        let short = &image[..image.len() - 1];
+        listed.case(&format!("a byte is missing, D = {d}"), short, "refused 4 at 0\n");
+    }
+    for d in [0, 9, 16, 264, 0x0800_0000] {
+        let image = with_head([0, 1, 1, d, 0, 0, 0], &[0; 40]);
+        listed.case(&format!("D = {d}"), &image, "refused 2 at 0\n");
+    }
+    // data in one byte of node 1, which max = 0 hides
+    for d in 1..=8 {
+        for byte in 0..d {
+            let mut body = vec![0; 2 * (1 + d)];
+            (body[0], body[2 + d + byte]) = (1, 1);
+            let image = with_head([1, 1, 1, d as u32, 0, 0, 0], &body);
+            let name = format!("hidden data, D = {d}, byte {byte}");
+            listed.case(&name, &image, "refused 19 at 1\n");
+            // with max = 1 it is a record
+            let image = with_head([1, 1, 1, d as u32, 0, 0, 1], &body);
+            let lines = format!("entries 1\n0 {}\n", 1u64 << (8 * (d - 1 - byte)));
+            listed.case(&format!("a record, D = {d}, byte {byte}"), &image, &lines);
+        }
+    }
+}
+
 /// The limits of the program: 65,536 bytes and one more, 16,384 nodes and one more.
 fn limits(listed: &mut Listed) {
     listed.case("65,536 bytes", &p3_of(LONGEST_INPUT), P3_LINES);
@@ -353,10 +424,12 @@ fn limits(listed: &mut Listed) {
 
 /// Images with long lines and with many lines.
 fn long_listings(listed: &mut Listed) {
-    listed.case("data at depth 65", &deep(200).0, "refused 19 at 65\n");
-    let (image, lines) = deep(0);
-    listed.case("long lines", &image, &lines);
-    listed.case("long lines, renumbered", &reversed(&image), &lines);
+    for (d, value) in [(1, "255"), (8, "18446744073709551615")] {
+        listed.case("data at depth 65", &deep(d, value, 200).0, "refused 19 at 65\n");
+        let (image, lines) = deep(d, value, 0);
+        listed.case("long lines", &image, &lines);
+        listed.case("long lines, renumbered", &reversed(&image), &lines);
+    }
     let (image, lines) = full_tree();
     listed.case("many lines", &image, &lines);
     listed.case("many lines, renumbered", &reversed(&image), &lines);
@@ -409,12 +482,13 @@ fn samples() -> Vec<String> {
 pub fn run(start: u64) -> Listed {
     let mut listed = Listed::default();
     small_cases(&mut listed);
+    values(&mut listed);
     limits(&mut listed);
     long_listings(&mut listed);
     listed.compare("/dev/null", written_of_file(Path::new("/dev/null")), "refused 1 at 0\n");
     let samples = samples();
     samples.iter().for_each(|name| listed.sample(name));
-    let (mut refused, mut unreached, mut hidden, mut falling) = (0, 0, 0, 0);
+    let (mut refused, mut unreached, mut hidden, mut falling, mut wide) = (0, 0, 0, 0, 0);
     for seed in start..start + RANDOM {
         let image = random_image(&mut Rng::new(seed));
         let expected = model::listing(&image);
@@ -422,6 +496,8 @@ pub fn run(start: u64) -> Listed {
         unreached += u64::from(expected.starts_with("refused 16 "));
         hidden += u64::from(expected.starts_with("refused 19 "));
         falling += u64::from(expected.starts_with("entries") && !rises(&image));
+        let twenty = |line: &str| line.rsplit(' ').next().map_or(false, |value| value.len() == 20);
+        wide += u64::from(expected.lines().any(twenty));
         let short = &image[..image.len().min(2_000)];
         listed.hold(
             &format!("random image {seed} of {} bytes [{}]", image.len(), report::hex(short)),
@@ -431,8 +507,8 @@ pub fn run(start: u64) -> Listed {
     }
     println!(
         "listing: {} tried, {} samples, {RANDOM} random images, of which {refused} are refused, \
-         {unreached} with 16, {hidden} with 19, and {falling} are accepted though a link does not \
-         rise",
+         {unreached} with 16, {hidden} with 19, {falling} are accepted though a link does not \
+         rise, and {wide} have a value of 20 digits",
         listed.tried,
         samples.len()
     );
@@ -440,11 +516,11 @@ pub fn run(start: u64) -> Listed {
         listed.failed += 1;
         println!("FAILED: listing: samples/ has too few images");
     }
-    if unreached < 5 || hidden < 5 || falling < RANDOM / 10 {
+    if unreached < 5 || hidden < 5 || falling < RANDOM / 10 || wide < 5 {
         listed.failed += 1;
         println!(
-            "FAILED: listing: too few random images have cycles, hidden data, or links that do \
-             not rise"
+            "FAILED: listing: too few random images have cycles, hidden data, links that do not \
+             rise, or values of 20 digits"
         );
     }
     if refused.min(RANDOM - refused) < RANDOM / 5 {

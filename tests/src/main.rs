@@ -103,13 +103,13 @@ fn random_cuts(seed: u64, histories: u64) -> cuts::Tried {
 
 /// Prints what was tried.
 fn told(sort: &str, tried: &cuts::Tried, begun: Instant) {
-    let cuts::Tried { images, falling, stores, cuts, partly, lowered, .. } = *tried;
-    let [images, falling, stores, cuts, partly, lowered] =
-        [images, falling, stores, cuts, partly, lowered].map(grouped);
+    let cuts::Tried { images, falling, stores, wide, cuts, partly, lowered, .. } = *tried;
+    let [images, falling, stores, wide, cuts, partly, lowered] =
+        [images, falling, stores, wide, cuts, partly, lowered].map(grouped);
     println!(
         "cuts: {stores} stores from {images} {sort} images on, {falling} of them with a link \
-         that does not rise, {cuts} images mended, {partly} with a write in part, {lowered} with \
-         G lowered, in {:.1} s",
+         that does not rise, {wide} stores change a data field of more than four bytes, {cuts} \
+         images mended, {partly} with a write in part, {lowered} with G lowered, in {:.1} s",
         begun.elapsed().as_secs_f64()
     );
 }
@@ -133,10 +133,12 @@ fn gate() -> bool {
         println!("FAILED: the random cuts are too few");
         failed += 1;
     }
-    let few = |tried: &cuts::Tried| tried.falling < tried.images / 8;
+    let few =
+        |tried: &cuts::Tried| tried.falling < tried.images / 8 || tried.wide < tried.stores / 100;
     if failed == 0 && (few(&small) || few(&cut)) {
         println!(
-            "FAILED: too few of the images that stores are cut in have a link to a lower node"
+            "FAILED: too few of the images that stores are cut in have a link to a lower node, or \
+             too few of the stores change a data field of more than four bytes"
         );
         failed += 1;
     }

@@ -12,7 +12,7 @@ pub const LONGEST_IMAGE: usize = 16_777_216;
 /// The head's ceilings.
 pub const MOST_LINKS: u32 = 256;
 pub const WIDEST_LINK: u32 = 4;
-pub const WIDEST_DATA: u32 = 4;
+pub const WIDEST_DATA: u32 = 8;
 pub const LONGEST_ALPHABET: u32 = 1_024;
 pub const LONGEST_KEY: u32 = 64;
 /// The numbers lent for a list of writes: two for each of 64 new nodes, G and the link.
@@ -73,9 +73,9 @@ pub fn write_number(bytes: &mut [u8], number: u64) {
     assert_eq!(rest, 0, "{} does not fit {} bytes", number, bytes.len());
 }
 
-/// The greatest number in `width` bytes: 256^width - 1.
+/// The greatest number in `width` bytes, of which there are 1 to 8: 256^width - 1.
 pub fn greatest(width: u32) -> u64 {
-    256u64.pow(width) - 1
+    (256u128.pow(width) - 1) as u64
 }
 
 /// The seven fields of the head, in their order.
@@ -377,8 +377,9 @@ fn refusal_10_of_text(image: &[u8], head: &Head, text: &[u8]) -> Result<Vec<u8>,
     Ok(letters)
 }
 
-fn refusal_11(head: &Head, value: u32) -> Result<(), Refusal> {
-    refuse_if(u64::from(value) > greatest(head.d), 11)
+/// "values are 64 bits wide in every call", so "11 is never given for D = 8".
+fn refusal_11(head: &Head, value: u64) -> Result<(), Refusal> {
+    refuse_if(value > greatest(head.d), 11)
 }
 
 fn refusal_12(head: &Head, k: u64) -> Result<(), Refusal> {
@@ -633,7 +634,7 @@ fn walk(image: &[u8], head: &Head, letters: &[u8]) -> Result<Answer, Refusal> {
 }
 
 /// Store by letters: 1 to 8, 16, 19, 9, 10, 11, 12, 13.
-pub fn store(image: &mut [u8], work: &mut [u32], letters: &[u8], value: u32) -> Answer {
+pub fn store(image: &mut [u8], work: &mut [u32], letters: &[u8], value: u64) -> Answer {
     answer(
         before_store(image, work, letters).and_then(|head| store_at(image, &head, letters, value)),
     )
@@ -644,7 +645,7 @@ pub fn store_writes(
     image: &mut [u8],
     work: &mut [u32],
     letters: &[u8],
-    value: u32,
+    value: u64,
     writes: &mut [u32],
 ) -> Answer {
     answer(
@@ -665,7 +666,7 @@ fn nine_and_ten(head: &Head, letters: &[u8]) -> Result<(), Refusal> {
 }
 
 /// Store by text: 1 to 8, 16, 19, 10, 9, 11, 12, 13.
-pub fn store_text(image: &mut [u8], work: &mut [u32], text: &[u8], value: u32) -> Answer {
+pub fn store_text(image: &mut [u8], work: &mut [u32], text: &[u8], value: u64) -> Answer {
     answer(
         before_store_text(image, work, text)
             .and_then(|(head, letters)| store_at(image, &head, &letters, value)),
@@ -677,7 +678,7 @@ pub fn store_text_writes(
     image: &mut [u8],
     work: &mut [u32],
     text: &[u8],
-    value: u32,
+    value: u64,
     writes: &mut [u32],
 ) -> Answer {
     answer(
@@ -717,7 +718,7 @@ pub fn path(image: &[u8], head: &Head, letters: &[u8]) -> (u64, usize) {
 }
 
 /// "k is the number of nodes missing on the key's path, but 0 where the value is 0"
-pub fn new_nodes(image: &[u8], head: &Head, letters: &[u8], value: u32) -> u64 {
+pub fn new_nodes(image: &[u8], head: &Head, letters: &[u8], value: u64) -> u64 {
     let (_, depth) = path(image, head, letters);
     if value == 0 {
         0
@@ -731,7 +732,7 @@ fn eleven_to_thirteen(
     image: &[u8],
     head: &Head,
     letters: &[u8],
-    value: u32,
+    value: u64,
 ) -> Result<u64, Refusal> {
     refusal_11(head, value)?;
     let k = new_nodes(image, head, letters, value);
@@ -741,13 +742,13 @@ fn eleven_to_thirteen(
 }
 
 /// The part of a store after the check, 9 and 10: 11, 12, 13, then what it writes.
-fn store_at(image: &mut [u8], head: &Head, letters: &[u8], value: u32) -> Result<Answer, Refusal> {
+fn store_at(image: &mut [u8], head: &Head, letters: &[u8], value: u64) -> Result<Answer, Refusal> {
     let k = eleven_to_thirteen(image, head, letters, value)?;
     let (last, depth) = path(image, head, letters);
     let missing = (letters.len() - depth) as u64;
     let before = if missing == 0 { data(image, head, last) } else { 0 };
     if missing == 0 {
-        write_data(image, head, last, u64::from(value));
+        write_data(image, head, last, value);
     } else if k > 0 {
         let new = u64::from(head.g) + 1;
         write_link(image, head, last, u64::from(letters[depth]), new);
@@ -756,7 +757,7 @@ fn store_at(image: &mut [u8], head: &Head, letters: &[u8], value: u32) -> Result
         for (i, letter) in letters[depth + 1..].iter().enumerate() {
             write_link(image, head, new + i as u64, u64::from(*letter), new + i as u64 + 1);
         }
-        write_data(image, head, new + k - 1, u64::from(value));
+        write_data(image, head, new + k - 1, value);
         Head { g: (u64::from(head.g) + k) as u32, ..*head }.write(image);
     }
     let change = i32::from(value != 0) - i32::from(before != 0);
@@ -769,7 +770,7 @@ fn store_and_list(
     image: &mut [u8],
     head: &Head,
     letters: &[u8],
-    value: u32,
+    value: u64,
     writes: &mut [u32],
 ) -> Result<Answer, Refusal> {
     let listed = list(image, head, letters, value);
@@ -786,7 +787,7 @@ fn store_and_count(
     image: &mut [u8],
     head: &Head,
     letters: &[u8],
-    value: u32,
+    value: u64,
     counts: &mut [u32],
 ) -> Result<Answer, Refusal> {
     let k = eleven_to_thirteen(image, head, letters, value)?;
@@ -798,7 +799,7 @@ fn store_and_count(
 
 /// The offset and the length of each write of a store: "first the new nodes, one write each by
 /// rising address, then G, then the old link; for a complete path, the data field alone".
-fn list(image: &[u8], head: &Head, letters: &[u8], value: u32) -> Vec<(usize, usize)> {
+fn list(image: &[u8], head: &Head, letters: &[u8], value: u64) -> Vec<(usize, usize)> {
     let (last, depth) = path(image, head, letters);
     let k = (letters.len() - depth) as u64;
     if k == 0 {
@@ -871,7 +872,7 @@ pub fn store_counts(
     image: &mut [u8],
     work: &mut [u32],
     letters: &[u8],
-    value: u32,
+    value: u64,
     counts: &mut [u32],
 ) -> Answer {
     answer(try_store_counts(image, work, letters, value, counts))
@@ -881,7 +882,7 @@ fn try_store_counts(
     image: &mut [u8],
     work: &mut [u32],
     letters: &[u8],
-    value: u32,
+    value: u64,
     counts: &mut [u32],
 ) -> Result<Answer, Refusal> {
     let head = compared(image, work, counts)?;
@@ -894,7 +895,7 @@ pub fn store_text_counts(
     image: &mut [u8],
     work: &mut [u32],
     text: &[u8],
-    value: u32,
+    value: u64,
     counts: &mut [u32],
 ) -> Answer {
     answer(try_store_text_counts(image, work, text, value, counts))
@@ -904,7 +905,7 @@ fn try_store_text_counts(
     image: &mut [u8],
     work: &mut [u32],
     text: &[u8],
-    value: u32,
+    value: u64,
     counts: &mut [u32],
 ) -> Result<Answer, Refusal> {
     let head = compared(image, work, counts)?;

@@ -6,6 +6,9 @@ use super::*;
 #[path = "count_cases.rs"]
 mod counted;
 
+#[path = "wide_cases.rs"]
+mod wide;
+
 /// Bytes from hexadecimal; spaces are for the reader.
 fn hex(text: &str) -> Vec<u8> {
     let digits: Vec<u8> =
@@ -179,7 +182,7 @@ fn store_all_ways(
     image: &[u8],
     letters: &[u8],
     text: &[u8],
-    value: u32,
+    value: u64,
     answered: Answer,
     list: &[(u32, u32)],
 ) -> Vec<u8> {
@@ -750,7 +753,7 @@ fn changes_add_up_to_the_number_of_keys() {
     make(&mut image, 3, 2, 2, b"ABC", 1, 4);
     let mut sum = 0;
     for (i, letters) in some_keys(500).iter().enumerate() {
-        sum += store(&mut image, &mut [7; 400], letters, i as u32 * 7 / 3 % 3).change;
+        sum += store(&mut image, &mut [7; 400], letters, i as u64 * 7 / 3 % 3).change;
         assert_eq!(count(&image, &mut [7; 400]).value, sum as u64);
     }
     assert!(sum > 20);
@@ -763,7 +766,7 @@ fn stores_hide_nothing_and_deletes_prune_nothing() {
     let mut refusals = 0;
     for (i, letters) in some_keys(500).iter().enumerate() {
         let before = Head::read(&image).g;
-        let stored = store(&mut image, &mut [7; 400], letters, i as u32 * 7 / 3 % 3);
+        let stored = store(&mut image, &mut [7; 400], letters, i as u64 * 7 / 3 % 3);
         refusals += u64::from(stored.number == 9);
         assert!(Head::read(&image).g >= before, "a store of 0 leaves the nodes");
         assert_eq!(check(&image, &mut [7; 400]), Answer::default());

@@ -75,7 +75,7 @@ impl Spoiled<'_> {
         self.number() == 0
     }
 
-    fn value(&self) -> u32 {
+    fn value(&self) -> u64 {
         self.call.stored().unwrap_or(0)
     }
 
@@ -1887,7 +1887,7 @@ const WRAPPER_SABOTEURS: [Saboteur; 17] = [
         name: "the wrapper gives Some(0) for an absent key",
         spoil: |s| {
             if s.call == Call::LookUp && s.done() && s.answer.value == 0 {
-                s.answer.value = SOME_ZERO;
+                s.answer.number = SOME_ZERO;
             }
         },
     },

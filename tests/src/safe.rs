@@ -8,13 +8,13 @@ use crate::twins::Arena;
 use std::ops::Range;
 use trieff::{Counts, Found, Refusal, Shape, Writes};
 
-/// What stands for `Some(0)`. An absent key is `None`, and no look up may answer `Some(0)`. No
-/// data field can hold this value, so it differs from all that the model answers.
-pub const SOME_ZERO: u64 = u64::MAX;
-
 /// What stands for the number of `Refusal::Unknown`. The crate knows every number that a call may
 /// give, so it differs from all that the model answers.
 pub const UNKNOWN: u32 = u32::MAX;
+
+/// What stands for the number of a look up that answers `Some(0)`. An absent key is `None`, so no
+/// look up may. A value could not stand for it, since data of eight bytes can hold every one.
+pub const SOME_ZERO: u32 = u32::MAX - 1;
 
 /// The memory that is lent to the safe functions, and what they give besides.
 pub struct Wrapper {
@@ -137,11 +137,10 @@ fn value_of(value: u64) -> Answer {
 }
 
 fn present(value: Option<u64>) -> Answer {
-    value_of(match value {
-        None => 0,
-        Some(0) => SOME_ZERO,
-        Some(value) => value,
-    })
+    match value {
+        Some(0) => Answer { number: SOME_ZERO, ..Answer::default() },
+        _ => value_of(value.unwrap_or(0)),
+    }
 }
 
 fn changed(change: i32) -> Answer {

@@ -1,7 +1,7 @@
 //! Accepted images of many shapes: alphabets, heads, trees with rising addresses and renumbered
 //! ones, nodes at every depth, data where min and max permit it, spare bytes.
 
-use crate::model::{greatest, outside, write_number, Head};
+use crate::model::{greatest, outside, write_number, Head, MOST_LINKS, WIDEST_DATA, WIDEST_LINK};
 use crate::renumbering::{self, renumbered};
 use crate::rng::Rng;
 
@@ -26,7 +26,7 @@ enum Growth {
 impl Shape {
     pub fn draw(rng: &mut Rng) -> Shape {
         let n = match rng.below(40) {
-            0 => 256,
+            0 => MOST_LINKS,
             1 => 255,
             2 => rng.between(17, 200) as u32,
             3..=8 => 1,
@@ -35,7 +35,11 @@ impl Shape {
             25..=28 => 16,
             _ => rng.between(4, 15) as u32,
         };
-        Shape::of(rng, n)
+        let mut shape = Shape::of(rng, n);
+        if n == MOST_LINKS && rng.one_in(3) {
+            (shape.head.a, shape.head.d) = (WIDEST_LINK, WIDEST_DATA);
+        }
+        shape
     }
 
     pub fn of(rng: &mut Rng, n: u32) -> Shape {
@@ -46,7 +50,7 @@ impl Shape {
             g: 0,
             n,
             a: rng.between(1, 4) as u32,
-            d: rng.between(1, 4) as u32,
+            d: rng.between(1, u64::from(WIDEST_DATA)) as u32,
             f,
             min,
             max,
@@ -182,11 +186,26 @@ fn lengths(rng: &mut Rng) -> (u32, u32) {
     }
 }
 
-/// A value in D bytes, not 0: a limit or any.
+/// A value in D bytes, not 0: a limit or any. Often only its first byte is not 0, or only the
+/// bytes before the last four. Without such bytes it is any.
 pub fn value(rng: &mut Rng, d: u32) -> u64 {
     let most = greatest(d);
     let any = rng.between(1, most);
-    rng.pick(&[1, 2, 255, 256.min(most), most, any, any])
+    let first = rng.between(1, 255) << (8 * (d - 1));
+    let high = match any >> 32 << 32 {
+        0 => any,
+        high => high,
+    };
+    let limit = limit(rng, d);
+    rng.pick(&[1, 2, 255, limit, limit, most, any, any, first, high])
+}
+
+/// A limit of some width k, from 1 to D: 256^k - 1, 256^(k-1), or 2^(8k-1), which has the top bit
+/// of k bytes.
+fn limit(rng: &mut Rng, d: u32) -> u64 {
+    let k = rng.between(1, u64::from(d)) as u32;
+    let top = 1 << (8 * k - 1);
+    rng.pick(&[greatest(k), greatest(k - 1) + 1, top])
 }
 
 /// Characters at or near the ends of the rows of Table 3-7, the newline and an ordinary letter.

@@ -112,7 +112,7 @@ impl Seen<'_> {
         matches!(self.call(), Call::NextKey { .. })
     }
 
-    fn value(&self) -> u32 {
+    fn value(&self) -> u64 {
         self.call().stored().unwrap_or(0)
     }
 
@@ -124,6 +124,43 @@ impl Seen<'_> {
         } else {
             0
         }
+    }
+
+    /// For a store by letters that was done on a complete path: the value from before it.
+    fn old(&self) -> Option<u64> {
+        let known = self.by_letters() && self.done() && self.missing() == 0;
+        known.then(|| model::look_up(self.asked.image, self.asked.given).value)
+    }
+
+    /// For a call that answers a stored key's value: this value.
+    fn found(&self) -> Option<u64> {
+        let key_at = matches!(self.call(), Call::KeyAt { .. });
+        let told = self.done() && (self.is_look_up() || self.is_next_key() || key_at);
+        told.then_some(self.answer.value).filter(|value| *value > 0)
+    }
+
+    /// Whether a small image that the call accepted has such a value.
+    fn holds(&self, fits: impl Fn(u64) -> bool) -> bool {
+        let (image, head) = (self.asked.image, self.head());
+        self.small() && (0..self.nodes() as u64).any(|node| fits(model::data(image, &head, node)))
+    }
+
+    /// For a call that was refused with 2 where D alone is outside its limits: D.
+    fn refused_d(&self) -> Option<u32> {
+        if self.number() != 2 {
+            return None;
+        }
+        let (mut front, head) = ([0; 28], self.head());
+        let (d, with_another) = match self.call() {
+            Call::Make { n, a, d, min, max } => {
+                (d, model::make(&mut front, n, a, 1, self.asked.given, min, max))
+            }
+            _ => {
+                Head { d: 1, ..head }.write(&mut front);
+                (head.d, model::check(&front, &mut []))
+            }
+        };
+        (with_another.number != 2).then_some(d)
     }
 
     fn nodes(&self) -> usize {
@@ -314,7 +351,7 @@ impl Seen<'_> {
     }
 }
 
-pub const SITUATIONS: [Situation; 170] = [
+pub const SITUATIONS: [Situation; 211] = [
     Situation {
         name: "1: the image is shorter than 28",
         met: |s| s.number() == 1 && s.image_len() < 28,
@@ -338,6 +375,23 @@ pub const SITUATIONS: [Situation; 170] = [
     Situation {
         name: "2: min above max",
         met: |s| s.number() == 2 && !s.is_make() && s.head().min > s.head().max,
+    },
+    Situation {
+        name: "2: D is 0, the other fields are permitted",
+        met: |s| !s.is_make() && s.refused_d() == Some(0),
+    },
+    Situation {
+        name: "2: D is 9, the other fields are permitted",
+        met: |s| !s.is_make() && s.refused_d() == Some(9),
+    },
+    Situation { name: "make: 2, D is 9", met: |s| s.is_make() && s.refused_d() == Some(9) },
+    Situation {
+        name: "make: done, D is 5 to 7",
+        met: |s| s.done() && matches!(s.call(), Call::Make { d: 5..=7, .. }),
+    },
+    Situation {
+        name: "make: done, W is 1,032",
+        met: |s| s.done() && matches!(s.call(), Call::Make { n: 256, a: 4, d: 8, .. }),
     },
     Situation {
         name: "3: the last character is cut at F, its missing bytes follow",
@@ -364,6 +418,21 @@ pub const SITUATIONS: [Situation; 170] = [
     Situation {
         name: "4: G is FFFFFFFF",
         met: |s| s.number() == 4 && !s.is_make() && s.head().g == u32::MAX,
+    },
+    Situation {
+        name: "4: the nodes would fit with four bytes of data",
+        met: |s| {
+            let narrower = |head: Head| Head { d: 4, ..head }.u() <= s.image_len();
+            s.number() == 4 && !s.is_make() && s.head().d > 4 && narrower(s.head())
+        },
+    },
+    Situation {
+        name: "W above 1,028: done",
+        met: |s| s.done() && !s.is_make() && s.head().w() > 1_028,
+    },
+    Situation {
+        name: "W is 1,032: store with new nodes",
+        met: |s| s.answer.change == 1 && s.missing() > 0 && s.head().w() == 1_032,
     },
     Situation {
         name: "5: G working numbers",
@@ -486,6 +555,20 @@ pub const SITUATIONS: [Situation; 170] = [
         met: |s| {
             s.number() == 19
                 && model::data(s.asked.image, &s.head(), u64::from(s.answer.place)) % 256 == 0
+        },
+    },
+    Situation {
+        name: "19: the low 32 bits of all hidden data are 0",
+        met: |s| {
+            let data = |node| model::data(s.asked.image, &s.head(), node);
+            s.nineteen(|hidden, _| hidden.iter().all(|(node, _)| low_is_0(data(*node))))
+        },
+    },
+    Situation {
+        name: "19: all hidden data is 2^63 or more",
+        met: |s| {
+            let data = |node| model::data(s.asked.image, &s.head(), node);
+            s.nineteen(|hidden, _| hidden.iter().all(|(node, _)| data(*node) >= 1 << 63))
         },
     },
     Situation {
@@ -651,6 +734,18 @@ pub const SITUATIONS: [Situation; 170] = [
         met: |s| s.is_look_up() && s.done() && s.answer.value == 0,
     },
     Situation {
+        name: "look up: found, the low 32 bits of the value are 0",
+        met: |s| s.is_look_up() && s.found().map_or(false, low_is_0),
+    },
+    Situation {
+        name: "look up: found, the value is 2^63 or more",
+        met: |s| s.is_look_up() && s.found() >= Some(1 << 63),
+    },
+    Situation {
+        name: "look up: found, the value is 2^64 - 1",
+        met: |s| s.is_look_up() && s.found() == Some(u64::MAX),
+    },
+    Situation {
         name: "look up: the empty key found",
         met: |s| s.is_look_up() && s.answer.value > 0 && s.asked.given.is_empty(),
     },
@@ -762,6 +857,26 @@ pub const SITUATIONS: [Situation; 170] = [
         met: |s| s.number() == 11 && s.by_letters() && s.missing() == 0,
     },
     Situation {
+        name: "11: 256^D, D is 1 to 3",
+        met: |s| eleven_at_the_limit(s) && s.head().d < 4,
+    },
+    Situation { name: "11: 2^32, D is 4", met: |s| eleven_at_the_limit(s) && s.head().d == 4 },
+    Situation {
+        name: "11: 256^D, D is 5 to 7",
+        met: |s| eleven_at_the_limit(s) && s.head().d > 4,
+    },
+    Situation {
+        name: "11: 2^64 - 1, D is 4 or more",
+        met: |s| s.number() == 11 && s.value() == u64::MAX && s.head().d >= 4,
+    },
+    Situation {
+        name: "11: the low 32 bits of the value would fit, and are not 0",
+        met: |s| {
+            let low = s.value() & 0xFFFF_FFFF;
+            s.number() == 11 && low > 0 && low <= model::greatest(s.head().d)
+        },
+    },
+    Situation {
         name: "12: there is room",
         met: |s| s.number() == 12 && s.head().u() + 64 * s.head().w() <= s.image_len(),
     },
@@ -777,6 +892,15 @@ pub const SITUATIONS: [Situation; 170] = [
     Situation {
         name: "13: there is room for one node",
         met: |s| s.number() == 13 && s.head().u() + s.head().w() <= s.image_len(),
+    },
+    Situation {
+        name: "13: the new nodes would fit with four bytes of data",
+        met: |s| {
+            let fits = |w: u128| s.head().u() + s.missing() as u128 * w <= s.image_len();
+            s.number() == 13 && s.missing() > 0 && s.head().d > 4 && {
+                fits(Head { d: 4, ..s.head() }.w())
+            }
+        },
     },
     Situation {
         name: "store: exact room for two nodes or more",
@@ -834,19 +958,63 @@ pub const SITUATIONS: [Situation; 170] = [
                 && s.has_node_at(|depth, head| depth > u64::from(head.max))
         },
     },
+    Situation { name: "store: 2^32 - 1, D is 4", met: |s| stores_the_most(s, 4) },
+    Situation { name: "store: 2^40 - 1, D is 5", met: |s| stores_the_most(s, 5) },
+    Situation { name: "store: 2^48 - 1, D is 6", met: |s| stores_the_most(s, 6) },
+    Situation { name: "store: 2^56 - 1, D is 7", met: |s| stores_the_most(s, 7) },
+    Situation { name: "store: 2^64 - 1, D is 8", met: |s| stores_the_most(s, 8) },
     Situation {
-        name: "store: FFFFFFFF",
-        met: |s| s.is_store() && s.done() && s.value() == u32::MAX,
+        name: "store: 2^64 - 1 with new nodes",
+        met: |s| stores_the_most(s, 8) && s.missing() > 0,
+    },
+    Situation {
+        name: "store: 2^63 to 2^64 - 2",
+        met: |s| s.is_store() && s.done() && (1 << 63..u64::MAX).contains(&s.value()),
+    },
+    Situation {
+        name: "store: 1 with new nodes, the low 32 bits of the value are 0",
+        met: |s| s.answer.change == 1 && s.missing() > 0 && low_is_0(s.value()),
+    },
+    Situation {
+        name: "store: 1 on a complete path, the low 32 bits of the value are 0",
+        met: |s| s.answer.change == 1 && s.old().is_some() && low_is_0(s.value()),
+    },
+    Situation {
+        name: "store: a changed value, the low 32 bits of the old one are 0",
+        met: |s| s.value() > 0 && s.old().map_or(false, low_is_0),
+    },
+    Situation {
+        name: "store: -1, the low 32 bits of the old value are 0",
+        met: |s| s.value() == 0 && s.old().map_or(false, low_is_0),
+    },
+    Situation {
+        name: "store: the low 32 bits stay, the others change",
+        met: |s| {
+            let old = s.old().filter(|old| *old != s.value());
+            old.map_or(false, |old| old as u32 == s.value() as u32)
+        },
     },
     Situation { name: "list of writes: empty", met: |s| s.lists(0) },
     Situation { name: "list of writes: one write", met: |s| s.lists(1) },
+    Situation {
+        name: "list of writes: one write, of five to seven bytes",
+        met: |s| s.lists(1) && (5..8).contains(&s.head().d),
+    },
+    Situation {
+        name: "list of writes: one write, of eight bytes",
+        met: |s| s.lists(1) && s.head().d == 8,
+    },
+    Situation {
+        name: "list of writes: three writes, D is 8",
+        met: |s| s.lists(3) && s.head().d == 8,
+    },
     Situation {
         name: "list of writes: one write, of the value already there",
         met: |s| {
             s.lists(1)
                 && s.by_letters()
                 && s.value() > 0
-                && model::look_up(s.asked.image, s.asked.given).value == u64::from(s.value())
+                && model::look_up(s.asked.image, s.asked.given).value == s.value()
         },
     },
     Situation { name: "list of writes: three writes", met: |s| s.lists(3) },
@@ -861,6 +1029,10 @@ pub const SITUATIONS: [Situation; 170] = [
         met: |s| s.mended_at().map_or(false, |p| p < s.head().g && p > 0),
     },
     Situation { name: "mend: G lowered to 0", met: |s| s.mended_at() == Some(1) },
+    Situation {
+        name: "mend: G lowered, D is 5 to 8",
+        met: |s| s.mended_at().map_or(false, |p| p > 0) && s.head().d > 4,
+    },
     Situation {
         name: "mend: G lowered, with more working numbers than needed",
         met: |s| {
@@ -917,6 +1089,14 @@ pub const SITUATIONS: [Situation; 170] = [
         met: |s| s.is_next_key() && s.done() && (s.answer.length as usize) < s.asked.given.len(),
     },
     Situation {
+        name: "next key: the low 32 bits of its value are 0",
+        met: |s| s.is_next_key() && s.found().map_or(false, low_is_0),
+    },
+    Situation {
+        name: "next key: its value is 2^63 or more",
+        met: |s| s.is_next_key() && s.found() >= Some(1 << 63),
+    },
+    Situation {
         name: "count: above 2, and some nodes are empty",
         met: |s| {
             s.call() == Call::Count && s.answer.value > 2 && s.answer.value < s.nodes() as u64
@@ -925,6 +1105,18 @@ pub const SITUATIONS: [Situation; 170] = [
     Situation {
         name: "count: the number of nodes",
         met: |s| s.call() == Call::Count && s.done() && s.answer.value == s.nodes() as u64,
+    },
+    Situation {
+        name: "count: the low 32 bits of a value are 0",
+        met: |s| s.call() == Call::Count && s.done() && s.holds(low_is_0),
+    },
+    Situation {
+        name: "counts worked out: the low 32 bits of a value are 0",
+        met: |s| s.call() == Call::Counts && s.done() && s.holds(low_is_0),
+    },
+    Situation {
+        name: "counts compared: the low 32 bits of a value are 0",
+        met: |s| s.call() == Call::CheckCounts && s.done() && s.holds(low_is_0),
     },
     Situation {
         name: "5 beside counts: the working numbers alone are short",
@@ -1061,6 +1253,14 @@ pub const SITUATIONS: [Situation; 170] = [
         met: |s| s.done() && s.position().is_some() && s.answer.length == 0,
     },
     Situation {
+        name: "key at: the low 32 bits of its value are 0",
+        met: |s| s.position().is_some() && s.found().map_or(false, low_is_0),
+    },
+    Situation {
+        name: "key at: its value is 2^63 or more",
+        met: |s| s.position().is_some() && s.found() >= Some(1 << 63),
+    },
+    Situation {
         name: "key at: 15, the number of keys",
         met: |s| {
             s.number() == 15 && s.position().map_or(false, |(at, keys)| at == keys && keys > 0)
@@ -1083,6 +1283,21 @@ pub const SITUATIONS: [Situation; 170] = [
     Situation { name: "position: 15 on a complete path", met: |s| not_stored(s, true) },
     Situation { name: "position: 15 on an incomplete path", met: |s| not_stored(s, false) },
 ];
+
+/// Whether a value is not 0, but its low 32 bits are.
+fn low_is_0(value: u64) -> bool {
+    value > 0 && value as u32 == 0
+}
+
+/// Whether a store was refused with 11 for the first value that D bytes cannot hold.
+fn eleven_at_the_limit(s: &Seen) -> bool {
+    s.number() == 11 && s.value() - 1 == model::greatest(s.head().d)
+}
+
+/// Whether a store of the greatest value in D bytes was done, for this D.
+fn stores_the_most(s: &Seen, d: u32) -> bool {
+    s.is_store() && s.done() && s.head().d == d && s.value() == model::greatest(d)
+}
 
 fn short_for_k(s: &Seen) -> bool {
     s.k().map_or(false, |k| s.asked.counts.len() < s.nodes() + k)

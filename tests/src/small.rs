@@ -1,6 +1,6 @@
-//! Small images with A = D = 1 and their keys, for the exhaustive part and for the cuts.
+//! Small images with A = 1 and their keys, for the exhaustive part and for the cuts.
 
-use crate::model::Head;
+use crate::model::{write_number, Head};
 use crate::renumbering;
 use crate::rng::Rng;
 
@@ -63,19 +63,27 @@ pub fn keys(n: u32) -> Vec<Key> {
         .collect()
 }
 
-/// An image with `n` links in a node, and with rubbish in its spare bytes.
-pub fn image(rng: &mut Rng, n: u32, links: &[u8], data: &[u8], setting: &Setting) -> Vec<u8> {
+/// An image with N links and D bytes of data in a node, and with rubbish in its spare bytes.
+pub fn image(
+    rng: &mut Rng,
+    (n, d): (u32, u32),
+    links: &[u8],
+    data: &[u64],
+    setting: &Setting,
+) -> Vec<u8> {
     let alphabet: String =
         if setting.alphabet { CHARACTERS[..n as usize].concat() } else { String::new() };
     let (min, max) = setting.lengths;
     let g = (links.len() / n as usize) as u32 - 1;
-    let head = Head { g, n, a: 1, d: 1, f: alphabet.len() as u32, min, max };
+    let head = Head { g, n, a: 1, d, f: alphabet.len() as u32, min, max };
     let mut image = vec![0; 28];
     head.write(&mut image);
     image.extend(alphabet.into_bytes());
     for (node, value) in links.chunks(n as usize).zip(data) {
         image.extend(node);
-        image.push(*value);
+        let at = image.len();
+        image.resize(at + d as usize, 0);
+        write_number(&mut image[at..], *value);
     }
     let rubbish = rng.rubbish(setting.spare.0 * head.w() as usize + setting.spare.1);
     image.extend(rubbish);
@@ -83,7 +91,7 @@ pub fn image(rng: &mut Rng, n: u32, links: &[u8], data: &[u8], setting: &Setting
 }
 
 /// Every tuple of the values with this length.
-pub fn tuples(values: &[u8], length: usize) -> impl Iterator<Item = Vec<u8>> {
+pub fn tuples<T: Copy>(values: &[T], length: usize) -> impl Iterator<Item = Vec<T>> {
     let values = values.to_vec();
     let many = values.len().pow(length as u32);
     (0..many).map(move |index| {
@@ -154,7 +162,7 @@ mod tests {
             let links = n as usize * (usize::from(g) + 1);
             let accepted = |links: &Vec<u8>| {
                 let setting = &settings()[0];
-                let image = image(&mut Rng::new(0), n, links, &[0; 5], setting);
+                let image = image(&mut Rng::new(0), (n, 1), links, &[0; 5], setting);
                 model::check(&image, &mut [0; 5]) == Answer::default()
             };
             let mut all: Vec<Vec<u8>> = tuples(&values, links).filter(accepted).collect();
