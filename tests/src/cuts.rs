@@ -713,7 +713,7 @@ pub fn replay(seed: u64) -> bool {
 pub fn self_test(start: u64, histories: u64) -> usize {
     let mut missed = 0;
     for saboteur in &CUT_SABOTEURS {
-        let mut worker = Worker::new(0, Some(Sabotage::Library(saboteur)));
+        let mut worker = Worker::new(0, Some(Sabotage::of_library(saboteur)));
         match (0..histories)
             .find(|index| history(&mut worker, start.wrapping_add(*index)).is_err())
         {

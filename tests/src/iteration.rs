@@ -15,6 +15,7 @@ const IMAGE_MOST: usize = 1_000;
 const KEYS_MOST: usize = 40;
 
 /// An iteration from the key that a next key is asked for.
+#[derive(Clone)]
 pub struct Iteration {
     pub keys: Vec<Met>,
     after: bool,

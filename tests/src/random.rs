@@ -19,6 +19,8 @@ const OFTEN: u64 = 50;
 const SITUATION_OFTEN: u64 = 5;
 /// A run stops after this number of failures.
 const ENOUGH: usize = 5;
+/// Images from this length on are passed over by the saboteurs: each of them needs a copy.
+const SPOILED_MOST: usize = 1_000_000;
 
 /// What a run met.
 pub struct Tally {
@@ -112,7 +114,7 @@ impl Tally {
 
 /// What is claimed of an outcome besides: the check accepts what a store leaves, since "Our own
 /// calls never make" hidden data; and the number of keys is the number of nodes with data.
-/// Returns the claim that does not hold, as text.
+/// Returns the claim that does not hold, as text. Only for an answer that is the model's.
 fn broken_claim(step: &Step, asked: &Asked, answer: &Answer) -> Option<String> {
     if step.after_store && answer.number > 0 {
         return Some("the check refuses what a store left".to_string());
@@ -127,33 +129,22 @@ fn broken_claim(step: &Step, asked: &Asked, answer: &Answer) -> Option<String> {
 }
 
 /// Makes a call in all of them and compares. A claim that does not hold is a difference too.
-fn ask(
-    twins: &mut Twins,
-    case: &Case,
-    step: &Step,
-    guards: &mut Rng,
-    sabotage: Option<Sabotage>,
-) -> Outcome {
+fn ask(twins: &mut Twins, case: &Case, step: &Step, guards: &mut Rng) -> Outcome {
     let asked = case.asked(step);
-    let outcome = twins.ask(&asked, guards, sabotage);
-    let broken = broken_claim(step, &asked, &outcome.library);
-    Outcome { difference: outcome.difference.or(broken), ..outcome }
+    let outcome = twins.ask(&asked, guards, None);
+    let broken = || broken_claim(step, &asked, &outcome.library);
+    Outcome { difference: outcome.difference.or_else(broken), ..outcome }
 }
 
 /// Runs a case. The first difference ends it and is returned as text.
-fn run_case(
-    seed: u64,
-    twins: &mut Twins,
-    tally: &mut Tally,
-    sabotage: Option<Sabotage>,
-) -> Result<(), String> {
+fn run_case(seed: u64, twins: &mut Twins, tally: &mut Tally) -> Result<(), String> {
     let mut case = Case::new(seed);
     let mut guards = Rng::new(!seed);
     let mut number = 0;
     while let Some(step) = case.next() {
         number += 1;
         let asked = case.asked(&step);
-        let outcome = ask(twins, &case, &step, &mut guards, sabotage);
+        let outcome = ask(twins, &case, &step, &mut guards);
         if outcome.difference.is_some() {
             let told = report::asked(&asked) + &report::outcome(&outcome);
             return Err(format!(
@@ -187,7 +178,7 @@ pub fn run(start: u64, cases: u64) -> (Tally, Vec<String>) {
                     }
                     let seed = start.wrapping_add(index);
                     progress.at(&format!("tests/replay {seed}"));
-                    if let Err(failure) = run_case(seed, &mut twins, &mut tally, None) {
+                    if let Err(failure) = run_case(seed, &mut twins, &mut tally) {
                         all.lock().unwrap().1.push(failure);
                     }
                 }
@@ -199,30 +190,76 @@ pub fn run(start: u64, cases: u64) -> (Tally, Vec<String>) {
     all.into_inner().unwrap()
 }
 
+/// A saboteur in the self-test: the number of the case in which it was reported, and whether the
+/// report said that the safe wrapper differs.
+struct Tried {
+    sabotage: Sabotage,
+    caught: Option<(u64, bool)>,
+}
+
 /// Every saboteur must be reported within the same cases, and the report must say whether the safe
 /// wrapper differs. Returns the number of those for which this does not hold.
 pub fn self_test(start: u64, cases: u64) -> usize {
-    let mut missed = 0;
-    for sabotage in saboteurs::all() {
-        let mut twins = Twins::with_wrapper();
-        let mut tally = Tally::new();
-        let caught = (0..cases).find_map(|index| {
-            run_case(start.wrapping_add(index), &mut twins, &mut tally, Some(sabotage))
-                .err()
-                .map(|failure| (index, failure.contains(IN_WRAPPER)))
-        });
-        let in_wrapper = matches!(sabotage, Sabotage::Wrapper(_));
-        match caught {
-            Some((index, said)) if said == in_wrapper => {
-                println!("    caught in case {:>6}: {}", index + 1, sabotage.name())
-            }
-            _ => {
-                missed += 1;
-                println!("    NOT CAUGHT: {}", sabotage.name());
-            }
+    let new = |sabotage| Tried { sabotage, caught: None };
+    let mut all: Vec<Tried> = saboteurs::all().map(new).collect();
+    let (mut twins, mut spoiled) = (Twins::with_wrapper(), Twins::with_wrapper());
+    for index in 0..cases {
+        if all.iter().all(|tried| tried.caught.is_some()) {
+            break;
+        }
+        spoil_case(start, index, &mut all, &mut twins, &mut spoiled);
+    }
+    print_tried(&all)
+}
+
+/// Runs a case in `twins`. After each call, each saboteur that is not yet caught spoils what the
+/// call left, in the copy `spoiled`, which is then compared.
+fn spoil_case(start: u64, index: u64, all: &mut [Tried], twins: &mut Twins, spoiled: &mut Twins) {
+    let seed = start.wrapping_add(index);
+    let (mut case, mut guards) = (Case::new(seed), Rng::new(!seed));
+    while let Some(step) = case.next() {
+        let asked = case.asked(&step);
+        twins.lay(&asked, &mut guards);
+        let before = twins.model.clone();
+        let answers = twins.perform(step.call);
+        let spoils = |tried: &Tried| tried.caught.is_none() && tried.sabotage.spoils(step.call);
+        let left = all.iter_mut().filter(|tried| spoils(tried));
+        for tried in left.filter(|_| asked.image.len() < SPOILED_MOST) {
+            spoiled.copy_from(twins);
+            let outcome = spoiled.compare_spoiled(step.call, answers, &before, tried.sabotage);
+            let broken = || broken_claim(&step, &asked, &outcome.library);
+            let said = outcome.difference.or_else(broken);
+            tried.caught = said.map(|said| (index + 1, said.contains(IN_WRAPPER)));
+        }
+        case.learn(step.call, &answers.0, &twins.model);
+    }
+}
+
+/// Prints in which case each saboteur was caught. Those that were tried in several calls share a
+/// line, with the last of their cases. Returns the number of those that were not caught.
+fn print_tried(all: &[Tried]) -> usize {
+    let caught = |tried: &Tried| {
+        let rightly = tried.caught.filter(|(_, said)| *said == tried.sabotage.in_wrapper);
+        rightly.map(|(case, _)| case)
+    };
+    let mut names: Vec<&str> = all.iter().map(|tried| tried.sabotage.name()).collect();
+    names.dedup();
+    for name in names {
+        let of_name = all.iter().filter(|tried| tried.sabotage.name() == name);
+        let cases: Vec<u64> = of_name.clone().filter_map(caught).collect();
+        for tried in of_name.filter(|tried| caught(tried).is_none()) {
+            let call = tried.sabotage.call.map_or(String::new(), |call| format!(", in {call}"));
+            println!("    NOT CAUGHT: {name}{call}");
+        }
+        if let Some(last) = cases.iter().max() {
+            let many = match cases.len() {
+                1 => String::new(),
+                many => format!(", in {many} calls"),
+            };
+            println!("    caught in case {last:>6}: {name}{many}");
         }
     }
-    missed
+    all.iter().filter(|tried| caught(tried).is_none()).count()
 }
 
 /// Repeats one case and prints all of it. Returns whether the model, the library and the safe
@@ -241,7 +278,7 @@ pub fn replay(seed: u64) -> bool {
             say(&format!("image of {} bytes:\n{}", printed.len(), report::hex_lines(&printed)));
         }
         say(&format!("call {number}: {}", report::asked(&asked)));
-        let outcome = ask(&mut twins, &case, &step, &mut guards, None);
+        let outcome = ask(&mut twins, &case, &step, &mut guards);
         say(&report::outcome(&outcome));
         if outcome.difference.is_some() {
             say_images(&twins);

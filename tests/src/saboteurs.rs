@@ -2,7 +2,7 @@
 //! small way. The judge must report every one of them. Otherwise it would not find such a fault
 //! there either.
 
-use crate::calls::Call;
+use crate::calls::{Call, KINDS};
 use crate::iteration::Met;
 use crate::lists;
 use crate::model::{self, Answer, Head};
@@ -10,6 +10,9 @@ use crate::renumbering::under;
 use crate::safe::{SOME_ZERO, UNKNOWN};
 use crate::twins::Arena;
 use std::ops::Range;
+
+#[path = "wide_saboteurs.rs"]
+mod wide;
 
 /// What a saboteur sees, and may spoil.
 pub struct Spoiled<'a> {
@@ -30,18 +33,32 @@ pub struct Saboteur {
 
 /// A saboteur, and whose outcome it spoils.
 #[derive(Clone, Copy)]
-pub enum Sabotage {
-    /// The library's, as `trieff::raw` gives it.
-    Library(&'static Saboteur),
-    /// That of the crate's safe functions.
-    Wrapper(&'static Saboteur),
+pub struct Sabotage {
+    saboteur: &'static Saboteur,
+    /// It spoils that of the crate's safe functions, not the library's as `trieff::raw` gives it.
+    pub in_wrapper: bool,
+    /// The name of the only call that it spoils. Without it, it spoils all that it fits.
+    pub call: Option<&'static str>,
 }
 
 impl Sabotage {
+    pub const fn of_library(saboteur: &'static Saboteur) -> Sabotage {
+        Sabotage { saboteur, in_wrapper: false, call: None }
+    }
+
     pub fn name(&self) -> &'static str {
-        match self {
-            Sabotage::Library(saboteur) | Sabotage::Wrapper(saboteur) => saboteur.name,
+        self.saboteur.name
+    }
+
+    pub fn spoil(&self, spoiled: &mut Spoiled) {
+        if self.spoils(spoiled.call) {
+            (self.saboteur.spoil)(spoiled);
         }
+    }
+
+    /// Whether it may spoil such a call.
+    pub fn spoils(&self, call: Call) -> bool {
+        self.call.map_or(true, |only| only == KINDS[call.kind()].name)
     }
 }
 
@@ -204,8 +221,8 @@ impl Spoiled<'_> {
     /// or not in the alphabet.
     fn letters(&self) -> Option<Vec<u8>> {
         let (given, head) = (self.before.given().to_vec(), self.head()?);
-        match self.call {
-            Call::StoreTextCounts { .. } => {
+        match KINDS[self.call.kind()].given {
+            "text" => {
                 let image = self.before.image();
                 let alphabet = model::characters(&image[28..28 + head.f as usize])?;
                 let letter = |character: &&[u8]| {
@@ -380,7 +397,10 @@ pub fn all() -> impl Iterator<Item = Sabotage> {
         .chain(&HIDDEN_SABOTEURS)
         .chain(&COUNT_SABOTEURS)
         .chain(&CUT_SABOTEURS);
-    of_library.map(Sabotage::Library).chain(WRAPPER_SABOTEURS.iter().map(Sabotage::Wrapper))
+    let of_wrapper = WRAPPER_SABOTEURS
+        .iter()
+        .map(|saboteur| Sabotage { in_wrapper: true, ..Sabotage::of_library(saboteur) });
+    of_library.map(Sabotage::of_library).chain(wide::all()).chain(of_wrapper)
 }
 
 const SABOTEURS: [Saboteur; 38] = [
@@ -1667,7 +1687,7 @@ const COUNT_SABOTEURS: [Saboteur; 32] = [
 
 /// The saboteurs that the cuts must report too, by the answers of a mended image and without the
 /// model's own list of writes and mend.
-pub const CUT_SABOTEURS: [Saboteur; 18] = [
+pub const CUT_SABOTEURS: [Saboteur; 20] = [
     Saboteur {
         name: "in the list of writes the old link comes before G",
         spoil: |s| {
@@ -1717,6 +1737,25 @@ pub const CUT_SABOTEURS: [Saboteur; 18] = [
         spoil: |s| {
             if s.listed() && s.answer.length > 0 {
                 s.list()[1] -= 1;
+            }
+        },
+    },
+    Saboteur {
+        name: "in the list of writes a data field has its last four bytes alone",
+        spoil: |s| {
+            if s.listed() && s.answer.length == 1 && s.list()[1] > 4 {
+                let list = s.list();
+                (list[0], list[1]) = (list[0] + list[1] - 4, 4);
+            }
+        },
+    },
+    Saboteur {
+        name: "in the list of writes a data field is two writes, the last of four bytes",
+        spoil: |s| {
+            if s.listed() && s.answer.length == 1 && s.list()[1] > 4 {
+                let (place, first) = (s.list()[0], s.list()[1] - 4);
+                s.answer.length = 2;
+                s.list().copy_from_slice(&[place, first, place + first, 4]);
             }
         },
     },

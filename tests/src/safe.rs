@@ -38,6 +38,14 @@ impl Wrapper {
         }
     }
 
+    /// As `clone`, but without new memory for what is lent.
+    pub fn copy_from(&mut self, other: &Wrapper) {
+        self.arena.copy_from(&other.arena);
+        self.answer = other.answer;
+        self.writes.clone_from(&other.writes);
+        self.iteration.clone_from(&other.iteration);
+    }
+
     /// Makes the call. A store with writes is passed the list of an earlier store. Before a next
     /// key the iterator is tried with the same key.
     pub fn ask(&mut self, call: Call) {

@@ -6,7 +6,7 @@
 use crate::calls::{ask_library, ask_model, Call, Lent, Pointers};
 use crate::model::Answer;
 use crate::rng::Rng;
-use crate::saboteurs::{Sabotage, Saboteur, Spoiled};
+use crate::saboteurs::{Sabotage, Spoiled};
 use crate::safe::Wrapper;
 use std::ops::Range;
 
@@ -231,42 +231,75 @@ impl Twins {
     /// Makes the call in all of them and compares. With a saboteur, the outcome that it spoils is
     /// spoiled first.
     pub fn ask(&mut self, asked: &Asked, rng: &mut Rng, sabotage: Option<Sabotage>) -> Outcome {
+        self.lay(asked, rng);
+        let before = sabotage.map(|_| self.library.clone());
+        let (model, library) = self.perform(asked.call);
+        match (sabotage, before) {
+            (Some(sabotage), Some(before)) => {
+                self.compare_spoiled(asked.call, (model, library), &before, sabotage)
+            }
+            _ => self.compare(asked.call, model, library),
+        }
+    }
+
+    /// Lays out what is lent, the same in all of them.
+    pub fn lay(&mut self, asked: &Asked, rng: &mut Rng) {
         self.library.lay(asked, rng);
         self.model.copy_from(&self.library);
-        let before = sabotage.map(|_| self.library.clone());
         if let Some(wrapper) = &mut self.wrapper {
             wrapper.arena.copy_from(&self.library);
-            wrapper.ask(asked.call);
+        }
+    }
+
+    /// Makes the call in all of them. Returns what the model and the library answer.
+    pub fn perform(&mut self, call: Call) -> (Answer, Answer) {
+        if let Some(wrapper) = &mut self.wrapper {
+            wrapper.ask(call);
         }
         let pointers = self.library.pointers();
-        let mut library = unsafe { ask_library(asked.call, &pointers) };
-        let model = ask_model(asked.call, self.model.lent());
-        if let (Some(sabotage), Some(before)) = (sabotage, before) {
-            self.spoil(asked.call, sabotage, &before, &mut library);
+        let library = unsafe { ask_library(call, &pointers) };
+        (ask_model(call, self.model.lent()), library)
+    }
+
+    /// As `clone`, but without new memory.
+    pub fn copy_from(&mut self, other: &Twins) {
+        self.library.copy_from(&other.library);
+        self.model.copy_from(&other.model);
+        if let (Some(mine), Some(its)) = (&mut self.wrapper, &other.wrapper) {
+            mine.copy_from(its);
         }
+    }
+
+    /// Compares what a call left.
+    pub fn compare(&mut self, call: Call, model: Answer, library: Answer) -> Outcome {
         if let Some(wrapper) = &mut self.wrapper {
             wrapper.lay_writes();
         }
-        let difference = self.difference(asked.call, &model, &library);
+        let difference = self.difference(call, &model, &library);
         let wrapper = self.wrapper.as_ref().map(|wrapper| wrapper.answer);
         Outcome { model, library, wrapper, difference }
     }
 
-    fn spoil(&mut self, call: Call, sabotage: Sabotage, before: &Arena, library: &mut Answer) {
-        let spoil = |saboteur: &Saboteur, after, answer, writes, keys| {
-            (saboteur.spoil)(&mut Spoiled { call, before, after, answer, writes, keys })
+    /// The same after a saboteur. `before` is what was lent.
+    pub fn compare_spoiled(
+        &mut self,
+        call: Call,
+        (model, mut library): (Answer, Answer),
+        before: &Arena,
+        sabotage: Sabotage,
+    ) -> Outcome {
+        let spoil = |after, answer, writes, keys| {
+            sabotage.spoil(&mut Spoiled { call, before, after, answer, writes, keys })
         };
-        match (sabotage, &mut self.wrapper) {
-            (Sabotage::Library(saboteur), _) => {
-                spoil(saboteur, &mut self.library, library, &mut Vec::new(), None)
-            }
-            (Sabotage::Wrapper(saboteur), Some(wrapper)) => {
+        match &mut self.wrapper {
+            Some(wrapper) if sabotage.in_wrapper => {
                 let Wrapper { arena, answer, writes, iteration, .. } = wrapper;
                 let keys = iteration.as_mut().map(|iteration| &mut iteration.keys);
-                spoil(saboteur, arena, answer, writes, keys)
+                spoil(arena, answer, writes, keys)
             }
-            (Sabotage::Wrapper(_), None) => {}
+            _ => spoil(&mut self.library, &mut library, &mut Vec::new(), None),
         }
+        self.compare(call, model, library)
     }
 
     /// Where the library and the safe wrapper differ from the model.
