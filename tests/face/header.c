@@ -287,7 +287,7 @@ static void hidden_data(void)
 
 /* A chain of one letter, deeper than any key, with data at one depth alone: done with one key
    where min and max allow it, else 19 at that node. Up the addresses and down, for each length of
-   the data, with each of its bytes alone. */
+   the data, with the first or the last bit of each of its bytes alone. */
 static void hidden_in_a_chain(void)
 {
     enum { DEPTHS = 140, KINDS = 6, BYTES = TRIEFF_D_MOST * (TRIEFF_D_MOST + 1) / 2 };
@@ -310,7 +310,7 @@ static void hidden_in_a_chain(void)
                         (uint8_t)(!down     ? (node + 1) % DEPTHS
                                   : node > 0 ? node - 1
                                              : DEPTHS - 1);
-                chain[28 + at * (1 + d) + 1 + byte - d * (d - 1) / 2] = 1;
+                chain[28 + at * (1 + d) + 1 + byte - d * (d - 1) / 2] = depth % 2 ? 1 : 0x80;
                 heard = trieff_count(chain, sizeof chain, numbers, DEPTHS);
                 EXPECT(allowed ? same(heard, (trieff_answer){.value = 1})
                                : refuses(heard, TRIEFF_HIDDEN, at));
@@ -423,6 +423,27 @@ static void writes_of_wide_data(void)
         }
 }
 
+/* The widest node takes 1,032 bytes: an image has room for two of them, or lacks one byte. */
+static void widest_nodes(void)
+{
+    enum { LETTERS = TRIEFF_N_MOST, LINK = TRIEFF_A_MOST, DATA = TRIEFF_D_MOST };
+    static uint8_t two[TRIEFF_LENGTH(2, LETTERS, LINK, DATA, 0)];
+    const uint8_t last = LETTERS - 1;
+    const size_t length = sizeof two;
+    EXPECT(length == 28 + 2 * 1032);
+    EXPECT(trieff_make(two, 28 + 1031, LETTERS, LINK, DATA, NULL, 0, 0, 1).number ==
+           TRIEFF_IMAGE_ROOM);
+    EXPECT(trieff_make(two, length, LETTERS, LINK, DATA, NULL, 0, 0, 1).number == TRIEFF_DONE);
+    EXPECT(trieff_store(two, length - 1, WORK, &last, 1, UINT64_MAX).number == TRIEFF_NO_ROOM);
+    EXPECT(trieff_store(two, length, WORK, &last, 1, UINT64_MAX).change == 1);
+    EXPECT(trieff_check(two, length - 1, WORK).number == TRIEFF_IMAGE_ROOM);
+    EXPECT(trieff_look_up(two, length, &last, 1).value == UINT64_MAX);
+    EXPECT(trieff_count(two, length, WORK).value == 1);
+    /* the root's last link leads to node 1, and the last eight bytes are its data */
+    EXPECT(two[28 + LETTERS * LINK - 1] == 1 && two[28 + LETTERS * LINK] == 0);
+    EXPECT(two[length - 9] == 0 && two[length - 8] == 255 && two[length - 1] == 255);
+}
+
 /* Every call answers 2, and changes nothing, where D is not 1 to 8. */
 #define HEAD_REFUSED(call)                                                        \
     do {                                                                          \
@@ -497,7 +518,8 @@ static void fields_whole(void)
 }
 
 /* A fresh image is put on a device that holds other bytes. A cut before the last write leaves a
-   head that is refused with 2, whatever of the other bytes landed. */
+   head that is refused with 2, whatever of the other bytes landed. The last write is that of the
+   first 28 bytes or, on a device that promises words, that of D. */
 static void on_a_device(void)
 {
     uint8_t device[sizeof image];
@@ -514,8 +536,20 @@ static void on_a_device(void)
         memcpy(device + 28, image + 28, F + N * A + D);
         EXPECT(trieff_check(device, sizeof device, WORK).number == TRIEFF_HEAD_FIELD);
         memcpy(device, image, 28);
-        EXPECT(trieff_count(device, sizeof device, WORK).number == TRIEFF_DONE);
-        EXPECT(trieff_count(device, sizeof device, WORK).value == 0);
+        EXPECT(same(trieff_count(device, sizeof device, WORK), (trieff_answer){0}));
+        for (size_t i = 0; i < sizeof device; i++)
+            device[i] = (uint8_t)(i * lot >> 2);
+        memset(device + 12, 0, 4);
+        EXPECT(trieff_check(device, sizeof device, WORK).number == TRIEFF_HEAD_FIELD);
+        for (size_t i = 0; i < 28 + F + N * A + D; i++)
+            if ((i < 12 || i >= 16) && lot >> i % 8 & 1)
+                device[i] = image[i];
+        EXPECT(trieff_check(device, sizeof device, WORK).number == TRIEFF_HEAD_FIELD);
+        memcpy(device, image, 12);
+        memcpy(device + 16, image + 16, 12 + F + N * A + D);
+        EXPECT(trieff_check(device, sizeof device, WORK).number == TRIEFF_HEAD_FIELD);
+        memcpy(device + 12, image + 12, 4);
+        EXPECT(same(trieff_count(device, sizeof device, WORK), (trieff_answer){0}));
     }
 }
 
@@ -539,6 +573,7 @@ int main(void)
     hidden_in_a_chain();
     values();
     writes_of_wide_data();
+    widest_nodes();
     data_too_long();
     fields_whole();
     on_a_device();

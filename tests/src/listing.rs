@@ -311,8 +311,8 @@ fn small_cases(listed: &mut Listed) {
     );
 }
 
-/// Values at their limits: of each D, of 32 and of 64 bits, of the number of digits, of which there
-/// are 1 to 20. Data with a single 1 in each of its bytes. And D outside its limits.
+/// Values at their limits: of each D, of 32 and of 64 bits, of the number of digits, which is 1 to
+/// 20. Data with a single 1 in each of its bytes. And D outside its limits.
 fn values(listed: &mut Listed) {
     const TEN_19: u64 = 10_000_000_000_000_000_000;
     let of_eight = [
