@@ -530,7 +530,7 @@ const FAMILIES: [Family; 25] = [
 
 /// The values that are stored under every key: 0, 256^(D-1) and 256^D - 1.
 fn values(d: u32) -> [u64; 3] {
-    [0, greatest(d - 1) + 1, greatest(d)]
+    [0, small::first_byte(d), greatest(d)]
 }
 
 fn run_tree(

@@ -23,7 +23,7 @@ use crate::progress::Progress;
 use crate::renumbering;
 use crate::report;
 use crate::rng::Rng;
-use crate::small::{self, keys, rising_trees, settings, trees, tuples, Key, Setting};
+use crate::small::{self, first_byte, keys, rising_trees, settings, trees, tuples, Key, Setting};
 use crate::twins::{Asked, Twins};
 use std::sync::Mutex;
 
@@ -143,11 +143,6 @@ const FAMILIES: [Family; 38] = [
 /// The greatest G of the images that are renumbered, for N from 1 on, and their D.
 const RENUMBERED: [u32; 3] = [4, 4, 3];
 const RENUMBERED_D: [u32; 3] = [1, 5, 8];
-
-/// The value of D bytes with 1 in the first of them alone: 256^(D-1).
-fn first_byte(d: u32) -> u64 {
-    greatest(d - 1) + 1
-}
 
 /// What was tried, how many of the calls gave 16 and 19, and how many numbers of keys were
 /// compared with the nodes that have data.

@@ -192,29 +192,41 @@ pub fn run(start: u64, cases: u64) -> (Tally, Vec<String>) {
 
 /// A saboteur in the self-test: the number of the case in which it was reported, and whether the
 /// report said that the safe wrapper differs.
-struct Tried {
+struct Attempt {
     sabotage: Sabotage,
     caught: Option<(u64, bool)>,
 }
 
 /// Every saboteur must be reported within the same cases, and the report must say whether the safe
-/// wrapper differs. Returns the number of those for which this does not hold.
+/// wrapper differs. One that spoils nothing must not be reported. Returns the number of those for
+/// which this does not hold.
 pub fn self_test(start: u64, cases: u64) -> usize {
-    let new = |sabotage| Tried { sabotage, caught: None };
-    let mut all: Vec<Tried> = saboteurs::all().map(new).collect();
+    let new = |sabotage| Attempt { sabotage, caught: None };
+    let mut all: Vec<Attempt> = saboteurs::all().chain([saboteurs::idle()]).map(new).collect();
+    let last = all.len() - 1;
     let (mut twins, mut spoiled) = (Twins::with_wrapper(), Twins::with_wrapper());
     for index in 0..cases {
-        if all.iter().all(|tried| tried.caught.is_some()) {
+        if all[..last].iter().all(|tried| tried.caught.is_some()) {
             break;
         }
         spoil_case(start, index, &mut all, &mut twins, &mut spoiled);
     }
-    print_tried(&all)
+    let idle = all.pop().map_or(false, |tried| tried.caught.is_none());
+    if !idle {
+        println!("    REPORTED, though nothing is spoiled");
+    }
+    print_attempts(&all) + usize::from(!idle)
 }
 
 /// Runs a case in `twins`. After each call, each saboteur that is not yet caught spoils what the
 /// call left, in the copy `spoiled`, which is then compared.
-fn spoil_case(start: u64, index: u64, all: &mut [Tried], twins: &mut Twins, spoiled: &mut Twins) {
+fn spoil_case(
+    start: u64,
+    index: u64,
+    all: &mut [Attempt],
+    twins: &mut Twins,
+    spoiled: &mut Twins,
+) {
     let seed = start.wrapping_add(index);
     let (mut case, mut guards) = (Case::new(seed), Rng::new(!seed));
     while let Some(step) = case.next() {
@@ -222,7 +234,7 @@ fn spoil_case(start: u64, index: u64, all: &mut [Tried], twins: &mut Twins, spoi
         twins.lay(&asked, &mut guards);
         let before = twins.model.clone();
         let answers = twins.perform(step.call);
-        let spoils = |tried: &Tried| tried.caught.is_none() && tried.sabotage.spoils(step.call);
+        let spoils = |tried: &Attempt| tried.caught.is_none() && tried.sabotage.spoils(step.call);
         let left = all.iter_mut().filter(|tried| spoils(tried));
         for tried in left.filter(|_| asked.image.len() < SPOILED_MOST) {
             spoiled.copy_from(twins);
@@ -237,8 +249,8 @@ fn spoil_case(start: u64, index: u64, all: &mut [Tried], twins: &mut Twins, spoi
 
 /// Prints in which case each saboteur was caught. Those that were tried in several calls share a
 /// line, with the last of their cases. Returns the number of those that were not caught.
-fn print_tried(all: &[Tried]) -> usize {
-    let caught = |tried: &Tried| {
+fn print_attempts(all: &[Attempt]) -> usize {
+    let caught = |tried: &Attempt| {
         let rightly = tried.caught.filter(|(_, said)| *said == tried.sabotage.in_wrapper);
         rightly.map(|(case, _)| case)
     };

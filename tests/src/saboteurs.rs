@@ -403,6 +403,11 @@ pub fn all() -> impl Iterator<Item = Sabotage> {
     of_library.map(Sabotage::of_library).chain(wide::all()).chain(of_wrapper)
 }
 
+/// One that spoils nothing.
+pub fn idle() -> Sabotage {
+    Sabotage::of_library(&Saboteur { name: "nothing is spoiled", spoil: |_| {} })
+}
+
 const SABOTEURS: [Saboteur; 38] = [
     Saboteur {
         name: "the place of 7 is one too high",

@@ -1,6 +1,6 @@
 //! Small images with A = 1 and their keys, for the exhaustive part and for the cuts.
 
-use crate::model::{write_number, Head};
+use crate::model::{greatest, write_number, Head};
 use crate::renumbering;
 use crate::rng::Rng;
 
@@ -88,6 +88,11 @@ pub fn image(
     let rubbish = rng.rubbish(setting.spare.0 * head.w() as usize + setting.spare.1);
     image.extend(rubbish);
     image
+}
+
+/// The value of D bytes with 1 in the first of them alone: 256^(D-1).
+pub fn first_byte(d: u32) -> u64 {
+    greatest(d - 1) + 1
 }
 
 /// Every tuple of the values with this length.

@@ -60,16 +60,9 @@ impl Spoiled<'_> {
         }
     }
 
-    /// Makes another call in place of this one.
-    fn make_instead(&mut self, call: Call) {
-        self.after.copy_from(self.before);
-        *self.answer = ask_model(call, self.after.lent());
-        self.note_list();
-    }
-
     /// Makes the store with another value.
     fn store_instead(&mut self, value: u64) {
-        self.make_instead(match self.call {
+        let call = match self.call {
             Call::Store { .. } => Call::Store { value },
             Call::StoreText { .. } => Call::StoreText { value },
             Call::StoreWrites { .. } => Call::StoreWrites { value },
@@ -77,7 +70,10 @@ impl Spoiled<'_> {
             Call::StoreCounts { .. } => Call::StoreCounts { value },
             Call::StoreTextCounts { .. } => Call::StoreTextCounts { value },
             other => other,
-        });
+        };
+        self.after.copy_from(self.before);
+        *self.answer = ask_model(call, self.after.lent());
+        self.note_list();
     }
 
     /// Refuses with 11 a store that was done with such a value and D.
@@ -153,44 +149,42 @@ impl Spoiled<'_> {
         }
     }
 
-    /// Makes the call as if D were another number, if it is such. The head keeps its D.
-    fn mistake_d(&mut self, mistaken: impl Fn(u32) -> bool, for_this: u32) {
-        let made = self.call;
-        let d = match (made, self.head()) {
-            _ if self.number() == 1 => return,
-            (Call::Make { d, .. }, _) => d,
-            (_, Some(head)) => head.d,
-            _ => return,
-        };
-        if !mistaken(d) {
-            return;
+    /// The D of a call that passed 1: that of the head or, for a make, the one given.
+    fn judged_d(&self) -> Option<u32> {
+        let head = self.head().filter(|_| self.number() != 1)?;
+        match self.call {
+            Call::Make { d, .. } => Some(d),
+            _ => Some(head.d),
         }
-        self.after.copy_from(self.before);
-        let field = self.after.image.start + 12..self.after.image.start + 16;
-        *self.answer = match made {
-            Call::Make { n, a, min, max, .. } => {
-                let narrower = Call::Make { n, a, d: for_this, min, max };
-                ask_model(narrower, self.after.lent())
-            }
-            _ => {
-                model::write_number(&mut self.after.bytes[field.clone()], u64::from(for_this));
-                ask_model(made, self.after.lent())
-            }
+    }
+
+    /// Makes the call as if D, where it is such a number, were another one. The head keeps its D.
+    fn mistake_d(&mut self, mistaken: impl Fn(u32) -> bool, another: u32) {
+        let d = match self.judged_d().filter(|d| mistaken(*d)) {
+            Some(d) => d,
+            None => return,
         };
+        self.after.copy_from(self.before);
+        let (call, start) = (self.call, self.after.image.start + 12);
+        let set_d = |s: &mut Spoiled, d: u32| {
+            model::write_number(&mut s.after.bytes[start..start + 4], u64::from(d));
+        };
+        if let Call::Make { n, a, min, max, .. } = call {
+            let made = Call::Make { n, a, d: another, min, max };
+            *self.answer = ask_model(made, self.after.lent());
+        } else {
+            set_d(self, another);
+            *self.answer = ask_model(call, self.after.lent());
+        }
         self.note_list();
-        if self.done() || !matches!(made, Call::Make { .. }) {
-            model::write_number(&mut self.after.bytes[field], u64::from(d));
+        if self.done() || !matches!(call, Call::Make { .. }) {
+            set_d(self, d);
         }
     }
 
     /// Refuses with 2 a call whose D is such a number.
     fn refuse_d(&mut self, refused: impl Fn(u32) -> bool) {
-        let d = match (self.call, self.head()) {
-            _ if self.number() == 1 => return,
-            (Call::Make { d, .. }, _) => d,
-            (_, head) => head.map_or(0, |head| head.d),
-        };
-        if refused(d) {
+        if self.judged_d().map_or(false, refused) {
             self.after.copy_from(self.before);
             self.refuse(2);
         }
@@ -202,7 +196,8 @@ impl Spoiled<'_> {
     }
 }
 
-fn sign(value: u64) -> i32 {
+/// 1 for a value that is not 0, as the change counts it.
+fn present(value: u64) -> i32 {
     i32::from(value != 0)
 }
 
@@ -314,17 +309,17 @@ const WIDE_SABOTEURS: &[InEach] = &[
     // the change
     in_each(STORES, "the change goes by the low 32 bits of the old value", |s| {
         if let Some(old) = s.old() {
-            s.answer.change = sign(s.value()) - sign(old & LOW);
+            s.answer.change = present(s.value()) - present(old & LOW);
         }
     }),
     in_each(STORES, "the change goes by the low 32 bits of the new value", |s| {
         if s.done() {
-            s.answer.change = sign(s.value() & LOW) - sign(s.old().unwrap_or(0));
+            s.answer.change = present(s.value() & LOW) - present(s.old().unwrap_or(0));
         }
     }),
     in_each(STORES, "the change goes by the sign of the old value", |s| {
         if let Some(old) = s.old() {
-            s.answer.change = sign(s.value()) - i32::from(old as i64 > 0);
+            s.answer.change = present(s.value()) - i32::from(old as i64 > 0);
         }
     }),
     in_each(COUNTED, "the counts of a store go by the low 32 bits of the new value", |s| {
@@ -335,7 +330,7 @@ const WIDE_SABOTEURS: &[InEach] = &[
     }),
     in_each(COUNTED, "the counts of a store go by the low 32 bits of the old value", |s| {
         if s.old().map_or(false, |old| old > 0 && old & LOW == 0) {
-            let (right, wrong) = (s.answer.change, sign(s.value()));
+            let (right, wrong) = (s.answer.change, present(s.value()));
             for node in s.passed() {
                 let count = &mut s.counts()[node];
                 *count = count.wrapping_add((wrong - right) as u32);
