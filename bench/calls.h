@@ -24,16 +24,16 @@
     trieff_answer of##_look_up_text(const uint8_t *image, size_t image_len, const uint8_t *text,  \
                                     size_t text_len);                                             \
     trieff_answer of##_store(uint8_t *image, size_t image_len, uint32_t *work, size_t work_len,   \
-                             const uint8_t *letters, size_t letters_len, uint32_t value);         \
+                             const uint8_t *letters, size_t letters_len, uint64_t value);         \
     trieff_answer of##_store_text(uint8_t *image, size_t image_len, uint32_t *work,               \
                                   size_t work_len, const uint8_t *text, size_t text_len,          \
-                                  uint32_t value);                                                \
+                                  uint64_t value);                                                \
     trieff_answer of##_store_writes(uint8_t *image, size_t image_len, uint32_t *work,             \
                                     size_t work_len, const uint8_t *letters, size_t letters_len,  \
-                                    uint32_t value, uint32_t *writes);                            \
+                                    uint64_t value, uint32_t *writes);                            \
     trieff_answer of##_store_text_writes(uint8_t *image, size_t image_len, uint32_t *work,        \
                                          size_t work_len, const uint8_t *text, size_t text_len,   \
-                                         uint32_t value, uint32_t *writes);                       \
+                                         uint64_t value, uint32_t *writes);                       \
     trieff_answer of##_mend(uint8_t *image, size_t image_len, uint32_t *work, size_t work_len);   \
     trieff_answer of##_next_key(const uint8_t *image, size_t image_len, uint32_t *work,           \
                                 size_t work_len, const uint8_t *letters, size_t letters_len,      \
@@ -52,10 +52,10 @@
                                     size_t work_len, const uint32_t *counts, size_t counts_len);  \
     trieff_answer of##_store_counts(uint8_t *image, size_t image_len, uint32_t *work,             \
                                     size_t work_len, const uint8_t *letters, size_t letters_len,  \
-                                    uint32_t value, uint32_t *counts, size_t counts_len);         \
+                                    uint64_t value, uint32_t *counts, size_t counts_len);         \
     trieff_answer of##_store_text_counts(uint8_t *image, size_t image_len, uint32_t *work,        \
                                          size_t work_len, const uint8_t *text, size_t text_len,   \
-                                         uint32_t value, uint32_t *counts, size_t counts_len);    \
+                                         uint64_t value, uint32_t *counts, size_t counts_len);    \
     trieff_answer of##_key_at(const uint8_t *image, size_t image_len, uint32_t *work,             \
                               size_t work_len, const uint32_t *counts, size_t counts_len,         \
                               uint64_t position, uint8_t *key, size_t key_len);                   \
@@ -89,7 +89,7 @@ struct lent {
     size_t work_len;
     const uint8_t *key;
     size_t key_len;
-    uint32_t value;
+    uint64_t value;
     bool after;
     uint8_t *buffer;
     size_t buffer_len;

@@ -23,8 +23,7 @@ struct row {
     char name[80];
     uint8_t key[256];
     size_t key_len;
-    uint32_t value;
-    uint64_t position;
+    uint64_t value, position;
     bool stores, mends;
     char answer[24]; /* what it must answer, or "*" */
 };
@@ -139,7 +138,7 @@ static size_t read_plan(const char *path, struct row *rows)
         row->call = call_named(call);
         row->stores = strcmp(value, "-") != 0;
         row->mends = strcmp(call, "mend") == 0;
-        row->value = (uint32_t)strtoul(value, NULL, 10);
+        row->value = strtoull(value, NULL, 10);
         set_key(row, key);
     }
     fclose(file);
@@ -207,8 +206,10 @@ static bool compare(const struct row *row)
         return false;
     }
     char said[24];
-    snprintf(said, sizeof said, "%lld",
-             row->stores ? (long long)answer.change : (long long)answer.value);
+    if (row->stores)
+        snprintf(said, sizeof said, "%d", answer.change);
+    else
+        snprintf(said, sizeof said, "%llu", (unsigned long long)answer.value);
     printf("%s|%s|answer|%s\n", image_name, row->name, said);
     if (answer.number == 0 && (strcmp(row->answer, "*") == 0 || strcmp(row->answer, said) == 0))
         return true;

@@ -27,15 +27,15 @@ static trieff_answer valued(uint64_t value)
 
 /* ---- fields, places, links */
 
-static uint32_t field(const uint8_t *at, uint32_t width)
+static uint64_t field(const uint8_t *at, uint32_t width)
 {
-    uint32_t v = 0;
+    uint64_t v = 0;
     for (uint32_t i = 0; i < width; i++)
         v = v << 8 | at[i];
     return v;
 }
 
-static void put_field(uint8_t *at, uint32_t width, uint32_t v)
+static void put_field(uint8_t *at, uint32_t width, uint64_t v)
 {
     for (uint32_t i = width; i > 0; i--) {
         at[i - 1] = (uint8_t)v;
@@ -65,10 +65,10 @@ static size_t data_place(const struct head *h, uint32_t node)
 
 static uint32_t link_of(const uint8_t *image, const struct head *h, uint32_t node, uint32_t letter)
 {
-    return field(image + link_place(h, node, letter), h->a);
+    return (uint32_t)field(image + link_place(h, node, letter), h->a);
 }
 
-static uint32_t data_of(const uint8_t *image, const struct head *h, uint32_t node)
+static uint64_t data_of(const uint8_t *image, const struct head *h, uint32_t node)
 {
     return field(image + data_place(h, node), h->d);
 }
@@ -127,7 +127,7 @@ static bool alphabet_good(const uint8_t *alphabet, const struct head *h)
 
 static bool permitted(const struct head *h)
 {
-    return 1 <= h->n && h->n <= 256 && 1 <= h->a && h->a <= 4 && 1 <= h->d && h->d <= 4 &&
+    return 1 <= h->n && h->n <= 256 && 1 <= h->a && h->a <= 4 && 1 <= h->d && h->d <= 8 &&
            h->f <= 1024 && h->min <= h->max && h->max <= KEY_MOST;
 }
 
@@ -138,7 +138,7 @@ static uint32_t open_image(const uint8_t *image, size_t len, struct head *h)
         return 1;
     uint32_t *fields[7] = {&h->g, &h->n, &h->a, &h->d, &h->f, &h->min, &h->max};
     for (int i = 0; i < 7; i++)
-        *fields[i] = field(image + 4 * i, 4);
+        *fields[i] = (uint32_t)field(image + 4 * i, 4);
     if (!permitted(h))
         return 2;
     if (h->f > 0 && 28 + h->f <= len && !alphabet_good(image + 28, h))
@@ -341,9 +341,9 @@ trieff_answer naive_look_up_text(const uint8_t *image, size_t image_len, const u
 
 /* ---- store: 11, 12, 13 */
 
-static uint32_t greatest(uint32_t width)
+static uint64_t greatest(uint32_t width)
 {
-    return width == 4 ? 0xFFFFFFFF : (1u << 8 * width) - 1;
+    return width == 8 ? UINT64_MAX : ((uint64_t)1 << 8 * width) - 1;
 }
 
 /* The list of writes of a store with writes. */
@@ -366,7 +366,7 @@ static void note(struct list *list, size_t place, size_t len)
    none. */
 __attribute__((always_inline)) static inline trieff_answer extend(
     uint8_t *image, size_t len, const struct head *h, const struct key *key, uint32_t node,
-    size_t depth, uint32_t value, struct list *list, size_t most)
+    size_t depth, uint64_t value, struct list *list, size_t most)
 {
     uint64_t total = h->g + (uint64_t)(key->len - depth);
     if (value == 0)
@@ -396,7 +396,7 @@ __attribute__((always_inline)) static inline trieff_answer extend(
 /* A store after the check and once the key has passed. It is inlined: where there is no list of
    writes, or no list of counts, the compiler drops the tests for it. */
 __attribute__((always_inline)) static inline trieff_answer store_in(
-    uint8_t *image, size_t len, const struct head *h, const struct key *key, uint32_t value,
+    uint8_t *image, size_t len, const struct head *h, const struct key *key, uint64_t value,
     struct list *list, size_t most)
 {
     if (value > greatest(h->d))
@@ -408,7 +408,7 @@ __attribute__((always_inline)) static inline trieff_answer store_in(
             return extend(image, len, h, key, node, depth, value, list, most);
         node = link;
     }
-    uint32_t old = data_of(image, h, node);
+    uint64_t old = data_of(image, h, node);
     put_field(image + data_place(h, node), h->d, value);
     note(list, data_place(h, node), h->d);
     return (trieff_answer){.change = (value != 0) - (old != 0)};
@@ -416,13 +416,13 @@ __attribute__((always_inline)) static inline trieff_answer store_in(
 
 /* It is not inlined, so that it can be counted alone. */
 __attribute__((noinline)) static trieff_answer inner_store(
-    uint8_t *image, size_t len, const struct head *h, const struct key *key, uint32_t value)
+    uint8_t *image, size_t len, const struct head *h, const struct key *key, uint64_t value)
 {
     return store_in(image, len, h, key, value, NULL, SIZE_MAX);
 }
 
 __attribute__((noinline)) static trieff_answer inner_store_writes(
-    uint8_t *image, size_t len, const struct head *h, const struct key *key, uint32_t value,
+    uint8_t *image, size_t len, const struct head *h, const struct key *key, uint64_t value,
     uint32_t *writes)
 {
     struct list list = {.numbers = writes};
@@ -432,7 +432,7 @@ __attribute__((noinline)) static trieff_answer inner_store_writes(
 }
 
 trieff_answer naive_store(uint8_t *image, size_t image_len, uint32_t *work, size_t work_len,
-                          const uint8_t *letters, size_t letters_len, uint32_t value)
+                          const uint8_t *letters, size_t letters_len, uint64_t value)
 {
     struct head h;
     trieff_answer answer = check(image, image_len, work, work_len, &h);
@@ -444,7 +444,7 @@ trieff_answer naive_store(uint8_t *image, size_t image_len, uint32_t *work, size
 }
 
 trieff_answer naive_store_text(uint8_t *image, size_t image_len, uint32_t *work, size_t work_len,
-                               const uint8_t *text, size_t text_len, uint32_t value)
+                               const uint8_t *text, size_t text_len, uint64_t value)
 {
     struct head h;
     trieff_answer answer = check(image, image_len, work, work_len, &h);
@@ -456,7 +456,7 @@ trieff_answer naive_store_text(uint8_t *image, size_t image_len, uint32_t *work,
 }
 
 trieff_answer naive_store_writes(uint8_t *image, size_t image_len, uint32_t *work, size_t work_len,
-                                 const uint8_t *letters, size_t letters_len, uint32_t value,
+                                 const uint8_t *letters, size_t letters_len, uint64_t value,
                                  uint32_t *writes)
 {
     struct head h;
@@ -471,7 +471,7 @@ trieff_answer naive_store_writes(uint8_t *image, size_t image_len, uint32_t *wor
 
 trieff_answer naive_store_text_writes(uint8_t *image, size_t image_len, uint32_t *work,
                                       size_t work_len, const uint8_t *text, size_t text_len,
-                                      uint32_t value, uint32_t *writes)
+                                      uint64_t value, uint32_t *writes)
 {
     struct head h;
     trieff_answer answer = check(image, image_len, work, work_len, &h);
@@ -505,7 +505,7 @@ trieff_answer naive_mend(uint8_t *image, size_t image_len, uint32_t *work, size_
 static void walk(const uint8_t *image, const struct head *h, uint32_t node, size_t depth,
                  uint8_t *path, key_sink *sink, void *context)
 {
-    uint32_t value = data_of(image, h, node);
+    uint64_t value = data_of(image, h, node);
     if (value != 0 && h->min <= depth)
         sink(context, path, depth, value);
     if (depth == h->max)
@@ -672,7 +672,7 @@ trieff_answer naive_check_counts(const uint8_t *image, size_t image_len, uint32_
 
 /* A store, then the counts on its key's path. The new nodes are those above the old G. */
 static trieff_answer inner_store_counts(uint8_t *image, size_t len, const struct head *h,
-                                        const struct key *key, uint32_t value, uint32_t *counts,
+                                        const struct key *key, uint64_t value, uint32_t *counts,
                                         size_t counts_len)
 {
     trieff_answer answer = store_in(image, len, h, key, value, NULL, counts_len);
@@ -688,7 +688,7 @@ static trieff_answer inner_store_counts(uint8_t *image, size_t len, const struct
 }
 
 trieff_answer naive_store_counts(uint8_t *image, size_t image_len, uint32_t *work, size_t work_len,
-                                 const uint8_t *letters, size_t letters_len, uint32_t value,
+                                 const uint8_t *letters, size_t letters_len, uint64_t value,
                                  uint32_t *counts, size_t counts_len)
 {
     struct head h;
@@ -704,7 +704,7 @@ trieff_answer naive_store_counts(uint8_t *image, size_t image_len, uint32_t *wor
 
 trieff_answer naive_store_text_counts(uint8_t *image, size_t image_len, uint32_t *work,
                                       size_t work_len, const uint8_t *text, size_t text_len,
-                                      uint32_t value, uint32_t *counts, size_t counts_len)
+                                      uint64_t value, uint32_t *counts, size_t counts_len)
 {
     struct head h;
     trieff_answer answer = compare(image, image_len, work, work_len, counts, counts_len, &h);

@@ -1,22 +1,24 @@
 /* Compares the three versions on random small images and calls. The images are whole or damaged,
    with addresses that rise from node to child or not, some with data at depths outside min..max.
-   The arguments are near the limits of 9 to 15, and the lists of counts are right, wrong or too
-   short. The answers of naive C to the calls with counts are compared with its other calls too,
-   and its 19 with a climb from every node. The run fails unless each number from 0 to 16, 19 and
-   25 is answered, 19 at PLACES_LEAST places or more, every call is done at least once and every
-   call that checks answers 19, and each case of `struct heard` is met.
+   The arguments are near the limits of 9 to 15, values also near 2^32 and 2^64, and the lists of
+   counts are right, wrong or too short. The answers of naive C to the calls with counts are
+   compared with its other calls too, and its 19 with a climb from every node. The run fails unless
+   each number from 0 to 16, 19 and 25 is answered, 19 at PLACES_LEAST places or more, every call
+   is done at least once and every call that checks answers 19, each case of `struct heard` is met,
+   and for each D the value 256^D - 1 is stored and 256^D refused.
    Usage: random SEED IMAGES */
 #include "calls.h"
 #include <stdio.h>
 #include <stdlib.h>
 #include <string.h>
 
-#define ROOM 4096
+#define ROOM 16384
 #define CALLS_PER_IMAGE 40
 #define CALLS_MOST 32
 #define NUMBERS 26
 #define NODES_MOST 600
 #define PLACES_LEAST 10
+#define WIDTHS 9
 
 static uint64_t state;
 
@@ -34,6 +36,19 @@ static bool one_in(uint32_t many)
     return any_below(many) == 0;
 }
 
+/* A number of 64 bits. At times its low 32 bits are 0. */
+static uint64_t any_number(void)
+{
+    uint64_t high = any_below(0xFFFFFFFF);
+    return high << 32 | (one_in(4) ? 0 : any_below(0xFFFFFFFF));
+}
+
+/* Is a number that is not 0 taken for 0 if its high 32 bits are lost? */
+static bool low_blank(uint64_t v)
+{
+    return v != 0 && (uint32_t)v == 0;
+}
+
 /* ---- images */
 
 struct small {
@@ -45,15 +60,15 @@ struct small {
     uint8_t bytes[ROOM];
 };
 
-static void put_field(uint8_t *at, uint32_t width, uint32_t v)
+static void put_field(uint8_t *at, uint32_t width, uint64_t v)
 {
     for (uint32_t i = width; i > 0; i--, v >>= 8)
         at[i - 1] = (uint8_t)v;
 }
 
-static uint32_t get_field(const uint8_t *at, uint32_t width)
+static uint64_t get_field(const uint8_t *at, uint32_t width)
 {
-    uint32_t v = 0;
+    uint64_t v = 0;
     for (uint32_t i = 0; i < width; i++)
         v = v << 8 | at[i];
     return v;
@@ -151,7 +166,7 @@ static void renumber(struct small *s)
 static void put_any_data(struct small *s, uint32_t node)
 {
     uint8_t *data = link_at(s, node, s->n);
-    put_field(data, s->d, one_in(4) ? 1u << 8 * any_below(s->d) : any_below(0xFFFFFFFF));
+    put_field(data, s->d, one_in(4) ? (uint64_t)1 << 8 * any_below(s->d) : any_number());
     if (get_field(data, s->d) == 0)
         put_field(data, s->d, 1);
 }
@@ -191,15 +206,17 @@ static void add_data(struct small *s)
 
 /* Chooses the head but for G and F, and returns the number of nodes. Now and then A is 1 and
    nearly all addresses are in use, or there is a chain so long that its depths do not fit a
-   byte. */
+   byte, or N and A are as great as they may be. */
 static uint32_t any_sizes(struct small *s)
 {
-    bool crowded = one_in(8), chain = !crowded && one_in(16);
-    s->n = chain ? 1 : 1 + any_below(crowded ? 3 : one_in(4) ? 20 : 5);
-    s->a = crowded ? 1 : chain ? 2 + any_below(3) : 1 + any_below(4);
-    s->d = crowded || chain ? 1 : 1 + any_below(4);
+    bool crowded = one_in(8), chain = !crowded && one_in(16), vast = !chain && one_in(24);
+    s->d = 1 + any_below(8);
     s->max = chain || one_in(10) ? 64 : any_below(7);
     s->min = any_below(s->max + 1) / (1 + any_below(3));
+    s->n = vast ? 256 : chain ? 1 : 1 + any_below(crowded ? 3 : one_in(4) ? 20 : 5);
+    s->a = vast ? 4 : crowded ? 1 : chain ? 2 + any_below(3) : 1 + any_below(4);
+    if (vast)
+        return 1 + any_below(6);
     return crowded ? 250 + any_below(7) : chain ? 300 + any_below(250) : 1 + any_below(12);
 }
 
@@ -209,7 +226,7 @@ static void make_whole(struct small *s)
 {
     memset(s, 0, sizeof *s);
     uint32_t nodes = any_sizes(s);
-    if (!one_in(5))
+    if (s->n <= CHARACTERS_MANY && !one_in(5))
         add_alphabet(s);
     for (uint32_t c = 1; c < nodes; c++) {
         int tries = 0;
@@ -285,13 +302,13 @@ static void narrow(struct small *s)
         put_field(s->bytes + 24, 4, s->max - 1);
 }
 
-/* Does one harm: to a head field, a link, two links, any byte, G or the length; or a link is
+/* Does one harm: to a head field, a link, two links, any byte, G, D or the length; or a link is
    missing, there is a ring, or min..max is narrower. */
 static void harm(struct small *s)
 {
-    static const uint32_t ODD[] = {0, 1, 2, 4, 5, 64, 65, 256, 257, 1024, 1025, 0xFFFFFFFF};
+    static const uint32_t ODD[] = {0, 1, 2, 4, 5, 8, 9, 64, 65, 256, 257, 1024, 1025, 0xFFFFFFFF};
     static const uint32_t GREAT[] = {0xFFFFFFFF, 0x7FFFFFFF, 0x3FFFFFFF, 0x00FFFFFF};
-    switch (any_below(18)) {
+    switch (any_below(19)) {
     case 0:
         put_field(s->bytes + 4 * any_below(7), 4, ODD[any_below(sizeof ODD / sizeof *ODD)]);
         break;
@@ -330,9 +347,28 @@ static void harm(struct small *s)
         narrow(s);
         lose_link(s);
         break;
+    case 16:
+        put_field(s->bytes + 12, 4, one_in(3) ? 9 : any_below(9));
+        break;
     default:
         lose_link(s);
     }
+}
+
+/* W, D and the first node's data, by an image's own head. */
+static uint32_t width_in(const uint8_t *image)
+{
+    return get_field(image + 4, 4) * get_field(image + 8, 4) + get_field(image + 12, 4);
+}
+
+static uint32_t data_bytes(const uint8_t *image)
+{
+    return get_field(image + 12, 4);
+}
+
+static const uint8_t *root_data(const uint8_t *image)
+{
+    return image + 28 + get_field(image + 16, 4) + width_in(image) - data_bytes(image);
 }
 
 /* The links of an image that has passed 1 to 6, by its own head: for each node the one that links
@@ -345,7 +381,7 @@ static bool parents_of(const uint8_t *image, uint32_t *parents)
     bool falls = false;
     for (uint32_t q = 0; q <= g; q++)
         parents[q] = q;
-    for (uint32_t q = 0; q <= g; q++, node += n * a + get_field(image + 12, 4))
+    for (uint32_t q = 0; q <= g; q++, node += width_in(image))
         for (uint32_t i = 0; i < n; i++) {
             uint32_t link = get_field(node + i * a, a);
             if (link == 0)
@@ -375,18 +411,18 @@ struct hidden {
     uint32_t lowest;       /* the lowest address among them .. */
     uint32_t depth;        /* .. and its depth */
     uint32_t least;        /* the least depth among them */
+    uint64_t data;         /* the data of the lowest one */
 };
 
 /* Finds them by a climb from each node that has data to the root. */
 static struct hidden hidden_in(const uint8_t *image)
 {
-    uint32_t parents[NODES_MOST], g = get_field(image, 4), d = get_field(image + 12, 4);
-    uint32_t width = get_field(image + 4, 4) * get_field(image + 8, 4) + d;
+    uint32_t parents[NODES_MOST], g = get_field(image, 4), d = data_bytes(image);
     uint32_t min = get_field(image + 20, 4), max = get_field(image + 24, 4);
-    const uint8_t *data = image + 28 + get_field(image + 16, 4) + width - d;
+    const uint8_t *data = root_data(image);
     struct hidden h = {.lowest = NODES_MOST, .least = NODES_MOST};
     parents_of(image, parents);
-    for (uint32_t x = 0; x <= g; x++, data += width) {
+    for (uint32_t x = 0; x <= g; x++, data += width_in(image)) {
         uint32_t depth = 0;
         for (uint32_t at = x; at != 0; at = parents[at])
             depth++;
@@ -394,9 +430,12 @@ static struct hidden hidden_in(const uint8_t *image)
             continue;
         h.below += depth < min;
         h.above += depth > max;
-        h.depth = h.lowest == NODES_MOST ? depth : h.depth;
-        h.lowest = h.lowest == NODES_MOST ? x : h.lowest;
         h.least = depth < h.least ? depth : h.least;
+        if (h.lowest != NODES_MOST)
+            continue;
+        h.lowest = x;
+        h.depth = depth;
+        h.data = get_field(data, d);
     }
     return h;
 }
@@ -527,10 +566,21 @@ static void lend_counts(const struct small *s, struct lent *lent)
         lent->position |= (uint64_t)1 << (32 + any_below(32));
 }
 
-static uint32_t any_value(const struct small *s)
+/* The greatest value that fits d bytes: 256^d - 1. */
+static uint64_t most_in(uint32_t d)
 {
-    uint32_t most = s->d == 4 ? 0xFFFFFFFF : (1u << 8 * s->d) - 1;
-    return one_in(4) ? 0 : one_in(6) ? most + 1 : one_in(4) ? most : any_below(most);
+    return UINT64_MAX >> (64 - 8 * d);
+}
+
+/* A value that fits, mostly, or 0, or one near 256^D, 2^32 or 2^64. */
+static uint64_t any_value(const struct small *s)
+{
+    uint64_t most = most_in(s->d);
+    const uint64_t edges[] = {most - 1, most, most + 1, 0xFFFFFFFF, 0x100000000, UINT64_MAX,
+                              any_number()};
+    if (one_in(4))
+        return 0;
+    return one_in(2) ? any_number() & most : edges[any_below(sizeof edges / sizeof *edges)];
 }
 
 /* ---- the calls with counts of naive C, compared with its other calls */
@@ -631,6 +681,13 @@ enum {
     DEEPER_FIRST, /* 19 at a node that is not the least deep of those with hidden data */
     HIDDEN_RISES, /* 19 in an image that does not fall .. */
     HIDDEN_FALLS, /* .. or that falls */
+    LOW_HIDDEN,   /* 19 at a node whose data is not 0, but has low 32 bits that are .. */
+    LOW_COUNTED,  /* .. or the number of keys, of an image with such data .. */
+    LOW_READ,     /* .. or a key with such a value is found .. */
+    LOW_STORED,   /* .. or a new key is stored with such a value .. */
+    LOW_BEFORE,   /* .. or a stored key that had such a value gets another one */
+    D_9,          /* 2 where D is 9 */
+    W_1032,       /* a call is done where W is 1,032 */
     CASES
 };
 static const char *const CASE_NAMES[CASES] = {
@@ -640,13 +697,15 @@ static const char *const CASE_NAMES[CASES] = {
     "16 under a ring", "6 beside hidden data", "7 beside it", "8 beside it", "16 beside it",
     "19 at the root", "19 below min", "19 above max", "19 deeper than 64",
     "19 in min..max as a byte", "19 on both sides", "19 not at the least depth",
-    "19 in images that rise", "19 in images that fall"};
+    "19 in images that rise", "19 in images that fall", "19 for high bytes alone",
+    "such data counted", "found", "stored", "replaced", "2 for D = 9", "done with W = 1,032"};
 
 /* How often each number was answered, each call was done, each call answered 19, 19 had each
-   place, and each case was met. */
+   place, and each case was met. For each D, how often 256^D - 1 was stored, and how often 11 was
+   answered to 256^D or, for D = 8, to any value. */
 struct heard {
     uint64_t numbers[NUMBERS], done[CALLS_MOST], hidden[CALLS_MOST], places[NODES_MOST];
-    uint64_t cases[CASES];
+    uint64_t cases[CASES], fits[WIDTHS], over[WIDTHS];
 };
 
 /* The number that mending finds with G lowered in an image that it leaves at 8. */
@@ -690,6 +749,33 @@ static void note_hidden(struct heard *heard, size_t place, const struct small *s
     cases[BOTH_HIDE] += h.below > 0 && h.above > 0;
     cases[DEEPER_FIRST] += h.least < h.depth;
     cases[s->falls ? HIDDEN_FALLS : HIDDEN_RISES]++;
+    cases[LOW_HIDDEN] += low_blank(h.data);
+}
+
+/* Does an image that passes 1 to 4 have data that is not 0, but has low 32 bits that are? */
+static bool low_data(const uint8_t *image)
+{
+    uint32_t g = get_field(image, 4);
+    const uint8_t *data = root_data(image);
+    for (uint32_t x = 0; x <= g; x++, data += width_in(image))
+        if (low_blank(get_field(data, data_bytes(image))))
+            return true;
+    return false;
+}
+
+/* Notes an answer of a store that is 0 or 11. */
+static void note_store(struct heard *heard, const char *name, const struct lent *lent,
+                       trieff_answer answer)
+{
+    uint32_t d = data_bytes(lent->image);
+    uint64_t value = lent->value, most = most_in(d);
+    heard->fits[d] += answer.number == 0 && value == most;
+    heard->over[d] += answer.number == 11 && (value == most + 1 || d == 8);
+    heard->cases[LOW_STORED] += answer.change == 1 && low_blank(value);
+    if (strcmp(name, "store") != 0 || answer.number == 11 || value == 0)
+        return;
+    trieff_answer was = naive_look_up(lent->image, lent->image_len, lent->key, lent->key_len);
+    heard->cases[LOW_BEFORE] += low_blank(was.value);
 }
 
 /* Notes an answer. The image is as it was before the call. */
@@ -711,6 +797,13 @@ static void note(struct heard *heard, size_t place, const struct small *s, const
     cases[BESIDE_7] += s->hides && number == 7;
     cases[BESIDE_8] += s->hides && number == 8;
     cases[BESIDE_16] += s->hides && number == 16;
+    cases[D_9] += number == 2 && data_bytes(lent->image) == 9;
+    cases[W_1032] += number == 0 && width_in(lent->image) == 1032;
+    cases[LOW_READ] += low_blank(answer.value);
+    if (strcmp(name, "count") == 0)
+        cases[LOW_COUNTED] += number == 0 && low_data(lent->image);
+    if (strncmp(name, "store", 5) == 0 && (number == 0 || number == 11))
+        note_store(heard, name, lent, answer);
     if (number == 19)
         note_hidden(heard, place, s, lent, answer);
     if (strcmp(name, "mend") == 0)
@@ -768,6 +861,16 @@ static bool hidden_heard(const struct heard *heard)
     return all && places >= PLACES_LEAST;
 }
 
+/* Was 256^D - 1 stored for each D, and 256^D refused with 11, which is not answered for D = 8? */
+static bool widths_heard(const struct heard *heard)
+{
+    bool all = true;
+    for (uint32_t d = 1; d < WIDTHS; d++)
+        all = all && heard->fits[d] > 0 && (heard->over[d] > 0) == (d < 8);
+    printf("; 256^D - 1 stored and 256^D refused%s", all ? "" : ", but not for each D as it must");
+    return all;
+}
+
 /* Was everything met that must be? Prints how often. */
 static bool all_heard(const struct heard *heard)
 {
@@ -780,7 +883,7 @@ static bool all_heard(const struct heard *heard)
     }
     for (size_t place = 0; call_at(place) != NULL; place++)
         all = all && heard->done[place] > 0;
-    all = hidden_heard(heard) && all;
+    all = hidden_heard(heard) && widths_heard(heard) && all;
     for (int i = 0; i < CASES; i++) {
         printf("%s %s %llu", i == 0 ? ";" : ",", CASE_NAMES[i],
                (unsigned long long)heard->cases[i]);

@@ -1,7 +1,8 @@
-/* The calls in C, tuned by hand for speed: masked loads of four bytes, 32 bytes of empty links at
-   a time, one pass for the check. Where every child's address is above its node's, as our own
-   stores leave it, no node needs to be searched for from the root, and the pass knows each node's
-   depth before it comes to the node. No vector instruction is written by hand. */
+/* The calls in C, tuned by hand for speed: masked loads of four bytes for a link and of eight for
+   data, 32 bytes of empty links at a time, one pass for the check. Where every child's address is
+   above its node's, as our own stores leave it, no node needs to be searched for from the root,
+   and the pass knows each node's depth before it comes to the node. No vector instruction is
+   written by hand. */
 #include "calls.h"
 #include <string.h>
 #include <unistd.h>
@@ -11,7 +12,8 @@ struct opened {
     const uint8_t *nodes;
     size_t links_len, width; /* N*A and W */
     uint32_t g, n, a, d, f, min, max;
-    uint32_t link_mask, data_mask;
+    uint32_t link_mask;
+    uint64_t data_mask;
 };
 
 #define SLOTS 512
@@ -49,8 +51,8 @@ static inline uint64_t load8(const uint8_t *at)
     return v;
 }
 
-/* The field that ends at `end`. The head is in front of every node, so four bytes can always be
-   read. */
+/* The field of at most four bytes that ends at `end`. The head is in front of every node, so four
+   bytes can always be read; so can the eight of `data_of`. */
 static inline uint32_t field(const uint8_t *end, uint32_t mask)
 {
     return load4(end - 4) & mask;
@@ -73,9 +75,17 @@ static inline uint32_t link_of(const struct opened *o, const uint8_t *node, uint
     return field(node + (size_t)letter * o->a + o->a, o->link_mask);
 }
 
-static inline uint32_t data_of(const struct opened *o, const uint8_t *node)
+static inline uint64_t data_of(const struct opened *o, const uint8_t *node)
 {
-    return field(node + o->width, o->data_mask);
+    return __builtin_bswap64(load8(node + o->width - 8)) & o->data_mask;
+}
+
+/* Writes the data of a node. The bytes in front of it keep what they hold. */
+static inline void put_data(const struct opened *o, uint8_t *node, uint64_t value)
+{
+    uint8_t *at = node + o->width - 8;
+    uint64_t eight = __builtin_bswap64((__builtin_bswap64(load8(at)) & ~o->data_mask) | value);
+    memcpy(at, &eight, 8);
 }
 
 /* The bitwise or of 32 bytes, as 8 bytes. */
@@ -198,9 +208,9 @@ static bool read_alphabet(struct alphabet *al, const uint8_t *bytes, size_t len,
     return letter == n;
 }
 
-static uint32_t ones(uint32_t width)
+static uint64_t ones(uint32_t width)
 {
-    return 0xFFFFFFFFu >> (32 - 8 * width);
+    return UINT64_MAX >> (64 - 8 * width);
 }
 
 /* 1 to 4: the number of the first refusal that applies, or 0. Without an alphabet the tables are
@@ -213,7 +223,7 @@ static uint32_t open_image(const uint8_t *image, size_t len, struct opened *o, s
                          .a = load4(image + 8),   .d = load4(image + 12),
                          .f = load4(image + 16),  .min = load4(image + 20),
                          .max = load4(image + 24)};
-    if (o->n - 1 > 255 || o->a - 1 > 3 || o->d - 1 > 3 || o->f > 1024 || o->min > o->max ||
+    if (o->n - 1 > 255 || o->a - 1 > 3 || o->d - 1 > 7 || o->f > 1024 || o->min > o->max ||
         o->max > KEY_MOST)
         return 2;
     al->wide = false;
@@ -222,7 +232,7 @@ static uint32_t open_image(const uint8_t *image, size_t len, struct opened *o, s
     o->nodes = image + 28 + o->f;
     o->links_len = o->n * o->a;
     o->width = o->links_len + o->d;
-    o->link_mask = ones(o->a);
+    o->link_mask = (uint32_t)ones(o->a);
     o->data_mask = ones(o->d);
     return len < 28 + o->f + ((size_t)o->g + 1) * o->width ? 4 : 0;
 }
@@ -292,12 +302,11 @@ __attribute__((always_inline)) static inline uint32_t next_parent(
 {
     size_t width = o->width, len = o->links_len;
     const uint8_t *node = node_at(o, q);
-    uint32_t g = o->g, mask = __builtin_bswap32(o->data_mask), met = 0, data;
+    uint32_t g = o->g, met = 0;
+    uint64_t mask = __builtin_bswap64(o->data_mask);
     for (; q <= g; q++, node += width) {
-        if (counting) {
-            memcpy(&data, node + width - 4, 4);
-            met += (data & mask) != 0;
-        }
+        if (counting)
+            met += (load8(node + width - 8) & mask) != 0;
         if (usual_len ? !leaf_of_64(node, len) : !childless(o, node))
             break;
     }
@@ -571,7 +580,7 @@ struct trail {
    after the link's own letter. */
 __attribute__((always_inline)) static inline trieff_answer extend(
     uint8_t *image, size_t image_len, const struct opened *o, uint8_t *link_end,
-    const uint8_t *letters, size_t len, uint32_t value, uint32_t *list, const struct trail *trail)
+    const uint8_t *letters, size_t len, uint64_t value, uint32_t *list, const struct trail *trail)
 {
     size_t k = len + 1;
     if (value == 0)
@@ -586,7 +595,7 @@ __attribute__((always_inline)) static inline trieff_answer extend(
     memset(node, 0, k * o->width);
     for (size_t i = 0; i < len; i++, node += o->width)
         put_field(node + (size_t)letters[i] * o->a + o->a, o->link_mask, (uint32_t)(o->g + 2 + i));
-    put_field(node + o->width, o->data_mask, value);
+    put_data(o, node, value);
     put_field(image + 4, 0xFFFFFFFF, (uint32_t)(o->g + k));
     put_field(link_end, o->link_mask, o->g + 1);
     if (list == NULL)
@@ -602,7 +611,7 @@ __attribute__((always_inline)) static inline trieff_answer extend(
    writes, or no trail, the compiler drops the tests for it. */
 __attribute__((always_inline)) static inline trieff_answer store_in(
     uint8_t *image, size_t image_len, const struct opened *o, const uint8_t *letters, size_t len,
-    uint32_t value, uint32_t *list, struct trail *trail)
+    uint64_t value, uint32_t *list, struct trail *trail)
 {
     if (value > o->data_mask)
         return refusal(11, 0);
@@ -623,8 +632,8 @@ __attribute__((always_inline)) static inline trieff_answer store_in(
     }
     if (trail != NULL)
         trail->len = len + 1;
-    uint32_t old = data_of(o, node);
-    put_field(node + o->width, o->data_mask, value);
+    uint64_t old = data_of(o, node);
+    put_data(o, node, value);
     uint32_t *end = note(list, (size_t)(node - image) + o->links_len, o->d);
     return (trieff_answer){.change = (value != 0) - (old != 0), .length = end != NULL};
 }
@@ -632,20 +641,20 @@ __attribute__((always_inline)) static inline trieff_answer store_in(
 /* It is not inlined, so that it can be counted alone. */
 __attribute__((noinline)) static trieff_answer inner_store(
     uint8_t *image, size_t image_len, const struct opened *o, const uint8_t *letters, size_t len,
-    uint32_t value)
+    uint64_t value)
 {
     return store_in(image, image_len, o, letters, len, value, NULL, NULL);
 }
 
 __attribute__((noinline)) static trieff_answer inner_store_writes(
     uint8_t *image, size_t image_len, const struct opened *o, const uint8_t *letters, size_t len,
-    uint32_t value, uint32_t *writes)
+    uint64_t value, uint32_t *writes)
 {
     return store_in(image, image_len, o, letters, len, value, writes, NULL);
 }
 
 trieff_answer tuned_store(uint8_t *image, size_t image_len, uint32_t *work, size_t work_len,
-                          const uint8_t *letters, size_t letters_len, uint32_t value)
+                          const uint8_t *letters, size_t letters_len, uint64_t value)
 {
     struct opened o;
     struct alphabet al;
@@ -658,7 +667,7 @@ trieff_answer tuned_store(uint8_t *image, size_t image_len, uint32_t *work, size
 }
 
 trieff_answer tuned_store_text(uint8_t *image, size_t image_len, uint32_t *work, size_t work_len,
-                               const uint8_t *text, size_t text_len, uint32_t value)
+                               const uint8_t *text, size_t text_len, uint64_t value)
 {
     struct opened o;
     struct alphabet al;
@@ -673,7 +682,7 @@ trieff_answer tuned_store_text(uint8_t *image, size_t image_len, uint32_t *work,
 }
 
 trieff_answer tuned_store_writes(uint8_t *image, size_t image_len, uint32_t *work, size_t work_len,
-                                 const uint8_t *letters, size_t letters_len, uint32_t value,
+                                 const uint8_t *letters, size_t letters_len, uint64_t value,
                                  uint32_t *writes)
 {
     struct opened o;
@@ -689,7 +698,7 @@ trieff_answer tuned_store_writes(uint8_t *image, size_t image_len, uint32_t *wor
 
 trieff_answer tuned_store_text_writes(uint8_t *image, size_t image_len, uint32_t *work,
                                       size_t work_len, const uint8_t *text, size_t text_len,
-                                      uint32_t value, uint32_t *writes)
+                                      uint64_t value, uint32_t *writes)
 {
     struct opened o;
     struct alphabet al;
@@ -767,7 +776,7 @@ static inline uint32_t next_link(const struct opened *o, const uint8_t *node, ui
 
 /* Moves the path to the first stored key under its last node, from a letter on, or else to the
    next stored key after these. Returns its value, 0 for none. */
-static uint32_t move_on(const struct opened *o, struct path *p, uint32_t letter)
+static uint64_t move_on(const struct opened *o, struct path *p, uint32_t letter)
 {
     size_t depth = p->depth;
     for (;;) {
@@ -790,7 +799,7 @@ static uint32_t move_on(const struct opened *o, struct path *p, uint32_t letter)
 }
 
 /* Follows a key as far as its links go, and finds the first stored key from there on. */
-static uint32_t seek(const struct opened *o, const uint8_t *letters, size_t len, bool after,
+static uint64_t seek(const struct opened *o, const uint8_t *letters, size_t len, bool after,
                      struct path *p)
 {
     p->nodes[0] = o->nodes;
@@ -802,7 +811,7 @@ static uint32_t seek(const struct opened *o, const uint8_t *letters, size_t len,
         p->letters[p->depth] = letter;
         p->nodes[p->depth + 1] = node_at(o, link);
     }
-    uint32_t own = after ? 0 : data_of(o, p->nodes[len]);
+    uint64_t own = after ? 0 : data_of(o, p->nodes[len]);
     return own != 0 ? own : move_on(o, p, 0);
 }
 
@@ -822,7 +831,7 @@ trieff_answer tuned_next_key(const uint8_t *image, size_t image_len, uint32_t *w
         return refusal(10, 0);
     if (key_len < o.max)
         return refusal(14, 0);
-    uint32_t value = seek(&o, letters, letters_len, after, &p);
+    uint64_t value = seek(&o, letters, letters_len, after, &p);
     if (value == 0)
         return refusal(15, 0);
     for (size_t i = 0; i < p.depth; i++)
@@ -864,7 +873,7 @@ __attribute__((always_inline)) static inline uint32_t tally_in(
     const struct opened *o = t->o;
     size_t a = o->a, width = o->width, len = o->links_len;
     uint32_t *work = t->work, mask = o->link_mask, g = o->g, odd = 0, keys = own, met = 0;
-    uint32_t data_mask = __builtin_bswap32(o->data_mask);
+    uint64_t data_mask = __builtin_bswap64(o->data_mask);
     if (++depth < o->min)
         odd = child_with_data(o, node_at(o, q), g + 1) <= g;
     const uint8_t *nodes = o->nodes, *end = node_at(o, q) + a, *last = end + len;
@@ -877,8 +886,7 @@ __attribute__((always_inline)) static inline uint32_t tally_in(
             continue;
         }
         const uint8_t *child = nodes + link * width;
-        memcpy(&own, child + width - 4, 4);
-        own = (own & data_mask) != 0;
+        own = (load8(child + width - 8) & data_mask) != 0;
         odd |= work[link];
         work[link] = own + 1;
         met++;
@@ -1044,7 +1052,7 @@ trieff_answer tuned_check_counts(const uint8_t *image, size_t image_len, uint32_
 
 /* A store, then the counts of the old nodes on the path and of the new nodes. */
 static trieff_answer inner_store_counts(uint8_t *image, size_t image_len, const struct opened *o,
-                                        const uint8_t *letters, size_t len, uint32_t value,
+                                        const uint8_t *letters, size_t len, uint64_t value,
                                         uint32_t *counts, size_t counts_len)
 {
     struct trail trail;
@@ -1060,7 +1068,7 @@ static trieff_answer inner_store_counts(uint8_t *image, size_t image_len, const 
 }
 
 trieff_answer tuned_store_counts(uint8_t *image, size_t image_len, uint32_t *work, size_t work_len,
-                                 const uint8_t *letters, size_t letters_len, uint32_t value,
+                                 const uint8_t *letters, size_t letters_len, uint64_t value,
                                  uint32_t *counts, size_t counts_len)
 {
     struct opened o;
@@ -1077,7 +1085,7 @@ trieff_answer tuned_store_counts(uint8_t *image, size_t image_len, uint32_t *wor
 
 trieff_answer tuned_store_text_counts(uint8_t *image, size_t image_len, uint32_t *work,
                                       size_t work_len, const uint8_t *text, size_t text_len,
-                                      uint32_t value, uint32_t *counts, size_t counts_len)
+                                      uint64_t value, uint32_t *counts, size_t counts_len)
 {
     struct opened o;
     struct alphabet al;
@@ -1114,7 +1122,7 @@ trieff_answer tuned_key_at(const uint8_t *image, size_t image_len, uint32_t *wor
     const uint8_t *node = o.nodes;
     uint32_t left = (uint32_t)position, a = o.a, mask = o.link_mask;
     for (uint32_t depth = 0;; depth++) {
-        uint32_t value = data_of(&o, node);
+        uint64_t value = data_of(&o, node);
         if (value != 0 && left == 0)
             return (trieff_answer){.length = depth, .value = value};
         left -= value != 0;
@@ -1196,7 +1204,7 @@ static void walk_below(const struct opened *o, const uint8_t *node, size_t depth
             continue;
         const uint8_t *child = node_at(o, link);
         letters[depth] = (uint8_t)i;
-        uint32_t value = data_of(o, child);
+        uint64_t value = data_of(o, child);
         if (value != 0)
             sink(context, letters, depth + 1, value);
         if (depth + 1 < o->max && !childless(o, child))
