@@ -1,9 +1,9 @@
 #!/usr/bin/env python3
 """Makes images with its own store, independent of the library.
 
-make.py                 writes the samples p3.trieff, season.trieff, renumbered.trieff and
-                        hidden.trieff beside this file, and what `list` must write for each of
-                        them: p3.txt, season.txt, renumbered.txt and hidden.txt
+make.py                 writes the samples p3.trieff, season.trieff, renumbered.trieff,
+                        hidden.trieff and eight.trieff beside this file, and what `list` must write
+                        for each of them: p3.txt, season.txt and so on
 make.py bench FOLDER    writes the images that bench/run measures
 """
 import os
@@ -84,8 +84,8 @@ def p3():
 LETTERS = "0123456789ABCDE-"
 
 
-def letter_numbers(label):
-    return [LETTERS.index(character) for character in label]
+def letter_numbers(label, letters=LETTERS):
+    return [letters.index(character) for character in label]
 
 
 def season(least=1):
@@ -134,13 +134,30 @@ def hidden():
     return image
 
 
-def numbered(room, most):
-    """At most `most` labels of nine digits in base 16, counted up from 0. Their values have six
-    digits."""
-    image = Image(room, 16, 3, 4, "0123456789ABCDEF", 1, 12)
+def eight():
+    """Labels in a file with D = 8. Their record numbers run past four bytes, from 2^32 - 3 on: the
+    low 32 bits of the fourth are 0. Then there is one whose bytes are 1 to 8, and the greatest,
+    2^64 - 1. No field lies across the end of a sector: A = 2 and D = 8 divide 28 + F = 40 and
+    W = 32."""
+    letters = "0123456789-B"
+    image = Image(4096, 12, 2, 8, letters, 1, 12)
+    labels = [f"B{square:02}-{bucket}" for square in range(1, 5) for bucket in range(1, 7)]
+    for record, label in enumerate(labels, 2**32 - 3):
+        image.store(letter_numbers(label, letters), record)
+    image.store(letter_numbers("B99-8", letters), 0x0102030405060708)
+    image.store(letter_numbers("B99-9", letters), 2**64 - 1)
+    return image
+
+
+def numbered(room, most, d=4, spare=0):
+    """At most `most` labels of nine digits in base 16, counted up from 0, with room left for
+    `spare` nodes. Their values have six digits; if D is 8, they are these times 2^32, so that four
+    bytes of them are 0."""
+    image = Image(room, 16, 3, d, "0123456789ABCDEF", 1, 12)
+    image.last -= spare
     stored = 0
-    while stored < most and image.store(
-            [(stored >> shift) & 15 for shift in range(32, -1, -4)], stored + 100000):
+    while stored < most and image.store([(stored >> shift) & 15 for shift in range(32, -1, -4)],
+                                        stored + 100000 << (32 if d == 8 else 0)):
         stored += 1
     return image
 
@@ -159,15 +176,17 @@ def write(folder, name, data):
 
 def samples(folder):
     for name, image in (("p3", p3()), ("season", season()),
-                        ("renumbered", renumbered(season())), ("hidden", hidden())):
+                        ("renumbered", renumbered(season())), ("hidden", hidden()),
+                        ("eight", eight())):
         write(folder, name + ".trieff", image.used())
         write(folder, name + ".txt", image.listing())
 
 
 def bench(folder):
-    """Writes the images for bench/run. The full image has no room for one more node. The
-    labels-NUMBER images have room for sixteen more."""
+    """Writes the images for bench/run. The full image has no room for one more node. That with
+    D = 8 and the labels-NUMBER images have room for sixteen more."""
     write(folder, "full-16MiB.trieff", numbered(16777216, 1 << 36).whole())
+    write(folder, "eight-16MiB.trieff", numbered(16777216, 1 << 36, d=8, spare=16).whole())
     for most in (1000, 20000, 100000):
         write(folder, "labels-%d.trieff" % most, numbered(16777216, most).used(16))
     write(folder, "listing-65536.trieff", numbered(65536, 1 << 36).used())
