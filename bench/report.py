@@ -7,6 +7,7 @@ report.py FOLDER
 import glob
 import os
 import re
+import struct
 import sys
 
 folder = sys.argv[1]
@@ -16,9 +17,56 @@ COMPARE = "check with counts"
 COMPARED = ", beyond " + COMPARE
 WALK = "listing walk, per key beyond the check"
 PROGRAM = "listing program with its lines, per key beyond the check"
-# the library's check of an image while data at any depth was accepted, and what it may take now
-CHECK_BEFORE = {"full-16MiB": (18754752, 1.08), "nines-16MiB": (18754752, 1.08),
-                "scattered-40000": (31635719, 1.10)}
+FULL, EIGHT, LABELS = "full-16MiB", "eight-16MiB", "labels-20000"
+RENUMBERED, NINES, SCATTERED = "renumbered-16MiB", "nines-16MiB", "scattered-40000"
+
+# what the library took while D was at most 4, and how much more it may take
+MORE = 1.02
+BEFORE = {
+    "check": {FULL: 20025241, RENUMBERED: 53994859, NINES: 20146261, SCATTERED: 34669065},
+    "count": {FULL: 22606362, RENUMBERED: 56575980, NINES: 22727382, SCATTERED: 36537010},
+    "look up, hit": {FULL: 1026},
+    "look up, miss": {FULL: 1026},
+    "text look up, hit": {FULL: 1352, "ascending-200": 12339, "anyorder-200": 42817},
+    "text look up, miss": {FULL: 1369},
+    "store, one new node" + BEYOND: {LABELS: 639},
+    "store, nine new nodes" + BEYOND: {LABELS: 923},
+    "store, twelve new nodes" + BEYOND: {LABELS: 1103},
+    "store by text, nine new nodes" + BEYOND: {LABELS: 1204},
+    "store, another value" + BEYOND: {FULL: 514},
+    "store with writes, one new node" + BEYOND: {LABELS: 718},
+    "store with writes, ten new nodes" + BEYOND: {LABELS: 1098},
+    "store with writes by text, nine new nodes" + BEYOND: {LABELS: 1313},
+    "store with writes, another value" + BEYOND: {LABELS: 563},
+    "inner store, one new node": {LABELS: 467},
+    "inner store, nine new nodes": {LABELS: 757},
+    "inner store, another value": {LABELS: 348},
+    "mend, accepted": {FULL: 20025251},
+    "mend, cut before the link": {FULL: 44567247},
+    "next key" + BEYOND: {FULL: 601},
+    "work out counts": {FULL: 47753144, RENUMBERED: 81722755},
+    COMPARE: {FULL: 48096098, RENUMBERED: 82065702},
+    "store with counts, another value" + COMPARED: {FULL: 492},
+    "store with counts, nine new nodes" + COMPARED: {LABELS: 1094},
+    "store with counts by text, nine new nodes" + COMPARED: {LABELS: 1394},
+    "store with counts, deleted" + COMPARED: {FULL: 643},
+    "key at position" + COMPARED: {FULL: 465},
+    "key at position, last letters" + COMPARED: {FULL: 1434},
+    "position by letters" + COMPARED: {FULL: 644},
+    "position by letters, last letters" + COMPARED: {FULL: 1218},
+    "position by text" + COMPARED: {FULL: 960},
+    WALK: {"labels-1000": 201, FULL: 198, RENUMBERED: 197},
+    PROGRAM: {"listing-65536": 473},
+}
+
+# what request 8 allowed the check, where it is less than that
+ALLOWED = {("check", FULL): 20255132, ("check", NINES): 20255132, ("check", SCATTERED): 34799291}
+
+# how much more a row may take where D is 8 than where D is 4: for each node of the image in these
+# rows, and altogether in the others
+WIDER = 1.05
+FOR_EACH_NODE = ("check", "count", COMPARE)
+AGAINST = "check, by its factor to tuned C"
 
 
 def figures(name):
@@ -170,42 +218,27 @@ def print_versions(title, table, form):
                 joined(lines()))
 
 
+def nodes(image):
+    """The number of nodes of an image, G + 1."""
+    with open(os.path.join(folder, image + ".trieff"), "rb") as file:
+        return struct.unpack(">I", file.read(4))[0] + 1
+
+
 def goals(table):
-    """The goals: the row, the image, the project's count, the most that it may be."""
-    full, renumbered = "full-16MiB", "renumbered-16MiB"
-    twenty = "labels-20000"
-
-    def goal(row, image, most):
-        return row, image, table[row, image]["project"], most
-
-    for image, (before, times) in CHECK_BEFORE.items():
-        yield goal("check", image, times * before)
-    yield goal("check", renumbered, 4 * table["check", full]["project"])
-    for row, image in by_row(table):
-        if row == "count" and image.split("-")[0] not in ("chain", "listing"):
-            yield goal(row, image, 1.35 * table["check", image]["project"])
-    for row in ("mend, accepted", "mend, cut before the link"):
-        yield goal(row, full, 2.5 * table["check", full]["project"])
-    for row, image in table:
-        if row.startswith("text look up"):
-            yield goal(row, image, {full: 1400, renumbered: 1400, "ascending-200": 15000,
-                                    "anyorder-200": 50000}[image])
-    for row, image in by_row(table):
-        if row.endswith(BEYOND):
-            yield goal(row, image, 2000)
-    for row, image in by_row(table):
-        if row in ("work out counts", COMPARE):
-            yield goal(row, image, 2.5 * table["check", image]["project"])
-        elif row.startswith(("key at", "position")) and row.endswith(COMPARED):
-            yield goal(row, image, 2000)
-        elif row.startswith("store with counts") and not row.endswith(COMPARED):
-            yield goal(row, image, 3.6 * table["check", image]["project"] + 2000)
-    for row in ("one new node", "nine new nodes", "another value"):
-        yield goal("inner store, " + row, twenty, 800)
-    for row, image in table:
-        if row == WALK:
-            yield goal(row, image, 320)
-    yield goal(PROGRAM, "listing-65536", 600)
+    """The goals: the row, the image, the project's count, the most that it may be. Where D is 8, a
+    row is compared with the first image of BEFORE, and the check's factor to tuned C too."""
+    for row, images in BEFORE.items():
+        for image, before in images.items():
+            most = min(MORE * before, ALLOWED.get((row, image), MORE * before))
+            yield row, image, table[row, image]["project"], most
+        if (row, EIGHT) in table:
+            other = next(iter(images))
+            scale = nodes(EIGHT) / nodes(other) if row in FOR_EACH_NODE else 1
+            yield (row, EIGHT, table[row, EIGHT]["project"],
+                   WIDER * scale * table[row, other]["project"])
+    full, eight = table["check", FULL], table["check", EIGHT]
+    yield (AGAINST, EIGHT, eight["project"],
+           MORE * full["project"] / full["tuned"] * eight["tuned"])
 
 
 def whole_number(figure):
