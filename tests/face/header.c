@@ -515,6 +515,8 @@ static void fields_whole(void)
     EXPECT(TRIEFF_FIELDS_WHOLE(16, 2, 8, 12) && TRIEFF_FIELDS_WHOLE(2, 4, 8, 4));
     EXPECT(!TRIEFF_FIELDS_WHOLE(16, 2, 8, 16) && !TRIEFF_FIELDS_WHOLE(3, 4, 8, 12));
     EXPECT(!TRIEFF_FIELDS_WHOLE(16, 2, 6, 14) && !TRIEFF_FIELDS_WHOLE(16, 2, 8, 10));
+    /* no image has such links or such data */
+    EXPECT(!TRIEFF_FIELDS_WHOLE(8, 8, 8, 4) && !TRIEFF_FIELDS_WHOLE(16, 2, 16, 20));
 }
 
 /* A fresh image is put on a device that holds other bytes. A cut before the last write leaves a
