@@ -1,6 +1,8 @@
 // An alphabet: N different characters, judged and decoded in one pass, and the letter number of
 // a character. If the characters ascend, the pass takes linear time: a character above all
 // before it is new, and only another one is searched for.
+#![tactic(auto)]
+
 ghost use Rattle.std.specs.Prelude.{◌≡◌, false, ◌≤◌, length, take};
 ghost use Rattle.head.specs.Fields.{most_links};
 ghost use Rattle.alphabet.specs.Letters.{among, letter_of};

@@ -1,6 +1,8 @@
 // What every store judges before 11: the check's rows, then 9 and 10 of the key given.
 // `by_letters` and `by_text` are the key's part alone, after any part of an order that has judged
 // the head (`Judgeable`). `ask` and `ask_text` require nothing.
+#![tactic(auto)]
+
 ghost use Rattle.std.specs.Prelude.{◌≡◌, List, ℕ};
 ghost use Rattle.paper.specs.Given.{as_letters, as_text};
 ghost use Rattle.asking.specs.Asked.{Asks, Judgeable, AsksAfterFront};

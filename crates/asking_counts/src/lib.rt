@@ -1,6 +1,8 @@
 // What a store with counts judges before 11, and the position of a key before 15: the check's
 // rows, 25, then 9 and 10 of the key given. `comparing` judges the check's rows and 25, and
 // `asking` the key. Neither function has a `requires`.
+#![tactic(auto)]
+
 ghost use Rattle.paper.specs.Given.{as_letters, as_text};
 ghost use Rattle.asking_counts.specs.AskedCounts.{AsksCounts};
 

@@ -2,6 +2,8 @@
 // image and does not recurse, since a chain of links may be as long as the image. The links are
 // tallied, and the nodes are marked with their depths. Where all is plain, each link leads to a
 // greater address and no data is hidden; then every node is reached, and no search is needed.
+#![tactic(auto)]
+
 ghost use Rattle.std.specs.Prelude.{◌≡◌, ◌≤◌, ◌+◌, ◌++◌, length, drop, replicate};
 ghost use Rattle.trie.specs.Rules.{Within, Once};
 ghost use Rattle.head.specs.Fields.{longest_image};

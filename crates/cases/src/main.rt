@@ -35,6 +35,8 @@
 // For a new call, add a row at the end of FORMS, one to CALLS, and an arm with its number: in
 // `run` if the call is lent no working numbers, in `change` if it changes the image, otherwise
 // in `work`. No proof changes.
+#![tactic(auto)]
+
 mod line;
 
 ghost use Rattle.std.specs.Prelude.{◌≤◌, length};

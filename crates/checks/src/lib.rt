@@ -1,6 +1,8 @@
 // The calls that begin with the check and only read the image. None has a `requires`: any bytes
 // or key may be passed. Each contract is one line: the numbers of the answer and the last
 // content of every lent buffer are the outcome that document 01 states (crate `paper`).
+#![tactic(auto)]
+
 ghost use Rattle.paper.specs.Answers.{done_of, counted_of, found_of};
 ghost use Rattle.paper.specs.Promises.{Checks, CountsKeys, Nexts};
 

@@ -1,5 +1,7 @@
 // The check of an image with counts beside it: the check's rows, with 5 for either list, and 25.
 // The public functions have no `requires`.
+#![tactic(auto)]
+
 ghost use Rattle.std.specs.Prelude.{◌≡◌, true, not, ◌+◌, ◌^◌, ◌≤◌, min, length, get_or, ltb, eqb};
 ghost use Rattle.trie.specs.Lowest.{lowest};
 ghost use Rattle.paper.specs.Hearing.{row_when};

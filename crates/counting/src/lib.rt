@@ -1,4 +1,6 @@
 // The number of stored keys of an image that the check has accepted.
+#![tactic(auto)]
+
 ghost use Rattle.std.specs.Prelude.{◌≡◌, length};
 ghost use Rattle.trie.specs.Keys.{listing};
 ghost use Rattle.head.specs.Fields.{head_of};

@@ -1,6 +1,8 @@
 // The calls that keep counts beside an image. None has a `requires`: any bytes, counts, key,
 // text or value may be passed. Each contract is one line: the numbers of the answer and the last
 // content of every lent buffer are the outcome that 02, Ask 7, states (crate `position`).
+#![tactic(auto)]
+
 ghost use Rattle.paper.specs.Answers.{done_of, stored_of};
 ghost use Rattle.paper.specs.Given.{as_letters, as_text};
 ghost use Rattle.position.specs.Promises.{WorksOut, ChecksCounts, StoresCounts};

@@ -1,6 +1,8 @@
 // A node at a depth: the data of the key that ends there, and whether longer keys can lie below
 // it. The depth of a node is the length of the key that leads to it. The searches and the counts
 // of the crates above read nodes by these functions.
+#![tactic(auto)]
+
 ghost use Rattle.std.specs.Prelude.{◌≡◌, ◌+◌, ◌^◌, ◌≤◌};
 ghost use Rattle.node.specs.Image.{Open, table_of};
 ghost use Rattle.depths.specs.Depths.{own_value, KeysBelow};

@@ -1,5 +1,7 @@
 // The answer that C is given, and the answer of each call in its numbers. The exported functions
 // are in `trieff`.
+#![tactic(auto)]
+
 ghost use Rattle.std.specs.Prelude.{◌≡◌};
 ghost use Rattle.paper.specs.Answers.{refusal_numbers, done_of, counted_of, placed_of, looked_of};
 ghost use Rattle.paper.specs.Answers.{stored_of, noted_of, found_of};

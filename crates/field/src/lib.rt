@@ -1,6 +1,8 @@
 // Big-endian fields in a slice of bytes: read, written and cleared. A read takes up to 8 bytes; a
 // write takes a 64-bit number and any width. The caller shows that the field is inside the
 // slice, and nothing else is assumed.
+#![tactic(auto)]
+
 ghost use Rattle.std.specs.Prelude.{◌≡◌, true, ℕ, ◌+◌, ◌-◌, ◌^◌, ◌≤◌, ◌<◌, length};
 ghost use Rattle.std.proofs.lemmas.List.Edits.{sets};
 ghost use Rattle.field.specs.Field.{field_at, put_field, cleared, Zeros};

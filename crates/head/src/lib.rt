@@ -1,6 +1,8 @@
 // The head of an image: its seven fields read and written, what is permitted in them, and the
 // lengths that follow from them. Places and U are 64-bit numbers: (G+1)*W may need 43 bits, and
 // in 32 bits a great G would wrap into range.
+#![tactic(auto)]
+
 ghost use Rattle.std.specs.Prelude.{◌≡◌, true, ◌+◌, ◌≤◌, ◌^◌, leb, length};
 ghost use Rattle.std.proofs.lemmas.List.Edits.{sets};
 ghost use Rattle.field.specs.Range.{between};
@@ -9,7 +11,7 @@ ghost use Rattle.head.specs.Fields.{total_len, head_of, head_bytes, put_total, p
 ghost use Rattle.head.specs.Fields.{node_width, node_place, used_len};
 
 // The seven fields of 01's table, in the order in which they are in the image.
-#[derive(Drop)]
+#[derive(Clone, Copy)]
 pub struct Head {
     // The greatest node address.
     pub g: u32,

@@ -1,6 +1,8 @@
 // The calls make and mend. Neither has a `requires`: any bytes and numbers may be handed over.
 // Each promises that the numbers of its answer and the last content of every lent buffer are the
 // outcome that documents 01 and 02 state (crate `paper`).
+#![tactic(auto)]
+
 ghost use Rattle.paper.specs.Answers.{done_of};
 ghost use Rattle.paper.specs.Promises.{Makes, Mends};
 

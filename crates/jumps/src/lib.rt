@@ -1,6 +1,8 @@
 // The calls that jump by position. No public one has a `requires`: any bytes, counts, position,
 // key or text may be passed. Each contract is one line: the numbers of the answer and the last
 // content of every lent buffer are the outcome that 02, Ask 7, states (crate `position`).
+#![tactic(auto)]
+
 ghost use Rattle.std.specs.Prelude.{◌≡◌, true, length};
 ghost use Rattle.field.specs.Range.{between};
 ghost use Rattle.head.specs.Fields.{head_of};

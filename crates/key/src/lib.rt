@@ -1,6 +1,8 @@
 // 01: "A key in hand is up to 64 letter numbers together with its length." It is made from
 // letters or from text, and judged by 9 and 10. A text is read to its end, since a bad character
 // after the sixty-fourth letter is still 10.
+#![tactic(auto)]
+
 ghost use Rattle.std.specs.Prelude.{◌≡◌, true, List, ℕ, ◌≤◌, take};
 ghost use Rattle.std.proofs.Math.Option.{Option, none};
 ghost use Rattle.field.specs.Range.{between};
@@ -19,7 +21,7 @@ use paper::{Refusal, Verdict};
 const HELD: usize = Head::MAX_MOST as usize;
 
 // A key in hand.
-#[derive(Drop)]
+#[derive(Clone, Copy)]
 pub struct Key {
     // The first letters of the key; those from `len` on are never judged.
     pub letters: [u8; HELD],
@@ -28,7 +30,7 @@ pub struct Key {
 }
 
 // What a text names.
-#[derive(Drop)]
+#[derive(Clone, Copy)]
 pub struct Typed {
     // Does the text name a key?
     pub named: bool,

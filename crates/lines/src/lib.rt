@@ -1,5 +1,7 @@
 // The lines of 01's listing program, written into lent bytes. Each function writes its text from
 // `at` on and answers where it ends. The caller shows that there is room.
+#![tactic(auto)]
+
 ghost use Rattle.std.specs.Prelude.{◌≡◌, ◌+◌, ◌*◌, ◌≤◌, length, take};
 ghost use Rattle.lines.specs.Lines.{TextAt, decimal, entries_line, entry_line, refused_line};
 ghost use Rattle.lines.specs.Lines.{key_text, entry_room, entries_room, refused_room};

@@ -2,6 +2,8 @@
 // its stored keys in order, a line for each, or the one line of a refusal. It checks the image
 // once and then walks through it, and it writes many lines at a time. What it hands over to be
 // written, put together, is proved to be the whole output. That it is then written is assumed.
+#![tactic(auto)]
+
 ghost use Rattle.std.specs.Prelude.{◌≡◌, ◌+◌, ◌≤◌, length};
 ghost use Rattle.head.specs.Fields.{head_of};
 ghost use Rattle.paper.specs.Accepted.{Accepted};

@@ -1,5 +1,7 @@
 // The lookups. Neither has a `requires`: any bytes, key or text may be passed. Each contract is
 // one line: the numbers of the answer are the outcome that document 01 states (crate `paper`).
+#![tactic(auto)]
+
 ghost use Rattle.paper.specs.Answers.{looked_of};
 ghost use Rattle.paper.specs.Given.{as_letters, as_text};
 ghost use Rattle.paper.specs.Promises.{LooksUp};

@@ -1,5 +1,7 @@
 // What make writes: "head, alphabet and a zero root", one after the other. The caller has judged
 // 1 to 4, so all three are inside the image.
+#![tactic(auto)]
+
 ghost use Rattle.std.specs.Prelude.{◌≡◌, true, ◌≤◌, length};
 ghost use Rattle.head.specs.Fields.{permitted, used_len};
 ghost use Rattle.paper.specs.Calls.{fresh_image};

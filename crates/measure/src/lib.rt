@@ -1,5 +1,7 @@
 // An entry point for bench/: the walk of a listing without its lines, on an image of any length.
 // It answers how many keys the walk met.
+#![tactic(auto)]
+
 ghost use Rattle.std.specs.Prelude.{◌≡◌};
 ghost use Rattle.head.specs.Fields.{head_of};
 ghost use Rattle.paper.specs.Accepted.{Accepted};

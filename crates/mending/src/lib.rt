@@ -1,4 +1,6 @@
 // The trial of mending (02, Ask 1): the image with a lower G is checked as a whole.
+#![tactic(auto)]
+
 ghost use Rattle.std.specs.Prelude.{◌+◌, ◌≤◌, length};
 ghost use Rattle.head.specs.Fields.{total_at, total_len};
 ghost use Rattle.mending.specs.Trial.{Lowers};

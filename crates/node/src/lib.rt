@@ -2,6 +2,8 @@
 // the table of nodes; the crates above speak of the table. The caller shows that the image is
 // open (`Open`) and that node and letter are within G and N. `write_path` and `write_last` write
 // a new node, which need only be inside the image.
+#![tactic(auto)]
+
 ghost use Rattle.std.specs.Prelude.{◌≡◌, ℕ, ◌+◌, ◌≤◌, ◌<◌, ◌^◌, true, [], ◌∷◌, length};
 ghost use Rattle.trie.specs.Storing.{put, grow};
 ghost use Rattle.field.specs.Field.{cleared};

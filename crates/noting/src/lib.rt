@@ -1,6 +1,8 @@
 // A store with writes, after 10. It stores as `storing` does and notes its writes in the lent
 // list: a place and a length for each write, in the order in which they are done. What is noted
 // depends on how the key's walk ended.
+#![tactic(auto)]
+
 ghost use Rattle.std.specs.Prelude.{◌≡◌, ℕ, suc, ◌+◌, ◌-◌, ◌*◌, ◌≤◌, ◌<◌, true, [], ◌∷◌, drop};
 ghost use Rattle.std.proofs.lemmas.List.Edits.{sets};
 ghost use Rattle.trie.specs.Table.{missing};

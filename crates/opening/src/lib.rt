@@ -1,5 +1,7 @@
 // 01, "What the bench may hear", 1 to 4: an image is opened by judging them, and the answer has
 // its head and the letters of its alphabet too. No public function has a `requires`.
+#![tactic(auto)]
+
 ghost use Rattle.std.specs.Prelude.{◌≡◌, true, ◌+◌, min};
 ghost use Rattle.head.specs.Fields.{fields_len, permitted};
 ghost use Rattle.opening.specs.Opened.{OpensWith, Opens, RoomOf, RefusedOf};

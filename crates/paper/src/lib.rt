@@ -1,12 +1,14 @@
 // Document 01, "What the bench may hear": the refusals with their numbers and places, and the
 // answer of each call. specs/ has the rows, their orders and the outcome of each call.
+#![tactic(auto)]
+
 ghost use Rattle.std.specs.Prelude.{◌≡◌};
 ghost use Rattle.paper.specs.Answers.{said_of};
 ghost use Rattle.paper.specs.Rows.{bad_link};
 
 // The refusals of 01's table, and 16 and 25 of 02. A refusal whose place is a node or an address
 // carries it; every other place is 0.
-#[derive(Drop)]
+#[derive(Clone, Copy)]
 pub enum Refusal {
     // 1: the image is shorter than 28 or longer than 16,777,216 bytes.
     ImageLength,
@@ -109,7 +111,7 @@ pub fn bad_link(g: u32, c: u32) -> bool
 }
 
 // The outcome of a part of an order.
-#[derive(Drop)]
+#[derive(Clone, Copy)]
 pub enum Verdict {
     // None of its refusals is given.
     Passed,

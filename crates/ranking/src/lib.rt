@@ -1,6 +1,8 @@
 // The way through an image by its counts: the key at a position, and the position of a key. The
 // image has been checked and the counts have been compared. At each node the links are read from
 // the first letter on, and only the link that leads on is followed.
+#![tactic(auto)]
+
 ghost use Rattle.std.specs.Prelude.{◌≡◌, true, ◌+◌, ◌≤◌, ◌<◌, length};
 ghost use Rattle.field.specs.Range.{between};
 ghost use Rattle.head.specs.Fields.{head_of};

@@ -4,6 +4,8 @@
 // `MARKS` is the node's mark: the depth and one, at most `DEEPEST`. The nodes that have been met
 // and whose links are still to be followed are a stack: the number of each, divided by `MARKS`,
 // names the next, and that of the last is G+1.
+#![tactic(auto)]
+
 ghost use Rattle.std.specs.Prelude.{◌≡◌, ◌≤◌, ◌+◌, ◌++◌, length, drop, replicate};
 ghost use Rattle.trie.specs.Rules.{Within};
 ghost use Rattle.head.specs.Fields.{longest_image};

@@ -1,5 +1,7 @@
 // Next key after the check, on an image that has been checked: 9, 10, 14, 15, and the first
 // stored key that meets the request.
+#![tactic(auto)]
+
 ghost use Rattle.std.specs.Prelude.{◌≡◌};
 ghost use Rattle.head.specs.Fields.{head_of};
 ghost use Rattle.paper.specs.Accepted.{Accepted};

@@ -1,6 +1,8 @@
 // The stores, without and with writes. None has a `requires`: any bytes, key, text or value may
 // be passed. Each contract is one line: the numbers of the answer and the last content of every
 // lent buffer are the outcome that 01 states, or 02, Ask 1, for writes (crate `paper`).
+#![tactic(auto)]
+
 ghost use Rattle.paper.specs.Answers.{stored_of, noted_of};
 ghost use Rattle.paper.specs.Given.{as_letters, as_text};
 ghost use Rattle.paper.specs.Promises.{Stores, StoresWrites};

@@ -1,6 +1,8 @@
 // The part of a store after 10, on an image that has been checked, in two stages. First 11, 12
 // and 13 are judged. Then the store writes: the new nodes by rising address, G, and the link to
 // the first new node; or, if the path is complete, the data field alone.
+#![tactic(auto)]
+
 ghost use Rattle.std.specs.Prelude.{◌≡◌, suc, ◌+◌, ◌-◌, ◌≤◌, ◌<◌, ◌^◌, true, [], ◌∷◌, length, drop};
 ghost use Rattle.trie.specs.Table.{missing, value_at};
 ghost use Rattle.trie.specs.Storing.{added, change_of};

@@ -4,6 +4,8 @@
 // each link leads to a greater address: then a node's parent comes before it. Number 0 is 1, the
 // root's mark, while all is plain: each link met leads to a greater address, which stands in no
 // other link, and to no hidden data. Else it is 0, and the caller must look closer.
+#![tactic(auto)]
+
 ghost use Rattle.std.specs.Prelude.{◌≡◌, true, ◌≤◌, ◌+◌, ◌^◌, ◌++◌, length, drop, replicate};
 ghost use Rattle.node.specs.Image.{Open, Masks, table_of};
 ghost use Rattle.tallying.specs.Tallied.{BadFrom, Tallied, AllMet, FoundFrom, hidden_at};

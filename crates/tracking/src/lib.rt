@@ -1,6 +1,8 @@
 // The part of a store with counts after 10: 11, 12, 13, then 5 again if the list has no number
 // for a new node; then the writes, and the counts of the nodes on the key's path. The image has
 // been checked and the counts have been compared.
+#![tactic(auto)]
+
 ghost use Rattle.std.specs.Prelude.{◌≡◌, ◌≢◌, true, ◌+◌, ◌-◌, ◌^◌, ◌≤◌, ◌<◌, pos, length, get_or, set};
 ghost use Rattle.field.specs.Range.{between};
 ghost use Rattle.trie.specs.Rules.{LinkRules};

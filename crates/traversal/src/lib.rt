@@ -1,6 +1,8 @@
 // The stored keys of an image in order. The caller has checked the image once; no function here
 // checks it again. A search leaves the path of the key that it found, letters and nodes. The
 // next search starts from it, so that a whole listing is one walk through the image.
+#![tactic(auto)]
+
 ghost use Rattle.std.specs.Prelude.{◌≡◌, true, List, ℕ, ◌≤◌, ◌<◌, length, get_or, take};
 ghost use Rattle.trie.specs.Rules.{Within};
 ghost use Rattle.trie.specs.Beyond.{first_of};

@@ -1,6 +1,8 @@
 // What a bench links: the functions that the static library exports; include/trieff.h declares
 // them. Each calls one public call and answers a `TrieffAnswer`; its promise is that call's own.
 // C passes a slice as a pointer and a length, the list of writes as a pointer alone.
+#![tactic(auto)]
+
 ghost use Rattle.paper.specs.Given.{as_letters, as_text};
 ghost use Rattle.paper.specs.Promises.{Makes, Checks, CountsKeys, LooksUp, Stores, StoresWrites};
 ghost use Rattle.paper.specs.Promises.{Mends, Nexts};

@@ -1,5 +1,7 @@
 // Characters of UTF-8, by the rows of Table 3-7 of the Unicode Standard. Any bytes and any place
 // may be given; a character that does not end within the bytes is not one.
+#![tactic(auto)]
+
 ghost use Rattle.std.specs.Prelude.{◌≡◌};
 ghost use Rattle.utf8.specs.Table37.{in_range, fits_row, char_len};
 ghost use Rattle.utf8.specs.Text.{char_at};

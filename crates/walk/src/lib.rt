@@ -1,6 +1,8 @@
 // 01: "The descent stands at a node and a depth; each letter gives the next position." The image
 // is opened, but need not have been checked, so each link is judged where it is met: the first
 // bad one ends the walk, with its refusal: 6 at the node that holds it.
+#![tactic(auto)]
+
 ghost use Rattle.std.specs.Prelude.{◌≡◌, ◌≤◌, ◌<◌};
 ghost use Rattle.head.specs.Fields.{most_letters};
 ghost use Rattle.node.specs.Image.{Open, Masks, table_of};
@@ -12,7 +14,7 @@ use key::Key;
 use paper::{Looked, Refusal};
 
 // Where the descent stands: a node, and how many letters led to it.
-#[derive(Drop)]
+#[derive(Clone, Copy)]
 pub struct Position {
     pub node: u32,
     pub depth: usize,
@@ -30,7 +32,7 @@ pub enum Step {
 }
 
 // Where the letters of a key lead.
-#[derive(Drop)]
+#[derive(Clone, Copy)]
 pub enum Walked {
     // To the key's own node.
     Complete(u32),

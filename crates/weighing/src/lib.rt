@@ -1,6 +1,8 @@
 // The counts of an image that has been checked, worked out afresh: how many stored keys lie at
 // or under each node. One walk goes down to max letters. At each node it adds the number of keys
 // at or under the node to the node's count.
+#![tactic(auto)]
+
 ghost use Rattle.std.specs.Prelude.{◌≡◌, ℕ, ◌+◌, ◌-◌, ◌^◌, ◌≤◌, ◌<◌, ◌++◌, length, drop, replicate};
 ghost use Rattle.trie.specs.Rules.{Within};
 ghost use Rattle.trie.specs.Keys.{own_key, keys_under};
