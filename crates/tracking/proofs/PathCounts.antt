@@ -110,7 +110,7 @@ answering t k full = go (descend t 0 k) refl
     go (stopped q x xs) e = absurd (full (answer_stopped t k e))
 
 -- after a store that changes the number of keys, the key has a node
-whole_after : {t s : Table} {g h v : ℕ} {k : List ℕ} → Store t g k v s h → answer s k ≡ v
+whole_after : {t : Table} {g v : ℕ} {k : List ℕ} {s : Table} {h : ℕ} → Store t g k v s h → answer s k ≡ v
     → change_of (answer t k) v ≢ pos 0 → Whole s k
 unfolding change_of
 whole_after {t} {k = k} (over {q} {v} e) a c = (q, put_descend t q v 0 k ∙ e)

@@ -27,11 +27,11 @@ pub by_letter_cases : {k : List ℕ} (keys : ℕ → List (List ℕ)) (i m : ℕ
     → (x : ℕ) × (r : List ℕ) × (k ≡ x ∷ r) × (i ≤ x) × (x < i + m) × Memᴰ r (keys x)
 unfolding by_letter
 by_letter_cases keys i zero h = absurd (mathlib.Core.List.Memᴰ.not-nil h)
-by_letter_cases keys i (suc m) h =
+by_letter_cases {k} keys i (suc m) h =
     ⊎_elim
     (λ here. let (r, hr, e) = mathlib.Core.List.Memᴰ.of_map (i ∷◌) (keys i) here in
     (i, r, sym e, omega arith, omega arith, hr))
-    (λ there. let (x, r, e, low, high, hr) = by_letter_cases keys (suc i) m there in
+    (λ there. let (x, r, e, low, high, hr) = by_letter_cases {k = k} keys (suc i) m there in
     (x, r, e, omega arith, omega arith, hr))
     (mathlib.Core.List.Memᴰ.append_cases (map (i ∷◌) (keys i)) h)
 

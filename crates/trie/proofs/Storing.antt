@@ -51,13 +51,13 @@ module _ {t : Table} {g n : ℕ} (l : Linked t g n) (k : List ℕ) (letters : Le
       let s = where_stopped t 0 k e in
       rw s.key (grow_path_descend xs s.path (room k l letters e) s.reaches)
 
-  answers : {s : Table} {g' v : ℕ} → Store t g k v s g' → answer s k ≡ v
+  answers : {v : ℕ} {s : Table} {g' : ℕ} → Store t g k v s g' → answer s k ≡ v
   answers (over {v = v} e) = put_answer t k v e
   answers (unchanged e) = answer_stopped t k e
   answers (longer {q} {x} {xs} {v} e) =
       put_answer (grow_path t q x xs (suc g)) k (suc v) (reaches e)
 
-  answers_other : {s : Table} {g' v : ℕ} (m : List ℕ) → m ≢ k → Store t g k v s g'
+  answers_other : {v : ℕ} {s : Table} {g' : ℕ} (m : List ℕ) → m ≢ k → Store t g k v s g'
       → answer s m ≡ answer t m
   answers_other m h (over {v = v} e) = put_answer_other t k v m l.once e h
   answers_other m h (unchanged e) = refl
@@ -66,7 +66,7 @@ module _ {t : Table} {g n : ℕ} (l : Linked t g n) (k : List ℕ) (letters : Le
       put_answer_other (grow_path t q x xs (suc g)) k (suc v) m (grow_path_linked xs r).once
       (reaches e) h ∙ grow_path_answer xs r m
 
-  links : {s : Table} {g' v : ℕ} → Store t g k v s g' → Linked s g' n
+  links : {v : ℕ} {s : Table} {g' : ℕ} → Store t g k v s g' → Linked s g' n
   links (over {q} {v} e) = put_linked q v l (complete_within t g k l.within e)
   links (unchanged e) = l
   links (longer {q} {x} {xs} {v} e) = put_linked (g + suc (length xs)) (suc v)
@@ -86,7 +86,7 @@ module _ {t : Table} {g n : ℕ} (l : Linked t g n) (k : List ℕ) (letters : Le
 
 -- Of the links of older nodes, only the one that stopped the walk changes. Of their data, only
 -- that of the key's own node changes.
-child_stays : {t s : Table} {g g' v : ℕ} {k : List ℕ} (p i : ℕ) → p ≤ g
+child_stays : {t : Table} {g v : ℕ} {k : List ℕ} {s : Table} {g' : ℕ} (p i : ℕ) → p ≤ g
     → ((xs : List ℕ) → descend t 0 k ≢ stopped p i xs)
     → Store t g k v s g' → s.child p i ≡ t.child p i
 unfolding put
@@ -95,7 +95,7 @@ child_stays p i h f (unchanged e) = refl
 child_stays {t} {g = g} p i h f (longer {q} {x} {xs} e) =
     grow_path_child_other t q x xs (suc g) p i (omega arith) (λ s. f xs (rw (s.0, s.1) e))
 
-value_stays : {t s : Table} {g g' v : ℕ} {k : List ℕ} (p : ℕ) → p ≤ g → descend t 0 k ≢ complete p
+value_stays : {t : Table} {g v : ℕ} {k : List ℕ} {s : Table} {g' : ℕ} (p : ℕ) → p ≤ g → descend t 0 k ≢ complete p
     → Store t g k v s g'
     → s.value p ≡ t.value p
 value_stays {t} p h f (over {q} {v} e) = put_value_other t q v p (λ s. f (rw s e))

@@ -104,11 +104,11 @@ unique : {t : Table} {q : ℕ} (k m : List ℕ) → Once t → Walk t 0 (reverse
 unique [] [] once v w = refl
 unique {t} [] (y ∷ m) once end w = absurd ((last (reverse m) y (rw (reverse-cons y m) at w)).3 refl)
 unique (x ∷ k) [] once v end = absurd ((last (reverse k) x (rw (reverse-cons x k) at v)).3 refl)
-unique {t} (x ∷ k) (y ∷ m) once v w =
+unique {t} {q = q} (x ∷ k) (y ∷ m) once v w =
     let (p, v', e, h) = last (reverse k) x (rw (reverse-cons x k) at v) in
     let (p', w', e', h') = last (reverse m) y (rw (reverse-cons y m) at w) in
     let both : (p ≡ p') × (x ≡ y) = once p x p' y (rw e h) (e ∙ sym e') in
-    ap₂ ◌∷◌ both.1 (unique k m once v' (rw both.0 w'))
+    ap₂ ◌∷◌ both.1 (unique {t = t} {q = p} k m once v' (rw both.0 w'))
 
 -- two keys whose walks end at one node are equal
 pub one_key : (t : Table) (k m : List ℕ) {q : ℕ} → Once t → descend t 0 k ≡ complete q
