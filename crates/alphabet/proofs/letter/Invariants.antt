@@ -1,0 +1,10 @@
+use Prim.Native.Nat.{◌-◌}
+use mathlib.Core.Bool.{false}
+use Rattle.alphabet.proofs.AlphabetLoops.{Searching}
+use Rattle.alphabet.proofs.letter.Given as goal
+
+abbrev pub invariant-loop-i : goal.invariant-loop-i
+invariant-loop-i l = Searching l.codes l.n l.code false l.i
+
+abbrev pub decreases-loop-i : goal.decreases-loop-i
+decreases-loop-i l = l.n - l.i

@@ -1,0 +1,34 @@
+-- `images::mend` meets its contract: the answer is the check's, except for an 8 whose trial
+-- passed. Assumes nothing.
+use mathlib.Core.Path.{◌∙◌, ap}
+use native.Mathlib.Omega.{arith}
+use Rattle.paper.specs.declared.Verdict.{Verdict}
+use Rattle.images.proofs.MendReturns.{not_eight, lower_asks, mends_passed, mends_other}
+use Rattle.images.proofs.MendReturns.{mends_lowered, mends_kept}
+use Rattle.images.proofs.mend.Goals as goal
+
+pub returns-in_default : goal.returns-in_default
+returns-in_default c =
+    mends_other c.check-checked.ensures c.in-Refused.is
+    (not_eight c.in-Refused.why c.in_default.in_default-own.keys2)
+
+pub lower-trial-requires : goal.lower-trial-requires
+lower-trial-requires c =
+    lower_asks c.check-checked.ensures
+    (c.in-Refused.is ∙ ap Verdict.Refused c.in-NotLinked.is)
+
+pub returns-in-Passed : goal.returns-in-Passed
+returns-in-Passed c =
+    mends_passed c.check-checked.ensures c.in-Passed.is
+
+pub returns-in-Passed-trial : goal.returns-in-Passed-trial
+returns-in-Passed-trial c =
+    mends_lowered c.check-checked.ensures
+    (c.in-Refused.is ∙ ap Verdict.Refused c.in-NotLinked.is) (omega arith)
+    c.lower-trial.ensures c.in-Passed-trial.is
+
+pub returns-in-Refused-trial : goal.returns-in-Refused-trial
+returns-in-Refused-trial c =
+    mends_kept c.check-checked.ensures
+    (c.in-Refused.is ∙ ap Verdict.Refused c.in-NotLinked.is) (omega arith)
+    c.lower-trial.ensures c.in-Refused-trial.is

@@ -1,0 +1,21 @@
+-- `jumps::position_text` meets its contract: `asking_counts` judges the check's rows, 25, 10 and
+-- 9, and `tell_position` gives 15 or the position. Assumes nothing.
+use Rattle.jumps.proofs.PositionReturns.{place_asks, gives_position_refused}
+use Rattle.jumps.proofs.PositionReturns.{gives_position_placed}
+use Rattle.jumps.proofs.position_text.Goals as goal
+
+pub tell_position-requires : goal.tell_position-requires
+tell_position-requires c =
+    place_asks _ _ c.ask_text-named.ensures
+    c.in-Passed.is
+
+pub returns-in-Refused : goal.returns-in-Refused
+returns-in-Refused c =
+    gives_position_refused _ _
+    c.ask_text-named.ensures
+    c.in-Refused.is
+
+pub returns-in-Passed : goal.returns-in-Passed
+returns-in-Passed c =
+    gives_position_placed _ _ c.ask_text-named.ensures
+    c.in-Passed.is c.tell_position.ensures

@@ -1,0 +1,31 @@
+-- `key::Key::of` meets its contract: the array is the letters copied so far, followed by zeros.
+-- Assumes nothing.
+use Prim.Native.Nat.{◌-◌}
+use mathlib.Core.Logic.{⊎_elim}
+use mathlib.Core.Path.{◌≡◌, refl, ◌∙◌}
+use native.Mathlib.Omega.{arith}
+use lib.ListN.{length}
+use Rattle.head.specs.Fields.{most_letters}
+use Rattle.key.specs.Hand.{padded, in_hand}
+use Rattle.key.proofs.Hand.{copy_more, copy_all}
+use Rattle.key.proofs.Key.of.Goals as goal
+
+pub loop-i-init : goal.loop-i-init
+unfolding padded
+loop-i-init c = (omega arith, ⊎_elim (λ w. omega arith) (λ w. omega arith) c.if-letters-lt-HELD.branch, refl)
+
+pub loop-i-preserved : goal.loop-i-preserved
+loop-i-preserved c = (
+  omega arith,
+  c.loop-i.invariant.1,
+  copy_more most_letters _ _ _ (omega arith)
+      (omega arith) c.loop-i.invariant.2,
+)
+
+pub returns : goal.returns
+unfolding in_hand
+returns c =
+    let letters = c.args.letters.now in
+    let all : c.loop-i.auto ≡ padded most_letters letters =
+    c.loop-i.invariant.2 ∙ copy_all most_letters letters c.loop-i.i (omega arith) in
+    λ j. record { letters = all j; len = length letters }

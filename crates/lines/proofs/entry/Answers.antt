@@ -1,0 +1,76 @@
+-- `lines::entry` meets its contract: the key, a blank, the value and the line's end, written one
+-- after another, are the line. Assumes nothing.
+use mathlib.Core.Path.{◌≡◌, refl, ◌∙◌}
+use Prim.Native.Nat.{◌+◌, ◌≤◌}
+use native.Mathlib.Omega.{arith}
+use lib.ListN.{length, take, length-set}
+use Rattle.lines.specs.Lines.{TextAt, key_text, entry_line}
+use Rattle.lines.proofs.TextsAt.{laid_long, laid_one, laid_join}
+use Rattle.lines.proofs.LineTexts.{decimal_end, letters_long, entry_long}
+use Rattle.lines.proofs.entry.Goals as goal
+use Rattle.lines.proofs.entry.Goals.{After-letters-end, After-number-end}
+
+key : (c : After-letters-end)
+    → TextAt c.args.out.now
+    c.args.at
+    (key_text (take c.args.len
+    c.args.path.now))
+    c.letters-end.result c.letters-end.new.0
+key c = c.letters-end.ensures
+
+room : (c : After-letters-end) → c.letters-end.result + 31 ≤ length c.letters-end.new.0
+room c =
+    let a = c.args in
+    let bytes = c.shared_slice_known-1.given in
+    omega (
+      arith,
+      (key c).ends,
+      laid_long (key c),
+      letters_long a.path.now a.len
+          (λ k. (bytes k).fits),
+    )
+
+long : (c : After-number-end) → length c.number-end.new.0
+    ≡ length c.letters-end.new.0
+long c = laid_long c.number-end.ensures ∙ simp length-set
+
+end : (c : After-number-end) → c.number-end.result + 10 ≤ length c.number-end.new.0
+end c = omega (
+  arith,
+  room c.before.before.before.before,
+  long c,
+  decimal_end _
+      c.number-end.ensures,
+)
+
+pub bounds-out-end : goal.bounds-out-end
+bounds-out-end c = omega (arith, room (goal.at.bounds-out-end c).After-letters-end)
+
+pub overflow_add-end : goal.overflow_add-end
+overflow_add-end c = omega (arith, room (goal.at.overflow_add-end c).After-letters-end)
+
+pub number-end-requires : goal.number-end-requires
+number-end-requires c = simp length-set (omega (arith, room (goal.at.number-end-requires c).After-letters-end))
+
+pub bounds-out-end-2 : goal.bounds-out-end-2
+bounds-out-end-2 c = omega (arith, end (goal.at.bounds-out-end-2 c).After-number-end)
+
+pub overflow_add-result : goal.overflow_add-result
+overflow_add-result c = omega (arith, end (goal.at.overflow_add-result c).After-number-end, long (goal.at.overflow_add-result c).After-number-end)
+
+pub returns : goal.returns
+unfolding entry_line
+returns c =
+    let a = c.args in
+    let bytes = c.shared_slice_known-1.given in
+    let line =
+    laid_join (key (goal.at.returns c).After-letters-end) (laid_join (laid_one _ _ _ refl)
+    (laid_join c.number-end.ensures (laid_one _ _ _ refl))) in record {
+      text_at = line;
+      upper_bound = omega (
+        arith,
+        line.ends,
+        entry_long a.path.now a.len a.value
+            (λ k. (bytes k).fits),
+      );
+    }

@@ -1,0 +1,19 @@
+-- `stores::store_text` meets its contract: `asking` judges the check's rows, 10 and 9, and
+-- `storing` does the rest. Assumes nothing.
+use Rattle.asking.proofs.Asking.{store_asks}
+use Rattle.stores.proofs.StoreReturns.{stores_refused, stores_passed}
+use Rattle.stores.proofs.store_text.Goals as goal
+
+pub store-requires : goal.store-requires
+store-requires c =
+    store_asks c.ask_text-named.ensures
+    c.in-Passed.is
+
+pub returns-in-Refused : goal.returns-in-Refused
+returns-in-Refused c = stores_refused _ c.ask_text-named.ensures
+    _ c.in-Refused.is
+
+pub returns-in-Passed : goal.returns-in-Passed
+returns-in-Passed c =
+    stores_passed _ c.ask_text-named.ensures _
+    c.in-Passed.is _ c.store.ensures

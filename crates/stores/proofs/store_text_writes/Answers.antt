@@ -1,0 +1,20 @@
+-- `stores::store_text_writes` meets its contract: `asking` judges the check's rows, 10 and 9, and
+-- `noting` does the rest. Assumes nothing.
+use Rattle.asking.proofs.Asking.{store_asks}
+use Rattle.stores.proofs.StoreReturns.{stores_writes_refused, stores_writes_passed}
+use Rattle.stores.proofs.store_text_writes.Goals as goal
+
+pub store_noted-requires : goal.store_noted-requires
+store_noted-requires c =
+    store_asks c.ask_text-named.ensures
+    c.in-Passed.is
+
+pub returns-in-Refused : goal.returns-in-Refused
+returns-in-Refused c =
+    stores_writes_refused _ c.ask_text-named.ensures
+    _ c.in-Refused.is _
+
+pub returns-in-Passed : goal.returns-in-Passed
+returns-in-Passed c =
+    stores_writes_passed _ c.ask_text-named.ensures _
+    c.in-Passed.is _ _ c.store_noted.ensures

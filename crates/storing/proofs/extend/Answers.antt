@@ -1,0 +1,76 @@
+-- `storing::extend` meets its contract: 12 and 13 were judged for all missing nodes, so the path
+-- can be built. Assumes nothing.
+-- the array's length
+use Prim.Native.Nat.{suc, ◌+◌, ◌-◌}
+use mathlib.Core.Path.{◌≡◌, refl, sym, ap, ◌∙◌}
+use mathlib.Core.List.{◌∷◌}
+use mathlib.Core.Logic.{⊎_elim}
+use native.Mathlib.Omega.{arith}
+use mir.Syntax.{w32}
+use mir.Facts.{to_z-of_z}
+use borrow.Author.Rules.{rules, sfits_of}
+use lib.ListN.{length, get_or, drop, length-drop}
+use Rattle.head.specs.Fields.{most_letters}
+use Rattle.head.proofs.Permitted.{bounds, addresses_fit}
+use Rattle.node.specs.Writes.{carried_out, store_writes}
+use Rattle.key.specs.Hand.{letters_of}
+use Rattle.key.proofs.Hand.{letters_count, letters_from}
+use Rattle.storing.specs.StoreStage.{stopped_at, Space}
+use Rattle.storing.proofs.Adding.{none_built, path_space, path_built}
+use Rattle.storing.proofs.extend.Goals as goal
+use Rattle.storing.proofs.extend.Goals.{Joined-value-ne0, Start, Then-value-ne0}
+
+whole : (c : Start) → length c.args.key.letters ≡ most_letters
+whole c = search rules
+
+-- the letter that stopped the walk, and those after it
+left : (c : Start) →
+    let a = c.args in
+    drop a.at.depth (letters_of a.key) ≡ get_or a.key.letters a.at.depth 0
+    ∷ drop (suc a.at.depth) (letters_of a.key)
+left c = letters_from c.args.key (whole c) c.requires.fact_2.short c.args.at.depth
+    c.requires.fact_3.depth
+
+-- as many nodes are missing as letters are left
+total : (c : Start) →
+    let a = c.args in a.h.g + (a.key.len - a.at.depth) ≡ a.h.g
+    + length (drop a.at.depth (letters_of a.key))
+total c =
+    let a = c.args in
+    let count = letters_count a.key (whole c) c.requires.fact_2.short in
+    ap (λ n. a.h.g + n) (sym (length-drop a.at.depth (letters_of a.key)
+    ∙ ap (λ n. n - a.at.depth) count))
+
+-- addresses and room for these nodes
+room : (c : Then-value-ne0) →
+    let a = c.args in
+    Space a.h a.image.now (a.h.g + (a.key.len - a.at.depth))
+room c =
+    rw (total c.before.before) (path_space _ _ _ _ _ (left c.before.before) _ c.if-value-ne0.true c.requires.fact_4)
+
+-- the image after the writes
+wrote : (c : Joined-value-ne0) →
+    let a = c.args in
+    c.if-value-ne0.image ≡ carried_out a.image.now
+    (store_writes a.h (stopped_at a.at.node (drop a.at.depth (letters_of a.key)))
+    a.value)
+wrote c =
+    ⊎_elim (λ w. w.8 ∙ path_built _ _ _ _ _ (left c.before.before) _ w.0.taken (total c.before.before)
+    w.5.ensures)
+    (λ w. w.1 ∙ none_built _ _ _ _ _ (left c.before.before) _ w.0.left) c.if-value-ne0.branch
+
+pub overflow_add-h : goal.overflow_add-h
+overflow_add-h c =
+    omega (
+      arith,
+      (room (goal.at.overflow_add-h c).Then-value-ne0).addresses,
+      addresses_fit
+          (bounds c.args.h c.requires.fact_1.head_permitted),
+    )
+
+pub build-requires : goal.build-requires
+build-requires c =
+    record { fact_1 = c.requires.fact_1; fact_2 = c.requires.fact_2; fact_3 = c.requires.fact_3; fact_4 = refl; fact_5 = room (goal.at.build-requires c).Then-value-ne0 }
+
+pub returns : goal.returns
+returns c = record { image_after = wrote (goal.at.returns c).Joined-value-ne0; value = to_z-of_z {w = w32} (sfits_of c.change.type-inv) ∙ c.change.ensures }

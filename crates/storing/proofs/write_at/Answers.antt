@@ -1,0 +1,61 @@
+-- `storing::write_at` meets its contract: what is written depends only on how the walk ended.
+-- Assumes nothing.
+-- the array's length
+use mathlib.Core.Path.{◌≡◌, ◌∙◌, subst}
+use mir.Syntax.{w32}
+use mir.Facts.{to_z-of_z}
+use borrow.Author.Rules.{rules, sfits_of}
+use lib.ListN.{length}
+use Rattle.head.specs.Fields.{most_letters}
+use Rattle.key.specs.Hand.{letters_of}
+use Rattle.key.proofs.Hand.{letters_from}
+use Rattle.storing.specs.StoreStage.{Ends}
+use Rattle.storing.proofs.Adding.{passed}
+use Rattle.storing.proofs.StoreStage.{writes_over, writes_path, allowed_path}
+use Rattle.storing.proofs.write_at.Goals as goal
+use Rattle.storing.proofs.write_at.Goals.{Start}
+
+whole : (c : Start) → length c.args.key.letters ≡ most_letters
+whole c = search rules
+
+pub replace-requires : goal.replace-requires
+replace-requires c =
+    let a = c.args in
+    record {
+      fact_1 = c.requires.fact_1;
+      fact_2 = subst (Ends a.h a.key) c.in-Complete.is c.requires.fact_3;
+      fact_3 = (passed _ _ _ _
+          c.requires.fact_4).fits;
+    }
+
+pub extend-requires : goal.extend-requires
+extend-requires c =
+    let a = c.args in
+    let stop = subst (Ends a.h a.key) c.in-Stopped.is c.requires.fact_3 in record {
+      fact_1 = c.requires.fact_1;
+      fact_2 = c.requires.fact_2;
+      fact_3 = stop;
+      fact_4 = allowed_path a.h _ (letters_of a.key) _ c.in-Stopped.is
+          c.requires.fact_4;
+    }
+
+pub returns-in-Complete : goal.returns-in-Complete
+returns-in-Complete c =
+    let a = c.args in
+    writes_over a.h _ (letters_of a.key) _ c.in-Complete.is
+    c.replace.ensures.image_after
+    (to_z-of_z {w = w32} (sfits_of c.replace.type-inv) ∙ c.replace.ensures.value)
+
+pub returns-in-Stopped : goal.returns-in-Stopped
+returns-in-Stopped c =
+    let a = c.args in
+    let stop = subst (Ends a.h a.key) c.in-Stopped.is c.requires.fact_3 in
+    writes_path a.h _ (letters_of a.key) _ c.in-Stopped.is _ _
+    (letters_from a.key (whole (goal.at.returns-in-Stopped c).Start) c.requires.fact_2.short _ stop.depth)
+    c.extend.ensures.image_after
+    (to_z-of_z {w = w32} (sfits_of c.extend.type-inv) ∙ c.extend.ensures.value)
+
+pub returns-in-Refused : goal.returns-in-Refused
+returns-in-Refused c =
+    absurd (subst (Ends c.args.h c.args.key) c.in-Refused.is
+    c.requires.fact_3)

@@ -1,0 +1,35 @@
+-- `tallying::first_bad_node` meets its contract: number 0 tells whether the root hides data. Then
+-- each turn counts the links of one more node, or stops at a node with a bad link, which is then
+-- the lowest. The measure is how many nodes are left. Assumes nothing.
+use Prim.Native.Nat.{◌-◌}
+use mathlib.Core.Logic.{⊎_elim}
+use native.Mathlib.Omega.{arith}
+use lib.ListN.{length-set}
+use borrow.Author.Tests.{not-true, not-false}
+use Rattle.reaching.proofs.Kept.{kept_set}
+use Rattle.tallying.proofs.Tallying.{tallying_none, tallying_more, tallying_bad}
+use Rattle.tallying.proofs.Tallying.{tallying_all}
+use Rattle.tallying.proofs.first_bad_node.Goals as goal
+
+pub loop-q-init : goal.loop-q-init
+loop-q-init c =
+    tallying_none _ _ _ _ c.requires.g_in_bounds c.requires.work_value c.hides.ensures
+    (⊎_elim (λ w e. absurd (omega (arith, w.1))) (λ w _. w.0.left) c.if-hides.branch)
+
+pub tally-requires : goal.tally-requires
+tally-requires c =
+    let long = length-set c.args.work.now 0 c.if-hides.work in record { fact = c.requires.fact; masks_1 = c.mask-mask.ensures; masks_2 = c.greatest-data_mask.ensures; q_le_g = omega arith; g_in_bounds = omega (arith, c.loop-q.invariant.kept.long, long, c.requires.g_in_bounds) }
+
+pub returns-then-not-tally : goal.returns-then-not-tally
+returns-then-not-tally c =
+    tallying_bad c.loop-q.invariant (kept_set _ _ (omega arith)) (omega arith)
+    (not-true _ c.if-not-tally.true) c.tally.ensures
+
+pub loop-q-preserved : goal.loop-q-preserved
+loop-q-preserved c =
+    tallying_more c.loop-q.invariant (omega arith) (not-false _ c.if-not-tally.false)
+    c.tally.ensures
+
+pub returns : goal.returns
+returns c =
+    tallying_all c.loop-q.invariant (kept_set _ _ (omega arith)) c.loop-q-test.false
