@@ -2,7 +2,7 @@
 -- with the reason's number, the first row that is given is the first reason that applies. So the
 -- number of the answer depends on the reasons alone.
 use Prim.Native.Nat.{ℕ}
-use mathlib.Core.Path.{◌≡◌, refl, sym, ◌∙◌}
+use mathlib.Core.Path.{◌≡◌, refl, sym, ◌∙◌, subst}
 use mathlib.Core.Logic.{◌↔◌, inl, inr}
 use mathlib.Core.Bool.{Bool, true, false, false≢true, or-true}
 use mathlib.Core.Option.{none, some}
@@ -32,7 +32,8 @@ pub first_among : (numbers : List ℕ) (rs : List Reason) (n : ℕ) → NumbersA
     → FirstApplies rs n → among n (0 ∷ numbers) ≡ true
 unfolding among
 first_among numbers [] n a e = rw e
-first_among numbers (r ∷ rs) n a (inl e) = rw (e.1, a.0) (or-true (eqb r.number 0))
+first_among numbers (r ∷ rs) n a (inl e) =
+    subst (λ (m : ℕ). among m (0 ∷ numbers) ≡ true) (sym e.1) (rw a.0 (or-true (eqb r.number 0)))
 first_among numbers (r ∷ rs) n a (inr e) = first_among numbers rs n a.1 e.1
 
 -- ---- from rows to reasons

@@ -13,14 +13,14 @@ use Rattle.images.proofs.make.Goals.{In-Passed}
 pub returns-then-not-length_allowed : goal.returns-then-not-length_allowed
 returns-then-not-length_allowed c =
     makes_refused _ _ _ _ _ _ _ _
-    (heard_1 _ _ _ (sym c.length_allowed.ensures ∙ not-true _ c.if-not-length_allowed.true))
+    (heard_1 _ _ _ (sym c.length_allowed.ensures ∙ c.if-not-length_allowed.true))
 
 pub returns-then-f : goal.returns-then-f
 returns-then-f c =
     let s = c.args in
     makes_refused _ _ _ _ _ _ _ _
     (too_many s.image.now s.n s.a s.d s.alphabet.now s.min s.max
-    (sym c.length_allowed.ensures ∙ not-false _ c.if-not-length_allowed.false) c.if-f.true)
+    (sym c.length_allowed.ensures ∙ c.if-not-length_allowed.false) c.if-f.true)
 
 -- where nothing is refused
 unheard : (c : In-Passed)

@@ -18,11 +18,11 @@ use Rattle.opening.proofs.judge.Goals.{Else-not-length_allowed, Else-not-permitt
 
 allowed : (c : Else-not-length_allowed) → between c.args.len shortest_image
     longest_image ≡ true
-allowed c = sym c.length_allowed.ensures ∙ not-false _ c.if-not-length_allowed.false
+allowed c = sym c.length_allowed.ensures ∙ c.if-not-length_allowed.false
 
 -- past the second test the head is permitted
 good-head : (c : Else-not-permitted) → permitted c.args.h ≡ true
-good-head c = sym c.permitted.ensures ∙ not-false _ c.if-not-permitted.false
+good-head c = sym c.permitted.ensures ∙ c.if-not-permitted.false
 
 few : (c : Else-not-permitted) → c.args.h.n ≤ most_links
 few c = (bounds _ (good-head c)).n_most
@@ -30,13 +30,13 @@ few c = (bounds _ (good-head c)).n_most
 pub returns-then-not-length_allowed : goal.returns-then-not-length_allowed
 returns-then-not-length_allowed c =
     judged_refused _ _ _ c.refused.ensures
-    (heard_1 _ _ _ (sym c.length_allowed.ensures ∙ not-true _ c.if-not-length_allowed.true))
+    (heard_1 _ _ _ (sym c.length_allowed.ensures ∙ c.if-not-length_allowed.true))
 
 pub returns-then-not-permitted : goal.returns-then-not-permitted
 returns-then-not-permitted c =
     judged_refused _ _ _ c.refused-then-not-permitted.ensures
     (heard_2 _ _ _ (allowed (goal.at.returns-then-not-permitted c).Else-not-length_allowed)
-    (sym c.permitted.ensures ∙ not-true _ c.if-not-permitted.true))
+    (sym c.permitted.ensures ∙ c.if-not-permitted.true))
 
 pub room-requires : goal.room-requires
 room-requires c = good-head (goal.at.room-requires c).Else-not-permitted
@@ -71,7 +71,7 @@ returns-then-not-judge c =
     judged_refused _ _ _ c.refused-then-not-judge.ensures
     (heard_3 _ _ _ (allowed (goal.at.returns-then-not-judge c).Else-not-length_allowed) (good-head (goal.at.returns-then-not-judge c).Else-not-permitted)
     (spoilt_bad s.h s.alphabet.now s.len c.if-f-eq0.false c.if-alphabet-f.false
-    (sym c.judge.ensures.good ∙ not-true _ c.if-not-judge.true)))
+    (sym c.judge.ensures.good ∙ c.if-not-judge.true)))
 
 pub room-requires-2 : goal.room-requires-2
 room-requires-2 c = good-head (goal.at.room-requires-2 c).Else-not-permitted
@@ -79,7 +79,7 @@ room-requires-2 c = good-head (goal.at.room-requires-2 c).Else-not-permitted
 pub returns : goal.returns
 returns c =
     let s = c.args in
-    let good = not-false _ c.if-not-judge.false in
+    let good = c.if-not-judge.false in
     judged_room _ _ _ c.room-2.ensures
     (left_4 _ _ _ (allowed (goal.at.returns c).Else-not-length_allowed) (good-head (goal.at.returns c).Else-not-permitted)
     (plain_good s.h s.alphabet.now s.len (sym c.judge.ensures.good ∙ good)))

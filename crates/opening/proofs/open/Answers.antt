@@ -16,13 +16,13 @@ use Rattle.opening.proofs.open.Goals.{Else-not-length_allowed}
 
 fields : (c : Else-not-length_allowed) → fields_len ≤ length c.args.image.now
 fields c =
-    (between_true _ _ _ (sym c.length_allowed.ensures ∙ not-false _ c.if-not-length_allowed.false)).0
+    (between_true _ _ _ (sym c.length_allowed.ensures ∙ c.if-not-length_allowed.false)).0
 
 pub returns-then-not-length_allowed : goal.returns-then-not-length_allowed
 unfolding opening_rows_of
 returns-then-not-length_allowed c =
     opens_refused _ c.refused.ensures
-    (heard_1 _ _ _ (sym c.length_allowed.ensures ∙ not-true _ c.if-not-length_allowed.true))
+    (heard_1 _ _ _ (sym c.length_allowed.ensures ∙ c.if-not-length_allowed.true))
 
 pub read-h-requires : goal.read-h-requires
 read-h-requires c = fields (goal.at.read-h-requires c).Else-not-length_allowed

@@ -37,9 +37,9 @@ fits-requires c = c.requires.fact_1
 pub returns-then-not-fits : goal.returns-then-not-fits
 returns-then-not-fits c =
     judged_13 _ _ _ (fits (goal.at.returns-then-not-fits c).Else-greatest-value) _ c.if-new-eq0.false (few (goal.at.returns-then-not-fits c).Else-mask-total)
-    (leb-false _ _ (sym c.fits.ensures ∙ not-true _ c.if-not-fits.true))
+    (leb-false _ _ (sym c.fits.ensures ∙ c.if-not-fits.true))
 
 pub returns : goal.returns
 returns c =
     judged_passed _ _ _ (fits (goal.at.returns c).Else-greatest-value) _ (few (goal.at.returns c).Else-mask-total)
-    (leb-true _ _ (sym c.fits.ensures ∙ not-false _ c.if-not-fits.false))
+    (leb-true _ _ (sym c.fits.ensures ∙ c.if-not-fits.false))

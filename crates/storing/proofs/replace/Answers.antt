@@ -2,7 +2,7 @@
 -- data once more changes no byte. Assumes nothing.
 -- the number of stored keys does not change
 use mathlib.Core.Path.{◌≡◌, refl, sym, ap, ◌∙◌}
-use mathlib.Core.List.{List, ◌∷◌}
+use mathlib.Core.List.{[], List, ◌∷◌}
 use Prim.Native.Nat.{ℕ, zero, suc}
 use mir.Facts.{to_z-of_z}
 use mir.Syntax.{w32}

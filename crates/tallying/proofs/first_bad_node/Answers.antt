@@ -23,11 +23,11 @@ tally-requires c =
 pub returns-then-not-tally : goal.returns-then-not-tally
 returns-then-not-tally c =
     tallying_bad c.loop-q.invariant (kept_set _ _ (omega arith)) (omega arith)
-    (not-true _ c.if-not-tally.true) c.tally.ensures
+    c.if-not-tally.true c.tally.ensures
 
 pub loop-q-preserved : goal.loop-q-preserved
 loop-q-preserved c =
-    tallying_more c.loop-q.invariant (omega arith) (not-false _ c.if-not-tally.false)
+    tallying_more c.loop-q.invariant (omega arith) c.if-not-tally.false
     c.tally.ensures
 
 pub returns : goal.returns

@@ -50,7 +50,7 @@ deep : (c : Then-not-no_keys)
     → (c.loop-from.depth < c.args.h.max)
 deep c =
     let at = c.loop-from in
-    ⊎_elim (λ w. w.2.ensures.deep (sym w.3 ∙ not-true _ c.if-not-no_keys.true))
+    ⊎_elim (λ w. w.2.ensures.deep (sym w.3 ∙ c.if-not-no_keys.true))
     (λ w. at.invariant.deeper (omega (arith, w.0.left))) c.if-from-eq0.branch
 
 pub below-found-requires : goal.below-found-requires
@@ -74,7 +74,7 @@ nothing c =
     nothing_missing w.4.ensures.0 w.10.given.1 w.4.ensures.1
     w.4.kept.1.1.1.1.1.1.0 w.4.kept.1.1.1.1.1.1.1.0 w.11 w.12)
     (λ w.
-    let none_below = not-false _ w.0.left in
+    let none_below = w.0.left in
     ⊎_elim (λ v. climb_no_keys v.2.ensures (sym v.3 ∙ none_below) w.1 w.2)
     (λ v. absurd (true≢false (sym none_below ∙ v.1))) c.if-from-eq0.branch)
     c.if-not-no_keys.branch

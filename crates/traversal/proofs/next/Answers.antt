@@ -124,7 +124,7 @@ own_value-value-requires c = (
 pub returns-then-value-ne0 : goal.returns-then-value-ne0
 returns-then-value-ne0 c =
     let end = c.if-depth-key.false in
-    let not_after = not-true _ c.if-not-after.true in record {
+    let not_after = c.if-not-after.true in record {
       search_tells = told_same c.args.h c.args.image.now
           (ap (λ (after : Bool). next_stored c.args.h c.args.image.now after
           (letters_of c.args.key)) not_after)
@@ -149,11 +149,11 @@ from-here c =
     ⊎_elim
     (λ w.
     ap (λ (after : Bool). next_stored a.h a.image.now after (letters_of a.key))
-    (not-true _ w.0.taken)
+    w.0.taken
     ∙ at_key_none c.along-depth.ensures (room c.before.before.before.before.before.before.before) short end w.2.ensures w.3.left)
     (λ w.
     ap (λ (after : Bool). next_stored a.h a.image.now after (letters_of a.key))
-    (not-false _ w.left) ∙ after_key c.along-depth.ensures (room c.before.before.before.before.before.before.before) short end)
+    w.left ∙ after_key c.along-depth.ensures (room c.before.before.before.before.before.before.before) short end)
     c.if-not-after.branch
 
 pub climb-requires-2 : goal.climb-requires-2

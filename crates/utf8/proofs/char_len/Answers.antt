@@ -1,6 +1,7 @@
 -- `utf8::char_len` meets its contract. The rows tried so far do not fit, so the table answers as
 -- its later rows do. By computing, the table in the code is the table of the definition. The
 -- measure is how many rows are left. Assumes nothing.
+use mathlib.Core.List.{[]}
 use Prim.Native.Nat.{◌-◌}
 use mathlib.Core.Path.{◌≡◌, sym, ◌∙◌}
 use native.Mathlib.Omega.{arith}

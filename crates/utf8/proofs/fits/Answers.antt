@@ -24,11 +24,11 @@ in_range-requires c = tt
 pub returns-then-not-in_range : goal.returns-then-not-in_range
 returns-then-not-in_range c =
     sym (fits_if _ _ _ (omega arith) ∙ testing_fails c.loop-i.invariant
-    (omega arith) (sym c.in_range.ensures ∙ not-true _ c.if-not-in_range.true))
+    (omega arith) (sym c.in_range.ensures ∙ c.if-not-in_range.true))
 
 pub loop-i-preserved : goal.loop-i-preserved
 loop-i-preserved c = testing_more c.loop-i.invariant (omega arith)
-    (sym c.in_range.ensures ∙ not-false _ c.if-not-in_range.false)
+    (sym c.in_range.ensures ∙ c.if-not-in_range.false)
 
 pub returns : goal.returns
 returns c = sym (fits_if _ _ _ (omega arith) ∙ testing_all c.loop-i.invariant (omega arith))

@@ -15,4 +15,4 @@ returns-then-i-eq1 c = rw c.if-i-eq1.true
 
 pub returns : goal.returns
 unfolding in_range
-returns c = sym (third_byte _ _ _ c.if-i-eq0.false c.if-i-eq1.false)
+returns c = sym (third_byte c.args.row c.args.i c.args.b c.if-i-eq0.false c.if-i-eq1.false)

@@ -3,7 +3,7 @@
 use Prim.Native.Nat.{suc, ◌+◌, ◌-◌}
 use mathlib.Core.Logic.{⊎_elim}
 use mathlib.Core.Path.{◌≡◌, refl, sym}
-use mathlib.Core.List.{◌∷◌}
+use mathlib.Core.List.{[], ◌∷◌}
 use native.Mathlib.Omega.{arith}
 use borrow.Author.Rules.{rules}
 use denote.Enum.Declared.{tag_of}

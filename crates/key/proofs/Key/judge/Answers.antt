@@ -19,7 +19,7 @@ returns-then-not-length_allowed c =
 pub spelled-requires : goal.spelled-requires
 spelled-requires c =
     short _ c.requires
-    (sym c.length_allowed.ensures ∙ not-false _ c.if-not-length_allowed.false)
+    (sym c.length_allowed.ensures ∙ c.if-not-length_allowed.false)
 
 pub returns : goal.returns
 unfolding row_of letters_rows row9

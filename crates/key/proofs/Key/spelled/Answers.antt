@@ -11,10 +11,10 @@ pub returns-then-not-all_below : goal.returns-then-not-all_below
 unfolding row_of row_when
 returns-then-not-all_below c =
     λ k o. sym (ten_by _ o c.requires
-    (sym c.all_below.ensures ∙ not-true _ c.if-not-all_below.true))
+    (sym c.all_below.ensures ∙ c.if-not-all_below.true))
 
 pub returns : goal.returns
 unfolding row_of row_when
 returns c =
     λ k o. sym (ten_by _ o c.requires
-    (sym c.all_below.ensures ∙ not-false _ c.if-not-all_below.false))
+    (sym c.all_below.ensures ∙ c.if-not-all_below.false))
