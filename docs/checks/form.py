@@ -112,7 +112,7 @@ def same_numbers():
     body = re.search(r"fn number\(.*?^    \}$", text(CODE), re.M | re.S)
     listed = re.findall(r"= (\d+)", enum[0]) if enum else []
     want = re.findall(r"=> (\d+),", body[0]) if body else []
-    for path, found in ((SPEC, re.findall(r"^saidOf .*= numberAt (\d+)", text(SPEC), re.M)),
+    for path, found in ((SPEC, re.findall(r"^said_of .*= number_at (\d+)", text(SPEC), re.M)),
                         (HEADER, [number for number in listed if number != "0"]),
                         (README, [cells[0] for _, cells in table("No.")])):
         if found != want:

@@ -26,13 +26,13 @@ def text(path):
 @cache
 def files(*patterns):
     found = (path for pattern in patterns for path in sorted(ROOT.glob(pattern)))
-    return [path for path in found if "target" not in path.relative_to(ROOT).parts]
+    return [path for path in found if not {"target", "out"} & set(path.relative_to(ROOT).parts)]
 
 
 PAGES = files("README.md", "docs/*.md", "docs/promises/*.md")
 PROMISES = files("docs/PROMISES.md", "docs/promises/*.md")
 SOURCES = files("crates/**/*.rt", "crates/**/*.antt", "include/trieff.h")
-CRATES = re.findall(r"^(\w+):", text(ROOT / "crates.txt"), re.M)
+CRATES = re.findall(r"^(\w+)(?: staticlib)?:", text(ROOT / "crates.txt"), re.M)
 
 
 def at(path, line, why):
