@@ -48,12 +48,14 @@ different_snoc (x ∷ cs) c =
     rw (among_snoc x cs c, different_snoc cs c, eqb_sym x c)
     (regroup (among x cs) (eqb c x) (all_different cs) (among c cs))
 
-pub repeated_append : (cs ds : List ℕ) → all_different cs ≡ false → all_different (cs ++ ds) ≡ false
+pub repeated_append : (cs ds : List ℕ) → all_different cs ≡ false → all_different (cs ++ ds)
+    ≡ false
 unfolding all_different
 repeated_append [] ds e = cc
 repeated_append (x ∷ cs) ds e = go (among x cs) refl (repeated_append cs ds)
   where
-    go : (t : Bool) → among x cs ≡ t → (all_different cs ≡ false → all_different (cs ++ ds) ≡ false)
+    go : (t : Bool) → among x cs ≡ t
+        → (all_different cs ≡ false → all_different (cs ++ ds) ≡ false)
         → all_different (x ∷ (cs ++ ds)) ≡ false
     go true h next = rw (among_append x cs ds, h)
     go false h next = rw (next (rw h at e)) (and-false (not (among x (cs ++ ds))))

@@ -24,7 +24,8 @@ then_letter n none x = none
 then_letter n (some xs) x = cond (ltb x n) (some (xs ++ (x ∷ []))) none
 
 -- one letter put before and one after, in either order
-swap : (n y : ℕ) (o : Option (List ℕ)) (x : ℕ) → with_letter n y (then_letter n o x) ≡ then_letter n
+swap : (n y : ℕ) (o : Option (List ℕ)) (x : ℕ) → with_letter n y (then_letter n o x)
+    ≡ then_letter n
     (with_letter n y o) x
 unfolding with_letter
 swap n y none x = refl
@@ -62,11 +63,13 @@ letters_outside alphabet (c ∷ cs) ds e =
     go : (o : Option (List ℕ)) → letters_of_chars alphabet cs ≡ o → (t : Bool)
         → ltb (letter_of alphabet c) (length alphabet) ≡ t
         → (letters_of_chars alphabet cs ≡ none → letters_of_chars alphabet (cs ++ ds) ≡ none)
-        → with_letter (length alphabet) (letter_of alphabet c) (letters_of_chars alphabet (cs ++ ds))
+        → with_letter (length alphabet) (letter_of alphabet c)
+        (letters_of_chars alphabet (cs ++ ds))
         ≡ none
     go none h t q next = rw (next h)
     go (some xs) h false q next =
-        with_outside (length alphabet) (letter_of alphabet c) (letters_of_chars alphabet (cs ++ ds)) q
+        with_outside (length alphabet) (letter_of alphabet c)
+        (letters_of_chars alphabet (cs ++ ds)) q
     go (some xs) h true q next =
         let f : some (letter_of alphabet c ∷ xs) ≡ none = rw (h, q) at e in cc
 
@@ -121,7 +124,8 @@ module _ {alphabet text xs : List ℕ} {at : ℕ} (p : Spelling alphabet text xs
   unfolding key_of_text
   spelling_ill h e = rw (passed_ill p.passed h e)
 
-  pub spelling_outside : char_len text at ≢ 0 → length alphabet ≤ letter_of alphabet (char_at text at)
+  pub spelling_outside : char_len text at ≢ 0
+      → length alphabet ≤ letter_of alphabet (char_at text at)
       → key_of_text alphabet text ≡ none
   unfolding key_of_text
   spelling_outside h l =

@@ -1,7 +1,8 @@
 -- 01, "The image": "Alphabet: if F is 0, keys are letter numbers only and no text but the empty
 -- one names a key. Otherwise the F bytes are exactly N well-formed characters, all different;
 -- letter i is the i-th, from 0."
-use Rattle.std.specs.Prelude.{ℕ, suc, Bool, true, false, not, ◌&&◌, ◌||◌, cond, List, [], ◌∷◌, length, eqb, ltb}
+use Rattle.std.specs.Prelude.{ℕ, suc, Bool, true, false, not, ◌&&◌, ◌||◌, cond, List, [], ◌∷◌}
+use Rattle.std.specs.Prelude.{length, eqb, ltb}
 use Rattle.std.proofs.Math.Option.{Option, none, some}
 use Rattle.utf8.specs.Text.{chars}
 

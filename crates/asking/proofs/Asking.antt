@@ -92,7 +92,8 @@ module _ {front : Opened} where
       let refused = told_refused o.verdict e in
       record {
         verdict =
-            ap row_of same ∙ o.verdict ∙ refused ∙ sym (first_part rows (key_rows l given) refused);
+            ap row_of same ∙ o.verdict ∙ refused
+            ∙ sym (first_part rows (key_rows l given) refused);
         numbers = o.numbers;
         allowed = λ f. absurd (row_refused r.verdict (same ∙ e) f);
       }

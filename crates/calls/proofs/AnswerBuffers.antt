@@ -21,11 +21,14 @@ use Rattle.paper.specs.Hearing.{Said, Row, Outcome, first, heard, outcome, done_
 use Rattle.paper.specs.Hearing.{refused_numbers}
 use Rattle.paper.specs.Given.{Given, key_in}
 use Rattle.paper.specs.Orders.{opening_rows, check_order, store_order, next_key_order}
-use Rattle.paper.specs.Calls.{table_in, fresh_head, make_of, check_of, count_of, look_up_of, can_mend}
+use Rattle.paper.specs.Calls.{table_in, fresh_head, make_of, check_of, count_of, look_up_of}
+use Rattle.paper.specs.Calls.{can_mend}
 use Rattle.paper.specs.Calls.{mend_of}
-use Rattle.paper.specs.Calls.{work_after, stored_keys, stored_image, store_of, writes_in, with_writes}
+use Rattle.paper.specs.Calls.{work_after, stored_keys, stored_image, store_of, writes_in}
+use Rattle.paper.specs.Calls.{with_writes}
 use Rattle.paper.specs.Calls.{store_writes_of, next_in, found_in, next_key_of}
-use Rattle.position.specs.Orders.{counts_order, check_counts_order, store_counts_order, key_at_order}
+use Rattle.position.specs.Orders.{counts_order, check_counts_order, store_counts_order}
+use Rattle.position.specs.Orders.{key_at_order}
 use Rattle.position.specs.Orders.{position_order}
 use Rattle.position.specs.Calls.{work_left, worked, counts_of, check_counts_of, store_counts_of}
 use Rattle.position.specs.Calls.{placed_key, key_at_of, position_of}
@@ -57,7 +60,8 @@ module _ (l : List ℕ) (p : ℕ) where
   next_rest : (work key : List ℕ) (after : Bool) (buffer : List ℕ)
       → front_of l (next_key work key after buffer) ≤ p
       → get_or (answer_after l (next_key work key after buffer)) p 0 ≡ get_or buffer p 0
-  unfolding front_of answer_after answer_in writes_image first_left others_in lent_to outcome_of next_key_of
+  unfolding front_of answer_after answer_in writes_image first_left others_in lent_to outcome_of
+      next_key_of
       found_in done_numbers refused_numbers heard
   next_rest work key after buffer =
       go (first (next_key_order l work key (length buffer) (next_in l key after)))
@@ -78,7 +82,8 @@ module _ (l : List ℕ) (p : ℕ) where
   at_rest : (work tally : List ℕ) (at : ℕ) (buffer : List ℕ)
       → front_of l (key_at work tally at buffer) ≤ p
       → get_or (answer_after l (key_at work tally at buffer)) p 0 ≡ get_or buffer p 0
-  unfolding front_of answer_after answer_in writes_image first_left others_in lent_to outcome_of key_at_of
+  unfolding front_of answer_after answer_in writes_image first_left others_in lent_to outcome_of
+      key_at_of
       placed_key done_numbers refused_numbers heard
   at_rest work tally at buffer = go (first (key_at_order l work tally at (length buffer)))
     where
@@ -98,7 +103,8 @@ module _ (l : List ℕ) (p : ℕ) where
 
   counts_rest : (work tally : List ℕ) → (head_of l).g + 1 ≤ p
       → get_or (answer_after l (counts work tally)) p 0 ≡ get_or tally p 0
-  unfolding answer_after answer_in writes_image first_left others_in lent_to outcome_of counts_of worked
+  unfolding answer_after answer_in writes_image first_left others_in lent_to outcome_of counts_of
+      worked
       heard
   counts_rest work tally b = go (first (counts_order l work tally))
     where
@@ -106,15 +112,18 @@ module _ (l : List ℕ) (p : ℕ) where
       done = outcome (done_numbers 0 (pos 0) 0) (work_left l work tally ∷ worked l tally ∷ [])
 
       go : (row : Row)
-          → get_or (answer_in (counts work tally) (others_in (working_with tally work ∷ answering tally
-          ∷ []) (heard row (work_left l work tally ∷ tally ∷ []) done).lent)) p 0 ≡ get_or tally p 0
+          → get_or (answer_in (counts work tally)
+          (others_in (working_with tally work ∷ answering tally
+          ∷ []) (heard row (work_left l work tally ∷ tally ∷ []) done).lent)) p 0
+          ≡ get_or tally p 0
       go none = worked_rest l tally p (omega arith)
       go (some s) = refl
 
   store_counts_rest : (work : List ℕ) (given : Given) (value : ℕ) (tally : List ℕ)
       → front_of l (store_counts work given value tally) ≤ p
       → get_or (answer_after l (store_counts work given value tally)) p 0 ≡ get_or tally p 0
-  unfolding front_of image_after answer_after answer_in writes_image first_left rest_left others_in lent_to
+  unfolding front_of image_after answer_after answer_in writes_image first_left rest_left
+      others_in lent_to
       outcome_of store_counts_of worked heard
   store_counts_rest work given value tally =
       go (first (store_counts_order l work given value tally))
@@ -140,7 +149,8 @@ module _ (l : List ℕ) (p : ℕ) where
   writes_rest : (work : List ℕ) (given : Given) (value : ℕ) (list : List ℕ)
       → front_of l (store_writes work given value list) ≤ p
       → get_or (answer_after l (store_writes work given value list)) p 0 ≡ get_or list p 0
-  unfolding front_of answer_after answer_in writes_image first_left rest_left others_in lent_to outcome_of
+  unfolding front_of answer_after answer_in writes_image first_left rest_left others_in lent_to
+      outcome_of
       store_writes_of store_of with_writes done_numbers refused_numbers heard
   writes_rest work given value list = go (first (store_order l work given value))
     where
@@ -180,12 +190,15 @@ no_answer l c p e f = rw (e, f)
 pub answer_rest : (l : List ℕ) (c : Call) (p : ℕ) → front_of l c ≤ p
     → get_or (answer_after l c) p 0 ≡ get_or (answer_lent l c) p 0
 unfolding answer_after answer_lent answer_in writes_image first_left rest_left others_in lent_to
-    refused_leaves outcome_of front_of make_of check_of count_of look_up_of store_of check_counts_of
+    refused_leaves outcome_of front_of make_of check_of count_of look_up_of store_of
+    check_counts_of
     position_of
 answer_rest l (make n a d alphabet least most) p b =
     no_answer l (make n a d alphabet least most) p
-    (either_left (λ ls. answer_in (make n a d alphabet least most) (others_in (answering l ∷ []) ls))
-    (first (opening_rows (fresh_head n a d alphabet least most) alphabet (length l))) _ _ refl refl)
+    (either_left (λ ls. answer_in (make n a d alphabet least most)
+    (others_in (answering l ∷ []) ls))
+    (first (opening_rows (fresh_head n a d alphabet least most) alphabet (length l))) _ _ refl
+    refl)
     refl
 answer_rest l (check work) p b =
     no_answer l (check work) p

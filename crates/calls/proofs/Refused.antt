@@ -12,15 +12,18 @@ use Rattle.node.specs.Writes.{Write}
 use Rattle.paper.specs.Hearing.{Outcome, first, done_numbers}
 use Rattle.paper.specs.Given.{key_in}
 use Rattle.paper.specs.Orders.{opening_rows, check_order, look_up_order, next_key_order}
-use Rattle.paper.specs.Calls.{work_after, fresh_head, make_of, check_of, count_of, look_up_of, store_of}
+use Rattle.paper.specs.Calls.{work_after, fresh_head, make_of, check_of, count_of, look_up_of}
+use Rattle.paper.specs.Calls.{store_of}
 use Rattle.paper.specs.Calls.{writes_in, with_writes, store_writes_of, can_mend, mend_of}
 use Rattle.paper.specs.Calls.{next_in, found_in, next_key_of}
 use Rattle.paper.proofs.Hearing.{kept_lent}
 use Rattle.paper.proofs.StoreCall.{refused_keeps}
 use Rattle.paper.proofs.MendCall.{mend_kept, mend_lowered}
-use Rattle.position.specs.Orders.{counts_order, check_counts_order, store_counts_order, key_at_order}
+use Rattle.position.specs.Orders.{counts_order, check_counts_order, store_counts_order}
+use Rattle.position.specs.Orders.{key_at_order}
 use Rattle.position.specs.Orders.{position_order}
-use Rattle.position.specs.Calls.{work_left, counts_of, check_counts_of, store_counts_of, placed_key}
+use Rattle.position.specs.Calls.{work_left, counts_of, check_counts_of, store_counts_of}
+use Rattle.position.specs.Calls.{placed_key}
 use Rattle.position.specs.Calls.{key_at_of, position_of}
 use Rattle.calls.specs.Call.{Call, make, check, count, look_up, store, store_writes, mend}
 use Rattle.calls.specs.Call.{next_key, counts, check_counts, store_counts, key_at, position}
@@ -56,8 +59,10 @@ refused_mend l work z = go (can_mend l (check_of l work).numbers) refl
 -- numbers"
 pub call_refused : (l : List ℕ) (c : Call) → (outcome_of l c).numbers.number ≢ 0
     → (outcome_of l c).lent ≡ map (refused_leaves l) (lent_to l c)
-unfolding outcome_of lent_to refused_leaves make_of check_of count_of look_up_of store_writes_of next_key_of
-    found_in counts_of check_counts_of store_counts_of key_at_of placed_key position_of done_numbers
+unfolding outcome_of lent_to refused_leaves make_of check_of count_of look_up_of store_writes_of
+    next_key_of
+    found_in counts_of check_counts_of store_counts_of key_at_of placed_key position_of
+    done_numbers
 call_refused l (make n a d alphabet least most) z =
     kept_lent (first (opening_rows (fresh_head n a d alphabet least most) alphabet (length l)))
     (l ∷ []) _ refl z

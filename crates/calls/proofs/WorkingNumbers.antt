@@ -19,7 +19,8 @@ use Rattle.paper.specs.Hearing.{Row, Numbers, Outcome, outcome, first, heard, do
 use Rattle.paper.specs.Hearing.{refused_numbers}
 use Rattle.paper.specs.Given.{Given, key_in}
 use Rattle.paper.specs.Rows.{row5, row14, row15}
-use Rattle.paper.specs.Orders.{opening_rows, opening_rows_of, node_rows, check_order, key_rows, next_rows}
+use Rattle.paper.specs.Orders.{opening_rows, opening_rows_of, node_rows, check_order, key_rows}
+use Rattle.paper.specs.Orders.{next_rows}
 use Rattle.paper.specs.Orders.{new_of, store_order, next_key_order}
 use Rattle.paper.specs.Calls.{work_after, fresh_head, make_of, check_of, count_of}
 use Rattle.paper.specs.Calls.{stored_keys, store_of}
@@ -74,7 +75,8 @@ module _ (l : List ℕ) where
   work_mend work = go (can_mend l (check_of l work).numbers) refl
     where
       go : (b : Bool) → can_mend l (check_of l work).numbers ≡ b
-          → work_in (answering l ∷ working work ∷ []) (mend_of l work).lent ≡ work_after l work ∷ []
+          → work_in (answering l ∷ working work ∷ []) (mend_of l work).lent
+          ≡ work_after l work ∷ []
       go true e = ap (λ (o : Outcome). work_in (answering l ∷ working work ∷ []) o.lent)
           (mend_lowered l work e)
       go false e = ap (λ (o : Outcome). work_in (answering l ∷ working work ∷ []) o.lent)
@@ -85,11 +87,13 @@ module _ (l : List ℕ) where
   -- first names it, or before that, all keep what they held."
   pub work_ends : (c : Call) → work_in (lent_to l c) (outcome_of l c).lent
       ≡ work_in (lent_to l c) (map (refused_leaves l) (lent_to l c))
-  unfolding outcome_of lent_to refused_leaves work_in make_of check_of count_of store_writes_of next_key_of
+  unfolding outcome_of lent_to refused_leaves work_in make_of check_of count_of store_writes_of
+      next_key_of
       found_in counts_of check_counts_of store_counts_of key_at_of placed_key position_of
   work_ends (make n a d alphabet least most) =
       either_left (work_in (answering l ∷ []))
-      (first (opening_rows (fresh_head n a d alphabet least most) alphabet (length l))) _ _ refl refl
+      (first (opening_rows (fresh_head n a d alphabet least most) alphabet (length l))) _ _ refl
+      refl
   work_ends (check work) =
       either_left (work_in (working work ∷ [])) (first (check_order l work)) _ _ refl refl
   work_ends (count work) =
@@ -110,7 +114,8 @@ module _ (l : List ℕ) where
       either_left (work_in (working_with tally work ∷ answering tally ∷ []))
       (first (counts_order l work tally)) _ _ refl refl
   work_ends (check_counts work tally) =
-      either_left (work_in (working_with tally work ∷ [])) (first (check_counts_order l work tally))
+      either_left (work_in (working_with tally work ∷ []))
+      (first (check_counts_order l work tally))
       _ _ refl refl
   work_ends (store_counts work given value tally) =
       either_left (work_in (answering l ∷ working_with tally work ∷ answering tally ∷ []))
@@ -119,7 +124,8 @@ module _ (l : List ℕ) where
       either_left (work_in (working_with tally work ∷ answering buffer ∷ []))
       (first (key_at_order l work tally at (length buffer))) _ _ refl refl
   work_ends (position work tally given) =
-      either_left (work_in (working_with tally work ∷ [])) (first (position_order l work tally given))
+      either_left (work_in (working_with tally work ∷ []))
+      (first (position_order l work tally given))
       _ _ refl refl
 
 -- ---- by their length alone
@@ -196,7 +202,8 @@ module _ (l w work : List ℕ) (e : length w ≡ length work) where
   unfolding next_key_of next_key_order found_in others_in
   next_same key after buffer =
       same_heard _ _ _ _ _ _ (ap (λ (rows : List Row). first (rows ++ (next_rows (head_of l) key
-      ++ (row14 (head_of l) (length buffer) ∷ row15 (next_in l key after) ∷ [])))) checks_same) refl
+      ++ (row14 (head_of l) (length buffer) ∷ row15 (next_in l key after) ∷ [])))) checks_same)
+      refl
       refl refl
 
   -- mending goes by the check's numbers
@@ -246,7 +253,8 @@ module _ (l w work : List ℕ) (e : length w ≡ length work) where
 
   -- ---- the calls with counts
 
-  usable_same : (tally : List ℕ) → check_order l (usable w tally) ≡ check_order l (usable work tally)
+  usable_same : (tally : List ℕ) → check_order l (usable w tally)
+      ≡ check_order l (usable work tally)
   unfolding check_order usable
   usable_same tally = ap (λ (n : ℕ). opening_rows_of l
       ++ (row5 (head_of l) n ∷ node_rows (head_of l) (table_of (head_of l) l)))
@@ -260,7 +268,8 @@ module _ (l w work : List ℕ) (e : length w ≡ length work) where
 
   counts_same : (tally : List ℕ)
       → SameBesides (working_with tally w ∷ answering tally ∷ [])
-      (working_with tally work ∷ answering tally ∷ []) (counts_of l w tally) (counts_of l work tally)
+      (working_with tally work ∷ answering tally ∷ []) (counts_of l w tally)
+      (counts_of l work tally)
   unfolding counts_of counts_order others_in
   counts_same tally = same_heard _ _ _ _ _ _ (ap first (usable_same tally)) refl refl refl
 

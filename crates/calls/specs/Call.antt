@@ -30,7 +30,8 @@ pub data Call : Type 0 where
 
 -- the outcome of a call on this image, as the call's promise cites it
 unfoldable pub outcome_of : List ℕ → Call → Outcome
-unfolding make_of check_of count_of look_up_of store_of store_writes_of mend_of next_key_of counts_of
+unfolding make_of check_of count_of look_up_of store_of store_writes_of mend_of next_key_of
+    counts_of
     check_counts_of store_counts_of key_at_of position_of
 outcome_of l (make n a d alphabet least most) = make_of l n a d alphabet least most
 outcome_of l (check work) = check_of l work
@@ -200,5 +201,6 @@ front_of l (counts work tally) = (head_of l).g + 1
 front_of l (check_counts work tally) = 0
 front_of l (store_counts work given value tally) =
     (head_of (image_after l (store_counts work given value tally))).g + 1
-front_of l (key_at work tally at buffer) = (outcome_of l (key_at work tally at buffer)).numbers.length
+front_of l (key_at work tally at buffer) = (outcome_of l
+    (key_at work tally at buffer)).numbers.length
 front_of l (position work tally given) = 0

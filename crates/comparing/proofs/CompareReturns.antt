@@ -140,7 +140,8 @@ module _ (l work counts : List ℕ) {r : Opened} {work₁ codes : List ℕ}
           record {
             verdict = (rw n at says)
                 ∙ lowest_25 (rw n at f)
-                ∙ sym (second_part (check_order l (usable work counts)) (row25 l counts ∷ []) passes
+                ∙ sym (second_part (check_order l (usable work counts)) (row25 l counts ∷ [])
+                passes
                 ∙ last_row (row25 l counts));
             numbers = (rw n at clears)
                 ∙ ap (replicate ((head_of l).g + 1) 0 ++◌)

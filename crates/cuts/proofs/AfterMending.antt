@@ -25,7 +25,8 @@ use Rattle.paper.specs.Hearing.{Row, Numbers, Outcome, first, heard}
 use Rattle.paper.specs.Given.{Given, alphabet_in, key_in}
 use Rattle.paper.specs.Rows.{bad_link}
 use Rattle.paper.specs.Orders.{opening_rows_of, key_rows}
-use Rattle.paper.specs.Calls.{table_in, work_after, check_of, telling, look_up_of, is_accepted, can_mend}
+use Rattle.paper.specs.Calls.{table_in, work_after, check_of, telling, look_up_of, is_accepted}
+use Rattle.paper.specs.Calls.{can_mend}
 use Rattle.paper.specs.Calls.{mend_of}
 use Rattle.paper.specs.Accepted.{Accepted}
 use Rattle.paper.proofs.Numbers.{first_says, none_heard}
@@ -58,7 +59,8 @@ module _ (l work : List ℕ) where
   unfolding mended_image
   mended_kept e = ap (λ (b : Bool). cond b (put_total l (numbers.place - 1)) l) e
 
-  mended_lowered : can_mend l numbers ≡ true → mended_image l work ≡ put_total l (numbers.place - 1)
+  mended_lowered : can_mend l numbers ≡ true → mended_image l work
+      ≡ put_total l (numbers.place - 1)
   unfolding mended_image
   mended_lowered e = ap (λ (b : Bool). cond b (put_total l (numbers.place - 1)) l) e
 
@@ -88,7 +90,8 @@ module _ (l work : List ℕ) where
   mend_length =
       either (λ (r : List ℕ). length r ≡ length l) refl (λ _. length_total l (numbers.place - 1))
 
-  pub mend_four : (p : ℕ) → total_at + total_len ≤ p → get_or (mended_image l work) p 0 ≡ get_or l p 0
+  pub mend_four : (p : ℕ) → total_at + total_len ≤ p → get_or (mended_image l work) p 0
+      ≡ get_or l p 0
   mend_four p b = either (λ (r : List ℕ). get_or r p 0 ≡ get_or l p 0) refl
       (λ _. total_outside l (numbers.place - 1) p b)
 
@@ -179,7 +182,8 @@ module _ (l work : List ℕ) (e : can_mend l (check_of l work).numbers ≡ true)
 
 pub mend_looks : (l work : List ℕ) (given : Given) → look_up_of (mended_image l work) given
     ≡ look_up_of l given
-mend_looks l work given = either l work (λ (r : List ℕ). look_up_of r given ≡ look_up_of l given) refl
+mend_looks l work given = either l work (λ (r : List ℕ). look_up_of r given ≡ look_up_of l given)
+    refl
     (λ e. looks_alike l work e given)
 
 -- ---- a mending that answers 0 leaves an accepted image

@@ -41,7 +41,8 @@ long_writes h key (stopped q x xs) (suc v) few =
     total_write (h.g + suc (length xs)) ∷ link_write h q x (suc h.g) ∷ [] in
     omega (arith, few q x xs refl, nodes_count h (suc h.g) xs (suc v) two)
 
-pub few_writes : {l key : List ℕ} {value : ℕ} → Granted l key value → length (writes_in l key value)
+pub few_writes : {l key : List ℕ} {value : ℕ} → Granted l key value
+    → length (writes_in l key value)
     ≤ most_writes
 few_writes {l} {key} {value} s =
     let short = (between_true (length key) (head_of l).min (head_of l).max s.fit.allowed).1 in
@@ -71,7 +72,8 @@ had_writes {l} {key} {value} s list b =
     let ws : List Write = writes_in l key value in
     let e : length (noted ws) ≡ 2 * length ws = length_noted ws in
     ap (λ (n : ℕ). read_back (stored_image l key value) (take n (sets list 0 (noted ws)))) (sym e)
-    ∙ ap (read_back (stored_image l key value)) (front list (noted ws) (omega (arith, few_writes s)))
+    ∙ ap (read_back (stored_image l key value))
+    (front list (noted ws) (omega (arith, few_writes s)))
     ∙ read_back_lem s
 
 -- ---- the calls
@@ -97,7 +99,8 @@ module _ (l work : List ℕ) (given : Given) (value : ℕ) (list : List ℕ) whe
   store_writes_leaves z =
       ap (with_writes (writes_in l key value) list) (store_leaves l work given value z)
 
-  pub store_writes_told : (store_of l work given value).numbers.number ≡ 0 → most_noted ≤ length list
+  pub store_writes_told : (store_of l work given value).numbers.number ≡ 0
+      → most_noted ≤ length list
       → read_back (stored_image l key value)
       (take (2 * length (writes_in l key value)) (sets list 0 (noted (writes_in l key value))))
       ≡ writes_in l key value

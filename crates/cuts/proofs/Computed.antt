@@ -66,10 +66,12 @@ pub computed : (map left cuts ≡ expected)
     × (map (λ (k : ℕ). mended_image (left k) work) cuts
     ≡ map (λ (k : ℕ). cond (eqb k 4) (grown 2 0) (left k)) cuts)
     × (mend_of (left 4) work ≡ done (grown 2 0) (0 ∷ 0 ∷ 0 ∷ 0 ∷ 0 ∷ 0 ∷ 7 ∷ []))
-    × (noted (writes_in before (2 ∷ 2 ∷ 2 ∷ []) 1) ≡ 43 ∷ 4 ∷ 47 ∷ 4 ∷ 51 ∷ 4 ∷ 0 ∷ 4 ∷ 33 ∷ 1 ∷ [])
+    × (noted (writes_in before (2 ∷ 2 ∷ 2 ∷ []) 1)
+    ≡ 43 ∷ 4 ∷ 47 ∷ 4 ∷ 51 ∷ 4 ∷ 0 ∷ 4 ∷ 33 ∷ 1 ∷ [])
     × (read_back (left 5) (noted (writes_in before (2 ∷ 2 ∷ 2 ∷ []) 1)) ≡ writes_in before
     (2 ∷ 2 ∷ 2 ∷ []) 1)
-unfolding row1 row2 row3 row4 row6 row7 row8 row16 row19 cut_after mended_image mend_of stored_image
+unfolding row1 row2 row3 row4 row6 row7 row8 row16 row19 cut_after mended_image mend_of
+    stored_image
     read_back noted store_writes table_in
 computed = (refl, refl, refl, refl, refl)
 
@@ -126,7 +128,8 @@ pub computed_flushes : (map noted (groups_in before (2 ∷ 2 ∷ 2 ∷ []) 1)
     × (mend_of sparse work ≡ done sparse (0 ∷ 0 ∷ 0 ∷ 7 ∷ 7 ∷ 7 ∷ 7 ∷ []))
     × (map stored_keys (before ∷ sparse ∷ striped ∷ grown 2 0 ∷ [])
     ≡ replicate 4 ((1 ∷ []) ∷ (1 ∷ 0 ∷ []) ∷ []))
-unfolding row1 row2 row3 row4 row6 row7 row8 row16 row19 flushed cut_since mended_image mend_of noted
+unfolding row1 row2 row3 row4 row6 row7 row8 row16 row19 flushed cut_since mended_image mend_of
+    noted
     store_writes table_in descend stored_keys keys_under
 computed_flushes = (refl, refl, refl, refl, refl, refl, refl, refl, refl, refl)
 
@@ -137,14 +140,16 @@ pub computed_rounds : (left_in 0 (second ∷ odds ∷ []) ≡ both)
     × (stored_keys both ≡ (1 ∷ []) ∷ (1 ∷ 0 ∷ []) ∷ [])
     × (left_in 1 (nothing ∷ odds ∷ all ∷ []) ≡ grown 5 0)
     × (left_in 2 (all ∷ all ∷ []) ≡ grown 5 3)
-unfolding row1 row2 row3 row4 row6 row7 row8 row16 row19 flushed cut_since mended_image mend_of noted
+unfolding row1 row2 row3 row4 row6 row7 row8 row16 row19 flushed cut_since mended_image mend_of
+    noted
     store_writes table_in descend stored_keys keys_under
 computed_rounds = (refl, refl, refl, refl, refl)
 
 -- the store with no flush until all writes were issued: of write i all or nothing landed
 abbrev unflushed : (ℕ → Bool) → List ℕ
 unflushed lands =
-    landed (used_len (head_of before)) (λ i p. lands i) before (writes_in before (2 ∷ 2 ∷ 2 ∷ []) 1)
+    landed (used_len (head_of before)) (λ i p. lands i) before
+    (writes_in before (2 ∷ 2 ∷ 2 ∷ []) 1)
 
 -- The first two flushes are needed. Without the one before G, G may land and no node: the check
 -- answers 6 at the first new node. Without the one before the link, the link may land and G not:
@@ -152,7 +157,8 @@ unflushed lands =
 pub computed_needed :
     ((mend_of (unflushed (λ i. eqb i 3)) work).numbers ≡ refused_numbers (number_at 6 3))
     × ((mend_of (unflushed (λ i. not (eqb i 3))) work).numbers ≡ refused_numbers (number_at 6 0))
-unfolding row1 row2 row3 row4 row6 row7 row8 row16 row19 landed mend_of store_writes table_in descend
+unfolding row1 row2 row3 row4 row6 row7 row8 row16 row19 landed mend_of store_writes table_in
+    descend
     head_of used_len
 computed_needed = (refl, refl)
 

@@ -22,7 +22,8 @@ use Rattle.trie.specs.Table.{Table, Descent, complete, stopped, descend}
 use Rattle.trie.specs.Storing.{grow}
 use Rattle.trie.proofs.Walk.{complete_within, where_stopped}
 use Rattle.head.specs.declared.Head.{Head}
-use Rattle.head.specs.Fields.{fields_len, head_of, node_place, used_len, put_total, total_at, total_len}
+use Rattle.head.specs.Fields.{fields_len, head_of, node_place, used_len, put_total, total_at}
+use Rattle.head.specs.Fields.{total_len}
 use Rattle.head.proofs.Fields.{head_outside, length_total, total_outside, head_total, total_back}
 use Rattle.head.proofs.Permitted.{bounds, addresses_fit}
 use Rattle.head.proofs.Places.{place_le, place_least}
@@ -392,9 +393,11 @@ abbrev pub Mended : List ℕ → List ℕ → ℕ → Type 0
 Mended l key value =
     (k : ℕ) (lands : ℕ → Bool) (work : List ℕ)
     → (head_of (cut_after k lands l (writes_in l key value))).g + 1 ≤ length work
-    → (k < length (writes_in l key value) → MendsTo (cut_after k lands l (writes_in l key value)) work
+    → (k < length (writes_in l key value)
+    → MendsTo (cut_after k lands l (writes_in l key value)) work
     l)
-    × (length (writes_in l key value) ≤ k → MendsTo (cut_after k lands l (writes_in l key value)) work
+    × (length (writes_in l key value) ≤ k
+    → MendsTo (cut_after k lands l (writes_in l key value)) work
     (stored_image l key value))
 
 cut_anywhere : {l key : List ℕ} {value : ℕ} → Granted l key value → Mended l key value

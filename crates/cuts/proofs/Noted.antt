@@ -16,7 +16,8 @@ use Rattle.head.specs.declared.Head.{Head}
 use Rattle.head.specs.Fields.{head_of, node_width, node_place, total_len}
 use Rattle.head.proofs.Places.{place_add, place_le, place_least}
 use Rattle.node.specs.Image.{link_place}
-use Rattle.node.specs.Writes.{Write, carried_out, noted, path_node, last_node, new_nodes, total_write}
+use Rattle.node.specs.Writes.{Write, carried_out, noted, path_node, last_node, new_nodes}
+use Rattle.node.specs.Writes.{total_write}
 use Rattle.node.specs.Writes.{link_write, data_write, store_writes}
 use Rattle.node.proofs.FieldPlaces.{link_from, link_inside, data_inside, inside_used}
 use Rattle.node.proofs.Heads.{used_total}

@@ -40,7 +40,8 @@ pub record Recounted (l work counts work₂ : List ℕ) : Type 0 where
 -- so it is for any lists that are long enough
 abbrev pub Recounts : List ℕ → Type 0
 Recounts l =
-    (work counts work₂ : List ℕ) → (head_of l).g + 1 ≤ length work → (head_of l).g + 1 ≤ length counts
+    (work counts work₂ : List ℕ) → (head_of l).g + 1 ≤ length work
+    → (head_of l).g + 1 ≤ length counts
     → (head_of l).g + 1 ≤ length work₂
     → Recounted l work counts work₂
 

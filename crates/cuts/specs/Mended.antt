@@ -24,7 +24,8 @@ pub record MendsTo (l work m : List ℕ) : Type 0 where
 unfoldable pub mended_image : List ℕ → List ℕ → List ℕ
 unfolding can_mend check_of
 mended_image l work =
-    cond (can_mend l (check_of l work).numbers) (put_total l ((check_of l work).numbers.place - 1)) l
+    cond (can_mend l (check_of l work).numbers)
+    (put_total l ((check_of l work).numbers.place - 1)) l
 
 -- the writes that a caller recovers from the list of writes and the image after the call: the
 -- bytes of a write are those that the image has at its place

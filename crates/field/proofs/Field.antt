@@ -23,7 +23,8 @@ use Rattle.field.proofs.Sets.{sets_same}
 -- ---- the number depends only on the field's bytes
 
 pub field_same : (l m : List ℕ) (at bt w : ℕ)
-    → ((k : ℕ) → k < w → get_or l (at + k) 0 ≡ get_or m (bt + k) 0) → field_at l at w ≡ field_at m bt w
+    → ((k : ℕ) → k < w → get_or l (at + k) 0 ≡ get_or m (bt + k) 0) → field_at l at w
+    ≡ field_at m bt w
 unfolding field_at
 field_same l m at bt zero e = refl
 field_same l m at bt (suc w) e =
@@ -46,7 +47,8 @@ unfolding field_at
 field_more l at i e f = ap₂ (λ (x y : ℕ). x * 256 + y) e f
 
 -- if a field is 0, each of its bytes is 0
-pub field_zero : (l : List ℕ) (at w : ℕ) → field_at l at w ≡ 0 → (k : ℕ) → k < w → get_or l (at + k) 0
+pub field_zero : (l : List ℕ) (at w : ℕ) → field_at l at w ≡ 0 → (k : ℕ) → k < w
+    → get_or l (at + k) 0
     ≡ 0
 unfolding field_at
 field_zero l at zero e k h = absurd (omega arith)
@@ -67,7 +69,8 @@ field_join l at u (suc w) =
     rw (add-suc u w)
     (ap₂ (λ (x y : ℕ). x * 256 + get_or l y 0) (field_join l at u w) (sym e)
     ∙ last (field_at l at u) (256 ^ w) (field_at l (at + u) w) (get_or l ((at + u) + w) 0)
-    ∙ ap (λ (x : ℕ). field_at l at u * x + (field_at l (at + u) w * 256 + get_or l ((at + u) + w) 0))
+    ∙ ap (λ (x : ℕ). field_at l at u * x + (field_at l (at + u) w * 256 + get_or l ((at + u) + w)
+    0))
     (sym (pow-suc 256 w)))
   where
     last : (a p b c : ℕ) → (a * p + b) * 256 + c ≡ a * (p * 256) + (b * 256 + c)
@@ -184,7 +187,8 @@ digits_field l at (suc w) p h =
     (sym (take-suc (drop at l) w 0 (simp length-drop (omega arith))))
 
 -- two runs of w bytes that have the same number are the same bytes
-pub same_bytes : (l m : List ℕ) (at bt w : ℕ) → Bytes l → Bytes m → field_at l at w ≡ field_at m bt w
+pub same_bytes : (l m : List ℕ) (at bt w : ℕ) → Bytes l → Bytes m → field_at l at w
+    ≡ field_at m bt w
     → (k : ℕ) → k < w → get_or l (at + k) 0 ≡ get_or m (bt + k) 0
 unfolding field_at
 same_bytes l m at bt zero p q e k h = absurd (not-suc-le-zero h)
@@ -195,13 +199,15 @@ same_bytes l m at bt (suc w) p q e k h =
     (same_bytes l m at bt w p q (omega arith)) (omega arith) k (omega arith)
 
 pub same_part : (l m : List ℕ) (at bt w : ℕ) → Bytes l → Bytes m → at + w ≤ length l
-    → bt + w ≤ length m → field_at l at w ≡ field_at m bt w → take w (drop at l) ≡ take w (drop bt m)
+    → bt + w ≤ length m → field_at l at w ≡ field_at m bt w → take w (drop at l)
+    ≡ take w (drop bt m)
 same_part l m at bt w p q hl hm e =
     sym (digits_field l at w p hl) ∙ ap (digits w) e ∙ digits_field m bt w q hm
 
 -- ---- a field after a number was written
 
-pub read_written : (l : List ℕ) (at w v : ℕ) → at + w ≤ length l → field_at (put_field l at w v) at w
+pub read_written : (l : List ℕ) (at w v : ℕ) → at + w ≤ length l
+    → field_at (put_field l at w v) at w
     ≡ v % 256 ^ w
 read_written l at w v h =
     let n : length (digits w v) ≡ w = length_digits w v in

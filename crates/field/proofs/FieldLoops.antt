@@ -134,9 +134,11 @@ blanking_all {l} {from} {to} {first} {at} p h long z a b =
 
 -- `eight`: eight bytes that give 0, read with the last byte the most significant, are a field
 -- that is 0
-pub turned : (l : List ℕ) (at : ℕ) {a b c d e f g h : ℕ} → a ≡ get_or l at 0 → b ≡ get_or l (at + 1) 0
+pub turned : (l : List ℕ) (at : ℕ) {a b c d e f g h : ℕ} → a ≡ get_or l at 0 → b
+    ≡ get_or l (at + 1) 0
     → c ≡ get_or l (at + 2) 0
-    → d ≡ get_or l (at + 3) 0 → e ≡ get_or l (at + 4) 0 → f ≡ get_or l (at + 5) 0 → g ≡ get_or l (at + 6) 0
+    → d ≡ get_or l (at + 3) 0 → e ≡ get_or l (at + 4) 0 → f ≡ get_or l (at + 5) 0 → g
+    ≡ get_or l (at + 6) 0
     → h ≡ get_or l (at + 7) 0
     → a + b * 256 + c * 65536 + d * 16777216 + (e + f * 256 + g * 65536 + h * 16777216) *
     4294967296 ≡ 0

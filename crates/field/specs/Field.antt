@@ -1,7 +1,8 @@
 -- 01, "The image": "All numbers are big-endian, here and in every later layout". A field is w
 -- bytes from a place of the image on. The width is free, so that each law is stated once for all
 -- widths. A byte is a number below 256.
-use Rattle.std.specs.Prelude.{ℕ, zero, suc, ◌+◌, ◌*◌, ◌/◌, ◌%◌, ◌≤◌, ◌<◌, ◌≡◌, List, [], ◌∷◌, ◌++◌, get_or, replicate}
+use Rattle.std.specs.Prelude.{ℕ, zero, suc, ◌+◌, ◌*◌, ◌/◌, ◌%◌, ◌≤◌, ◌<◌, ◌≡◌, List, [], ◌∷◌, ◌++◌}
+use Rattle.std.specs.Prelude.{get_or, replicate}
 use Rattle.std.proofs.lemmas.List.Edits.{sets}
 
 -- a list whose elements are bytes, as those of a lent slice are

@@ -76,7 +76,8 @@ pub head_written : (l : List ℕ) (h : Head) → Fit h → fields_len ≤ length
 head_written l h b e =
     let n : length (head_bytes h) ≡ fields_len = length_head h in
     head_same (sets l 0 (head_bytes h)) (head_bytes h)
-    (λ k c. ap (λ (j : ℕ). get_or (sets l 0 (head_bytes h)) j 0) (sym (zero-add k)) ∙ get_d_inside l
+    (λ k c. ap (λ (j : ℕ). get_or (sets l 0 (head_bytes h)) j 0) (sym (zero-add k))
+    ∙ get_d_inside l
     (head_bytes h) 0 k 0 (omega arith) (omega arith))
     ∙ head_read h b
 
@@ -98,7 +99,8 @@ length_total l g = length-sets l total_at (digits total_len g)
 pub total_outside : (l : List ℕ) (g p : ℕ) → total_at + total_len ≤ p → get_or (put_total l g) p 0
     ≡ get_or l p 0
 total_outside l g p b =
-    get_d_outside l (digits total_len g) total_at p 0 (inr (omega (arith, length_digits total_len g)))
+    get_d_outside l (digits total_len g) total_at p 0
+    (inr (omega (arith, length_digits total_len g)))
 
 -- the head has that G, and its other fields are as before
 pub head_total : (l : List ℕ) (g : ℕ) → total_at + total_len ≤ length l → g < 2 ^ 32
@@ -114,7 +116,8 @@ pub head_total : (l : List ℕ) (g : ℕ) → total_at + total_len ≤ length l 
     }
 unfolding head_of
 head_total l g e b =
-    let kept : (at : ℕ) → total_at + total_len ≤ at → field_at (put_total l g) at 4 ≡ field_at l at 4 =
+    let kept : (at : ℕ) → total_at + total_len ≤ at → field_at (put_total l g) at 4
+    ≡ field_at l at 4 =
     λ at c. field_outside l (digits total_len g) total_at at 4
     (inr (omega (arith, length_digits total_len g))) in
     head_eq (head_of (put_total l g)) _

@@ -24,7 +24,8 @@ pub width_least : {h : Head} → Bounds h → 1 < node_width h
 unfolding node_width
 width_least b = omega (arith, one-le-mul b.n_least b.a_least)
 
-pub width_most : {h : Head} → Bounds h → node_width h ≤ most_links * most_link_bytes + most_data_bytes
+pub width_most : {h : Head} → Bounds h
+    → node_width h ≤ most_links * most_link_bytes + most_data_bytes
 unfolding node_width
 width_most b = omega (arith, mul-le-mul b.n_most b.a_most)
 

@@ -32,7 +32,8 @@ use Rattle.mending.specs.Trial.{Lowers}
 is_not_linked : (w : Refusal) → (said_of w).number ≡ 8 → w ≡ Refusal.NotLinked (said_of w).place
 unfolding done_of refusal_numbers refused_numbers
 is_not_linked w k =
-    let e : done_of (Done.Refused w) ≡ done_of (Done.Refused (Refusal.NotLinked (said_of w).place)) =
+    let e : done_of (Done.Refused w)
+    ≡ done_of (Done.Refused (Refusal.NotLinked (said_of w).place)) =
     ap (λ (n : ℕ). refused_numbers (record { number = n; place = (said_of w).place })) k in
     let f = sym (told_done.inverse (Done.Refused w)) ∙ ap told_done.back e ∙ told_done.inverse
     (Done.Refused (Refusal.NotLinked (said_of w).place)) in

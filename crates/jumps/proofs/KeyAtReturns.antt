@@ -85,7 +85,8 @@ module _ (l work counts : List ℕ) (position : ℕ) (buffer : List ℕ) where
       unfolding row14
       left_15 = left ∙ no_row 14 0 _ (le-ltb (length buffer) (head_of l).max room)
 
-      missing : key_at (stored_keys l) position ≡ none → Leaves (Found.Refused Refusal.NoKey) buffer
+      missing : key_at (stored_keys l) position ≡ none
+          → Leaves (Found.Refused Refusal.NoKey) buffer
       unfolding row15 is_none
       missing e = refuses Refusal.NoKey (left_15 ∙ yes_row 15 0 [] (ap is_none e))
 

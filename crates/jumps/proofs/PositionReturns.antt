@@ -75,7 +75,8 @@ module _ (l work counts : List ℕ) (given : Given) where
   order = check_counts_order l work counts ++ (key_rows l given ++ last)
 
   abbrev done : Outcome
-  done = outcome (done_numbers 0 (pos 0) (rank_in (stored_keys l) key)) (work_left l work counts ∷ [])
+  done = outcome (done_numbers 0 (pos 0) (rank_in (stored_keys l) key))
+      (work_left l work counts ∷ [])
 
   asked : position_of l work counts given ≡ heard (first order) (work_left l work counts ∷ []) done
   unfolding position_of position_order

@@ -76,6 +76,7 @@ module _ {alphabet text kept : List ℕ} {len at : ℕ} (t : Typing alphabet tex
       ≡ typed_as (key_of_text alphabet text)
   typing_ill h e = ap typed_as (sym (spelling_ill t.spelling h e))
 
-  pub typing_outside : char_len text at ≢ 0 → length alphabet ≤ letter_of alphabet (char_at text at)
+  pub typing_outside : char_len text at ≢ 0
+      → length alphabet ≤ letter_of alphabet (char_at text at)
       → typed_as none ≡ typed_as (key_of_text alphabet text)
   typing_outside z h = ap typed_as (sym (spelling_outside t.spelling z h))

@@ -108,7 +108,8 @@ figures_one : (n v : ℕ) → v < 10 → figures (length (decimal_by n v)) v ≡
 unfolding figures
 figures_one n v h = rw (by_one n v h) (ap (λ (d : ℕ). (48 + d) ∷ []) (mod-eq_of_lt h))
 
-figures_more : (n v : ℕ) → 10 ≤ v → figures (length (decimal_by n (v / 10))) (v / 10) ≡ decimal_by n
+figures_more : (n v : ℕ) → 10 ≤ v → figures (length (decimal_by n (v / 10))) (v / 10)
+    ≡ decimal_by n
     (v / 10)
     → figures (length (decimal_by (suc n) v)) v ≡ decimal_by (suc n) v
 unfolding figures

@@ -26,7 +26,8 @@ pub key_none : {n : ℕ} (path : List ℕ) → n ≡ 0 → 45 ∷ [] ≡ key_tex
 unfolding key_text
 key_none path e = sym (ap (λ (k : ℕ). key_text (take k path)) e)
 
-pub key_parts : (k : List ℕ) → 0 < length k → key_text k ≡ decimal (get_or k 0 0) ++ dotted (drop 1 k)
+pub key_parts : (k : List ℕ) → 0 < length k → key_text k
+    ≡ decimal (get_or k 0 0) ++ dotted (drop 1 k)
 unfolding key_text
 key_parts [] h = absurd (not-suc-le-zero h)
 key_parts (x ∷ k) h = refl

@@ -1,6 +1,7 @@
 -- 01, "The listing program": its lines, as text in ASCII. "Letter numbers are joined by dots;
 -- the empty key is `-`." "A refused image writes one line".
-use Rattle.std.specs.Prelude.{ℕ, zero, suc, ◌+◌, ◌*◌, ◌/◌, ◌%◌, ◌≡◌, cond, List, [], ◌∷◌, ◌++◌, length, ltb}
+use Rattle.std.specs.Prelude.{ℕ, zero, suc, ◌+◌, ◌*◌, ◌/◌, ◌%◌, ◌≡◌, cond, List, [], ◌∷◌, ◌++◌}
+use Rattle.std.specs.Prelude.{length, ltb}
 use Rattle.std.proofs.lemmas.List.Edits.{sets}
 
 -- the digits of a number that has at most `more` digits after its first

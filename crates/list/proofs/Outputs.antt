@@ -48,7 +48,8 @@ module _ (l work : List ℕ) where
       ap (λ (o : Outcome). text_by o.numbers l) (heard_refused _ _ _ e)
       ∙ cond_false _ _ (ne_eqb s.number 0 some_number)
 
-  text_done : first (check_order l work) ≡ none → text_by (check_of l work).numbers l ≡ listing_text l
+  text_done : first (check_order l work) ≡ none → text_by (check_of l work).numbers l
+      ≡ listing_text l
   unfolding text_by check_of done_numbers
   text_done e = ap (λ (o : Outcome). text_by o.numbers l) (heard_done _ _ _ e)
 
@@ -80,7 +81,8 @@ module _ (input : List ℕ) where
 pub front_decides : (input : List ℕ) → output_of (take (image_most + 1) input) ≡ output_of input
 front_decides input = go (dec_lt image_most (length input))
   where
-    go : Dec (image_most < length input) → output_of (take (image_most + 1) input) ≡ output_of input
+    go : Dec (image_most < length input) → output_of (take (image_most + 1) input)
+        ≡ output_of input
     go (yes b) =
         output_longer (take (image_most + 1) input)
         (omega (arith, length-take (image_most + 1) input))

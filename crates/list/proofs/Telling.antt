@@ -60,7 +60,8 @@ module _ (h : Head) (l : List ℕ) where
           let some_value : own_value h (table_of h l) 0 0 ≢ 0 = λ z. full (e ∙ z) in
           let own = rw (sub-zero h.min) at (own_full h (table_of h l) 0 0 some_value) in
           let long = own_long h (table_of h l) 0 0 some_value in
-          let value : (table_of h l).value 0 ≡ root = sym (e ∙ own_data h (table_of h l) 0 0 long) in
+          let value : (table_of h l).value 0
+          ≡ root = sym (e ∙ own_data h (table_of h l) 0 0 long) in
           ap (λ (ks : List (List ℕ)). lined h l (ks ++ keys_after h l [])) own
           ∙ ap (λ (v : ℕ). entry_line [] v ++ lined h l (keys_after h l [])) value
           ∙ ap (◌++ lined h l (keys_after h l [])) (sym (root_stored root full))
@@ -69,7 +70,8 @@ module _ (h : Head) (l : List ℕ) where
       → listing_text l ≡ entries_line count ++ lined h l (all_keys h l)
   unfolding listing_text stored_keys table_in
   listing_lines {count} same counted =
-      ap (λ (k : Head). entries_line (length (all_keys k l)) ++ lined k l (all_keys k l)) (sym same)
+      ap (λ (k : Head). entries_line (length (all_keys k l)) ++ lined k l (all_keys k l))
+      (sym same)
       ∙ ap (λ (n : ℕ). entries_line n ++ lined h l (all_keys h l)) (sym counted)
 
 -- ---- from key to key

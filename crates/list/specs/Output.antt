@@ -1,6 +1,7 @@
 -- 01, "The listing program": all that it writes, as one text, for any input. The program hands
 -- it over piece by piece; that the pieces then reach standard output is not said here.
-use Rattle.std.specs.Prelude.{ℕ, zero, suc, ◌+◌, ◌≤◌, ◌≡◌, cond, List, [], ◌∷◌, ◌++◌, length, take, drop, replicate, eqb, ltb}
+use Rattle.std.specs.Prelude.{ℕ, zero, suc, ◌+◌, ◌≤◌, ◌≡◌, cond, List, [], ◌∷◌, ◌++◌, length, take}
+use Rattle.std.specs.Prelude.{drop, replicate, eqb, ltb}
 use Rattle.trie.specs.Table.{answer}
 use Rattle.paper.specs.Hearing.{Numbers}
 use Rattle.paper.specs.Calls.{table_in, stored_keys, check_of}
@@ -23,7 +24,8 @@ lines_of value (k ∷ ks) = entry_line k (value k) ++ lines_of value ks
 -- the listing of an image: the number of stored keys, then the line of each, in order
 unfoldable pub listing_text : List ℕ → List ℕ
 unfolding entries_line lines_of answer table_in stored_keys
-listing_text l = entries_line (length (stored_keys l)) ++ lines_of (answer (table_in l)) (stored_keys l)
+listing_text l = entries_line (length (stored_keys l)) ++ lines_of (answer (table_in l))
+    (stored_keys l)
 
 -- by the numbers that the check answers: the listing, or "A refused image writes one line"
 unfoldable pub text_by : Numbers → List ℕ → List ℕ

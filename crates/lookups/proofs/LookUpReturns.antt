@@ -54,9 +54,11 @@ module _ (l : List ℕ) (given : Given) where
 
     module _ (passed : first (key_rows l given) ≡ none) where
       path_left : first (opening_rows_of l ++ (key_rows l given ++ path)) ≡ first path
-      path_left = second_part (opening_rows_of l) _ opened ∙ second_part (key_rows l given) _ passed
+      path_left = second_part (opening_rows_of l) _ opened
+          ∙ second_part (key_rows l given) _ passed
 
-      by_fault : (at : Option ℕ) → fault (bad_link (head_of l).g) (table_of (head_of l) l) 0 key ≡ at
+      by_fault : (at : Option ℕ) → fault (bad_link (head_of l).g) (table_of (head_of l) l) 0 key
+          ≡ at
           → LooksUp l given (looked_of (looked_by at (answer (table_of (head_of l) l) key)))
       unfolding looked_by looked_of refusal_numbers row6path row6_at table_in
       by_fault none f =

@@ -36,7 +36,8 @@ EndsIn h (stopped q x xs) = (q ≤ h.g) × LettersBelow h.n (x ∷ xs)
 
 -- ---- a byte outside a write
 
-beside : (l vs : List ℕ) (at p n : ℕ) → length vs ≡ n → ¬ InBytes at n p → get_or (sets l at vs) p 0
+beside : (l vs : List ℕ) (at p n : ℕ) → length vs ≡ n → ¬ InBytes at n p
+    → get_or (sets l at vs) p 0
     ≡ get_or l p 0
 beside l vs at p n e miss = get_d_outside l vs at p 0 (go (dec_lt p at) (dec_lt p (at + n)))
   where
@@ -67,7 +68,8 @@ module _ (h : Head) (p : ℕ) where
       (λ b. miss (omega (arith, suc-mul 0 (node_width h))))
   beside_nodes l q (y ∷ ys) v s miss =
       let i = link_inside h q s.0 in
-      let w : suc (suc (length ys)) * node_width h ≡ suc (length ys) * node_width h + node_width h =
+      let w : suc (suc (length ys)) * node_width h
+      ≡ suc (length ys) * node_width h + node_width h =
       suc-mul (suc (length ys)) (node_width h) in
       let n : node_place h (suc q) ≡ node_place h q + 1 * node_width h =
       ap (node_place h) (sym (add-one q)) ∙ place_add h q 1 in
@@ -104,7 +106,8 @@ pub none_before : {h : Head} {d : Descent} {v p : ℕ} → total_at + total_len 
 none_before {h} low high (data_of_key {q} b) = omega (arith, inside_least (data_inside h q))
 none_before {h} low high (node_total b) = omega arith
 none_before {h} low high (one_link {q} {x} b) = omega (arith, link_from h q x, place_least h q)
-none_before {h} low high (new_nodes_lem b) = omega (arith, used_le h 0 (omega arith), place_least h 0)
+none_before {h} low high (new_nodes_lem b) = omega
+    (arith, used_le h 0 (omega arith), place_least h 0)
 
 -- nor is a byte from the new used length on
 none_after : {h : Head} {d : Descent} {v p : ℕ} → EndsIn h d

@@ -30,7 +30,8 @@ unfolding used_len
 used_total h g = ap (node_place h) (add-one g)
 
 -- U + k*W
-pub used_more : (h : Head) (k : ℕ) → used_len (with_total h (h.g + k)) ≡ used_len h + k * node_width h
+pub used_more : (h : Head) (k : ℕ) → used_len (with_total h (h.g + k))
+    ≡ used_len h + k * node_width h
 unfolding used_len
 used_more h k =
     let e : h.g + k + 1 ≡ h.g + 1 + k = omega arith in

@@ -61,7 +61,8 @@ blank_cleared h l q r k low high =
     let n : length {A = ℕ} (replicate (node_width h) 0) ≡ node_width h =
     length-replicate (node_width h) 0 in
     subst (λ (p : ℕ). get_or (cleared l (node_place h q) (node_width h)) p 0 ≡ 0) j
-    (get_d_inside l (replicate (node_width h) 0) (node_place h q) (k - node_place h q) 0 (omega arith)
+    (get_d_inside l (replicate (node_width h) 0) (node_place h q) (k - node_place h q) 0
+    (omega arith)
     (omega arith)
     ∙ get_or-replicate (node_width h) (k - node_place h q) 0 0 (omega arith))
 
@@ -133,7 +134,8 @@ zeros_with l at k w r v =
     )
 
 pub path_node_lem : (h : Head) (l : List ℕ) (q y c : ℕ) → y < h.n
-    → sets l (node_place h q) (path_node h y c) ≡ put_field (cleared l (node_place h q) (node_width h))
+    → sets l (node_place h q) (path_node h y c)
+    ≡ put_field (cleared l (node_place h q) (node_width h))
     (link_place h q y) h.a c
 unfolding path_node link_place
 path_node_lem h l q y c b =
@@ -145,7 +147,8 @@ path_node_lem h l q y c b =
     ∙ ap (λ (k : ℕ). put_field (cleared l (node_place h q) k) (link_place h q y) h.a c) e
 
 pub last_node_lem : (h : Head) (l : List ℕ) (q v : ℕ)
-    → sets l (node_place h q) (last_node h v) ≡ put_field (cleared l (node_place h q) (node_width h))
+    → sets l (node_place h q) (last_node h v)
+    ≡ put_field (cleared l (node_place h q) (node_width h))
     (data_place h q) h.d v
 unfolding last_node data_place
 last_node_lem h l q v =

@@ -17,7 +17,8 @@ use Rattle.field.proofs.Range.{both}
 use Rattle.trie.specs.Table.{Table, LettersBelow, complete, stopped}
 use Rattle.trie.specs.Storing.{put, grow, grow_path, stored_by}
 use Rattle.head.specs.declared.Head.{Head}
-use Rattle.head.specs.Fields.{total_at, total_len, head_of, put_total, node_width, node_place, used_len}
+use Rattle.head.specs.Fields.{total_at, total_len, head_of, put_total, node_width, node_place}
+use Rattle.head.specs.Fields.{used_len}
 use Rattle.head.proofs.Places.{place_add, place_le, place_least}
 use Rattle.head.proofs.Fields.{head_outside, length_total, head_total}
 use Rattle.node.specs.Image.{link_place, data_place, table_of}
@@ -56,7 +57,8 @@ module _ (h : Head) (l : List ℕ) (g : ℕ) (room : node_place h (suc (suc g)) 
             (replicate (node_width h) 0),
       )
 
-  pub table_cleared : table_of (with_total h (suc g)) (cleared l (node_place h (suc g)) (node_width h))
+  pub table_cleared : table_of (with_total h (suc g))
+      (cleared l (node_place h (suc g)) (node_width h))
       ≡ table_of (with_total h g) l
   table_cleared =
       table_blank h (cleared l (node_place h (suc g)) (node_width h)) g
@@ -92,7 +94,8 @@ grow_from : Table → ℕ → List ℕ → Table
 grow_from t c [] = t
 grow_from t c (y ∷ ys) = grow_from (grow t c y (suc c)) (suc c) ys
 
-grow_from_lem : (t : Table) (q x c : ℕ) (xs : List ℕ) → grow_path t q x xs c ≡ grow_from (grow t q x c) c
+grow_from_lem : (t : Table) (q x c : ℕ) (xs : List ℕ) → grow_path t q x xs c
+    ≡ grow_from (grow t q x c) c
     xs
 unfolding grow_path grow_from
 grow_from_lem t q x c [] = refl
@@ -111,7 +114,8 @@ grow_swap t q x c p y d h =
     swap true false u v w e = refl
     swap false b u v w e = refl
 
-    child : (r i : ℕ) → (grow (grow t p y d) q x c).child r i ≡ (grow (grow t q x c) p y d).child r i
+    child : (r i : ℕ) → (grow (grow t p y d) q x c).child r i
+        ≡ (grow (grow t q x c) p y d).child r i
     child r i =
         swap (eqb r q && eqb i x) (eqb r p && eqb i y) c d (t.child r i)
         (λ e f. h (sym (eqb-true r q (both (eqb r q) (eqb i x) e).0) ∙ eqb-true r p
@@ -193,7 +197,8 @@ store_new h l q x xs v s =
 -- a complete path: only the data changes
 pub store_over : (h : Head) (l : List ℕ) (q v : ℕ) → used_len h ≤ length l → q ≤ h.g
     → v < 256 ^ h.d
-    → table_of h (carried_out l (store_writes h (complete q) v)) ≡ stored_by (complete q) (table_of h l)
+    → table_of h (carried_out l (store_writes h (complete q) v))
+    ≡ stored_by (complete q) (table_of h l)
     h.g v
 unfolding store_writes stored_by carried_out data_write
 store_over h l q v r b f = table_data h l r q v b f

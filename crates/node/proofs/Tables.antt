@@ -71,7 +71,8 @@ module _ (h : Head) (l : List ℕ) where
 
   -- images with the same fields in every node up to G give the same table
   pub table_same : (m : List ℕ)
-      → ((q at w : ℕ) → q ≤ h.g → Inside h q at w → field_at l at w ≡ field_at m at w) → table_of h l
+      → ((q at w : ℕ) → q ≤ h.g → Inside h q at w → field_at l at w ≡ field_at m at w)
+      → table_of h l
       ≡ table_of h m
   table_same m e =
       table_eq (table_of h l) (table_of h m)
@@ -80,7 +81,8 @@ module _ (h : Head) (l : List ℕ) where
 
   -- and so do images with the same bytes from the first node up to the used length
   pub table_bytes : (m : List ℕ)
-      → ((p : ℕ) → fields_len + h.f ≤ p → p < used_len h → get_or l p 0 ≡ get_or m p 0) → table_of h l
+      → ((p : ℕ) → fields_len + h.f ≤ p → p < used_len h → get_or l p 0 ≡ get_or m p 0)
+      → table_of h l
       ≡ table_of h m
   table_bytes m e =
       table_same m

@@ -37,7 +37,8 @@ table_outside h l vs at e =
 -- the write of G too, since the table is that of a given head
 pub table_total : (h : Head) (l : List ℕ) (g : ℕ) → table_of h (put_total l g) ≡ table_of h l
 table_total h l g =
-    table_outside h l (digits total_len g) total_at (inl (omega (arith, length_digits total_len g)))
+    table_outside h l (digits total_len g) total_at
+    (inl (omega (arith, length_digits total_len g)))
 
 -- writing a number leaves a field that is apart
 kept : (l : List ℕ) (at w v bt u : ℕ) → Apart at w bt u → field_at (put_field l at w v) bt u

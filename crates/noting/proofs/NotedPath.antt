@@ -34,7 +34,8 @@ nodes_at place width (suc k) = place ∷ width ∷ nodes_at (place + width) widt
 
 module _ (h : Head) (v : ℕ) (ws : List Write) where
   nodes_noted : (q : ℕ) (ys : List ℕ) → LettersBelow h.n ys
-      → noted (new_nodes h q ys v ++ ws) ≡ nodes_at (node_place h q) (node_width h) (suc (length ys))
+      → noted (new_nodes h q ys v ++ ws)
+      ≡ nodes_at (node_place h q) (node_width h) (suc (length ys))
       ++ noted ws
   unfolding noted new_nodes nodes_at
   nodes_noted q [] s = ap (λ (w : ℕ). node_place h q ∷ w ∷ noted ws) (length_last h v)

@@ -87,7 +87,8 @@ module _ {l : List ℕ} {h : Head} (a : Accepted l) (same : h ≡ head_of l) (k 
   module _ {c : ℤ} (f : s ≡ Stored.Change c) where
     -- the new nodes fit the image, which is no longer than the longest image
     pub notes_room : used_len h + added (missing (end_of k o)) value * node_width h ≤ longest_image
-    notes_room = go (added (missing (end_of k o)) value) (room h l (end_of k o) value c (rw f at e))
+    notes_room = go (added (missing (end_of k o)) value)
+        (room h l (end_of k o) value c (rw f at e))
       where
         go : (n : ℕ) → (0 < n → used_len h + n * node_width h ≤ length l)
             → used_len h + n * node_width h ≤ longest_image

@@ -57,7 +57,8 @@ fn note_all(
     requires fact_1 { permitted h ≡ true }
     requires fact_2 { Ready h key }
     requires fact_3 { Ends h key walked }
-    requires fact_4 { used_len h + added (missing (end_of (letters_of key) walked)) value * node_width h
+    requires fact_4 { used_len h
+        + added (missing (end_of (letters_of key) walked)) value * node_width h
         ≤ longest_image }
     ensures { Notes h (end_of (letters_of key) walked) value writes.old result
         writes.new }

@@ -91,7 +91,8 @@ part l f end h e = go (leb (fields_len + f) (length l)) refl
 
 pub opens_judged : (l : List ℕ) {h : Head} {end : ℕ} {r : Opened} {codes : List ℕ} → h ≡ head_of l
     → end ≡ min (fields_len + h.f) (length l) → fields_len ≤ length l
-    → OpensWith h (take (end - fields_len) (drop fields_len l)) (length l) r codes → Opens l r codes
+    → OpensWith h (take (end - fields_len) (drop fields_len l)) (length l) r codes
+    → Opens l r codes
 unfolding opening_rows_of alphabet_in
 opens_judged l {h} {end} {r} {codes} e b k j =
     let alphabet : List ℕ = take (head_of l).f (drop fields_len l) in

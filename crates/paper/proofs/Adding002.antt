@@ -85,7 +85,8 @@ module _ (h : Head) where
   -- one turn of 002's loop
   created : (l : List ℕ) (q x c : ℕ)
       → node_created h l q x c
-      ≡ cleared (put_total (put_field l (link_place h q x) h.a c) c) (node_place h c) (node_width h)
+      ≡ cleared (put_total (put_field l (link_place h q x) h.a c) c) (node_place h c)
+      (node_width h)
   unfolding node_created total_written
   created l q x c =
       empty_put (put_total (link_written h l q x c) c) c
@@ -103,7 +104,8 @@ module _ (h : Head) where
 
   -- a write before the new nodes
   nodes_past : (l bs : List ℕ) (at q : ℕ) (ys : List ℕ) (v : ℕ) → at + length bs ≤ node_place h q
-      → carried_out (sets l at bs) (new_nodes h q ys v) ≡ sets (carried_out l (new_nodes h q ys v)) at
+      → carried_out (sets l at bs) (new_nodes h q ys v)
+      ≡ sets (carried_out l (new_nodes h q ys v)) at
       bs
   unfolding carried_out new_nodes
   nodes_past l bs at q [] v b = sets_comm l bs (last_node h v) at (node_place h q) (inr b)
@@ -115,7 +117,8 @@ module _ (h : Head) where
 
   -- an empty node with [G] as it is so far, then its link, then [G] as it will be
   path_made : (l : List ℕ) (q y c g m : ℕ) → y < h.n
-      → put_total (put_field (cleared (put_total l g) (node_place h q) (node_width h)) (link_place h q y)
+      → put_total (put_field (cleared (put_total l g) (node_place h q) (node_width h))
+      (link_place h q y)
       h.a c) m
       ≡ sets (put_total l m) (node_place h q) (path_node h y c)
   path_made l q y c g m b =
@@ -140,7 +143,8 @@ module _ (h : Head) where
   appended l q x m [] v s =
       last_put (node_created h l q x (suc m)) (suc m) v
       ∙ ap (λ (r : List ℕ). put_field r (data_place h (suc m)) h.d v) (created l q x (suc m))
-      ∙ sym (last_node_lem h (put_total (put_field l (link_place h q x) h.a (suc m)) (suc m)) (suc m)
+      ∙ sym (last_node_lem h (put_total (put_field l (link_place h q x) h.a (suc m)) (suc m))
+      (suc m)
       v)
       ∙ ap
       (λ (g : ℕ). sets (put_total (put_field l (link_place h q x) h.a (suc m)) g)
@@ -183,7 +187,8 @@ module _ (h : Head) where
       let long : length link ≡ h.a = length_digits h.a (suc g) in
       let inside = link_inside h q s.0 in
       appended l q x g xs (suc v) s.1
-      ∙ nodes_past (sets l (link_place h q x) link) (digits total_len m) total_at (suc g) xs (suc v)
+      ∙ nodes_past (sets l (link_place h q x) link) (digits total_len m) total_at (suc g) xs
+      (suc v)
       (omega (arith, length_digits total_len m, place_least h (suc g)))
       ∙ ap (λ (r : List ℕ). put_total r m)
       (nodes_past l link (link_place h q x) (suc g) xs (suc v)

@@ -57,7 +57,8 @@ module _ (l work : List ℕ) where
       → first (check_order l work) ≡ first (node_rows (head_of l) (table_of (head_of l) l))
   unfolding check_order row5
   left_6 e b =
-      second_part (opening_rows_of l) _ e ∙ no_row 5 0 _ (le-ltb (length work) ((head_of l).g + 1) b)
+      second_part (opening_rows_of l) _ e
+      ∙ no_row 5 0 _ (le-ltb (length work) ((head_of l).g + 1) b)
 
   -- what is known of an image and the working numbers once the check has passed
   pub record Checked : Type 0 where

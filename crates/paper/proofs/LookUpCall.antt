@@ -21,7 +21,8 @@ use Rattle.trie.proofs.Walk.{follow_empty, follow_on}
 use Rattle.trie.proofs.Faults.{fault_none, value_nil, value_empty, value_on}
 use Rattle.head.specs.declared.Head.{Head}
 use Rattle.head.specs.Fields.{head_of, node_width, node_place}
-use Rattle.alphabet.specs.Letters.{among, letters, or_empty, letter_of, with_letter, letters_of_chars}
+use Rattle.alphabet.specs.Letters.{among, letters, or_empty, letter_of, with_letter}
+use Rattle.alphabet.specs.Letters.{letters_of_chars}
 use Rattle.alphabet.specs.Letters.{key_of_chars, key_of_text}
 use Rattle.alphabet.proofs.Alphabets.{good_length, no_letters}
 use Rattle.node.specs.Image.{link_place, data_place, table_of}
@@ -207,7 +208,8 @@ no_fault none e = refl
 no_fault (some q) e = let z : ◌≡◌ {A = ℕ} 0 1 = cc in absurd (omega arith)
 
 -- where 9 and 10 pass, 002's query is the key that is meant
-pub meant_002 : (l : List ℕ) (given : Given) → first (key_rows l given) ≡ none → query_given l given
+pub meant_002 : (l : List ℕ) (given : Given) → first (key_rows l given) ≡ none
+    → query_given l given
     ≡ some (key_in l given)
 unfolding key_rows key_rows_by key_in meant_in meant_by or_empty query_given key_of_text
 meant_002 l (as_letters key) e = refl

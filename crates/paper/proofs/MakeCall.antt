@@ -17,7 +17,8 @@ use Rattle.trie.specs.Table.{complete, Table, answer}
 use Rattle.trie.proofs.Walk.{descend_nil, descend_empty, answer_complete, answer_stopped}
 use Rattle.trie.proofs.Count.{blank_keys}
 use Rattle.head.specs.declared.Head.{Head}
-use Rattle.head.specs.Fields.{fields_len, shortest_image, longest_image, head_of, head_bytes, node_width}
+use Rattle.head.specs.Fields.{fields_len, shortest_image, longest_image, head_of, head_bytes}
+use Rattle.head.specs.Fields.{node_width}
 use Rattle.head.specs.Fields.{node_place, used_len}
 use Rattle.head.proofs.Permitted.{bounds}
 use Rattle.head.proofs.Places.{used, place}
@@ -48,7 +49,8 @@ whole h alphabet image g f room =
 
 -- the three writes together give the fresh image
 pub parts : (h : Head) (alphabet image : List ℕ)
-    → cleared (sets (sets image 0 (head_bytes h)) fields_len alphabet) (fields_len + length alphabet)
+    → cleared (sets (sets image 0 (head_bytes h)) fields_len alphabet)
+    (fields_len + length alphabet)
     (node_width h) ≡ fresh_image h alphabet image
 unfolding fresh_image
 parts h alphabet image =
@@ -175,7 +177,8 @@ module _ {h : Head} {alphabet image : List ℕ} (m : Made h alphabet image) wher
 
   pub fresh_answers : (k : List ℕ) → answer (table_in (fresh_image h alphabet image)) k ≡ 0
   fresh_answers [] =
-      answer_complete (table_in (fresh_image h alphabet image)) [] (descend_nil _ 0) ∙ fresh_value 0
+      answer_complete (table_in (fresh_image h alphabet image)) [] (descend_nil _ 0)
+      ∙ fresh_value 0
   fresh_answers (x ∷ xs) = answer_stopped (table_in (fresh_image h alphabet image)) (x ∷ xs)
       (descend_empty _ 0 x xs (fresh_child 0 x))
 

@@ -15,7 +15,8 @@ use borrow.Author.Tests.{eqb-true, eq-eqb, ltb-false}
 use Rattle.field.proofs.Range.{between_true}
 use Rattle.trie.specs.Table.{Table}
 use Rattle.head.specs.declared.Head.{Head}
-use Rattle.head.specs.Fields.{shortest_image, longest_image, head_of, put_total, total_at, total_len}
+use Rattle.head.specs.Fields.{shortest_image, longest_image, head_of, put_total, total_at}
+use Rattle.head.specs.Fields.{total_len}
 use Rattle.head.proofs.Fields.{head_total}
 use Rattle.alphabet.specs.Letters.{among}
 use Rattle.node.specs.Image.{table_of}
@@ -39,7 +40,8 @@ pub accepted_exactly : (l : List ℕ) → (is_accepted l ≡ true) ↔ Accepted 
 unfolding is_accepted
 accepted_exactly l =
     let enough : List ℕ = replicate ((head_of l).g + 1) 0 in
-    let e = check_exactly l enough (omega (arith, length-replicate {A = ℕ} ((head_of l).g + 1) 0)) in
+    let e = check_exactly l enough (omega (arith, length-replicate {A = ℕ} ((head_of l).g + 1) 0))
+    in
     (λ t. e.0 (eqb-true _ 0 t), λ a. eq-eqb _ 0 (e.1 a))
 
 module _ (l work : List ℕ) where
@@ -49,7 +51,8 @@ module _ (l work : List ℕ) where
   check_lent = go (first (check_order l work))
     where
       go : (r : Row) → (heard r (work_after l work ∷ [])
-          (outcome (done_numbers 0 (pos 0) 0) (work_after l work ∷ []))).lent ≡ work_after l work ∷ []
+          (outcome (done_numbers 0 (pos 0) 0) (work_after l work ∷ []))).lent
+          ≡ work_after l work ∷ []
       go none = refl
       go (some s) = refl
 

@@ -11,7 +11,8 @@ use lib.ListN.{length}
 use borrow.Author.Tests.{ltb-true}
 use Rattle.utf8.specs.Text.{chars}
 use Rattle.trie.specs.Table.{LettersBelow}
-use Rattle.alphabet.specs.Letters.{letter_of, with_letter, letters_of_chars, key_of_chars, key_of_text}
+use Rattle.alphabet.specs.Letters.{letter_of, with_letter, letters_of_chars, key_of_chars}
+use Rattle.alphabet.specs.Letters.{key_of_text}
 
 -- one letter added at the front
 in_front_lem : (n x : ℕ) (o : Option (List ℕ)) {k : List ℕ}

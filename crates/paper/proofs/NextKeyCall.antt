@@ -101,7 +101,8 @@ module _ (l work key : List ℕ) (after : Bool) (buffer : List ℕ) where
     pub first_key : First (meets after key) (stored_keys l) k
     pub length_told : (next_key_of l work key after buffer).numbers.length ≡ length k
     pub value_told : (next_key_of l work key after buffer).numbers.value ≡ answer (table_in l) k
-    pub lent_left : (next_key_of l work key after buffer).lent ≡ work_after l work ∷ sets buffer 0 k
+    pub lent_left : (next_key_of l work key after buffer).lent
+        ≡ work_after l work ∷ sets buffer 0 k
         ∷ []
 
   nexting_says : (found : Option (List ℕ))
@@ -241,7 +242,8 @@ module _ (l : List ℕ) (a : Accepted l) where
       → (found : List (List ℕ)) → filter (meets after key) (stored_keys l) ≡ found
       → length found ≤ suc times
       → asked_from l (suc times) work key after buffer ≡ found
-  unfolding asked_from heard_then with_key key_heard key_left first_left next_in first_of refused_numbers
+  unfolding asked_from heard_then with_key key_heard key_left first_left next_in first_of
+      refused_numbers
       found_in done_numbers
   asked_on times work key after buffer s rest [] e few =
       ap (λ (o : Outcome). heard_then o (λ w k b. asked_from l times w k true b))

@@ -36,7 +36,8 @@ pub fits_4 : (h : Head) (len : ℕ) → leb (used_len h) len ≡ true → row4 h
 unfolding row4
 fits_4 h len e = not_given 4 0 (le-ltb len (used_len h) (leb-true (used_len h) len e))
 
-pub heard_4 : (h : Head) (len : ℕ) → leb (used_len h) len ≡ false → row4 h len ≡ some (number_at 4 0)
+pub heard_4 : (h : Head) (len : ℕ) → leb (used_len h) len ≡ false → row4 h len
+    ≡ some (number_at 4 0)
 unfolding row4
 heard_4 h len e = is_given 4 0 (lt-ltb len (used_len h) (leb-false (used_len h) len e))
 
@@ -45,7 +46,8 @@ module _ (h : Head) (alphabet : List ℕ) (len : ℕ) where
   abbrev pub spoilt : Bool
   spoilt = ltb 0 h.f && eqb (length alphabet) h.f && not (good_alphabet h.n alphabet)
 
-  pub heard_1 : between len shortest_image longest_image ≡ false → first (opening_rows h alphabet len)
+  pub heard_1 : between len shortest_image longest_image ≡ false
+      → first (opening_rows h alphabet len)
       ≡ some (number_at 1 0)
   unfolding opening_rows row1
   heard_1 e = yes_row 1 0 _ (unfalse e)
@@ -55,13 +57,15 @@ module _ (h : Head) (alphabet : List ℕ) (len : ℕ) where
   unfolding opening_rows row1 row2
   heard_2 e p = no_row 1 0 _ (untrue e) ∙ yes_row 2 0 _ (unfalse p)
 
-  pub heard_3 : between len shortest_image longest_image ≡ true → permitted h ≡ true → spoilt ≡ true
+  pub heard_3 : between len shortest_image longest_image ≡ true → permitted h ≡ true → spoilt
+      ≡ true
       → first (opening_rows h alphabet len) ≡ some (number_at 3 0)
   unfolding opening_rows row1 row2 row3
   heard_3 e p s = no_row 1 0 _ (untrue e) ∙ no_row 2 0 _ (untrue p) ∙ yes_row 3 0 _ s
 
   -- once 1 to 3 have passed, 4 decides
-  pub left_4 : between len shortest_image longest_image ≡ true → permitted h ≡ true → spoilt ≡ false
+  pub left_4 : between len shortest_image longest_image ≡ true → permitted h ≡ true → spoilt
+      ≡ false
       → first (opening_rows h alphabet len) ≡ row4 h len
   unfolding opening_rows row1 row2 row3
   left_4 e p s =
@@ -114,7 +118,8 @@ module _ (h : Head) (alphabet : List ℕ) (len : ℕ) where
 
 -- images of one length with the same F bytes after the fields have the same alphabet
 pub alphabet_same : (h : Head) (a b : List ℕ) → length a ≡ length b
-    → ((i : ℕ) → i < h.f → get_or a (fields_len + i) 0 ≡ get_or b (fields_len + i) 0) → alphabet_in h a
+    → ((i : ℕ) → i < h.f → get_or a (fields_len + i) 0 ≡ get_or b (fields_len + i) 0)
+    → alphabet_in h a
     ≡ alphabet_in h b
 unfolding alphabet_in
 alphabet_same h a b n e =

@@ -103,7 +103,8 @@ module _ {l key : List ℕ} {value : ℕ} (s : Granted l key value) where
       go (stopped q x xs) e = let r = room key (accepted_linked s.accepted) s.fit.below e in
           (r.node, r.letters)
 
-  written : (d : Descent) (v : ℕ) → descend (table_in l) 0 key ≡ d → value ≡ v → EndsIn (head_of l) d
+  written : (d : Descent) (v : ℕ) → descend (table_in l) 0 key ≡ d → value ≡ v
+      → EndsIn (head_of l) d
       → Written l d v ((head_of l).g + added (missing d) v)
   unfolding table_in new_of store_writes stored_by carried_out missing added data_write
   written (complete q) v e f i =
@@ -131,7 +132,8 @@ module _ {l key : List ℕ} {value : ℕ} (s : Granted l key value) where
   unfolding stored_image new_of table_in
   stored_head = (written (descend (table_in l) 0 key) value refl refl ends).head
 
-  pub stored_table : table_in (stored_image l key value) ≡ stored (table_in l) (head_of l).g key value
+  pub stored_table : table_in (stored_image l key value)
+      ≡ stored (table_in l) (head_of l).g key value
   unfolding stored_image new_of table_in stored
   stored_table =
       let w = written (descend (table_in l) 0 key) value refl refl ends in
@@ -252,7 +254,8 @@ module _ {l : List ℕ} (a : Accepted l) where
           fault_on bad (table_in l) q x xs refl e
           ((not_bad (head_of l).g c).1 (a.links.within q x)) ∙ rest
 
-  pub looks_up_accepted : (given : Given) → look_up_of l given ≡ heard (first (key_rows l given)) []
+  pub looks_up_accepted : (given : Given) → look_up_of l given
+      ≡ heard (first (key_rows l given)) []
       (telling (answer (table_in l) (key_in l given)))
   looks_up_accepted given = looks_up_open l given (accepted_opens a) (unfaulted 0 (key_in l given))
 
@@ -312,7 +315,8 @@ module _ {l key : List ℕ} {value : ℕ} (s : Granted l key value) (given : Giv
   unfolding key_rows key_in meant_in
   others_answer other =
       let k : List ℕ = key_in l given in
-      let same : first (key_rows l given) ≡ none → answer (table_in after) k ≡ answer (table_in l) k =
+      let same : first (key_rows l given) ≡ none → answer (table_in after) k
+      ≡ answer (table_in l) k =
       λ e.
       let meant = given_meant (head_of l) (alphabet_in (head_of l) l) given e in
       ap (λ (t : Table). answer t k) (stored_table s)
@@ -371,7 +375,8 @@ module _ (h : Head) where
         λ f. not_given 12 0 (w.1 (λ b. omega (arith, f b))),
       )
 
-  pub none_13 : (k len : ℕ) → (row13 h k len ≡ none) ↔ (0 < k → used_len h + k * node_width h ≤ len)
+  pub none_13 : (k len : ℕ) → (row13 h k len ≡ none)
+      ↔ (0 < k → used_len h + k * node_width h ≤ len)
   unfolding row13
   none_13 k len =
       let w = with_new k len (used_len h + k * node_width h) in
@@ -431,7 +436,8 @@ module _ (l work : List ℕ) (given : Given) (value : ℕ) where
       }
 
   -- a granted store passes every row, where its key does and the working numbers are enough
-  pub grants : Granted l key value → (head_of l).g + 1 ≤ length work → first (key_rows l given) ≡ none
+  pub grants : Granted l key value → (head_of l).g + 1 ≤ length work → first (key_rows l given)
+      ≡ none
       → first (store_order l work given value) ≡ none
   unfolding store_order adding_rows
   grants s lent passes =
@@ -463,7 +469,8 @@ module _ (l work : List ℕ) (given : Given) (value : ℕ) where
       go (no b) =
           let few : ltb (length work) ((head_of l).g + 1) ≡ true =
           lt-ltb (length work) ((head_of l).g + 1) (omega arith) in
-          first_part (check_order l work) rest (second_part (opening_rows_of l) _ (accepted_opens a)
+          first_part (check_order l work) rest
+          (second_part (opening_rows_of l) _ (accepted_opens a)
           ∙ yes_row 5 0 _ few)
           ∙ sym (yes_row 5 0 rest few)
 

@@ -19,7 +19,8 @@ pub record Accepted (l : List ℕ) : Type 0 where
   -- each head field is as the column "Permitted" says
   pub head_permitted : permitted (head_of l) ≡ true
   -- where F is not 0, "the F bytes are exactly N well-formed characters, all different"
-  pub alphabet_good : 0 < (head_of l).f → good_alphabet (head_of l).n (alphabet_in (head_of l) l) ≡ true
+  pub alphabet_good : 0 < (head_of l).f → good_alphabet (head_of l).n (alphabet_in (head_of l) l)
+      ≡ true
   -- U is at most the image's length: "The lent image may be longer"
   pub room : used_len (head_of l) ≤ length l
   -- "every link that isn't empty is at most G", "Every address from 1 to G stands in exactly one

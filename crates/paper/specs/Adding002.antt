@@ -59,7 +59,8 @@ unfoldable pub append_from : Head → List ℕ → ℕ → ℕ → List ℕ → 
 unfolding node_created data_at_last
 append_from h l address maxAddress [] value = data_at_last h l address value
 append_from h l address maxAddress (x ∷ xs) value =
-    append_from h (node_created h l address x (suc maxAddress)) (suc maxAddress) (suc maxAddress) xs
+    append_from h (node_created h l address x (suc maxAddress)) (suc maxAddress) (suc maxAddress)
+    xs
     value
 
 -- "it starts creating the needed nodes by appending them at the end of the document, provided
@@ -81,7 +82,8 @@ unless_broken (suc c) broken on = on (suc c)
 -- and, if (f == query.length), the data, which the last line then writes once more
 unfoldable pub add_from : Head → List ℕ → ℕ → List ℕ → ℕ → Option (List ℕ)
 unfolding link_read unless_broken create_from data_written data_at_last
-add_from h l address [] value = some (data_at_last h (data_written h l address value) address value)
+add_from h l address [] value = some (data_at_last h (data_written h l address value) address
+    value)
 add_from h l address (x ∷ xs) value =
     cond (leb h.n x) none
     (unless_broken (link_read h l address x) (some (create_from h l address (x ∷ xs) value))

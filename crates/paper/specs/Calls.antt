@@ -1,7 +1,8 @@
 -- 01, "What the bench may hear" and "Walking, storing, listing": the outcome of each call, for
 -- any arguments. It is the first refusal of the call's order or, where none is given, what 01
 -- says that the call does. Stores with writes and mending are 02's, Ask 1.
-use Rattle.std.specs.Prelude.{ℕ, ◌+◌, ◌-◌, Bool, true, false, ◌&&◌, cond, List, [], ◌∷◌, ◌++◌, length, drop, replicate, eqb, pos}
+use Rattle.std.specs.Prelude.{ℕ, ◌+◌, ◌-◌, Bool, true, false, ◌&&◌, cond, List, [], ◌∷◌, ◌++◌}
+use Rattle.std.specs.Prelude.{length, drop, replicate, eqb, pos}
 use Rattle.std.proofs.Math.Option.{Option, none, some}
 use Rattle.std.proofs.lemmas.List.Edits.{sets}
 use Rattle.field.specs.Field.{digits}
@@ -49,7 +50,8 @@ fresh_head n a d alphabet least most =
 -- "done, it writes head, alphabet and a zero root, and bytes from U on keep what they held"
 unfoldable pub fresh_image : Head → List ℕ → List ℕ → List ℕ
 unfolding head_bytes node_width
-fresh_image h alphabet image = sets image 0 (head_bytes h ++ (alphabet ++ replicate (node_width h) 0))
+fresh_image h alphabet image = sets image 0 (head_bytes h ++
+    (alphabet ++ replicate (node_width h) 0))
 
 -- make: done or refused; a refusal leaves the lent slice as it was
 unfoldable pub make_of : List ℕ → ℕ → ℕ → ℕ → List ℕ → ℕ → ℕ → Outcome

@@ -3,7 +3,8 @@
 -- and U. N = 3, A = 1, D = 1, letters ABC, min 1, max 3; for Ask 6 a root alone, with more bytes
 -- of data. The lent buffers hold rubbish (AA in images and key buffers, 7 in working numbers), so
 -- that the table shows what a call keeps and what it changes.
-use Rattle.std.specs.Prelude.{ℕ, ◌+◌, true, false, List, [], ◌∷◌, ◌++◌, length, replicate, set, ℤ, pos}
+use Rattle.std.specs.Prelude.{ℕ, ◌+◌, true, false, List, [], ◌∷◌, ◌++◌, length, replicate, set, ℤ}
+use Rattle.std.specs.Prelude.{pos}
 use Rattle.head.specs.Fields.{head_of, node_width, used_len}
 use Rattle.paper.specs.Hearing.{Outcome, outcome, refused_numbers, done_numbers}
 use Rattle.paper.specs.Given.{Given, as_letters, as_text}

@@ -32,7 +32,8 @@ node_rows h t = row6 h t ∷ row7 h t ∷ row8 h t ∷ row16 h t ∷ row19 h t �
 unfoldable pub check_order : List ℕ → List ℕ → List Row
 unfolding opening_rows_of node_rows table_of
 check_order l work =
-    opening_rows_of l ++ (row5 (head_of l) (length work) ∷ node_rows (head_of l) (table_of (head_of l) l))
+    opening_rows_of l ++ (row5 (head_of l) (length work) ∷ node_rows (head_of l)
+    (table_of (head_of l) l))
 
 -- 9, 10 for a key by its letter numbers
 unfoldable pub letters_rows : Head → List ℕ → List Row
@@ -87,4 +88,5 @@ store_order l work given value =
 unfoldable pub next_key_order : List ℕ → List ℕ → List ℕ → ℕ → Option (List ℕ) → List Row
 unfolding check_order next_rows
 next_key_order l work key lent found =
-    check_order l work ++ (next_rows (head_of l) key ++ (row14 (head_of l) lent ∷ row15 found ∷ []))
+    check_order l work ++ (next_rows (head_of l) key ++
+    (row14 (head_of l) lent ∷ row15 found ∷ []))

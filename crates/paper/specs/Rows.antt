@@ -1,7 +1,8 @@
 -- 01, "What the bench may hear": the table, one definition for each row, in the table's words,
 -- and 16 and 19 of 02.
 -- Each takes what its row speaks of, and says when the row is given and with which place.
-use Rattle.std.specs.Prelude.{ℕ, zero, suc, ◌+◌, ◌-◌, ◌*◌, ◌^◌, Bool, true, false, not, ◌&&◌, cond, List, [], ◌∷◌, length, leb, ltb, eqb}
+use Rattle.std.specs.Prelude.{ℕ, zero, suc, ◌+◌, ◌-◌, ◌*◌, ◌^◌, Bool, true, false, not, ◌&&◌, cond}
+use Rattle.std.specs.Prelude.{List, [], ◌∷◌, length, leb, ltb, eqb}
 use Rattle.std.proofs.Math.Option.{Option, none, some}
 use Rattle.field.specs.Range.{between}
 use Rattle.trie.specs.Table.{Table, fault}

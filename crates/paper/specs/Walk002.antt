@@ -1,7 +1,8 @@
 -- TRIEFF 0.6.0 (source document 002), section Querying the document: its sample algorithm, line
 -- by line and independent of our own walk, for demand 2. It has no table and no refusal: it
 -- reads fields at computed places of the document, and answers 0 for what is not there.
-use Rattle.std.specs.Prelude.{ℕ, zero, suc, ◌+◌, ◌*◌, ◌||◌, cond, List, [], ◌∷◌, map, length, leb, ltb}
+use Rattle.std.specs.Prelude.{ℕ, zero, suc, ◌+◌, ◌*◌, ◌||◌, cond, List, [], ◌∷◌, map, length, leb}
+use Rattle.std.specs.Prelude.{ltb}
 use Rattle.std.proofs.Math.Option.{Option, none, some}
 use Rattle.field.specs.Field.{field_at}
 use Rattle.utf8.specs.Text.{chars}

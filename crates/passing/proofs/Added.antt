@@ -74,7 +74,8 @@ path_descend : {t : Table} {g n q x : ℕ} (xs k : List ℕ) {r : ℕ} → Room 
 unfolding grow_path
 path_descend {t} {g} {n} {q} {x} [] k b e = grow_descend t q x (suc g) 0 k b.empty e
 path_descend {t} {g} {n} {q} {x} (y ∷ ys) k b e =
-    path_descend {t = grow t q x (suc g)} {g = suc g} {q = suc g} {x = y} ys k (room_next b) (grow_descend t q x (suc g) 0 k b.empty e)
+    path_descend {t = grow t q x (suc g)} {g = suc g} {q = suc g} {x = y} ys k (room_next b)
+    (grow_descend t q x (suc g) 0 k b.empty e)
 
 module _ {t : Table} {g n : ℕ} (l : Linked t g n) (k : List ℕ) (letters : LettersBelow n k) where
   new_passes : {v : ℕ} {s : Table} {g' : ℕ} → Store t g k v s g' → (q : ℕ) → g < q → q ≤ g'

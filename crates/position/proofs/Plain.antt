@@ -204,7 +204,8 @@ module _ (l work : List ℕ) (given : Given) (value : ℕ) (counts : List ℕ) w
         again = (passed_row (row5again (head_of l) new (length counts)) [] after13.1).0;
       }
 
-  pub storing_counts_say : AllSay store_counts_numbers (store_counts_order l work given value counts)
+  pub storing_counts_say : AllSay store_counts_numbers
+      (store_counts_order l work given value counts)
   unfolding store_counts_order key_rows row5again among
   storing_counts_say =
       parts_say (counts_say l work counts)
@@ -235,7 +236,8 @@ module _ (l work : List ℕ) (given : Given) (value : ℕ) (counts : List ℕ) w
       → ((store_of l work given value).numbers.number ≡ 0)
       × (store_counts_of l work given value counts
       ≡ outcome (store_of l work given value).numbers
-      (stored_image l key value ∷ work_after l work ∷ worked (stored_image l key value) counts ∷ []))
+      (stored_image l key value ∷ work_after l work ∷ worked (stored_image l key value) counts ∷
+      []))
   unfolding store_counts_of store_of done_numbers
   store_counts_plain z =
       let e = store_counts_passed z in
@@ -254,7 +256,8 @@ module _ (l work : List ℕ) (given : Given) (value : ℕ) (counts : List ℕ) w
   -- "A refused call changes nothing in the image or in any other lent buffer but the working
   -- numbers"
   pub store_counts_kept : (store_counts_of l work given value counts).numbers.number ≢ 0
-      → ((store_counts_of l work given value counts).lent ≡ l ∷ work_left l work counts ∷ counts ∷ [])
+      → ((store_counts_of l work given value counts).lent
+      ≡ l ∷ work_left l work counts ∷ counts ∷ [])
       × ((store_counts_of l work given value counts).numbers.change ≡ pos 0)
   unfolding store_counts_of done_numbers heard refused_numbers
   store_counts_kept z = (kept_lent r kept done refl z, no_change r z)

@@ -96,7 +96,8 @@ module _ (l work counts : List ℕ) (a : Accepted l) (lent : (head_of l).g + 1 �
         (w ∷ sets buffer 0 k ∷ [])) left_cleared
 
     -- the key that the call gives is the one at the position
-    pub heard_at : (i : ℕ) → key_heard (key_at_of l work counts i buffer) ≡ key_at (stored_keys l) i
+    pub heard_at : (i : ℕ) → key_heard (key_at_of l work counts i buffer)
+        ≡ key_at (stored_keys l) i
     unfolding key_heard key_left refused_numbers done_numbers found_in
     heard_at i = go (key_at (stored_keys l) i) refl
       where
@@ -228,7 +229,8 @@ module _ (l work counts : List ℕ) (a : Accepted l) (lent : (head_of l).g + 1 �
 
     at_key : first (key_rows l given) ≡ none → Memᴰ key (stored_keys l)
         → position_of l work counts given
-        ≡ outcome (done_numbers 0 (pos 0) (rank_in (stored_keys l) key)) (work_left l work counts ∷ [])
+        ≡ outcome (done_numbers 0 (pos 0) (rank_in (stored_keys l) key))
+        (work_left l work counts ∷ [])
     unfolding position_of row15 is_none
     at_key keyed m =
         heard_done _ _ _
@@ -238,7 +240,8 @@ module _ (l work counts : List ℕ) (a : Accepted l) (lent : (head_of l).g + 1 �
     -- the position of a stored key is how many come before it
     pub position_of_lem : {k : List ℕ} → meant_in l given ≡ some k → Memᴰ k (stored_keys l)
         → position_of l work counts given
-        ≡ outcome (done_numbers 0 (pos 0) (rank_in (stored_keys l) k)) (work_left l work counts ∷ [])
+        ≡ outcome (done_numbers 0 (pos 0) (rank_in (stored_keys l) k))
+        (work_left l work counts ∷ [])
     unfolding key_rows key_in meant_in or_empty
     position_of_lem {k} e m =
         let same : k ≡ key = sym (ap or_empty e) in

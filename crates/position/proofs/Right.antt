@@ -45,7 +45,8 @@ module _ (l counts : List ℕ) where
   unfolding row25
   none_25 = (
     λ e q b.
-        let same = passed_lowest 25 differs 0 ((head_of l).g + 1) e q (omega arith) (omega arith) in
+        let same = passed_lowest 25 differs 0 ((head_of l).g + 1) e q (omega arith) (omega arith)
+        in
         eqb-true (get_or counts q 0) (count_in l q) (not-false _ same),
     λ f. lowest_passed 25 differs 0 ((head_of l).g + 1)
         (λ q _ b. untrue (eq-eqb (get_or counts q 0) (count_in l q) (f q (omega arith)))),
@@ -161,7 +162,8 @@ module _ (l work counts : List ℕ) where
       ≡ work_left l work counts ∷ counts ∷ []
   unfolding counts_of done_numbers
   counts_kept z =
-      kept_lent (first (counts_order l work counts)) (work_left l work counts ∷ counts ∷ []) _ refl z
+      kept_lent (first (counts_order l work counts)) (work_left l work counts ∷ counts ∷ []) _
+      refl z
 
   -- with right counts, 25 is passed too
   pub checks_counts : Accepted l → (head_of l).g + 1 ≤ length work → RightCounts l counts

@@ -27,7 +27,8 @@ use Rattle.paper.specs.Hearing.{Row, Numbers, Outcome, row_when, first, heard, o
 use Rattle.paper.specs.Hearing.{done_numbers}
 use Rattle.paper.specs.Rows.{row5}
 use Rattle.paper.specs.Given.{Given, meant_in, key_in}
-use Rattle.paper.specs.Orders.{opening_rows_of, node_rows, check_order, key_rows, new_of, store_order}
+use Rattle.paper.specs.Orders.{opening_rows_of, node_rows, check_order, key_rows, new_of}
+use Rattle.paper.specs.Orders.{store_order}
 use Rattle.paper.specs.Calls.{table_in, work_after, stored_image, store_of}
 use Rattle.paper.specs.Accepted.{Accepted}
 use Rattle.paper.specs.Granted.{Granted}
@@ -57,7 +58,8 @@ same_numbers none kept kept' done done' e = e
 same_numbers (some s) kept kept' done done' e = refl
 
 -- where the counts are long enough, 5 depends on the working numbers alone
-same_check : (l work counts : List ℕ) → (head_of l).g + 1 ≤ length counts → counts_order l work counts
+same_check : (l work counts : List ℕ) → (head_of l).g + 1 ≤ length counts
+    → counts_order l work counts
     ≡ check_order l work
 unfolding counts_order check_order row5
 same_check l work counts long =
@@ -81,7 +83,8 @@ module _ (l work : List ℕ) (given : Given) (value : ℕ) (counts : List ℕ) w
 
   -- 9 to 13, and 5 again
   abbrev rest : List Row
-  rest = key_rows l given ++ (valued l key value ++ (row5again (head_of l) new (length counts) ∷ []))
+  rest = key_rows l given ++ (valued l key value ++
+      (row5again (head_of l) new (length counts) ∷ []))
 
   -- ---- where a store with counts is done
 
@@ -100,7 +103,8 @@ module _ (l work : List ℕ) (given : Given) (value : ℕ) (counts : List ℕ) w
           (checks_counts l work counts granted.accepted lent right)
           ∙ second_part (key_rows l given)
           (valued l key value ++ (row5again (head_of l) new (length counts) ∷ [])) keys
-          ∙ second_part (valued l key value) (row5again (head_of l) new (length counts) ∷ []) values
+          ∙ second_part (valued l key value) (row5again (head_of l) new (length counts) ∷ [])
+          values
 
       done_too : (head_of l).g + new + 1 ≤ length counts
           → (store_counts_of l work given value counts).numbers.number ≡ 0
@@ -111,7 +115,8 @@ module _ (l work : List ℕ) (given : Given) (value : ℕ) (counts : List ℕ) w
           (le-ltb (length counts) ((head_of l).g + new + 1) long) ∙ first_nil))
 
   -- what is known where a store with counts is done
-  long_enough : (store_counts_of l work given value counts).numbers.number ≡ 0 → (head_of l).g + new
+  long_enough : (store_counts_of l work given value counts).numbers.number ≡ 0
+      → (head_of l).g + new
       + 1 ≤ length counts
   unfolding row5again
   long_enough z =
@@ -119,7 +124,8 @@ module _ (l work : List ℕ) (given : Given) (value : ℕ) (counts : List ℕ) w
       (store_counts_passed l work given value counts z) in
       ltb-false (length counts) ((head_of l).g + new + 1) (was_false 5 0 _ p.again)
 
-  were_right : (store_counts_of l work given value counts).numbers.number ≡ 0 → RightCounts l counts
+  were_right : (store_counts_of l work given value counts).numbers.number ≡ 0
+      → RightCounts l counts
   were_right z =
       let c = (store_order_lem l work given value counts
       (store_counts_passed l work given value counts z)).counts_passed in
@@ -151,7 +157,8 @@ module _ (l work : List ℕ) (given : Given) (value : ℕ) (counts : List ℕ) w
         let (lent, right, k, meant, granted, long) = s in
         let same : k ≡ key = sym (ap or_empty meant) in
         let fits : (head_of l).g + new + 1 ≤ length counts =
-        subst (λ (j : List ℕ). (head_of l).g + new_of (head_of l) l j value + 1 ≤ length counts) same
+        subst (λ (j : List ℕ). (head_of l).g + new_of (head_of l) l j value + 1 ≤ length counts)
+        same
         long in
         done_too right ((store_done_exactly l work given value).1 (lent, k, meant, granted)) fits,
   )
@@ -176,7 +183,8 @@ module _ (l work : List ℕ) (given : Given) (value : ℕ) (counts : List ℕ) w
         (lent, accepted_again (is_granted z), store_counts_right)
 
     -- the count of an old node off the key's path stays
-    count_stays : (q : ℕ) → passes (table_in image) q 0 key ≡ false → count_in image q ≡ count_in l q
+    count_stays : (q : ℕ) → passes (table_in image) q 0 key ≡ false → count_in image q
+        ≡ count_in l q
     unfolding count_in
     count_stays q off =
         let s = is_granted z in
@@ -202,7 +210,8 @@ module _ (l work : List ℕ) (given : Given) (value : ℕ) (counts : List ℕ) w
         → get_or (worked image counts) q 0 ≡ get_or counts q 0
     store_counts_path q off = go (dec_le q (head_of l).g) (dec_le q ((head_of l).g + new))
       where
-        go : Dec (q ≤ (head_of l).g) → Dec (q ≤ (head_of l).g + new) → get_or (worked image counts) q 0
+        go : Dec (q ≤ (head_of l).g) → Dec (q ≤ (head_of l).g + new)
+            → get_or (worked image counts) q 0
             ≡ get_or counts q 0
         go (yes old) b =
             worked_at image counts lasts q (omega (arith, new_total)) ∙ count_stays q off
@@ -243,7 +252,8 @@ module _ (l work : List ℕ) (given : Given) (value : ℕ) (counts : List ℕ) w
 
   -- 25 and the second 5 are not given, so the plain order decides
   same_order : RightCounts l counts → (head_of l).g + new + 1 ≤ length counts
-      → first (store_counts_order l work given value counts) ≡ first (store_order l work given value)
+      → first (store_counts_order l work given value counts)
+      ≡ first (store_order l work given value)
   unfolding store_counts_order check_counts_order store_order row5again
   same_order right long =
       ap (λ (c : List Row). first ((c ++ (row25 l counts ∷ [])) ++ rest))

@@ -42,7 +42,8 @@ check_counts_of l work counts =
 -- store with counts: as store, and "the result equals the counts worked out afresh"; a refusal
 -- leaves the image and the list as they were
 unfoldable pub store_counts_of : List ℕ → List ℕ → Given → ℕ → List ℕ → Outcome
-unfolding heard first store_counts_order work_left worked done_numbers stored_image change_of answer
+unfolding heard first store_counts_order work_left worked done_numbers stored_image change_of
+    answer
     table_in key_in
 store_counts_of l work given value counts =
     heard (first (store_counts_order l work given value counts))

@@ -5,7 +5,8 @@ use Rattle.std.specs.Prelude.{ℕ, List, [], ◌∷◌, pos, negsuc}
 use Rattle.paper.specs.Hearing.{Outcome}
 use Rattle.paper.specs.Given.{Given, as_letters, as_text}
 use Rattle.paper.specs.Cases.{Case, file, body2, body3, body7, file3, refused, done}
-use Rattle.position.specs.Calls.{counts_of, check_counts_of, store_counts_of, key_at_of, position_of}
+use Rattle.position.specs.Calls.{counts_of, check_counts_of, store_counts_of, key_at_of}
+use Rattle.position.specs.Calls.{position_of}
 
 -- the file with the key AA = 5 and two nodes below it; the last, at depth 4, has this data, though
 -- keys have 1 to 3 letters

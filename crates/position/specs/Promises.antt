@@ -3,7 +3,8 @@
 use Rattle.std.specs.Prelude.{ℕ, ◌≡◌, List, [], ◌∷◌}
 use Rattle.paper.specs.Hearing.{Numbers, outcome}
 use Rattle.paper.specs.Given.{Given}
-use Rattle.position.specs.Calls.{counts_of, check_counts_of, store_counts_of, key_at_of, position_of}
+use Rattle.position.specs.Calls.{counts_of, check_counts_of, store_counts_of, key_at_of}
+use Rattle.position.specs.Calls.{position_of}
 
 -- working out the counts answers m and leaves these working numbers and this list of counts
 abbrev pub WorksOut : List ℕ → List ℕ → List ℕ → Numbers → List ℕ → List ℕ → Type 0
@@ -26,4 +27,5 @@ GivesKey l work counts position buffer m work' buffer' =
 
 -- position of a key answers m and leaves these working numbers
 abbrev pub GivesPosition : List ℕ → List ℕ → List ℕ → Given → Numbers → List ℕ → Type 0
-GivesPosition l work counts given m work' = outcome m (work' ∷ []) ≡ position_of l work counts given
+GivesPosition l work counts given m work' = outcome m (work' ∷ [])
+    ≡ position_of l work counts given

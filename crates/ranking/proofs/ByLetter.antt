@@ -66,7 +66,8 @@ module _ (h : Head) (l : List ℕ) (p depth : ℕ) where
         s : pred (h.min - depth) ≡ h.min - suc depth
         s = omega arith
 
-        go : Dec ((table_of h l).child p i ≡ 0) → onward i ≡ map (i ∷◌) (under_letter h l p depth i)
+        go : Dec ((table_of h l).child p i ≡ 0) → onward i
+            ≡ map (i ∷◌) (under_letter h l p depth i)
             ++ onward (suc i)
         go (yes e) =
             from_empty (table_of h l) h.n (h.min - depth) (h.max - depth) p i b e
@@ -182,7 +183,8 @@ module _ (h : Head) (l : List ℕ) (p depth : ℕ) where
         ∙ omega (arith, rest, first)
 
     pub rank_letters : (x : ℕ) (k : List ℕ) → x < h.n
-        → rank_in (onward 0) (x ∷ k) ≡ under_lower h l p depth x + rank_in (under_letter h l p depth x)
+        → rank_in (onward 0) (x ∷ k)
+        ≡ under_lower h l p depth x + rank_in (under_letter h l p depth x)
         k
     unfolding under_lower
     rank_letters x k low = rank_through x k low x 0 (omega arith)

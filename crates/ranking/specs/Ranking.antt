@@ -1,6 +1,7 @@
 -- 02, Ask 7: "From it answer the key at position i [..] and the position of a stored key." What
 -- the way by counts answers, and the counts that it goes by at each node.
-use Rattle.std.specs.Prelude.{ℕ, suc, ◌+◌, ◌-◌, ◌^◌, ◌<◌, ◌≡◌, cond, ◌≢◌, List, [], ◌∷◌, eqb, length, get_or, take}
+use Rattle.std.specs.Prelude.{ℕ, suc, ◌+◌, ◌-◌, ◌^◌, ◌<◌, ◌≡◌, cond, ◌≢◌, List, [], ◌∷◌, eqb}
+use Rattle.std.specs.Prelude.{length, get_or, take}
 use Rattle.std.proofs.Math.Option.{some}
 use Rattle.trie.specs.Table.{answer, follow}
 use Rattle.trie.specs.Keys.{keys_under}

@@ -74,7 +74,8 @@ not_among work (suc m) c v b =
     same_more work (set work c v) m 0 (sym (get_or-set_other work c m v 0 (λ w. omega arith)))
     (not_among work m c v (omega arith))
 
-pub vacant_set : (work : List ℕ) (m c v : ℕ) → c < length work → get_or work c 0 ≡ 0 → v ≢ 0 → c < m
+pub vacant_set : (work : List ℕ) (m c v : ℕ) → c < length work → get_or work c 0 ≡ 0 → v ≢ 0
+    → c < m
     → vacant work m ≡ vacant (set work c v) m + 1
 vacant_set work zero c v room z full b = absurd (omega arith)
 vacant_set work (suc m) c v room z full b =

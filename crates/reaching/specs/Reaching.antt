@@ -1,6 +1,7 @@
 -- 02, Ask 3: "every node must be reached from the root"; Ask 8: "data at any depth outside
 -- min..max". Here is what a search over the working numbers finds, and what holds while it runs.
-use Rattle.std.specs.Prelude.{ℕ, zero, suc, ◌+◌, ◌/◌, ◌%◌, ◌≤◌, ◌<◌, min, ◌≡◌, ◌≢◌, ◌⊎◌, cond, eqb, length, get_or, drop}
+use Rattle.std.specs.Prelude.{ℕ, zero, suc, ◌+◌, ◌/◌, ◌%◌, ◌≤◌, ◌<◌, min, ◌≡◌, ◌≢◌, ◌⊎◌, cond, eqb}
+use Rattle.std.specs.Prelude.{length, get_or, drop}
 use mathlib.Core.List.{List, [], ◌∷◌, Memᴰ}
 use Rattle.trie.specs.Table.{Table, complete, descend}
 use Rattle.trie.specs.Tree.{Reachable}

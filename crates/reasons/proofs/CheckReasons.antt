@@ -16,7 +16,8 @@ use Rattle.field.specs.Range.{between}
 use Rattle.trie.specs.Keys.{meets}
 use Rattle.trie.proofs.Listing.{first_none}
 use Rattle.head.specs.declared.Head.{Head}
-use Rattle.head.specs.Fields.{shortest_image, longest_image, head_of, permitted, node_width, used_len}
+use Rattle.head.specs.Fields.{shortest_image, longest_image, head_of, permitted, node_width}
+use Rattle.head.specs.Fields.{used_len}
 use Rattle.alphabet.specs.Letters.{or_empty}
 use Rattle.node.specs.Image.{table_of}
 use Rattle.node.specs.Writes.{Write, noted}
@@ -182,7 +183,8 @@ value_tells right l key value eleven twelve thirteen =
       (
         when_tells right 12 0 (ltb 0 k && ltb (256 ^ h.a - 1) (h.g + k)) twelve,
         (
-          when_tells right 13 0 (ltb 0 k && ltb (length l) (used_len h + k * node_width h)) thirteen,
+          when_tells right 13 0 (ltb 0 k && ltb (length l) (used_len h + k * node_width h))
+              thirteen,
           tt,
         ),
       ),
@@ -258,7 +260,8 @@ module _ (l work : List ℕ) (given : Given) (value : ℕ) where
       ↔ FirstApplies (store_any_reasons l work given value) n
   unfolding store_of done_numbers
   store_any_number_exactly n =
-      heard_exactly (store_order l work given value) (store_any_reasons l work given value) _ _ refl
+      heard_exactly (store_order l work given value) (store_any_reasons l work given value) _ _
+      refl
       store_any_fits refl n
 
   store_any_tells : AllTell (RightPlace l) (store_order l work given value)
@@ -380,7 +383,8 @@ module _ (l work key : List ℕ) (after : Bool) (buffer : List ℕ) where
   next_key_fits : AllFit order (next_key_reasons l work key after buffer)
   unfolding next_key_order next_key_reasons
   next_key_fits =
-      parts_fit (check_order l work) asked (check_reasons l work) (asked_reasons l key after buffer)
+      parts_fit (check_order l work) asked (check_reasons l work)
+      (asked_reasons l key after buffer)
       (check_fits l work) asked_fits
 
   -- "next key: 1 to 8, 9, 10, 14, 15", with 16 and 19 after 8, for any image

@@ -157,7 +157,8 @@ module _ (l work : List ℕ) (given : Given) (value : ℕ) (counts : List ℕ) w
 
   -- 9 to 13, and 5 again
   abbrev rest : List Row
-  rest = key_rows l given ++ (valued l key value ++ (row5again (head_of l) new (length counts) ∷ []))
+  rest = key_rows l given ++ (valued l key value ++
+      (row5again (head_of l) new (length counts) ∷ []))
 
   -- the order of a store with counts on an accepted image
   abbrev rows : List Row

@@ -21,7 +21,8 @@ use Rattle.utf8.specs.Text.{char_at, chars}
 use Rattle.utf8.proofs.Texts.{prepend, chars_at, chars_start, chars_ill, chars_more}
 use Rattle.head.specs.declared.Head.{Head}
 use Rattle.head.specs.Fields.{fields_len, head_of}
-use Rattle.alphabet.specs.Letters.{among, letters, letter_of, with_letter, letters_of_chars, or_empty}
+use Rattle.alphabet.specs.Letters.{among, letters, letter_of, with_letter, letters_of_chars}
+use Rattle.alphabet.specs.Letters.{or_empty}
 use Rattle.alphabet.specs.Letters.{key_of_chars, key_of_text}
 use Rattle.alphabet.proofs.Alphabets.{letter_below, no_letters}
 use Rattle.paper.specs.Rows.{row9, all_below, row10, is_none, row10text}
@@ -125,7 +126,8 @@ module _ (alphabet : List ℕ) where
   unfolding letters_of_chars
   one_none c cs =
       with_none (length alphabet) (letter_of alphabet c) (letters_of_chars alphabet cs)
-      ∙ ap (λ (b : Bool). is_none (letters_of_chars alphabet cs) || not b) (letter_below alphabet c)
+      ∙ ap (λ (b : Bool). is_none (letters_of_chars alphabet cs) || not b)
+      (letter_below alphabet c)
 
   -- a character that is outside the alphabet
   abbrev Strange : List ℕ → Type 0

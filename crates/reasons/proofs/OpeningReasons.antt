@@ -17,8 +17,10 @@ use Rattle.field.specs.Range.{between}
 use Rattle.field.proofs.Range.{both, true_between}
 use Rattle.utf8.specs.Text.{chars}
 use Rattle.head.specs.declared.Head.{Head}
-use Rattle.head.specs.Fields.{most_links, most_link_bytes, most_data_bytes, most_alphabet, most_letters}
-use Rattle.head.specs.Fields.{fields_len, shortest_image, longest_image, head_of, permitted, used_len}
+use Rattle.head.specs.Fields.{most_links, most_link_bytes, most_data_bytes, most_alphabet}
+use Rattle.head.specs.Fields.{most_letters}
+use Rattle.head.specs.Fields.{fields_len, shortest_image, longest_image, head_of, permitted}
+use Rattle.head.specs.Fields.{used_len}
 use Rattle.head.proofs.Permitted.{Bounds, bounds}
 use Rattle.alphabet.specs.Letters.{among, all_different, is_alphabet, good_alphabet}
 use Rattle.paper.specs.Hearing.{Row}

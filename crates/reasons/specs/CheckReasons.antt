@@ -10,7 +10,8 @@ use Rattle.trie.specs.Table.{complete, descend, answer}
 use Rattle.trie.specs.Keys.{meets}
 use Rattle.trie.specs.Tree.{Reachable}
 use Rattle.head.specs.declared.Head.{Head}
-use Rattle.head.specs.Fields.{most_links, most_link_bytes, most_data_bytes, most_alphabet, most_letters}
+use Rattle.head.specs.Fields.{most_links, most_link_bytes, most_data_bytes, most_alphabet}
+use Rattle.head.specs.Fields.{most_letters}
 use Rattle.head.specs.Fields.{fields_len, shortest_image, longest_image, head_of, used_len}
 use Rattle.paper.specs.Given.{Given, alphabet_in, key_in}
 use Rattle.paper.specs.Orders.{new_of}

@@ -56,7 +56,8 @@ calls =
     ∷ []
 
 abbrev end : Run
-end = ran (start_of (fresh_image (fresh_head 3 1 1 alphabet 1 3) alphabet (replicate 60 0xAA))) calls
+end = ran (start_of (fresh_image (fresh_head 3 1 1 alphabet 1 3) alphabet (replicate 60 0xAA)))
+    calls
 
 abbrev expected : Run
 expected =
@@ -85,6 +86,7 @@ pub computed : (end ≡ expected)
     ∷ 3 ∷ 0 ∷ [])
     × (map (last_of end.plain) keys ≡ 0 ∷ 6 ∷ 0 ∷ 3 ∷ 0 ∷ [])
     × (plain_keys end.plain ≡ (1 ∷ []) ∷ (2 ∷ 0 ∷ []) ∷ [])
-unfolding keys_under row1 row2 row3 row4 row6 row7 row8 row9 row10 row10text row11 row12 row13 row16
+unfolding keys_under row1 row2 row3 row4 row6 row7 row8 row9 row10 row10text row11 row12 row13
+    row16
     row19 row6path fresh_head fresh_image last_of ran start_of plain_keys
 computed = (refl, refl, refl, refl)

@@ -1,4 +1,5 @@
--- The keys of the plain list: `plain_keys` has exactly the keys whose last value is not 0, once and
+-- The keys of the plain list: `plain_keys` has exactly the keys whose last value is not 0, once
+-- and
 -- in order. Two lists in order with the same keys are equal, so the stored keys of an image that
 -- answers as the plain list are `plain_keys`.
 use Prim.Native.Nat.{ℕ}

@@ -51,7 +51,8 @@ use Rattle.position.specs.Counts.{RightCounts}
 use Rattle.position.specs.Calls.{key_at_of, position_of}
 use Rattle.position.proofs.Positions.{heard_at, position_of_lem}
 use Rattle.position.specs.Orders.{counts_order, check_counts_order, key_at_order, position_order}
-use Rattle.calls.specs.Call.{Call, make, check, count, look_up, store, store_writes, mend, next_key}
+use Rattle.calls.specs.Call.{Call, make, check, count, look_up, store, store_writes, mend}
+use Rattle.calls.specs.Call.{next_key}
 use Rattle.calls.specs.Call.{counts, check_counts, store_counts, key_at, position}
 use Rattle.calls.specs.Call.{writes_image, image_after}
 use Rattle.calls.specs.StoreDone.{Wanted}

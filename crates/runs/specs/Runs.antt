@@ -9,7 +9,8 @@ use Rattle.trie.specs.Keys.{before, filter}
 use Rattle.paper.specs.Hearing.{Outcome, outcome, done_numbers}
 use Rattle.paper.specs.Given.{key_in}
 use Rattle.paper.specs.Calls.{fresh_image}
-use Rattle.calls.specs.Call.{Call, make, check, count, look_up, store, store_writes, mend, next_key}
+use Rattle.calls.specs.Call.{Call, make, check, count, look_up, store, store_writes, mend}
+use Rattle.calls.specs.Call.{next_key}
 use Rattle.calls.specs.Call.{counts, check_counts, store_counts, key_at, position, outcome_of}
 use Rattle.calls.specs.Call.{image_after}
 

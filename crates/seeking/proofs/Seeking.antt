@@ -50,7 +50,8 @@ module _ (l work key : List ℕ) (after : Bool) (buffer : List ℕ) where
   abbrev answered : Outcome
   answered = found_in l work buffer (or_empty (next_in l key after))
 
-  asked : next_key_of l work key after buffer ≡ heard (first order) (work_after l work ∷ buffer ∷ [])
+  asked : next_key_of l work key after buffer
+      ≡ heard (first order) (work_after l work ∷ buffer ∷ [])
       answered
   unfolding next_key_of next_key_order
   asked = refl
@@ -75,7 +76,8 @@ module _ (l work key : List ℕ) (after : Bool) (buffer : List ℕ) where
     module _ (keyed : first (next_rows (head_of l) key) ≡ none) where
       left : first order ≡ first rest
       left =
-          second_part (check_order l work) _ checked ∙ second_part (next_rows (head_of l) key) _ keyed
+          second_part (check_order l work) _ checked
+          ∙ second_part (next_rows (head_of l) key) _ keyed
 
       short : length buffer < (head_of l).max → Leaves (Found.Refused Refusal.ShortBuffer) buffer
       unfolding row14

@@ -21,7 +21,8 @@ use Rattle.trie.specs.Table.{Descent, complete, stopped, descend, missing, Lette
 use Rattle.trie.specs.Storing.{added}
 use Rattle.trie.proofs.Storing.{none_added}
 use Rattle.head.specs.declared.Head.{Head}
-use Rattle.head.specs.Fields.{shortest_image, longest_image, fields_len, total_at, total_len, head_of}
+use Rattle.head.specs.Fields.{shortest_image, longest_image, fields_len, total_at, total_len}
+use Rattle.head.specs.Fields.{head_of}
 use Rattle.head.specs.Fields.{head_bytes, node_width, node_place, used_len, put_total}
 use Rattle.head.proofs.Fields.{head_same, length_head, length_total, head_total}
 use Rattle.head.proofs.Permitted.{bounds}
@@ -46,7 +47,8 @@ use Rattle.paper.proofs.MendCall.{mend_kept, mend_lowered, eight, eight_long}
 use Rattle.paper.proofs.MakeCall.{Made, fresh_head_lem, fresh_length}
 use Rattle.position.specs.Orders.{store_counts_order}
 use Rattle.position.proofs.Plain.{store_order_lem, plain_passes}
-use Rattle.calls.specs.Call.{Call, make, check, count, look_up, store, store_writes as stores_writes}
+use Rattle.calls.specs.Call.{Call, make, check, count, look_up, store}
+use Rattle.calls.specs.Call.{store_writes as stores_writes}
 use Rattle.calls.specs.Call.{mend, next_key, counts, check_counts, store_counts, key_at, position}
 use Rattle.paper.specs.Repeated.{first_left}
 use Rattle.calls.specs.Call.{outcome_of, writes_image, rest_left, image_after, besides_image}
@@ -144,7 +146,8 @@ written_same h (stopped q x xs) (suc v) p a b n same fits high =
         (omega (arith, first_new), omega (arith, first_new, used_more h (suc (length xs))))
         (omega (arith, first_new, used_more h (suc (length xs)), fits.1)))
 
-module _ {from : ℕ} {a b : List ℕ} (low : from ≤ total_at + total_len) (s : SameUsed from a b) where
+module _ {from : ℕ} {a b : List ℕ} (low : from ≤ total_at + total_len)
+    (s : SameUsed from a b) where
   -- a store that is granted for both makes the same writes on both: a byte that was used is as
   -- before or written over, and a byte of a new node is written over
   alike_stored : {key : List ℕ} {value : ℕ} → Granted a key value → Granted b key value
@@ -335,7 +338,8 @@ with_other ws list t x xs = go (eqb t.number 0)
     go true = refl
     go false = refl
 
-module _ {from : ℕ} {a b : List ℕ} (low : from ≤ total_at + total_len) (s : SameUsed from a b) where
+module _ {from : ℕ} {a b : List ℕ} (low : from ≤ total_at + total_len)
+    (s : SameUsed from a b) where
   abbrev seen : seen_in a ≡ seen_in b
   seen = alike_seen low s
 
@@ -344,7 +348,8 @@ module _ {from : ℕ} {a b : List ℕ} (low : from ≤ total_at + total_len) (s 
   -- where the order passes on one image it passes on the other, and both stores are granted
   stored_alike : (work : List ℕ) (given : Given) (value : ℕ)
       → first (store_order b work given value) ≡ none
-      → SameUsed from (stored_image a (key_in a given) value) (stored_image b (key_in b given) value)
+      → SameUsed from (stored_image a (key_in a given) value)
+      (stored_image b (key_in b given) value)
   stored_alike work given value e =
       let key : key_in a given ≡ key_in b given = key_seen a b seen given in
       let passes : first (store_order a work given value) ≡ none =

@@ -16,7 +16,8 @@ use Rattle.trie.specs.Keys.{listing, meets, first_meeting}
 use Rattle.trie.specs.Rules.{LinkRules, Visible}
 use Rattle.passing.specs.Passing.{count_at, one_for_each, key_at, rank_in}
 use Rattle.head.specs.declared.Head.{Head}
-use Rattle.head.specs.Fields.{shortest_image, longest_image, fields_len, total_at, total_len, head_of}
+use Rattle.head.specs.Fields.{shortest_image, longest_image, fields_len, total_at, total_len}
+use Rattle.head.specs.Fields.{head_of}
 use Rattle.head.specs.Fields.{permitted, used_len}
 use Rattle.head.proofs.Places.{used_le, place_least}
 use Rattle.alphabet.specs.Letters.{good_alphabet, or_empty}
@@ -27,17 +28,21 @@ use Rattle.paper.specs.Hearing.{Row, Numbers, Outcome, outcome, done_numbers, fi
 use Rattle.paper.specs.Given.{Given, alphabet_in, meant_by, meant_in, key_in}
 use Rattle.paper.specs.Rows.{row5, row_when_lowest, row6path, row14, row15}
 use Rattle.paper.specs.Orders.{opening_rows, opening_rows_of, node_rows, check_order, key_rows_by}
-use Rattle.paper.specs.Orders.{key_rows, next_rows, look_up_order, adding_rows, new_of, store_order}
+use Rattle.paper.specs.Orders.{key_rows, next_rows, look_up_order, adding_rows, new_of}
+use Rattle.paper.specs.Orders.{store_order}
 use Rattle.paper.specs.Orders.{next_key_order}
-use Rattle.paper.specs.Calls.{table_in, cleared_by, work_after, check_of, stored_keys, count_of, telling}
+use Rattle.paper.specs.Calls.{table_in, cleared_by, work_after, check_of, stored_keys, count_of}
+use Rattle.paper.specs.Calls.{telling}
 use Rattle.paper.specs.Calls.{look_up_of, writes_in, stored_image, store_of, is_accepted, next_in}
 use Rattle.paper.specs.Calls.{found_in, next_key_of}
 use Rattle.paper.specs.Accepted.{Accepted}
 use Rattle.paper.proofs.Opening.{alphabet_same}
 use Rattle.position.specs.Counts.{count_in, counts_in, row25, row5again}
-use Rattle.position.specs.Orders.{usable, counts_order, check_counts_order, key_at_order, if_stored}
+use Rattle.position.specs.Orders.{usable, counts_order, check_counts_order, key_at_order}
+use Rattle.position.specs.Orders.{if_stored}
 use Rattle.position.specs.Orders.{store_counts_order, position_order}
-use Rattle.position.specs.Calls.{work_left, worked, counts_of, check_counts_of, placed_key, key_at_of}
+use Rattle.position.specs.Calls.{work_left, worked, counts_of, check_counts_of, placed_key}
+use Rattle.position.specs.Calls.{key_at_of}
 use Rattle.position.specs.Calls.{store_counts_of, position_of}
 use Rattle.seen.specs.Seen.{Seen, seen_in}
 
@@ -229,7 +234,8 @@ module _ (a b : List ℕ) (e : seen_in a ≡ seen_in b) where
 
   pub next_seen : (work key : List ℕ) (after : Bool) (buffer : List ℕ)
       → next_key_of a work key after buffer ≡ next_key_of b work key after buffer
-  unfolding next_key_of next_key_order check_order opening_rows_of work_after table_in stored_keys next_in
+  unfolding next_key_of next_key_order check_order opening_rows_of work_after table_in stored_keys
+      next_in
       found_in
   next_seen work key after buffer = ap
       (λ (s : Seen). nexts s work key buffer (first_meeting (meets after key) (lists s))) e
@@ -239,13 +245,15 @@ module _ (a b : List ℕ) (e : seen_in a ≡ seen_in b) where
   keys_seen = ap lists e
 
   pub counts_seen : (work counts : List ℕ) → counts_of a work counts ≡ counts_of b work counts
-  unfolding counts_of counts_order usable check_order opening_rows_of work_left work_after worked counts_in
+  unfolding counts_of counts_order usable check_order opening_rows_of work_left work_after worked
+      counts_in
       count_in table_in
   counts_seen work counts = ap (λ (s : Seen). works s work counts) e
 
   pub check_counts_seen : (work counts : List ℕ) → check_counts_of a work counts
       ≡ check_counts_of b work counts
-  unfolding check_counts_of check_counts_order counts_order usable check_order opening_rows_of work_left
+  unfolding check_counts_of check_counts_order counts_order usable check_order opening_rows_of
+      work_left
       work_after row25 count_in table_in
   check_counts_seen work counts = ap (λ (s : Seen). holds s work counts) e
 
@@ -259,7 +267,8 @@ module _ (a b : List ℕ) (e : seen_in a ≡ seen_in b) where
   pub position_seen : (work counts : List ℕ) (given : Given) → position_of a work counts given
       ≡ position_of b work counts given
   unfolding position_of position_order if_stored check_counts_order counts_order usable check_order
-      opening_rows_of work_left work_after row25 count_in table_in stored_keys key_rows key_in meant_in
+      opening_rows_of work_left work_after row25 count_in table_in stored_keys key_rows key_in
+      meant_in
   position_seen work counts given = ap (λ (s : Seen). ranks s work counts given) e
 
   pub weights_seen : counts_in a ≡ counts_in b
@@ -289,7 +298,8 @@ module _ (a b : List ℕ) (e : seen_in a ≡ seen_in b) where
 
   pub store_seen : (work : List ℕ) (given : Given) (value : ℕ) → store_of a work given value
       ≡ stores (seen_in b) work given value a (stored_image a (key_in a given) value)
-  unfolding store_of store_order check_order opening_rows_of work_after key_rows key_in meant_in new_of
+  unfolding store_of store_order check_order opening_rows_of work_after key_rows key_in meant_in
+      new_of
       table_in
   store_seen work given value =
       ap (λ (s : Seen). stores s work given value a (stored_image a (key_in a given) value)) e
@@ -299,10 +309,12 @@ module _ (a b : List ℕ) (e : seen_in a ≡ seen_in b) where
       ≡ stores_counts (seen_in b) work given value counts a (stored_image a (key_in a given) value)
       (counts_in (stored_image a (key_in a given) value))
   unfolding store_counts_of store_counts_order check_counts_order counts_order usable check_order
-      opening_rows_of work_left work_after row25 count_in worked key_rows key_in meant_in new_of table_in
+      opening_rows_of work_left work_after row25 count_in worked key_rows key_in meant_in new_of
+      table_in
   store_counts_seen work given value counts =
       ap (λ (s : Seen). stores_counts s work given value counts a
-      (stored_image a (key_in a given) value) (counts_in (stored_image a (key_in a given) value))) e
+      (stored_image a (key_in a given) value) (counts_in (stored_image a (key_in a given) value)))
+      e
 
   pub is_accepted_seen : is_accepted a ≡ is_accepted b
   unfolding is_accepted check_of check_order opening_rows_of work_after table_in

@@ -9,7 +9,8 @@ use lib.Seq.{drop-length}
 use Rattle.head.specs.declared.Head.{Head}
 use Rattle.head.specs.Fields.{put_total, node_width, node_place, used_len}
 use Rattle.head.proofs.Places.{place_le}
-use Rattle.node.specs.Writes.{carried_out, path_write, last_write, new_nodes, total_write, link_write}
+use Rattle.node.specs.Writes.{carried_out, path_write, last_write, new_nodes, total_write}
+use Rattle.node.specs.Writes.{link_write}
 use Rattle.node.proofs.Heads.{with_total}
 use Rattle.node.proofs.StoreOnTable.{length_carried, carried_append}
 use Rattle.storing.specs.StoreStage.{Space, Builds}

@@ -20,7 +20,8 @@ use Rattle.walk.specs.declared.Walked.{Walked}
 
 -- the outcome of 11, 12, 13 and of the writes, given how the key's walk ended
 unfoldable pub store_at : Head → List ℕ → Descent → ℕ → Outcome
-unfolding heard first adding_rows added missing done_numbers change_of value_at table_of carried_out
+unfolding heard first adding_rows added missing done_numbers change_of value_at table_of
+    carried_out
     store_writes
 store_at h l d value =
     heard (first (adding_rows h value (added (missing d) value) (length l))) (l ∷ [])

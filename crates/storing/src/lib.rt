@@ -3,7 +3,8 @@
 // the first new node; or, if the path is complete, the data field alone.
 #![tactic(auto)]
 
-ghost use Rattle.std.specs.Prelude.{◌≡◌, suc, ◌+◌, ◌-◌, ◌≤◌, ◌<◌, ◌^◌, true, [], ◌∷◌, length, drop};
+ghost use Rattle.std.specs.Prelude.{◌≡◌, suc, ◌+◌, ◌-◌, ◌≤◌, ◌<◌, ◌^◌, true, [], ◌∷◌};
+ghost use Rattle.std.specs.Prelude.{length, drop};
 ghost use Rattle.trie.specs.Table.{missing, value_at};
 ghost use Rattle.trie.specs.Storing.{added, change_of};
 ghost use Rattle.head.specs.Fields.{head_of, most_letters, permitted};

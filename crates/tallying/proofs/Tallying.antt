@@ -11,7 +11,8 @@ use native.Mathlib.Decide.{ℕ_discrete}
 use native.Mathlib.Numerals.{add-one}
 use native.Mathlib.Omega.{arith}
 use lib.Dec.{eqb, leb}
-use lib.ListN.{length, get_or, set, drop, replicate, length-replicate, get_or-replicate, length-set}
+use lib.ListN.{length, get_or, set, drop, replicate, length-replicate, get_or-replicate}
+use lib.ListN.{length-set}
 use lib.ListN.{get_or-append}
 use lib.Seq.{get_or-set_same, get_or-set_other}
 use borrow.Author.Tests.{eq-eqb, ne_eqb, leb-false}
@@ -261,7 +262,8 @@ module _ {h : Head} {t : Table} {q : ℕ} {work work' : List ℕ} {i : ℕ}
             })
         go a z x low high f (no s) =
             let (y, up, shown) = noted.told (first z) in
-            let unchanged : get_or (set work₁ c mark) x 0 ≡ get_or work' x 0 = other x s ∙ same z x in
+            let unchanged : get_or (set work₁ c mark) x 0 ≡ get_or work' x 0 = other x s
+            ∙ same z x in
             let m : MarkedBy h t (q + 1) work' x =
             a.marked y x low high (λ w. f (unchanged ∙ w)) in
             marked_still m unchanged

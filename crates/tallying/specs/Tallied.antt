@@ -1,6 +1,7 @@
 -- The tally of the links over the working numbers: whether no link, one or more hold each address,
 -- which node holds the first link above G, and the marks of the nodes where all is plain.
-use Rattle.std.specs.Prelude.{ℕ, ◌+◌, ◌-◌, ◌≤◌, ◌<◌, ◌≡◌, ◌≢◌, Bool, true, false, not, ◌&&◌, List, get_or, eqb, ltb}
+use Rattle.std.specs.Prelude.{ℕ, ◌+◌, ◌-◌, ◌≤◌, ◌<◌, ◌≡◌, ◌≢◌, Bool, true, false, not, ◌&&◌, List}
+use Rattle.std.specs.Prelude.{get_or, eqb, ltb}
 use Rattle.field.specs.Range.{between}
 use Rattle.trie.specs.Table.{Table}
 use Rattle.trie.specs.Lowest.{lowest}

@@ -58,7 +58,8 @@ module _ {t : Table} {k : List ℕ} {c : ℤ} {list : List ℕ} where
   unfolding gain_of loss_of
   room_more e r = rw e at r
 
-  pub room_fewer : c ≡ negsuc 0 → CountsFit t k (gain_of c) (loss_of c) list → CountsFit t k 0 1 list
+  pub room_fewer : c ≡ negsuc 0 → CountsFit t k (gain_of c) (loss_of c) list
+      → CountsFit t k 0 1 list
   unfolding gain_of loss_of
   room_fewer e r = rw e at r
 
@@ -110,7 +111,8 @@ answering t k full = go (descend t 0 k) refl
     go (stopped q x xs) e = absurd (full (answer_stopped t k e))
 
 -- after a store that changes the number of keys, the key has a node
-whole_after : {t : Table} {g v : ℕ} {k : List ℕ} {s : Table} {h : ℕ} → Store t g k v s h → answer s k ≡ v
+whole_after : {t : Table} {g v : ℕ} {k : List ℕ} {s : Table} {h : ℕ} → Store t g k v s h
+    → answer s k ≡ v
     → change_of (answer t k) v ≢ pos 0 → Whole s k
 unfolding change_of
 whole_after {t} {k = k} (over {q} {v} e) a c = (q, put_descend t q v 0 k ∙ e)
@@ -225,7 +227,8 @@ module _ {l k : List ℕ} {value : ℕ} (s : Granted l k value) where
         }
       where
         wide : (q : ℕ) → on q ≡ true → (gain_of change ≡ 0)
-            ⊎ ((gain_of change ≡ 1) × (loss_of change ≡ 0)) → get_or start q 0 + gain_of change < 2 ^ 32
+            ⊎ ((gain_of change ≡ 1) × (loss_of change ≡ 0))
+            → get_or start q 0 + gain_of change < 2 ^ 32
         wide q met (inl none) = omega (arith, started q (passed_within q met), few s.accepted q)
         wide q met (inr (one, none)) =
             let e = rw met at (shifts q) in

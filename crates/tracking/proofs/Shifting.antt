@@ -40,7 +40,8 @@ cleared_on {from} {i} {list₀} {list} low room c =
     }
   where
     go : (q : ℕ) → from ≤ q → q < i + 1 → Dec (q ≡ i) → get_or (set list i 0) q 0 ≡ 0
-    go q a b (yes e) = ap (λ (x : ℕ). get_or (set list i 0) x 0) e ∙ get_or-set_same list i 0 0 room
+    go q a b (yes e) = ap (λ (x : ℕ). get_or (set list i 0) x 0) e
+        ∙ get_or-set_same list i 0 0 room
     go q a b (no other) = get_or-set_other list i q 0 0 other ∙ c.within q a (omega arith)
 
 -- ---- the path
@@ -97,7 +98,8 @@ module _ {t : Table} {k : List ℕ} {gain loss : ℕ} {list₀ : List ℕ} where
       after b q own other = go (ℕ_discrete p q)
         where
           go : Dec (p ≡ q)
-              → get_or (set list p (get_or list p 0 + gain - loss)) q 0 + cond (passes t q 0 k) loss 0
+              → get_or (set list p (get_or list p 0 + gain - loss)) q 0 + cond (passes t q 0 k)
+              loss 0
               + cond b gain 0
               ≡ get_or list₀ q 0 + cond (passes t q 0 k) gain 0 + cond b loss 0
           go (yes e) =

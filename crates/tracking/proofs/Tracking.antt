@@ -186,7 +186,8 @@ module _ {l : List ℕ} {h : Head} {key : Key} {o : Walked} {value new : ℕ}
       module _ {counts start : List ℕ} (right : RightCounts l counts)
           (clear : RangeCleared (h.g + 1) (h.g + new + 1) counts start)
           (long : h.g + new + 1 ≤ length counts) where
-        cleared : RangeCleared ((head_of l).g + 1) ((head_of l).g + new_of (head_of l) l k value + 1)
+        cleared : RangeCleared ((head_of l).g + 1)
+            ((head_of l).g + new_of (head_of l) l k value + 1)
             counts
             start
         cleared = rw (x.same, new_same) at clear

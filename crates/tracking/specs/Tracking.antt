@@ -1,7 +1,8 @@
 -- 02, Ask 7: "A store changes counts only on the key's path and at the new nodes; the result
 -- equals the counts worked out afresh." The part of a store with counts after 10: it answers and
 -- leaves in image and counts what the whole call does.
-use Rattle.std.specs.Prelude.{ℕ, zero, suc, ◌+◌, ◌^◌, ◌≤◌, ◌<◌, ◌≡◌, true, cond, List, [], ◌∷◌, ◌++◌, ℤ, pos, negsuc, length, get_or}
+use Rattle.std.specs.Prelude.{ℕ, zero, suc, ◌+◌, ◌^◌, ◌≤◌, ◌<◌, ◌≡◌, true, cond, List, [], ◌∷◌}
+use Rattle.std.specs.Prelude.{◌++◌, ℤ, pos, negsuc, length, get_or}
 use Rattle.trie.specs.Table.{Table, complete, descend, answer}
 use Rattle.trie.specs.Storing.{change_of}
 use Rattle.head.specs.Fields.{head_of}
@@ -22,7 +23,8 @@ adding_counts_rows l key value counts =
 
 -- the outcome of this part
 unfoldable pub store_counted : List ℕ → List ℕ → ℕ → List ℕ → Outcome
-unfolding heard first adding_rows new_of row5again done_numbers change_of answer table_in stored_image
+unfolding heard first adding_rows new_of row5again done_numbers change_of answer table_in
+    stored_image
     worked
 store_counted l key value counts =
     heard (first (adding_counts_rows l key value counts)) (l ∷ counts ∷ [])

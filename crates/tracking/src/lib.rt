@@ -3,7 +3,8 @@
 // been checked and the counts have been compared.
 #![tactic(auto)]
 
-ghost use Rattle.std.specs.Prelude.{◌≡◌, ◌≢◌, true, ◌+◌, ◌-◌, ◌^◌, ◌≤◌, ◌<◌, pos, length, get_or, set};
+ghost use Rattle.std.specs.Prelude.{◌≡◌, ◌≢◌, true, ◌+◌, ◌-◌, ◌^◌, ◌≤◌, ◌<◌, pos};
+ghost use Rattle.std.specs.Prelude.{length, get_or, set};
 ghost use Rattle.field.specs.Range.{between};
 ghost use Rattle.trie.specs.Rules.{LinkRules};
 ghost use Rattle.head.specs.Fields.{head_of};
@@ -77,7 +78,8 @@ fn carry(image: &[u8], h: Head, key: Key, change: i32, counts: &mut [u32])
     requires fact_3 { LinkRules (table_of h image.now) h.g }
     requires fact_4 { h.g < length counts.old }
     requires whole { change ≢ pos 0 → Whole (table_of h image.now) (letters_of key) }
-    requires counts_fit { CountsFit (table_of h image.now) (letters_of key) (gain_of change) (loss_of change)
+    requires counts_fit { CountsFit (table_of h image.now) (letters_of key) (gain_of change)
+        (loss_of change)
         counts.old }
     ensures { Shifted (table_of h image.now) (letters_of key) (gain_of change)
         (loss_of change) counts.old counts.new }
@@ -119,7 +121,8 @@ fn shift(image: &[u8], h: Head, key: Key, gain: u32, loss: u32, counts: &mut [u3
 
 // Adds `gain` to the count of one node, and takes `loss` from it.
 fn bump(counts: &mut [u32], node: u32, gain: u32, loss: u32)
-    requires { (node < length counts.old) × ((get_or counts.old node 0 + gain < 2 ^ 32) × (loss ≤ get_or counts.old node 0 + gain)) }
+    requires { (node < length counts.old) × ((get_or counts.old node 0 + gain < 2 ^ 32)
+        × (loss ≤ get_or counts.old node 0 + gain)) }
     ensures { counts.new ≡ set counts.old node
         (get_or counts.old node 0 + gain - loss) }
 {

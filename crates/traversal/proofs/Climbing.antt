@@ -67,7 +67,8 @@ module _ (h : Head) (l path nodes : List ℕ) where
       → first_of (coming h l path 0 x) ≡ none
   unfolding ahead coming
   coming_none q x z e =
-      let s : from h (table_of h l) q 0 x ≡ [] = none_in_front [] (from h (table_of h l) q 0 x) e in
+      let s : from h (table_of h l) q 0 x
+      ≡ [] = none_in_front [] (from h (table_of h l) q 0 x) e in
       first_none _ (beyond_nil (table_of h l) h.n h.min h.max 0 x
       ∙ (rw (sub-zero h.min, sub-zero h.max, z) at s))
 

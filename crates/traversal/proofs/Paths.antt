@@ -91,7 +91,8 @@ module _ (h : Head) (l : List ℕ) where
             rw z (descend_nil (table_of h l) 0 ∙ ap complete (sym e));
       }
 
-  pub along_root : {depth : ℕ} {path nodes : List ℕ} → Along h l depth path nodes → get_or nodes 0 0
+  pub along_root : {depth : ℕ} {path nodes : List ℕ} → Along h l depth path nodes
+      → get_or nodes 0 0
       ≡ 0
   along_root a = cc (a.ends 0 (omega arith), descend_nil (table_of h l) 0)
 
@@ -154,7 +155,8 @@ module _ (h : Head) (l : List ℕ) where
 
   pub along_last : {depth : ℕ} {path nodes : List ℕ} → Along h l (suc depth) path nodes
       → depth < length path
-      → (table_of h l).child (get_or nodes depth 0) (get_or path depth 0) ≡ get_or nodes (suc depth) 0
+      → (table_of h l).child (get_or nodes depth 0) (get_or path depth 0)
+      ≡ get_or nodes (suc depth) 0
   along_last {depth} {path} {nodes} a room = go (ℕ_discrete ((table_of h l).child q x) 0)
     where
       q : ℕ
@@ -170,7 +172,8 @@ module _ (h : Head) (l : List ℕ) where
           ∙ ap (descend (table_of h l) 0) (sym (take-suc path depth 0 room))
           ∙ a.ends (suc depth) (omega arith)
 
-      go : Dec ((table_of h l).child q x ≡ 0) → (table_of h l).child q x ≡ get_or nodes (suc depth) 0
+      go : Dec ((table_of h l).child q x ≡ 0) → (table_of h l).child q x
+          ≡ get_or nodes (suc depth) 0
       go (yes e) = let z : ◌≡◌ {A = ℕ} 0 1 = cc (one, descend_empty (table_of h l) q x [] e) in
           absurd (omega arith)
       go (no e) =

@@ -93,10 +93,12 @@ module _ {h : Head} {l k path nodes : List ℕ} {depth : ℕ} (f : Followed h l 
 
     module _ {v : ℕ} (value : v ≡ own_value h (table_of h l) (get_or nodes depth 0) depth) where
       pub at_key_none : v ≡ 0 → next_stored h l false k ≡ first_of (coming h l path depth 0)
-      at_key_none empty = ap (next_stored h l false) (sym same) ∙ at_none h l path nodes within room
+      at_key_none empty = ap (next_stored h l false) (sym same)
+          ∙ at_none h l path nodes within room
           f.along value empty
 
-      pub at_key_own : v ≢ 0 → SearchTells h l (next_stored h l false k) (Search.Found depth v) path
+      pub at_key_own : v ≢ 0 → SearchTells h l (next_stored h l false k) (Search.Found depth v)
+          path
           nodes
       at_key_own full = told_same h l (ap (next_stored h l false) (sym same))
           (at_own h l path nodes within room f.along value full)

@@ -132,7 +132,8 @@ module _ (h : Head) (l : List ℕ) where
   ahead_kept depth q i kept =
       ap (λ (k : List ℕ). map (k ++◌) (from h (table_of h l) q depth i)) kept.letters
 
-  pub ahead_empty : (path : List ℕ) (depth q i : ℕ) {c : ℕ} → i < h.n → c ≡ (table_of h l).child q i
+  pub ahead_empty : (path : List ℕ) (depth q i : ℕ) {c : ℕ} → i < h.n → c
+      ≡ (table_of h l).child q i
       → c ≡ 0
       → ahead h l path depth q i ≡ ahead h l path depth q (i + 1)
   unfolding ahead

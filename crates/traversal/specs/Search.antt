@@ -1,7 +1,8 @@
 -- 01, "Walking, storing, listing": "gives the first stored key that meets it". What a search
 -- answers about the key that it looks for, and the path that it leaves: the letters of the key,
 -- and the nodes on its path, the root first.
-use Rattle.std.specs.Prelude.{ℕ, suc, ◌-◌, ◌≤◌, ◌<◌, ◌≡◌, Bool, List, ◌++◌, map, length, get_or, take}
+use Rattle.std.specs.Prelude.{ℕ, suc, ◌-◌, ◌≤◌, ◌<◌, ◌≡◌, Bool, List, ◌++◌, map, length, get_or}
+use Rattle.std.specs.Prelude.{take}
 use Rattle.std.proofs.Math.Option.{Option, none, some}
 use Rattle.trie.specs.Table.{Table, complete, descend, answer, LettersBelow}
 use Rattle.trie.specs.Keys.{listing, meets, first_meeting}

@@ -190,7 +190,8 @@ fn below(
 ) -> Search
     requires fact { (Open h image.now) × ((Within (table_of h image.now) h.g) × (Masks h mask)) }
     requires depth_lt_max { (depth < h.max) × (PathRoom h path.old nodes.old) }
-    requires along { (Along h image.now depth path.old nodes.old) × (node ≡ get_or nodes.old depth 0) }
+    requires along { (Along h image.now depth path.old nodes.old)
+        × (node ≡ get_or nodes.old depth 0) }
     ensures search_tells { SearchTells h image.now
         (first_of (ahead h image.now path.old depth node from)) result
         path.new nodes.new }

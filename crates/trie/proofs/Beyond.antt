@@ -55,7 +55,8 @@ own_there t zero q low full = go (t.value q) full
     go (suc v) h = refl
 own_there t (suc short) q low full = absurd (omega arith)
 
-by_letter_none : (keys : ℕ → List (List ℕ)) (i m : ℕ) → ((x : ℕ) → keys x ≡ []) → by_letter keys i m
+by_letter_none : (keys : ℕ → List (List ℕ)) (i m : ℕ) → ((x : ℕ) → keys x ≡ [])
+    → by_letter keys i m
     ≡ []
 unfolding by_letter
 by_letter_none keys i zero h = refl
@@ -252,7 +253,8 @@ module _ (t : Table) (n : ℕ) where
       (short left : ℕ)
       → LettersBelow n k → length k ≤ left
       → filter (meets after (k ++ s)) (keys_under t n short left q)
-      ≡ map (k ++◌) (filter (meets after s) (keys_under t n (short - length k) (left - length k) p))
+      ≡ map (k ++◌) (filter (meets after s) (keys_under t n (short - length k) (left - length k)
+      p))
       ++ beyond t n short left q k n
   unfolding beyond
   filter_path (end {q}) after s short left letters deep =

@@ -61,7 +61,8 @@ inserted l xs ys k hl hm out others =
         without_key xs ys k other ((others j other).0 a)
 
     from : (j : List ℕ) → Memᴰ j (xs ++ ys) → Memᴰ j l
-    from j a = (others j (λ e. held_once xs ys k hm (Memᴰ.cast (sym e) a))).1 (with_key_lem xs ys k a)
+    from j a = (others j (λ e. held_once xs ys k hm (Memᴰ.cast (sym e) a))).1
+        (with_key_lem xs ys k a)
 
 -- a list in order that has the keys of another, and k besides
 pub one_more : (l m : List (List ℕ)) (k : List ℕ) → Ascending l → Ascending m
@@ -184,7 +185,8 @@ listing_change {t} {s} {n = n} {least} {most} {k} a = go (answer t k) (answer s 
         ∙ sym (+ℤ_idr (pos (length (listing t n least most))))
 
     go : (b c : ℕ) → answer t k ≡ b → answer s k ≡ c
-        → pos (length (listing s n least most)) ≡ pos (length (listing t n least most)) +ℤ change_of
+        → pos (length (listing s n least most))
+        ≡ pos (length (listing t n least most)) +ℤ change_of
         b c
     go zero zero e f = level (λ z. f, λ z. e)
     go zero (suc c) e f = up (longer_listing a e (omega arith))

@@ -69,7 +69,8 @@ module _ (t : Table) (n g : ℕ) where
   unfolding at_depth
   parent_at k zero e = absurd (false≢true e)
   parent_at k (suc x) e =
-      let (q, b, f) = any_found (λ q. holds_address t n q (suc x) && at_depth t n g k q) (g + 1) e in
+      let (q, b, f) = any_found (λ q. holds_address t n q (suc x) && at_depth t n g k q) (g + 1) e
+      in
       let (c, d) = both (holds_address t n q (suc x)) (at_depth t n g k q) f in
       (q, omega arith, held q x c, d)
 

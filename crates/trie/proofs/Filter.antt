@@ -57,7 +57,8 @@ pub filter_none : (p : List ℕ → Bool) (l : List (List ℕ))
 unfolding filter
 filter_none p [] h = refl
 filter_none p (k ∷ l) h =
-    filter_out p k l (h k (mathlib.Core.List.Memᴰ.head refl)) ∙ filter_none p l (λ m a. h m (mathlib.Core.List.Memᴰ.tail a))
+    filter_out p k l (h k (mathlib.Core.List.Memᴰ.head refl))
+    ∙ filter_none p l (λ m a. h m (mathlib.Core.List.Memᴰ.tail a))
 
 pub filter_every : (p : List ℕ → Bool) (l : List (List ℕ))
     → ((k : List ℕ) → Memᴰ k l → p k ≡ true) → filter p l ≡ l
@@ -89,12 +90,14 @@ filter_holds p (k ∷ l) m =
           (mathlib.Core.List.Memᴰ.cases_cons (rw (filter_in p k l e) at a)),
       λ h.
           rw e
-          (⊎_elim mathlib.Core.List.Memᴰ.head (λ b. mathlib.Core.List.Memᴰ.tail ((filter_holds p l m).1 (b, h.1)))
+          (⊎_elim mathlib.Core.List.Memᴰ.head
+          (λ b. mathlib.Core.List.Memᴰ.tail ((filter_holds p l m).1 (b, h.1)))
           (mathlib.Core.List.Memᴰ.cases_cons h.0)),
     ))
     (λ e. (
       λ a. let h =
-          (filter_holds p l m).0 (rw (filter_out p k l e) at a) in (mathlib.Core.List.Memᴰ.tail h.0, h.1),
+          (filter_holds p l m).0 (rw (filter_out p k l e) at a) in
+          (mathlib.Core.List.Memᴰ.tail h.0, h.1),
       λ h.
           rw e
           (⊎_elim
@@ -120,7 +123,8 @@ filter_length p (k ∷ l) =
     by_test _ p k (λ e. rw e (omega arith)) (λ e. rw e (omega arith))
 
 -- a key that is found is in the list, and meets
-pub first_listed : (p : List ℕ → Bool) (l : List (List ℕ)) {k : List ℕ} → first_meeting p l ≡ some k
+pub first_listed : (p : List ℕ → Bool) (l : List (List ℕ)) {k : List ℕ} → first_meeting p l
+    ≡ some k
     → Memᴰ k l × (p k ≡ true)
 unfolding first_meeting
 first_listed p [] {k} h = absurd (some-ne-none k (sym h))

@@ -217,7 +217,8 @@ pub grow_path_answer : {t : Table} {g n q x : ℕ} (xs : List ℕ) → Room t g 
 unfolding grow_path
 grow_path_answer [] r k = grow_answer (room_fresh r) k
 grow_path_answer {t} {g} {n} {q} {x} (y ∷ ys) r k =
-    grow_path_answer {t = grow t q x (suc g)} {g = suc g} {q = suc g} {x = y} ys (room_next r) k ∙ grow_answer (room_fresh r) k
+    grow_path_answer {t = grow t q x (suc g)} {g = suc g} {q = suc g} {x = y} ys (room_next r) k
+    ∙ grow_answer (room_fresh r) k
 
 pub grow_path_linked : {t : Table} {g n q x : ℕ} (xs : List ℕ) → Room t g n q x xs
     → Linked (grow_path t q x xs (suc g)) (g + suc (length xs)) n
@@ -226,7 +227,8 @@ grow_path_linked {t} {g} {n} {q} {x} [] r =
     let e : g + 1 ≡ suc g = omega arith in rw e (room_linked r)
 grow_path_linked {t} {g} {n} {q} {x} (y ∷ ys) r =
     let e : g + suc (suc (length ys)) ≡ suc g + suc (length ys) = omega arith in
-    rw e (grow_path_linked {t = grow t q x (suc g)} {g = suc g} {q = suc g} {x = y} ys (room_next r))
+    rw e (grow_path_linked {t = grow t q x (suc g)} {g = suc g} {q = suc g} {x = y} ys
+    (room_next r))
 
 -- the key's walk goes on from the empty link to the last new node
 pub grow_path_descend : {t : Table} {g n q x : ℕ} (xs : List ℕ) (p : List ℕ) → Room t g n q x xs
@@ -239,12 +241,14 @@ grow_path_descend {t} {g} {n} {q} {x} [] p r e =
 grow_path_descend {t} {g} {n} {q} {x} (y ∷ ys) p r e =
     let s : g + suc (suc (length ys)) ≡ suc g + suc (length ys) = omega arith in
     rw (← append_snoc p x (y ∷ ys), s)
-    (grow_path_descend {t = grow t q x (suc g)} {g = suc g} {q = suc g} {x = y} ys (p ++ (x ∷ [])) (room_next r)
+    (grow_path_descend {t = grow t q x (suc g)} {g = suc g} {q = suc g} {x = y} ys (p ++ (x ∷ []))
+    (room_next r)
     (grow_descend_new t q x (suc g) 0 p r.empty (omega arith) e))
 
 -- No data changes. Of the links of older nodes only the empty one changes: it receives the first
 -- new node.
-pub grow_path_value : (t : Table) (q x : ℕ) (xs : List ℕ) (c p : ℕ) → (grow_path t q x xs c).value p
+pub grow_path_value : (t : Table) (q x : ℕ) (xs : List ℕ) (c p : ℕ)
+    → (grow_path t q x xs c).value p
     ≡ t.value p
 unfolding grow_path grow
 grow_path_value t q x [] c p = refl

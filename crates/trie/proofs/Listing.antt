@@ -47,7 +47,8 @@ by_letter_holds keys i (suc m) x {r} low high h =
         → Memᴰ (x ∷ r) (by_letter keys i (suc m))
     go (yes e) on =
         mathlib.Core.List.Memᴰ.append_left (by_letter keys (suc i) m)
-        (subst (λ (j : ℕ). Memᴰ (x ∷ r) (map (j ∷◌) (keys j))) (sym e) (mathlib.Core.List.Memᴰ.map (x ∷◌) h))
+        (subst (λ (j : ℕ). Memᴰ (x ∷ r) (map (j ∷◌) (keys j))) (sym e)
+        (mathlib.Core.List.Memᴰ.map (x ∷◌) h))
     go (no other) on = mathlib.Core.List.Memᴰ.append_right (map (i ∷◌) (keys i)) (on (omega arith))
 
 -- what a key needs to be listed at a node: its length is within the limits, and its walk from
@@ -195,7 +196,8 @@ append_ascending : (l m : List (List ℕ)) → Ascending l → Ascending m
     → Ascending (l ++ m)
 append_ascending [] m hl hm across = hm
 append_ascending (x ∷ l) m hl hm across = (
-  λ k h. ⊎_elim (hl.0 k) (across x k (mathlib.Core.List.Memᴰ.head refl)) (mathlib.Core.List.Memᴰ.append_cases l h),
+  λ k h. ⊎_elim (hl.0 k) (across x k (mathlib.Core.List.Memᴰ.head refl))
+      (mathlib.Core.List.Memᴰ.append_cases l h),
   append_ascending l m hl.1 hm (λ j k a. across j k (mathlib.Core.List.Memᴰ.tail a)),
 )
 
@@ -203,7 +205,8 @@ map_ascending : (i : ℕ) (l : List (List ℕ)) → Ascending l → Ascending (m
 map_ascending i [] h = tt
 map_ascending i (k ∷ l) h = (
   λ m a. let (r, hr, e) =
-      mathlib.Core.List.Memᴰ.of_map (i ∷◌) l a in ap (before (i ∷ k)) (sym e) ∙ before_cons i k r ∙ h.0 r hr,
+      mathlib.Core.List.Memᴰ.of_map (i ∷◌) l a in ap (before (i ∷ k)) (sym e) ∙ before_cons i k r
+      ∙ h.0 r hr,
   map_ascending i l h.1,
 )
 
@@ -238,7 +241,8 @@ link_ascending keys h zero = tt
 link_ascending keys h (suc c) = h (suc c)
 
 -- "Order: a key comes before its extensions; otherwise the first different letter number decides"
-pub keys_under_ascending : (t : Table) (n short left q : ℕ) → Ascending (keys_under t n short left q)
+pub keys_under_ascending : (t : Table) (n short left q : ℕ)
+    → Ascending (keys_under t n short left q)
 unfolding keys_under
 keys_under_ascending t n short zero q = own_ascending t short q
 keys_under_ascending t n short (suc left) q =
@@ -261,7 +265,8 @@ pub held_once : (l m : List (List ℕ)) (k : List ℕ) → Ascending (l ++ k ∷
 held_once [] m k h a = before_apart k k (h.0 k a) refl
 held_once (x ∷ l) m k h a =
     ⊎_elim
-    (λ e. before_apart x k (h.0 k (mathlib.Core.List.Memᴰ.append_right l (mathlib.Core.List.Memᴰ.head refl))) (sym e))
+    (λ e. before_apart x k (h.0 k (mathlib.Core.List.Memᴰ.append_right l
+    (mathlib.Core.List.Memᴰ.head refl))) (sym e))
     (held_once l m k h.1)
     (mathlib.Core.List.Memᴰ.cases_cons a)
 
@@ -280,8 +285,10 @@ pub same_keys : (l m : List (List ℕ)) → Ascending l → Ascending m
     → ((k : List ℕ) → Memᴰ k m → Memᴰ k l)
     → l ≡ m
 same_keys [] [] hl hm to from = refl
-same_keys [] (y ∷ m) hl hm to from = absurd (mathlib.Core.List.Memᴰ.not-nil (from y (mathlib.Core.List.Memᴰ.head refl)))
-same_keys (x ∷ l) [] hl hm to from = absurd (mathlib.Core.List.Memᴰ.not-nil (to x (mathlib.Core.List.Memᴰ.head refl)))
+same_keys [] (y ∷ m) hl hm to from = absurd (mathlib.Core.List.Memᴰ.not-nil
+    (from y (mathlib.Core.List.Memᴰ.head refl)))
+same_keys (x ∷ l) [] hl hm to from = absurd (mathlib.Core.List.Memᴰ.not-nil
+    (to x (mathlib.Core.List.Memᴰ.head refl)))
 same_keys (x ∷ l) (y ∷ m) hl hm to from =
     let e = heads (mathlib.Core.List.Memᴰ.cases_cons (to x (mathlib.Core.List.Memᴰ.head refl)))
     (mathlib.Core.List.Memᴰ.cases_cons (from y (mathlib.Core.List.Memᴰ.head refl))) in

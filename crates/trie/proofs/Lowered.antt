@@ -18,7 +18,8 @@ pub record Agree (s t : Table) (g : ℕ) : Type 0 where
   pub values : (q : ℕ) → q ≤ g → s.value q ≡ t.value q
 
 module _ {s t : Table} {g : ℕ} (same : Agree s t g) (within : Within s g) where
-  walk_alike : (q : ℕ) (k : List ℕ) → q ≤ g → value_at s (descend s q k) ≡ value_at t (descend t q k)
+  walk_alike : (q : ℕ) (k : List ℕ) → q ≤ g → value_at s (descend s q k)
+      ≡ value_at t (descend t q k)
   walk_alike q [] b = value_nil s q ∙ same.values q b ∙ sym (value_nil t q)
   walk_alike q (x ∷ xs) b = go (ℕ_discrete c 0) (walk_alike c xs (within q x))
     where

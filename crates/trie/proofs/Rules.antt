@@ -36,12 +36,14 @@ grow_path_reached {t} {g} {n} {q} {x} [] r all =
     let e : g + 1 ≡ suc g = omega arith in rw e (grow_reached t g q x all r.node r.empty)
 grow_path_reached {t} {g} {n} {q} {x} (y ∷ ys) r all =
     let e : g + suc (suc (length ys)) ≡ suc g + suc (length ys) = omega arith in
-    rw e (grow_path_reached {t = grow t q x (suc g)} {g = suc g} {q = suc g} {x = y} ys (room_next r) (grow_reached t g q x all r.node r.empty))
+    rw e (grow_path_reached {t = grow t q x (suc g)} {g = suc g} {q = suc g} {x = y} ys
+    (room_next r) (grow_reached t g q x all r.node r.empty))
 
 put_reached : (t : Table) (g q v : ℕ) → AllReached t g → AllReached (put t q v) g
 put_reached t g q v r c high = let (k, e) = r c high in (k, put_descend t q v 0 k ∙ e)
 
-reached : {t : Table} {g n v : ℕ} {k : List ℕ} {s : Table} {g' : ℕ} → Linked t g n → LettersBelow n k
+reached : {t : Table} {g n v : ℕ} {k : List ℕ} {s : Table} {g' : ℕ} → Linked t g n
+    → LettersBelow n k
     → AllReached t g → Store t g k v s g'
     → AllReached s g'
 reached {t} {g = g} l letters r (over {q} {v} e) = put_reached t g q v r

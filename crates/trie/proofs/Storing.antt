@@ -95,7 +95,8 @@ child_stays p i h f (unchanged e) = refl
 child_stays {t} {g = g} p i h f (longer {q} {x} {xs} e) =
     grow_path_child_other t q x xs (suc g) p i (omega arith) (λ s. f xs (rw (s.0, s.1) e))
 
-value_stays : {t : Table} {g v : ℕ} {k : List ℕ} {s : Table} {g' : ℕ} (p : ℕ) → p ≤ g → descend t 0 k ≢ complete p
+value_stays : {t : Table} {g v : ℕ} {k : List ℕ} {s : Table} {g' : ℕ} (p : ℕ) → p ≤ g
+    → descend t 0 k ≢ complete p
     → Store t g k v s g'
     → s.value p ≡ t.value p
 value_stays {t} p h f (over {q} {v} e) = put_value_other t q v p (λ s. f (rw s e))

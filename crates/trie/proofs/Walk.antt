@@ -102,7 +102,8 @@ last_link t a k x e =
 unique : {t : Table} {q : ℕ} (k m : List ℕ) → Once t → Walk t 0 (reverse k) (complete q)
     → Walk t 0 (reverse m) (complete q) → k ≡ m
 unique [] [] once v w = refl
-unique {t} [] (y ∷ m) once end w = absurd ((last (reverse m) y (rw (reverse-cons y m) at w)).3 refl)
+unique {t} [] (y ∷ m) once end w = absurd ((last (reverse m) y (rw (reverse-cons y m) at w)).3
+    refl)
 unique (x ∷ k) [] once v end = absurd ((last (reverse k) x (rw (reverse-cons x k) at v)).3 refl)
 unique {t} {q = q} (x ∷ k) (y ∷ m) once v w =
     let (p, v', e, h) = last (reverse k) x (rw (reverse-cons x k) at v) in

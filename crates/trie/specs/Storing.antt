@@ -3,7 +3,8 @@
 -- otherwise: the empty link that stopped the walk receives G+1; nodes G+1 to G+k are written in
 -- key order, each linking to the next by the key's letter, all else zero; the last holds the
 -- value".
-use Rattle.std.specs.Prelude.{ℕ, zero, suc, ◌+◌, ◌&&◌, cond, List, [], ◌∷◌, length, eqb, ℤ, pos, negsuc}
+use Rattle.std.specs.Prelude.{ℕ, zero, suc, ◌+◌, ◌&&◌, cond, List, [], ◌∷◌, length, eqb, ℤ, pos}
+use Rattle.std.specs.Prelude.{negsuc}
 use Rattle.trie.specs.Table.{Table, Descent, complete, stopped, descend}
 
 -- the table with v as the data of node q

@@ -89,7 +89,8 @@ by_rows (row ∷ more) l at t h = go (fits_row row l at) refl (by_rows more l at
         let q : length_by (row ∷ more) l at ≡ get_or row 4 0 = length_fits row more l at e in
         subst (Character l at) (sym q) (of_row row l at rules.0 e (λ z. h (q ∙ z)))
     go false e next =
-        let q : length_by (row ∷ more) l at ≡ length_by more l at = length_passes row more l at e in
+        let q : length_by (row ∷ more) l at
+        ≡ length_by more l at = length_passes row more l at e in
         subst (Character l at) (sym q) (next (λ z. h (q ∙ z)))
 
 pub character : (l : List ℕ) (at : ℕ) → char_len l at ≢ 0 → Character l at (char_len l at)

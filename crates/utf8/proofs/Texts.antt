@@ -55,7 +55,8 @@ no_character more l at h e =
     (λ (n : ℕ). in_front n (char_at l at) (chars_from more l (at + char_len l at))) e
 
 one_more : (more : ℕ) (l : List ℕ) (at : ℕ) → at < length l → char_len l at ≢ 0
-    → chars_from (suc more) l at ≡ prepend (char_at l at ∷ []) (chars_from more l (at + char_len l at))
+    → chars_from (suc more) l at
+    ≡ prepend (char_at l at ∷ []) (chars_from more l (at + char_len l at))
 one_more more l at h e = before_end more l at h ∙ in_front_lem (char_len l at) (char_at l at)
     (chars_from more l (at + char_len l at)) e
 

@@ -37,7 +37,8 @@ unfolding in_ranges
 next row l at n i h = let e : n - i ≡ suc (n - (i + 1)) = omega arith in rw (e, add-one i)
 
 module _ {row l : List ℕ} {at n i : ℕ} (p : Testing row l at n i) where
-  pub testing_more : i < n → in_range row i (get_or l (at + i) 0) ≡ true → Testing row l at n (i + 1)
+  pub testing_more : i < n → in_range row i (get_or l (at + i) 0) ≡ true
+      → Testing row l at n (i + 1)
   testing_more h e = record { within = omega arith; tests = p.tests ∙ next row l at n i h ∙ rw e }
 
   pub testing_fails : i < n → in_range row i (get_or l (at + i) 0) ≡ false → in_ranges row l at 0 n
@@ -48,7 +49,8 @@ module _ {row l : List ℕ} {at n i : ℕ} (p : Testing row l at n i) where
   unfolding in_ranges
   testing_all h = let e : n - i ≡ 0 = omega arith in p.tests ∙ rw e
 
-pub fits_not : (row l : List ℕ) (at : ℕ) → length l < at + get_or row 4 0 → fits_row row l at ≡ false
+pub fits_not : (row l : List ℕ) (at : ℕ) → length l < at + get_or row 4 0 → fits_row row l at
+    ≡ false
 unfolding fits_row
 fits_not row l at h = rw (lt-leb (at + get_or row 4 0) (length l) h)
 

@@ -2,7 +2,8 @@
 -- telling the first and second byte [..] Third and fourth bytes are 80..BF." A row: the lowest
 -- and the highest first byte, the lowest and the highest second byte (0 if the character has
 -- none), and how many bytes the character has.
-use Rattle.std.specs.Prelude.{ℕ, zero, suc, ◌+◌, Bool, true, ◌&&◌, cond, List, [], ◌∷◌, length, get_or, leb}
+use Rattle.std.specs.Prelude.{ℕ, zero, suc, ◌+◌, Bool, true, ◌&&◌, cond, List, [], ◌∷◌, length}
+use Rattle.std.specs.Prelude.{get_or, leb}
 use Rattle.field.specs.Range.{between}
 
 abbrev pub rows : List (List ℕ)

@@ -36,7 +36,8 @@ one_more list x v q room = go (ℕ_discrete x q)
         + cond (eqb x q) v 0
     go (yes e) = rw (eq-eqb x q e, ← e) (get_or-set_same list x (get_or list x 0 + v) 0 room)
     go (no other) =
-        rw (ne_eqb x q other) (get_or-set_other list x q (get_or list x 0 + v) 0 (λ e. other (sym e))
+        rw (ne_eqb x q other) (get_or-set_other list x q (get_or list x 0 + v) 0
+        (λ e. other (sym e))
         ∙ omega arith)
 
 module _ (h : Head) (l : List ℕ) where
@@ -174,7 +175,8 @@ pub record Onto (h : Head) (l : List ℕ) (p depth : ℕ) (list list' : List ℕ
 
 module _ {h : Head} {l : List ℕ} {p depth : ℕ} {list list' : List ℕ} {sum i c : ℕ}
     (o : Onto h l p depth list list' sum i c) where
-  by_link : left h (table_of h l) p depth i ≡ under h l c (depth + 1) + left h (table_of h l) p depth
+  by_link : left h (table_of h l) p depth i
+      ≡ under h l c (depth + 1) + left h (table_of h l) p depth
       (i + 1)
   by_link =
       omega (

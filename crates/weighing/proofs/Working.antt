@@ -83,7 +83,8 @@ module _ {l : List ℕ} (a : Accepted l) where
         ∙ get_or-replicate (h.g + 1) q 0 0 (omega arith)
 
     start_past : (q : ℕ) → h.g < q → get_or start q 0 ≡ get_or list q 0
-    start_past q high = ap (λ (s : List ℕ). get_or s q 0) clear ∙ past_front (replicate (h.g + 1) 0)
+    start_past q high = ap (λ (s : List ℕ). get_or s q 0) clear
+        ∙ past_front (replicate (h.g + 1) 0)
         list zeros q (omega arith)
 
     pub start_length : h.g + 1 ≤ length list → length start ≡ length list
@@ -132,7 +133,8 @@ module _ {l : List ℕ} (a : Accepted l) where
         (λ q _. go q (dec_lt h.g q))
         ∙ sym (counts_front room)
       where
-        go : (q : ℕ) → Dec (h.g < q) → get_or list' q 0 ≡ get_or (counts_in l ++ drop (h.g + 1) list)
+        go : (q : ℕ) → Dec (h.g < q) → get_or list' q 0
+            ≡ get_or (counts_in l ++ drop (h.g + 1) list)
             q 0
         go q (yes out) =
             omega (

@@ -3,7 +3,8 @@
 // at or under the node to the node's count.
 #![tactic(auto)]
 
-ghost use Rattle.std.specs.Prelude.{◌≡◌, ℕ, ◌+◌, ◌-◌, ◌^◌, ◌≤◌, ◌<◌, ◌++◌, length, drop, replicate};
+ghost use Rattle.std.specs.Prelude.{◌≡◌, ℕ, ◌+◌, ◌-◌, ◌^◌, ◌≤◌, ◌<◌, ◌++◌, length};
+ghost use Rattle.std.specs.Prelude.{drop, replicate};
 ghost use Rattle.trie.specs.Rules.{Within};
 ghost use Rattle.trie.specs.Keys.{own_key, keys_under};
 ghost use Rattle.head.specs.Fields.{head_of};
@@ -60,9 +61,11 @@ fn weighed(
     own: u32,
     list: &mut [u32],
 ) -> u32
-    requires fact { (Open h image.now) × ((Within (table_of h image.now) h.g) × (ReadMasks h mask data_mask)) }
+    requires fact { (Open h image.now) × ((Within (table_of h image.now) h.g)
+        × (ReadMasks h mask data_mask)) }
     requires node_le_g { (node ≤ h.g) × ((depth < h.max) × (h.g + 1 ≤ length list.old)) }
-    requires own_value { (own ≡ length (own_key (table_of h image.now) (h.min - depth) node)) × (SumsFit h image.now node depth list.old) }
+    requires own_value { (own ≡ length (own_key (table_of h image.now) (h.min - depth) node))
+        × (SumsFit h image.now node depth list.old) }
     ensures value { result ≡ length (keys_under (table_of h image.now) h.n (h.min - depth)
         (h.max - depth) node) }
     ensures weighed { Weighed h image.now node depth list.old
