@@ -3,7 +3,7 @@
    by position in samples/season.trieff, and does so in the same labels as another tool numbers
    their nodes. It takes that season over into an image with more bytes of data. It refuses a file
    with records that no lookup finds. All memory is static. (bench_file.c keeps its image in a
-   file.) From the repository's root, after `rt staticlib trieff`:
+   file.) From the repository's root, after `tools/build trieff`:
 
      gcc -std=c11 -O2 -Iinclude -o target/bench-c examples/bench.c \
          target/staticlib/libtrieff.a && target/bench-c

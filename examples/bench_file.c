@@ -6,7 +6,7 @@
      count                  the number of labels
      list                   every label with its record number, in order
 
-   From the repository's root, after `rt staticlib trieff`:
+   From the repository's root, after `tools/build trieff`:
 
      gcc -std=c11 -O2 -Iinclude -o target/bench-file examples/bench_file.c \
          target/staticlib/libtrieff.a

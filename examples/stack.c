@@ -2,7 +2,7 @@
    of eight bytes. A firmware engineer needs these figures, and the header gives their limits. Each
    call runs on a stack of its own, which was filled with the byte A5. The part that no longer
    holds it was used. The program fails if a call takes more than the header says. From the
-   repository's root, after `rt staticlib trieff`:
+   repository's root, after `tools/build trieff`:
 
      gcc -std=c11 -O2 -Iinclude -o target/stack examples/stack.c target/staticlib/libtrieff.a \
          && target/stack */

@@ -1,5 +1,5 @@
 /* TRIEFF 0.6.0 images over lent memory: make, check, count, look up, store, mend, list, jump by
-   position. Link with libtrieff.a, which `rt staticlib trieff` builds, for x86-64 alone.
+   position. Link with libtrieff.a, which `tools/build trieff` builds, for x86-64 alone.
 
    What is lent
    ------------

@@ -1,4 +1,4 @@
-//! Links `libtrieff.a`, which `rt staticlib trieff` builds. It is taken from the folder that the
+//! Links `libtrieff.a`, which `tools/build trieff` builds. It is taken from the folder that the
 //! environment variable TRIEFF_LIB names, else from `target/staticlib` of the repository. Sets
 //! `core_error` if the compiler has `core::error::Error`, which came with Rust 1.81.
 
@@ -26,7 +26,7 @@ fn main() {
     println!("cargo:rerun-if-changed={}", library.display());
     if !library.is_file() {
         refuse(&format!(
-            "no {}: run `rt staticlib trieff` first, \
+            "no {}: run `tools/build trieff` first, \
              or set TRIEFF_LIB to the folder that holds libtrieff.a",
             library.display()
         ));

@@ -3,7 +3,7 @@
 export CARGO_TARGET_DIR="$PWD/target/cargo"
 library=${TRIEFF_LIB:-target/staticlib}/libtrieff.a
 [ -f "$library" ] || {
-    echo "tests: no $library: build the library first (rt staticlib trieff)" >&2
+    echo "tests: no $library: build the library first (tools/build trieff)" >&2
     exit 2
 }
 

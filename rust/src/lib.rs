@@ -4,7 +4,7 @@
 //! The caller lends memory: slices, for the time of the call. A call allocates nothing and keeps
 //! nothing. Any bytes, any key, any text and any value may be passed, and each has its answer: the
 //! first [`Refusal`] that applies, else what was asked for. A refused call changes nothing but the
-//! working numbers. The crate links `libtrieff.a`, which `rt staticlib trieff` proves and builds,
+//! working numbers. The crate links `libtrieff.a`, which `tools/build trieff` proves and builds,
 //! for x86-64 alone.
 //!
 //! The crate needs no `std`. Its feature `std` is for compilers before Rust 1.81: with it

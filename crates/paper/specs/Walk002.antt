@@ -40,7 +40,7 @@ query002 l query =
     cond (ltb (length query) (head_of l).min || ltb (head_of l).max (length query)) 0
     (query_from (head_of l) l 0 query)
 
--- s.index_of(qTemp.charAt(f)): the place of a character among the allowed characters, which 002
+-- s.indexOf(qTemp.charAt(f)): the place of a character among the allowed characters, which 002
 -- means by s there. For a character that is not found it has -1, here [N]; the same test turns
 -- both away.
 unfoldable pub index_of : Head → List ℕ → ℕ → ℕ
@@ -48,7 +48,7 @@ unfolding letter_of
 index_of h allowedChars c =
     cond (ltb (letter_of allowedChars c) (length allowedChars)) (letter_of allowedChars c) h.n
 
--- for (int f = 0; f < s.length; f++) { query[f] = s.index_of(qTemp.charAt(f)); }; none for bytes
+-- for (int f = 0; f < s.length; f++) { query[f] = s.indexOf(qTemp.charAt(f)); }; none for bytes
 -- that are not well-formed text, of which 002 does not speak
 unfoldable pub chars_query : List ℕ → Option (List ℕ) → Option (List ℕ)
 unfolding index_of letters alphabet_in
