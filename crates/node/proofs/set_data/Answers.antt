@@ -22,7 +22,7 @@ write-requires c =
     )
 
 written : (c : After-write) → let a = c.args in
-    c.write.new.0 ≡ put_field a.image.now (data_place a.h a.q) a.h.d a.v
+    c.write.new.s ≡ put_field a.image.now (data_place a.h a.q) a.h.d a.v
 written c =
     let a = c.args in
     c.write.ensures ∙ ap (λ (k : ℕ). put_field a.image.now k a.h.d a.v)

@@ -21,7 +21,7 @@ write-requires c =
     )
 
 written : (c : After-write) → let a = c.args in
-    c.write.new.0 ≡ put_field a.image.now (link_place a.h a.q a.i) a.h.a a.c
+    c.write.new.s ≡ put_field a.image.now (link_place a.h a.q a.i) a.h.a a.c
 written c =
     let a = c.args in
     c.write.ensures ∙ ap (λ (k : ℕ). put_field a.image.now k a.h.a a.c)
