@@ -2,7 +2,6 @@
 -- are held once the length is allowed. Assumes nothing.
 use mathlib.Core.Path.{sym, ap, ◌∙◌}
 use mathlib.Core.Bool.{not}
-use borrow.Author.Tests.{not-false}
 use Rattle.paper.specs.Answers.{row_of}
 use Rattle.paper.specs.Rows.{row9}
 use Rattle.paper.specs.Orders.{letters_rows}
@@ -14,7 +13,7 @@ unfolding row_of letters_rows row9
 returns-then-not-length_allowed c =
     let h = c.args.h in
     λ k o. sym (nine_given h (outside h) o (sym (ap not c.length_allowed.ensures)
-    ∙ c.if-not-length_allowed.true))
+    ∙ ap not c.if-not-length_allowed.true))
 
 pub spelled-requires : goal.spelled-requires
 spelled-requires c =
@@ -27,4 +26,4 @@ returns c =
     let h = c.args.h in
     λ k o. c.spelled.ensures k o
     ∙ sym (ten_decides h (outside h) o (sym (ap not c.length_allowed.ensures)
-    ∙ c.if-not-length_allowed.false))
+    ∙ ap not c.if-not-length_allowed.false))

@@ -1,7 +1,6 @@
 -- `key::Key::of` meets its contract: the array is the letters copied so far, followed by zeros.
 -- Assumes nothing.
 use Prim.Native.Nat.{◌-◌}
-use mathlib.Core.Logic.{⊎_elim}
 use mathlib.Core.Path.{◌≡◌, refl, ◌∙◌}
 use native.Mathlib.Omega.{arith}
 use lib.ListN.{length}
@@ -9,10 +8,11 @@ use Rattle.head.specs.Fields.{most_letters}
 use Rattle.key.specs.Hand.{padded, in_hand}
 use Rattle.key.proofs.Hand.{copy_more, copy_all}
 use Rattle.key.proofs.Key.of.Goals as goal
+use Rattle.key.proofs.Key.of.Goals.{then-letters-lt-HELD, else-letters-lt-HELD}
 
 pub loop-i-init : goal.loop-i-init
 unfolding padded
-loop-i-init c = (omega arith, ⊎_elim (λ w. omega arith) (λ w. omega arith) c.if-letters-lt-HELD.branch, refl)
+loop-i-init c = (omega arith, elim c.if-letters-lt-HELD.branch [ then-letters-lt-HELD w ↦ omega arith | else-letters-lt-HELD w ↦ omega arith ], refl)
 
 pub loop-i-preserved : goal.loop-i-preserved
 loop-i-preserved c = (
@@ -26,6 +26,6 @@ pub returns : goal.returns
 unfolding in_hand
 returns c =
     let letters = c.args.letters.now in
-    let all : c.loop-i.auto ≡ padded most_letters letters =
+    let all : c.loop-i.kept ≡ padded most_letters letters =
     c.loop-i.invariant.2 ∙ copy_all most_letters letters c.loop-i.i (omega arith) in
     λ j. record { letters = all j; len = length letters }

@@ -9,16 +9,16 @@ use Rattle.key.proofs.Typed.judge.Goals as goal
 
 pub returns-then-not-self : goal.returns-then-not-self
 unfolding row_of
-returns-then-not-self c = λ named e. sym (typed_10 _ _ named e c.if-not-self.true)
+returns-then-not-self c = λ named e. sym (typed_10 _ _ named e (not-true _ c.if-not-self.true))
 
 pub returns-then-not-length_allowed : goal.returns-then-not-length_allowed
 unfolding row_of row_when
 returns-then-not-length_allowed c =
-    λ named e. sym (typed_by _ _ named e c.if-not-self.false
+    λ named e. sym (typed_by _ _ named e (not-false _ c.if-not-self.false)
     (sym c.length_allowed.ensures ∙ c.if-not-length_allowed.true))
 
 pub returns : goal.returns
 unfolding row_of row_when
 returns c =
-    λ named e. sym (typed_by _ _ named e c.if-not-self.false
+    λ named e. sym (typed_by _ _ named e (not-false _ c.if-not-self.false)
     (sym c.length_allowed.ensures ∙ c.if-not-length_allowed.false))

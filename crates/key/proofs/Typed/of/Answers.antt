@@ -2,7 +2,6 @@
 -- stops at a character that has none. A character takes at least one byte, so the length is at
 -- most the place reached. Assumes nothing.
 use Prim.Native.Nat.{◌-◌, ◌<◌}
-use mathlib.Core.Logic.{⊎_elim}
 use mathlib.Core.Path.{◌≡◌, sym, ◌∙◌, ap}
 use native.Mathlib.Omega.{arith}
 use lib.ListN.{length, take}
@@ -13,10 +12,10 @@ use Rattle.alphabet.specs.Letters.{letter_of}
 use Rattle.key.proofs.Typing.{typing_none, typing_more, typing_past, typing_all}
 use Rattle.key.proofs.Typing.{typing_ill, typing_outside}
 use Rattle.key.proofs.Typed.of.Goals as goal
-use Rattle.key.proofs.Typed.of.Goals.{After-letter-x, After-letters-1, Else-size-eq0}
+use Rattle.key.proofs.Typed.of.Goals.{then-len-lt-HELD, else-len-lt-HELD, After-letter-x, Start, Else-size-eq0}
 
 -- the alphabet has n letters
-letters : (c : After-letters-1)
+letters : (c : Start)
     → length (take c.args.n c.args.codes.now)
     ≡ c.args.n
 letters c =
@@ -55,7 +54,7 @@ pub returns-then-n-x : goal.returns-then-n-x
 returns-then-n-x c =
     c.nameless-then-n-x.ensures
     ∙ typing_outside c.loop-at.invariant.1 (λ z. c.if-size-eq0.false (c.quick_len-size.ensures ∙ z))
-    (omega (arith, letters (goal.at.returns-then-n-x c).After-letters-1, letter_here (goal.at.returns-then-n-x c).After-letter-x, c.if-n-x.true))
+    (omega (arith, letters (goal.at.returns-then-n-x c).Start, letter_here (goal.at.returns-then-n-x c).After-letter-x, c.if-n-x.true))
 
 pub overflow_add-at : goal.overflow_add-at
 overflow_add-at c = omega (arith, (character-here (goal.at.overflow_add-at c).Else-size-eq0).whole)
@@ -70,13 +69,14 @@ loop-at-preserved c =
     let b : c.letter-x.result
     < length (take c.args.n
     c.args.codes.now) =
-    omega (arith, letters (goal.at.loop-at-preserved c).After-letters-1, c.if-n-x.false) in (
+    omega (arith, letters (goal.at.loop-at-preserved c).Start, c.if-n-x.false) in (
       omega (arith, (character-here (goal.at.loop-at-preserved c).Else-size-eq0).some, c.loop-at.invariant.0),
-      ⊎_elim (λ w. rw w.1 (typing_more c.loop-at.invariant.1 e c.if-size-eq0.false (letter_here (goal.at.loop-at-preserved c).After-letter-x)
-          b w.0.taken))
-          (λ w. rw w.1 (typing_past c.loop-at.invariant.1 e c.if-size-eq0.false (letter_here (goal.at.loop-at-preserved c).After-letter-x) b
-          w.0.left))
-          c.if-len-lt-HELD.branch,
+      elim c.if-len-lt-HELD.branch [
+        then-len-lt-HELD w ↦ rw w.kept-is (typing_more c.loop-at.invariant.1 e c.if-size-eq0.false
+          (letter_here (goal.at.loop-at-preserved c).After-letter-x) b w.if-len-lt-HELD.true)
+        | else-len-lt-HELD w ↦ rw w.kept-is (typing_past c.loop-at.invariant.1 e c.if-size-eq0.false
+          (letter_here (goal.at.loop-at-preserved c).After-letter-x) b w.if-len-lt-HELD.false)
+      ],
     )
 
 pub returns : goal.returns
