@@ -1,6 +1,5 @@
 -- `making::fresh` meets its contract: the three parts follow one another inside the image, and
 -- are the fresh image. Assumes nothing.
--- head, alphabet and root are inside the image
 use Prim.Native.Nat.{◌+◌, ◌≤◌}
 use native.Mathlib.Omega.{arith}
 use lib.ListN.{length}
@@ -10,6 +9,7 @@ use Rattle.making.proofs.Parts.{written}
 use Rattle.making.proofs.fresh.Goals as goal
 use Rattle.making.proofs.fresh.Goals.{Start}
 
+-- head, alphabet and root are inside the image
 inside : (c : Start) → fields_len + length c.args.alphabet.now + node_width c.args.h
     ≤ length c.args.image.now
 inside c = whole c.args.h c.args.alphabet.now c.args.image.now c.requires.g_value
@@ -23,7 +23,7 @@ copy-requires c =
     omega (
       arith,
       inside (goal.at.copy-requires c).Start,
-      c.write.auto.1.0,
+      c.write.auto.image,
     )
 
 pub clear-requires : goal.clear-requires
@@ -32,8 +32,8 @@ clear-requires c =
       arith,
       inside (goal.at.clear-requires c).Start,
       c.node_width-width.ensures,
-      c.copy.auto.0,
-      c.write.auto.1.0,
+      c.copy.auto.s,
+      c.write.auto.image,
     )
 
 pub returns : goal.returns

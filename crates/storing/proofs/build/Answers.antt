@@ -1,6 +1,5 @@
 -- `storing::build` meets its contract: the new nodes are written, then G and the link, and none
 -- of these writes changes the image's length. Assumes nothing.
--- the array's length
 use Prim.Native.Nat.{suc, ◌+◌, ◌-◌, ◌<◌}
 use mathlib.Core.Path.{◌≡◌, ap, ◌∙◌}
 use mathlib.Core.List.{◌∷◌}
@@ -18,6 +17,7 @@ use Rattle.storing.proofs.Building.{built}
 use Rattle.storing.proofs.build.Goals as goal
 use Rattle.storing.proofs.build.Goals.{After-new_nodes, After-set_total, Start}
 
+-- the array's length
 whole : (c : Start) → length c.args.key.letters ≡ most_letters
 whole c = search rules
 
@@ -38,15 +38,15 @@ below c =
     c.requires.fact_3.depth
 
 -- the image keeps its length
-long-nodes : (c : After-new_nodes) → length c.new_nodes.new.0
+long-nodes : (c : After-new_nodes) → length c.new_nodes.new.image
     ≡ length c.args.image.now
 long-nodes c = ap length c.new_nodes.ensures ∙ length_carried _ _
 
-long : (c : After-set_total) → length c.set_total.new.0
+long : (c : After-set_total) → length c.set_total.new.image
     ≡ length c.args.image.now
 long c =
     ap length c.set_total.ensures ∙ length_total
-    c.new_nodes.new.0 _
+    c.new_nodes.new.image _
     ∙ long-nodes c.before.before.before.before
 
 pub new_nodes-requires : goal.new_nodes-requires

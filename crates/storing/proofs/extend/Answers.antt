@@ -1,6 +1,5 @@
 -- `storing::extend` meets its contract: 12 and 13 were judged for all missing nodes, so the path
 -- can be built. Assumes nothing.
--- the array's length
 use Prim.Native.Nat.{suc, ◌+◌, ◌-◌}
 use mathlib.Core.Path.{◌≡◌, refl, sym, ap, ◌∙◌}
 use mathlib.Core.List.{◌∷◌}
@@ -20,6 +19,7 @@ use Rattle.storing.proofs.Adding.{none_built, path_space, path_built}
 use Rattle.storing.proofs.extend.Goals as goal
 use Rattle.storing.proofs.extend.Goals.{Joined-value-ne0, Start, Then-value-ne0}
 
+-- the array's length
 whole : (c : Start) → length c.args.key.letters ≡ most_letters
 whole c = search rules
 
@@ -73,4 +73,4 @@ build-requires c =
     record { fact_1 = c.requires.fact_1; fact_2 = c.requires.fact_2; fact_3 = c.requires.fact_3; fact_4 = refl; fact_5 = room (goal.at.build-requires c).Then-value-ne0 }
 
 pub returns : goal.returns
-returns c = record { image_after = wrote (goal.at.returns c).Joined-value-ne0; value = to_z-of_z {w = w32} (sfits_of c.change.type-inv) ∙ c.change.ensures }
+returns c = record { image_after = wrote (goal.at.returns c).Joined-value-ne0; value = to_z-of_z {w = w32} (sfits_of c.change.type_inv) ∙ c.change.ensures }

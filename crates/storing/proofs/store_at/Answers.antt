@@ -1,6 +1,5 @@
 -- `storing::store_at` meets its contract: 11, 12 and 13 are judged before a byte is written.
 -- Assumes nothing.
--- what is judged is the number of nodes that the store adds
 use Prim.Native.Nat.{ℕ}
 use mathlib.Core.Path.{◌≡◌, ◌∙◌, ap}
 use mir.Syntax.{w32}
@@ -18,6 +17,7 @@ use Rattle.storing.proofs.Adding.{refuses, done}
 use Rattle.storing.proofs.store_at.Goals as goal
 use Rattle.storing.proofs.store_at.Goals.{After-new_count}
 
+-- what is judged is the number of nodes that the store adds
 same : (c : After-new_count) →
     let a = c.args in
     first (adding_rows a.h a.value c.new_count.result (length a.image.now))
@@ -49,5 +49,5 @@ returns-in-Passed c =
     let a = c.args in
     done a.h _ _ _ (told_passed (c.judge-verdict.ensures ∙ same (goal.at.returns-in-Passed c).After-new_count)
     c.in-Passed.is)
-    (to_z-of_z {w = w32} (sfits_of c.write_at.type-inv) ∙ c.write_at.ensures.value)
+    (to_z-of_z {w = w32} (sfits_of c.write_at.type_inv) ∙ c.write_at.ensures.value)
     c.write_at.ensures.image_after

@@ -1,6 +1,5 @@
 -- `storing::write_at` meets its contract: what is written depends only on how the walk ended.
 -- Assumes nothing.
--- the array's length
 use mathlib.Core.Path.{◌≡◌, ◌∙◌, subst}
 use mir.Syntax.{w32}
 use mir.Facts.{to_z-of_z}
@@ -15,6 +14,7 @@ use Rattle.storing.proofs.StoreStage.{writes_over, writes_path, allowed_path}
 use Rattle.storing.proofs.write_at.Goals as goal
 use Rattle.storing.proofs.write_at.Goals.{Start}
 
+-- the array's length
 whole : (c : Start) → length c.args.key.letters ≡ most_letters
 whole c = search rules
 
@@ -44,7 +44,7 @@ returns-in-Complete c =
     let a = c.args in
     writes_over a.h _ (letters_of a.key) _ c.in-Complete.is
     c.replace.ensures.image_after
-    (to_z-of_z {w = w32} (sfits_of c.replace.type-inv) ∙ c.replace.ensures.value)
+    (to_z-of_z {w = w32} (sfits_of c.replace.type_inv) ∙ c.replace.ensures.value)
 
 pub returns-in-Stopped : goal.returns-in-Stopped
 returns-in-Stopped c =
@@ -53,7 +53,7 @@ returns-in-Stopped c =
     writes_path a.h _ (letters_of a.key) _ c.in-Stopped.is _ _
     (letters_from a.key (whole (goal.at.returns-in-Stopped c).Start) c.requires.fact_2.short _ stop.depth)
     c.extend.ensures.image_after
-    (to_z-of_z {w = w32} (sfits_of c.extend.type-inv) ∙ c.extend.ensures.value)
+    (to_z-of_z {w = w32} (sfits_of c.extend.type_inv) ∙ c.extend.ensures.value)
 
 pub returns-in-Refused : goal.returns-in-Refused
 returns-in-Refused c =

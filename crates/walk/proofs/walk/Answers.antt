@@ -1,31 +1,28 @@
 -- `walk::walk` meets its contract: from the position reached, the walk along the letters left
 -- ends as the whole walk does. Assumes nothing.
-use Prim.Native.Nat.{suc, ◌+◌, ◌-◌}
-use mathlib.Core.Logic.{⊎_elim}
+use Prim.Native.Nat.{ℕ, suc, ◌+◌, ◌-◌}
 use mathlib.Core.Path.{◌≡◌, refl, sym}
-use mathlib.Core.List.{[], ◌∷◌}
+use mathlib.Core.List.{◌∷◌}
 use native.Mathlib.Omega.{arith}
 use borrow.Author.Rules.{rules}
-use denote.Enum.Declared.{tag_of}
-use types.Run.{OneOf}
 use lib.ListN.{length, get_or, drop}
 use Rattle.head.specs.Fields.{most_letters}
 use Rattle.node.specs.Image.{table_of}
 use Rattle.key.specs.Hand.{letters_of}
 use Rattle.key.proofs.Hand.{letters_count, letters_from, letter_below}
+use Rattle.walk.specs.declared.Position.{Position}
 use Rattle.walk.specs.declared.Step.{Step}
-use Rattle.walk.specs.contracts.Step.{the_type}
 use Rattle.walk.proofs.Descents.{Walking, walking_start, walking_on, walking_stopped}
 use Rattle.walk.proofs.Descents.{walking_bad, walking_end}
 use Rattle.walk.proofs.walk.Goals as goal
 use Rattle.walk.proofs.walk.Goals.{In-At, In-loop-here, Start}
 
 -- a step that is neither `At` nor `Bad` is `Empty`
-is-empty : (s : Step) → OneOf (1 ∷ 2 ∷ []) (tag_of the_type s)
-    → OneOf (0 ∷ 1 ∷ []) (tag_of the_type s) → s ≡ Step.Empty
-is-empty (Step.At p) a b = ⊎_elim (λ e. absurd (omega arith)) (λ e. absurd (omega arith)) a
+is-empty : (s : Step) → ((p : Position) → s ≡ Step.At p → ⊥) → ((q : ℕ) → s ≡ Step.Bad q → ⊥)
+    → s ≡ Step.Empty
+is-empty (Step.At p) a b = absurd (a p refl)
 is-empty Step.Empty a b = refl
-is-empty (Step.Bad q) a b = ⊎_elim (λ e. absurd (omega arith)) (λ e. absurd (omega arith)) b
+is-empty (Step.Bad q) a b = absurd (b q refl)
 
 -- the array holds as many letters as a key may have
 whole : (c : Start) → length c.args.key.letters ≡ most_letters
@@ -38,17 +35,21 @@ left : (c : In-loop-here) →
     drop here.depth (letters_of key) ≡ get_or key.letters here.depth 0
     ∷ drop (suc here.depth) (letters_of key)
 left c =
-    letters_from c.args.key (whole c.before.before.before.before.before.before.before) c.requires.fact_2.short c.loop-here.here.depth
+    letters_from c.args.key (search rules) c.requires.fact_2.short c.loop-here.here.depth
     c.loop-here-test.true
 
 -- the position after a link to follow
 onward : (c : In-At) →
+    let here = c.loop-here.here in
+    let key = c.args.key in
+    drop here.depth (letters_of key) ≡ get_or key.letters here.depth 0
+    ∷ drop (suc here.depth) (letters_of key) →
     let next = c.in-At.position in
     Walking c.args.h.g (table_of c.args.h c.args.image.now)
     (letters_of c.args.key) next
     × (next.depth ≡ c.loop-here.here.depth + 1)
-onward c =
-    walking_on c.loop-here.invariant (left c.before.before.before.before)
+onward c l =
+    walking_on c.loop-here.invariant l
     c.step-next.ensures c.in-At.is
 
 pub loop-here-init : goal.loop-here-init
@@ -69,7 +70,7 @@ pub returns-in_default-next : goal.returns-in_default-next
 returns-in_default-next c =
     let inv = c.loop-here.invariant in
     sym (walking_stopped inv (left (goal.at.returns-in_default-next c).In-loop-here) c.step-next.ensures
-    (is-empty _ c.in_default.in_default-own.keys2 c.in_default-next.in_default-next-own.keys2))
+    (is-empty _ c.in_default.not-At c.in_default-next.not-Bad))
 
 pub returns-in_default : goal.returns-in_default
 returns-in_default c =
@@ -77,10 +78,10 @@ returns-in_default c =
     sym (walking_bad inv (left (goal.at.returns-in_default c).In-loop-here) c.step-next.ensures c.in-Bad.is)
 
 pub loop-here-smaller : goal.loop-here-smaller
-loop-here-smaller c = let on = onward (goal.at.loop-here-smaller c).In-At in omega (arith, on.1)
+loop-here-smaller c = let on = onward (goal.at.loop-here-smaller c).In-At (left (goal.at.loop-here-smaller c).In-loop-here) in omega (arith, on.1)
 
 pub loop-here-preserved : goal.loop-here-preserved
-loop-here-preserved c = (onward (goal.at.loop-here-preserved c).In-At).0
+loop-here-preserved c = (onward (goal.at.loop-here-preserved c).In-At (left (goal.at.loop-here-preserved c).In-loop-here)).0
 
 pub returns : goal.returns
 returns c =
