@@ -1,6 +1,5 @@
 -- `noting::store_noted` meets its contract: the store is that of `storing`, and a store that is
 -- done has room for its new nodes, so the places of its writes fit. Assumes nothing.
--- the array's length
 use mathlib.Core.Path.{◌≡◌}
 use mir.Syntax.{w32}
 use mir.Facts.{to_z-of_z}
@@ -14,6 +13,7 @@ use Rattle.noting.proofs.Noting.{notes_refused, notes_room, notes_done}
 use Rattle.noting.proofs.store_noted.Goals as goal
 use Rattle.noting.proofs.store_noted.Goals.{Start}
 
+-- the array's length
 whole : (c : Start) → length c.args.key.letters ≡ most_letters
 whole c = search rules
 

@@ -3,7 +3,7 @@
 use Prim.Native.Nat.{suc, ◌+◌, ◌-◌}
 use mathlib.Core.Path.{◌≡◌, refl, sym, ap, ◌∙◌}
 use mathlib.Core.List.{◌∷◌}
-use mathlib.Core.Logic.{⊎_elim}
+use mathlib.Core.Logic.{◌≢◌}
 use native.Mathlib.Omega.{arith}
 use mir.Syntax.{w32}
 use mir.Facts.{to_z-of_z}
@@ -17,7 +17,7 @@ use Rattle.key.proofs.Hand.{letters_count, letters_from}
 use Rattle.storing.specs.StoreStage.{stopped_at, Space}
 use Rattle.storing.proofs.Adding.{none_built, path_space, path_built}
 use Rattle.storing.proofs.extend.Goals as goal
-use Rattle.storing.proofs.extend.Goals.{Joined-value-ne0, Start, Then-value-ne0}
+use Rattle.storing.proofs.extend.Goals.{Joined-value-ne0, Start, then-value-ne0, else-value-ne0}
 
 -- the array's length
 whole : (c : Start) → length c.args.key.letters ≡ most_letters
@@ -42,35 +42,38 @@ total c =
     ∙ ap (λ n. n - a.at.depth) count))
 
 -- addresses and room for these nodes
-room : (c : Then-value-ne0) →
+room : (c : Start) →
     let a = c.args in
-    Space a.h a.image.now (a.h.g + (a.key.len - a.at.depth))
-room c =
-    rw (total c.before.before) (path_space _ _ _ _ _ (left c.before.before) _ c.if-value-ne0.true c.requires.fact_4)
+    a.value ≢ 0 → Space a.h a.image.now (a.h.g + (a.key.len - a.at.depth))
+room c some =
+    rw (total c) (path_space _ _ _ _ _ (left c) _ some c.requires.fact_4)
 
 -- the image after the writes
-wrote : (c : Joined-value-ne0) →
-    let a = c.args in
+wrote : (c : Joined-value-ne0) → let a = c.args in
+    drop a.at.depth (letters_of a.key) ≡ get_or a.key.letters a.at.depth 0
+    ∷ drop (suc a.at.depth) (letters_of a.key) →
+    a.h.g + (a.key.len - a.at.depth) ≡ a.h.g + length (drop a.at.depth (letters_of a.key)) →
     c.if-value-ne0.image ≡ carried_out a.image.now
     (store_writes a.h (stopped_at a.at.node (drop a.at.depth (letters_of a.key)))
     a.value)
-wrote c =
-    ⊎_elim (λ w. w.8 ∙ path_built _ _ _ _ _ (left c.before.before) _ w.0.taken (total c.before.before)
-    w.5.ensures)
-    (λ w. w.1 ∙ none_built _ _ _ _ _ (left c.before.before) _ w.0.left) c.if-value-ne0.branch
+wrote c l t =
+    elim c.if-value-ne0.branch [
+      then-value-ne0 w ↦ w.image-is ∙ path_built _ _ _ _ _ l _ w.if-value-ne0.true t w.build.ensures
+      | else-value-ne0 w ↦ w.image-is ∙ none_built _ _ _ _ _ l _ w.if-value-ne0.false
+    ]
 
 pub overflow_add-h : goal.overflow_add-h
 overflow_add-h c =
     omega (
       arith,
-      (room (goal.at.overflow_add-h c).Then-value-ne0).addresses,
+      (room (goal.at.overflow_add-h c).Start c.if-value-ne0.true).addresses,
       addresses_fit
           (bounds c.args.h c.requires.fact_1.head_permitted),
     )
 
 pub build-requires : goal.build-requires
 build-requires c =
-    record { fact_1 = c.requires.fact_1; fact_2 = c.requires.fact_2; fact_3 = c.requires.fact_3; fact_4 = refl; fact_5 = room (goal.at.build-requires c).Then-value-ne0 }
+    record { fact_1 = c.requires.fact_1; fact_2 = c.requires.fact_2; fact_3 = c.requires.fact_3; fact_4 = refl; fact_5 = room (goal.at.build-requires c).Start c.if-value-ne0.true }
 
 pub returns : goal.returns
-returns c = record { image_after = wrote (goal.at.returns c).Joined-value-ne0; value = to_z-of_z {w = w32} (sfits_of c.change.type_inv) ∙ c.change.ensures }
+returns c = record { image_after = wrote (goal.at.returns c).Joined-value-ne0 (left (goal.at.returns c).Start) (total (goal.at.returns c).Start); value = to_z-of_z {w = w32} (sfits_of c.change.type_inv) ∙ c.change.ensures }

@@ -42,18 +42,20 @@ extend-requires c =
 pub returns-in-Complete : goal.returns-in-Complete
 returns-in-Complete c =
     let a = c.args in
-    writes_over a.h _ (letters_of a.key) _ c.in-Complete.is
+    let r = writes_over a.h _ (letters_of a.key) _ c.in-Complete.is
     c.replace.ensures.image_after
-    (to_z-of_z {w = w32} (sfits_of c.replace.type_inv) ∙ c.replace.ensures.value)
+    (to_z-of_z {w = w32} (sfits_of c.replace.type_inv) ∙ c.replace.ensures.value) in
+    record { image_after = r.0; value = r.1 }
 
 pub returns-in-Stopped : goal.returns-in-Stopped
 returns-in-Stopped c =
     let a = c.args in
     let stop = subst (Ends a.h a.key) c.in-Stopped.is c.requires.fact_3 in
-    writes_path a.h _ (letters_of a.key) _ c.in-Stopped.is _ _
+    let r = writes_path a.h _ (letters_of a.key) _ c.in-Stopped.is _ _
     (letters_from a.key (whole (goal.at.returns-in-Stopped c).Start) c.requires.fact_2.short _ stop.depth)
     c.extend.ensures.image_after
-    (to_z-of_z {w = w32} (sfits_of c.extend.type_inv) ∙ c.extend.ensures.value)
+    (to_z-of_z {w = w32} (sfits_of c.extend.type_inv) ∙ c.extend.ensures.value) in
+    record { image_after = r.0; value = r.1 }
 
 pub returns-in-Refused : goal.returns-in-Refused
 returns-in-Refused c =

@@ -1,6 +1,5 @@
 -- `tracking::carry` meets its contract: one key more adds 1 along the path, one key less takes
 -- 1, and no change leaves the counts as they were. Assumes nothing.
--- a change that is read as 1, and as -1
 use mathlib.Core.Path.{◌≡◌, sym, ◌∙◌, ap}
 use mir.Syntax.{w32}
 use mir.Val.{to_z, of_z}
@@ -11,6 +10,7 @@ use Rattle.tracking.proofs.PathCounts.{shifted_none, some_more, some_fewer}
 use Rattle.tracking.proofs.carry.Goals as goal
 use Rattle.tracking.proofs.carry.Goals.{Then-change-eq1, Then-change-eqminus1}
 
+-- a change that is read as 1, and as -1
 more : (c : Then-change-eq1) → c.args.change ≡ pos 1
 more c = sym (to_z-of_z {w = w32} c.ranges.change) ∙ ap (to_z w32)
     c.if-change-eq1.true

@@ -1,7 +1,6 @@
 -- `tracking::store_counted` meets its contract: every refusal is judged before a byte is
 -- written. Then the counts changed along the key's path are those of the image after the store.
 -- Assumes nothing.
--- the array's length
 use mathlib.Core.Path.{◌≡◌, ◌∙◌}
 use mathlib.Core.Option.{none}
 use mir.Syntax.{w32}
@@ -20,6 +19,7 @@ use Rattle.tracking.proofs.Tracking.{last_fits}
 use Rattle.tracking.proofs.store_counted.Goals as goal
 use Rattle.tracking.proofs.store_counted.Goals.{After-new_count-new, After-walk-walked, In-Passed, Start}
 
+-- the array's length
 whole : (c : Start) → length c.args.key.letters ≡ most_letters
 whole c = search rules
 
