@@ -1,7 +1,7 @@
 -- `alphabet::judge` meets its contract. There is a law for each return: no character there, one
 -- too many, one that was there before, and the end, where only the count decides. The measure is
 -- how many bytes are left. Assumes nothing.
-use mathlib.Core.Logic.{◌≢◌, ⊎_elim}
+use mathlib.Core.Logic.{◌≢◌}
 use Rattle.utf8.specs.Table37.{char_len}
 use Rattle.utf8.proofs.Characters.{character}
 use Prim.Native.Nat.{◌+◌, ◌-◌, ◌≤◌}
@@ -13,7 +13,7 @@ use Rattle.alphabet.specs.Letters.{among}
 use Rattle.alphabet.proofs.AlphabetLoops.{judging_none, judging_more, judging_ill}
 use Rattle.alphabet.proofs.AlphabetLoops.{judging_many, judging_again, judging_all}
 use Rattle.alphabet.proofs.judge.Goals as goal
-use Rattle.alphabet.proofs.judge.Goals.{Else-len-eq0, Joined-code-top}
+use Rattle.alphabet.proofs.judge.Goals.{Else-len-eq0, Joined-code-top, then-code-top+else-is_among, else-code-top}
 
 pub loop-at-init : goal.loop-at-init
 loop-at-init c = judging_none _ _ _ (omega arith)
@@ -65,13 +65,18 @@ new : (c : Joined-code-top)
     × (c.loop-at.top ≤ c.if-code-top.top)
     × (c.char_at-code.result ≤ c.if-code-top.top)
 new c =
-    ⊎_elim (λ w. (sym w.2.ensures ∙ w.3.left, omega arith, omega arith))
-    (λ w. (
-      c.loop-at.invariant.above _ w.0.left,
-      omega arith,
-      omega arith,
-    ))
-    c.if-code-top.branch
+    elim c.if-code-top.branch [
+      then-code-top+else-is_among w ↦ (
+        sym w.is_among.ensures ∙ w.if-is_among.false,
+        omega arith,
+        omega arith,
+      )
+      | else-code-top w ↦ (
+        c.loop-at.invariant.above _ w.if-code-top.false,
+        omega arith,
+        omega arith,
+      )
+    ]
 
 pub loop-at-preserved : goal.loop-at-preserved
 loop-at-preserved c =
