@@ -28,7 +28,9 @@ overflow_add-work c =
     omega (arith, c.loop-i.invariant.top_most, c.deeper-mark.ensures)
 
 pub bounds-work-c-then-work-c-eq0 : goal.bounds-work-c-then-work-c-eq0
-bounds-work-c-then-work-c-eq0 c = slice-read-if3 (goal.at.bounds-work-c-then-work-c-eq0 c).After-slice_known-in-loop-i-1
+bounds-work-c-then-work-c-eq0 c =
+    spreading_room c.loop-i.invariant c.requires.within c.requires.g_in_bounds
+    c.link-c.ensures
 
 pub loop-i-preserved-then-work-c-eq0 : goal.loop-i-preserved-then-work-c-eq0
 loop-i-preserved-then-work-c-eq0 c =
