@@ -2,7 +2,7 @@
 -- data is not 0, and over all nodes that is the number of stored keys. The measure is how many
 -- nodes are left. Assumes nothing.
 use Prim.Native.Nat.{◌+◌, ◌-◌}
-use mathlib.Core.Logic.{◌≢◌, ⊎_elim}
+use mathlib.Core.Logic.{◌≢◌}
 use mathlib.Core.Path.{◌≡◌, sym, ◌∙◌, ap}
 use native.Mathlib.Omega.{arith}
 use Rattle.trie.specs.Keys.{holding}
@@ -11,6 +11,7 @@ use Rattle.node.specs.Image.{table_of}
 use Rattle.paper.proofs.CheckCall.{head_open}
 use Rattle.counting.proofs.Scan.{scanned, one_fits}
 use Rattle.counting.proofs.count.Goals as goal
+use Rattle.counting.proofs.count.Goals.{then-data_by-ne0, else-data_by-ne0}
 
 pub greatest-data_mask-requires : goal.greatest-data_mask-requires
 greatest-data_mask-requires c = (head_open c.requires.fact_1 c.requires.fact_2).head_permitted
@@ -36,16 +37,18 @@ loop-q-preserved c =
     let t = table_of a.h a.image.now in
     let so_far : c.loop-q.sum ≡ holding t c.loop-q.q = c.loop-q.invariant.1 in (
       omega arith,
-      ⊎_elim
-          (λ w. let full : t.value c.loop-q.q ≢ 0 =
-          λ z. w.0.taken (c.data_by.ensures ∙ z) in
-          omega (arith, w.1, holding_full t c.loop-q.q full))
-          (λ w. omega (
+      elim c.if-data_by-ne0.branch [
+        then-data_by-ne0 w ↦
+          let full : t.value c.loop-q.q ≢ 0 =
+          λ z. w.if-data_by-ne0.true (c.data_by.ensures ∙ z) in
+          omega (arith, so_far, holding_full t c.loop-q.q full)
+      | else-data_by-ne0 w ↦
+          omega (
             arith,
-            w.1,
-            holding_empty t c.loop-q.q (sym c.data_by.ensures ∙ w.0.left),
-          ))
-          c.if-data_by-ne0.branch,
+            so_far,
+            holding_empty t c.loop-q.q (sym c.data_by.ensures ∙ w.if-data_by-ne0.false),
+          )
+      ],
     )
 
 pub returns : goal.returns
