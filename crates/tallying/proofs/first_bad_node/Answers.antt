@@ -2,19 +2,21 @@
 -- each turn counts the links of one more node, or stops at a node with a bad link, which is then
 -- the lowest. The measure is how many nodes are left. Assumes nothing.
 use Prim.Native.Nat.{◌-◌}
-use mathlib.Core.Logic.{⊎_elim}
 use native.Mathlib.Omega.{arith}
 use lib.ListN.{length-set}
-use borrow.Author.Tests.{not-true, not-false}
 use Rattle.reaching.proofs.Kept.{kept_set}
 use Rattle.tallying.proofs.Tallying.{tallying_none, tallying_more, tallying_bad}
 use Rattle.tallying.proofs.Tallying.{tallying_all}
 use Rattle.tallying.proofs.first_bad_node.Goals as goal
+use Rattle.tallying.proofs.first_bad_node.Goals.{then-hides, else-hides}
 
 pub loop-q-init : goal.loop-q-init
 loop-q-init c =
     tallying_none _ _ _ _ c.requires.g_in_bounds c.requires.work_value c.hides.ensures
-    (⊎_elim (λ w e. absurd (omega (arith, w.1))) (λ w _. w.0.left) c.if-hides.branch)
+    (λ e. elim c.if-hides.branch [
+      then-hides w ↦ absurd (omega arith)
+    | else-hides w ↦ w.if-hides.false
+    ])
 
 pub tally-requires : goal.tally-requires
 tally-requires c =

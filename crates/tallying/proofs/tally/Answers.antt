@@ -1,10 +1,9 @@
 -- `tallying::tally` meets its contract: a node without links adds nothing; else each turn counts
 -- one more link, or stops at a bad one. The measure is how many links are left. Assumes nothing.
 use mathlib.Core.Path.{sym, ◌∙◌}
-use mathlib.Core.Logic.{⊎_elim}
-use Prim.Native.Nat.{◌-◌}
+use Prim.Native.Nat.{◌<◌}
 use native.Mathlib.Omega.{arith}
-use lib.ListN.{length-set}
+use lib.ListN.{length, length-set}
 use Rattle.node.specs.Image.{table_of}
 use Rattle.paper.proofs.Linking.{not_bad}
 use Rattle.tallying.proofs.Tallying.{counting_none, counting_empty, counting_room}
@@ -12,7 +11,7 @@ use Rattle.tallying.proofs.Tallying.{counting_first, counting_again, Noted, note
 use Rattle.tallying.proofs.Tallying.{noted_other, tallied_all, tallied_bad}
 use Rattle.tallying.proofs.Tallying.{tallied_childless}
 use Rattle.tallying.proofs.tally.Goals as goal
-use Rattle.tallying.proofs.tally.Goals.{Joined-c-q}
+use Rattle.tallying.proofs.tally.Goals.{Joined-c-q, then-c-q, else-c-q}
 
 pub returns-then-childless : goal.returns-then-childless
 returns-then-childless c = tallied_childless _ _ _ _ (c.childless.ensures c.if-childless.true)
@@ -49,43 +48,52 @@ noted : (c : Joined-c-q)
     c.deeper-mark.result
     c.loop-i.work c.if-c-q.work
 noted c =
-    ⊎_elim
-    (λ w.
-    let room = slice-write-work (record { before = c.before; if5 = w.0 }) in
-    rw w.1 (noted_other _ room))
-    (λ w. rw w.1 (noted_tests _ c.hides.ensures w.0.left))
-    c.if-c-q.branch
+    elim c.if-c-q.branch [
+      then-c-q w ↦
+        let room : 0 < length c.loop-i.work =
+        omega (arith, c.loop-i.invariant.kept.long, c.requires.g_in_bounds) in
+        rw w.work-is (noted_other _ room)
+    | else-c-q w ↦
+        rw w.work-is (noted_tests _ c.hides.ensures w.if-c-q.false)
+    ]
 
-pub bounds-work-c : goal.bounds-work-c
-bounds-work-c c =
+-- the link's address has a working number
+met-room : (c : Joined-c-q) → c.link-c.result < length c.if-c-q.work
+met-room c =
     omega (
       arith,
-      (noted (goal.at.bounds-work-c c).Joined-c-q).kept.long,
+      (noted c).kept.long,
       counting_room c.loop-i.invariant c.requires.g_in_bounds
           (sym c.bad_link.ensures ∙ c.if-bad_link.false),
     )
 
+pub bounds-work-c : goal.bounds-work-c
+bounds-work-c c = met-room (goal.at.bounds-work-c c).Joined-c-q
+
 pub bounds-work-c-then-work-c-eq0 : goal.bounds-work-c-then-work-c-eq0
-bounds-work-c-then-work-c-eq0 c = slice-read-if6 (goal.at.bounds-work-c-then-work-c-eq0 c).After-slice_known-in-loop-i-1
+bounds-work-c-then-work-c-eq0 c = met-room (goal.at.bounds-work-c-then-work-c-eq0 c).Joined-c-q
 
 pub loop-i-preserved-then-work-c-eq0 : goal.loop-i-preserved-then-work-c-eq0
 loop-i-preserved-then-work-c-eq0 c =
+    let n = (goal.at.loop-i-preserved-then-work-c-eq0 c).Joined-c-q in
     counting_first c.loop-i.invariant (omega arith) c.link-c.ensures
     (sym c.bad_link.ensures ∙ c.if-bad_link.false)
-    c.if-c-eq0.false (noted (goal.at.loop-i-preserved-then-work-c-eq0 c).Joined-c-q) (slice-read-if6 (goal.at.loop-i-preserved-then-work-c-eq0 c).After-slice_known-in-loop-i-1)
+    c.if-c-eq0.false (noted n) (met-room n)
     c.if-work-c-eq0.true c.deeper-mark.ensures
 
 pub bounds-work-c-else-work-c-eq0 : goal.bounds-work-c-else-work-c-eq0
-bounds-work-c-else-work-c-eq0 c = slice-read-if6 (goal.at.bounds-work-c-else-work-c-eq0 c).After-slice_known-in-loop-i-1
+bounds-work-c-else-work-c-eq0 c = met-room (goal.at.bounds-work-c-else-work-c-eq0 c).Joined-c-q
 
 pub bounds-work-0-else-work-c-eq0 : goal.bounds-work-0-else-work-c-eq0
-bounds-work-0-else-work-c-eq0 c = simp length-set (omega (arith, slice-read-if6 (goal.at.bounds-work-0-else-work-c-eq0 c).After-slice_known-in-loop-i-1))
+bounds-work-0-else-work-c-eq0 c =
+    simp length-set (omega (arith, met-room (goal.at.bounds-work-0-else-work-c-eq0 c).Joined-c-q))
 
 pub loop-i-preserved : goal.loop-i-preserved
 loop-i-preserved c =
+    let n = (goal.at.loop-i-preserved c).Joined-c-q in
     counting_again c.loop-i.invariant (omega arith) c.link-c.ensures
     (sym c.bad_link.ensures ∙ c.if-bad_link.false)
-    c.if-c-eq0.false (noted (goal.at.loop-i-preserved c).Joined-c-q) (slice-read-if6 (goal.at.loop-i-preserved c).After-slice_known-in-loop-i-1)
+    c.if-c-eq0.false (noted n) (met-room n)
     c.if-work-c-eq0.false
 
 pub returns : goal.returns
