@@ -1,8 +1,6 @@
 -- `ranking::key_at` meets its contract: letter by letter the key is at the position left among
 -- the keys at or under the node reached, down to the node whose own key it is. The depth left to
 -- max falls. Assumes nothing.
-use Prim.Native.Nat.{◌-◌}
-use mathlib.Core.Logic.{⊎_elim}
 use native.Mathlib.Omega.{arith}
 use Rattle.head.proofs.Permitted.{bounds}
 use Rattle.ranking.proofs.Below.{Counted, counted}
@@ -11,7 +9,7 @@ use Rattle.ranking.proofs.Spotting.{spotting_end, beneath_own, beneath_none}
 use Rattle.ranking.proofs.Spotting.{spotting_deep, spotting_below, spotting_room}
 use Rattle.ranking.proofs.Spotting.{spotting_on}
 use Rattle.ranking.proofs.key_at.Goals as goal
-use Rattle.ranking.proofs.key_at.Goals.{Joined-value-ne0, Start}
+use Rattle.ranking.proofs.key_at.Goals.{Joined-value-ne0, Start, then-value-ne0+else-left-eq0, else-value-ne0}
 
 -- what is known of the image and its counts
 known : (c : Start) → Counted c.args.h c.args.image.now
@@ -24,13 +22,17 @@ beneath : (c : Joined-value-ne0)
     Beneath a.h a.image.now c.loop-h.node c.loop-h.depth c.loop-h.left
     c.if-value-ne0.left)
 beneath c =
-    let w = known c.before.before.before.before.before.before.before in
+    let w = counted c.requires.accepted_1 c.requires.accepted_2 c.requires.accepted_3 in
     let room = c.requires.position_in_bounds_2 in
-    ⊎_elim
-    (λ o. rw o.2 (beneath_own w room c.loop-h.invariant c.own_value-value.ensures o.0.taken
-    o.1.left))
-    (λ o. rw o.1 (beneath_none w room c.loop-h.invariant c.own_value-value.ensures o.0.left))
-    c.if-value-ne0.branch
+    elim c.if-value-ne0.branch [
+      then-value-ne0+else-left-eq0 o ↦
+        rw o.left-is
+        (beneath_own w room c.loop-h.invariant c.own_value-value.ensures o.if-value-ne0.true
+        o.if-left-eq0.false)
+    | else-value-ne0 o ↦
+        rw o.left-is
+        (beneath_none w room c.loop-h.invariant c.own_value-value.ensures o.if-value-ne0.false)
+    ]
 
 pub mask-mask-requires : goal.mask-mask-requires
 mask-mask-requires c = (known (goal.at.mask-mask-requires c).Start).opened.head_permitted

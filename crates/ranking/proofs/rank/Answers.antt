@@ -1,7 +1,6 @@
 -- `ranking::rank` meets its contract: letter by letter the keys before it are the keys passed,
 -- and the keys under the node reached that come before the rest of the key. Assumes nothing.
 use Prim.Native.Nat.{suc, ◌+◌, ◌-◌, ◌≤◌, ◌<◌}
-use mathlib.Core.Logic.{⊎_elim}
 use mathlib.Core.List.{◌∷◌}
 use mathlib.Core.Path.{◌≡◌}
 use native.Mathlib.Omega.{arith}
@@ -19,19 +18,14 @@ use Rattle.ranking.proofs.Placing.{placing_stop, placing_deep, placing_below, pl
 use Rattle.ranking.proofs.Placing.{placing_room, placing_on}
 use Rattle.ranking.proofs.rank.Goals as goal
 use Rattle.ranking.proofs.rank.Goals.{After-loop-depth, In-loop-depth, Joined-own_value-ne0, Start}
+use Rattle.ranking.proofs.rank.Goals.{then-own_value-ne0, else-own_value-ne0}
 
 -- what is known of the image and its counts
 known : (c : Start) → Counted c.args.h c.args.image.now
     c.args.counts.now
 known c = counted c.requires.accepted_1 c.requires.accepted_2 c.requires.accepted_3
 
--- the array's length, and the number of the key's letters
-whole : (c : Start) → length c.args.key.letters ≡ most_letters
-whole c = search rules
-
-count : (c : Start) → length (letters_of c.args.key) ≡ c.args.key.len
-count c = letters_count c.args.key (whole c) c.requires.ready_1.short
-
+-- the number of the key's letters is allowed
 allowed : (c : Start)
     → (c.args.h.min ≤ length (letters_of c.args.key))
     × (length (letters_of c.args.key) ≤ c.args.h.max)
@@ -44,7 +38,7 @@ next : (c : In-loop-depth)
     let depth = c.loop-depth.depth in
     drop depth (letters_of key) ≡ get_or key.letters depth 0 ∷ drop (suc depth) (letters_of key))
 next c =
-    letters_from c.args.key (whole c.before.before.before.before.before.before) c.requires.ready_1.short
+    letters_from c.args.key (search rules) c.requires.ready_1.short
     c.loop-depth.depth c.loop-depth-test.true
 
 low : (c : In-loop-depth)
@@ -52,7 +46,7 @@ low : (c : In-loop-depth)
     get_or a.key.letters c.loop-depth.depth 0 < a.h.n)
 low c =
     let ready = c.requires.ready_1 in
-    letter_below c.args.key (whole c.before.before.before.before.before.before) ready.short c.args.h.n
+    letter_below c.args.key (search rules) ready.short c.args.h.n
     c.loop-depth.depth ready.letters c.loop-depth-test.true
 
 pub mask-mask-requires : goal.mask-mask-requires
@@ -100,20 +94,22 @@ own-passed : (c : Joined-own_value-ne0)
     c.loop-depth.depth)
 own-passed c =
     let a = c.args in
-    ⊎_elim
-    (λ o. omega (
-      arith,
-      o.1,
-      owned_one a.h a.image.now c.loop-depth.node
-          c.loop-depth.depth c.own_value.ensures o.0.taken,
-    ))
-    (λ o. omega (
-      arith,
-      o.1,
-      owned_none a.h a.image.now c.loop-depth.node
-          c.loop-depth.depth c.own_value.ensures o.0.left,
-    ))
-    c.if-own_value-ne0.branch
+    elim c.if-own_value-ne0.branch [
+      then-own_value-ne0 o ↦
+        omega (
+          arith,
+          o.before-is,
+          owned_one a.h a.image.now c.loop-depth.node
+              c.loop-depth.depth c.own_value.ensures o.if-own_value-ne0.true,
+        )
+    | else-own_value-ne0 o ↦
+        omega (
+          arith,
+          o.before-is,
+          owned_none a.h a.image.now c.loop-depth.node
+              c.loop-depth.depth c.own_value.ensures o.if-own_value-ne0.false,
+        )
+    ]
 
 pub passed-before-requires : goal.passed-before-requires
 passed-before-requires c =
@@ -141,7 +137,11 @@ ended : (c : After-loop-depth)
     → length (letters_of c.args.key)
     ≤ c.loop-depth.depth
 ended c =
-    omega (arith, count c.before.before.before.before.before.before, c.loop-depth-test.false)
+    omega (
+      arith,
+      letters_count c.args.key (search rules) c.requires.ready_1.short,
+      c.loop-depth-test.false,
+    )
 
 pub returns-then-own_value-eq0 : goal.returns-then-own_value-eq0
 returns-then-own_value-eq0 c =
