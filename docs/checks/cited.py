@@ -15,7 +15,7 @@ FILE = re.compile(r"((?:[\w.+-]+/)+[\w.+-]+\.(?:antt|rt|h|rs|c|py))" + LIST)
 EDITS = re.compile(r"(\w+)/must-fail" + LIST)
 DASHED = r"[a-z0-9]+(?:-[a-z0-9]+)+"
 # no part of the house, though they look like one
-OTHERS = {"must-fail", "rattle-kit-5b", "valgrind/callgrind.h"}
+OTHERS = {"must-fail", "rattle-kit-13f", "rattle-kit-5b", "valgrind/callgrind.h"}
 
 
 @cache
