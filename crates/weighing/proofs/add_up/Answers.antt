@@ -1,7 +1,6 @@
 -- `weighing::add_up` meets its contract: what the walk from the root adds for a node is the
 -- node's count. Assumes nothing.
 use mathlib.Core.Path.{◌≡◌}
-use mathlib.Core.Logic.{⊎_elim}
 use native.Mathlib.Omega.{arith}
 use Rattle.node.specs.Image.{table_of}
 use Rattle.depths.proofs.Walkable.{Walkable, walkable}
@@ -9,6 +8,7 @@ use Rattle.weighing.proofs.KeysLeft.{owned, owned_none, owned_one}
 use Rattle.weighing.proofs.Working.{start_length, fits_start, leaf_worked, weighed_worked}
 use Rattle.weighing.proofs.add_up.Goals as goal
 use Rattle.weighing.proofs.add_up.Goals.{Joined-own_value_by-eq0, Start}
+use Rattle.weighing.proofs.add_up.Goals.{then-own_value_by-eq0, else-own_value_by-eq0}
 
 ready : (c : Start) → Walkable c.args.h c.args.image.now
 ready c = walkable c.requires.accepted_1 c.requires.accepted_2
@@ -27,19 +27,20 @@ own-counted : (c : Joined-own_value_by-eq0)
 own-counted c =
     let a = c.args in
     let e = c.own_value_by.ensures in
-    ⊎_elim (λ w. omega (
-      arith,
-      w.1,
-      owned_none a.h (table_of a.h a.image.now) 0 0 e
-          w.0.taken,
-    ))
-    (λ w. omega (
-      arith,
-      w.1,
-      owned_one a.h (table_of a.h a.image.now) 0 0 e
-          w.0.left,
-    ))
-    c.if-own_value_by-eq0.branch
+    elim c.if-own_value_by-eq0.branch [
+      then-own_value_by-eq0 w ↦
+        omega (
+          arith,
+          w.own-is,
+          owned_none a.h (table_of a.h a.image.now) 0 0 e w.if-own_value_by-eq0.true,
+        )
+    | else-own_value_by-eq0 w ↦
+        omega (
+          arith,
+          w.own-is,
+          owned_one a.h (table_of a.h a.image.now) 0 0 e w.if-own_value_by-eq0.false,
+        )
+    ]
 
 pub no_keys_below-requires : goal.no_keys_below-requires
 no_keys_below-requires c =
@@ -59,28 +60,20 @@ pub weighed-requires : goal.weighed-requires
 weighed-requires c =
     let clear = c.requires.list_value in
     let list = c.args.list.now in
-    let deep = c.no_keys_below.ensures.deep c.if-no_keys_below.false in record {
-      fact = (ready (goal.at.weighed-requires c).Start).opened;
-      node_le_g = (ready (goal.at.weighed-requires c).Start).within;
+    let w = ready (goal.at.weighed-requires c).Start in
+    let deep = c.no_keys_below.ensures.deep c.if-no_keys_below.false in
+    let long = start_length c.requires.accepted_1 c.requires.accepted_2 list clear
+    c.requires.accepted_3 in
+    record {
+      fact = (
+        w.opened,
+        (w.within, record { links = c.mask.ensures; values = c.greatest-data_mask.ensures }),
+      );
+      node_le_g = (omega arith, (deep, omega (arith, c.requires.accepted_3, long)));
       own_value = (
-        record {
-          links = c.mask.ensures;
-          values = c.greatest-data_mask.ensures;
-        },
-        (
-          omega arith,
-          (
-            deep,
-            (
-              omega (arith, c.requires.accepted_3, start_length c.requires.accepted_1 c.requires.accepted_2 list clear c.requires.accepted_3),
-              (
-                own-counted (goal.at.weighed-requires c).Joined-own_value_by-eq0,
-                fits_start c.requires.accepted_1 c.requires.accepted_2 list clear
-                    (λ q. (c.slice_known-1.given q).fits),
-              ),
-            ),
-          ),
-        ),
+        own-counted (goal.at.weighed-requires c).Joined-own_value_by-eq0,
+        fits_start c.requires.accepted_1 c.requires.accepted_2 list clear
+            (λ q. omega (arith, (goal.at.weighed-requires c).Joined-own_value_by-eq0.type_inv.list q)),
       );
     }
 
