@@ -1,41 +1,24 @@
 -- `traversal::along` meets its contract: letter by letter the path is the beginning of the key,
 -- down to the key's end or to an empty link. Assumes nothing.
-use Prim.Native.Nat.{◌+◌, ◌-◌, ◌<◌}
-use mathlib.Core.Logic.{◌≢◌, ⊎_elim}
-use mathlib.Core.Path.{◌≡◌, subst}
-use mathlib.Core.List.{[], ◌∷◌}
+use Prim.Native.Nat.{◌+◌, ◌<◌}
+use mathlib.Core.Path.{◌≡◌}
 use native.Mathlib.Omega.{arith}
 use borrow.Author.Rules.{rules}
-use denote.Enum.Declared.{tag_of}
-use types.Run.{OneOf}
 use lib.ListN.{length, get_or, set}
 use lib.Seq.{get_or-take}
 use Rattle.head.specs.Fields.{most_letters}
 use Rattle.head.proofs.Permitted.{bounds}
 use Rattle.key.specs.Hand.{letters_of}
 use Rattle.key.proofs.Hand.{letters_count, letter_below}
-use Rattle.walk.specs.declared.Position.{Position}
-use Rattle.walk.specs.declared.Step.{Step}
-use Rattle.walk.specs.contracts.Step.{the_type}
 use Rattle.traversal.proofs.Paths.{along_within}
 use Rattle.traversal.proofs.Following.{Following, following_start, following_end}
 use Rattle.traversal.proofs.Following.{following_stop, following_on}
 use Rattle.traversal.proofs.along.Goals as goal
 use Rattle.traversal.proofs.along.Goals.{In-At, In-loop-here, Start}
 
--- a step that is `Empty` or `Bad` leads to no position
-stays : (s : Step) → OneOf (1 ∷ 2 ∷ []) (tag_of the_type s) → (next : Position) → s ≢ Step.At next
-stays s a next e =
-    ⊎_elim (λ t. absurd (omega arith)) (λ t. absurd (omega arith))
-    (subst (λ (o : Step). OneOf (1 ∷ 2 ∷ []) (tag_of the_type o)) e a)
-
--- the array's length
-whole : (c : Start) → length c.args.key.letters ≡ most_letters
-whole c = search rules
-
 -- the number of the key's letters
 count : (c : Start) → length (letters_of c.args.key) ≡ c.args.key.len
-count c = letters_count c.args.key (whole c) c.requires.ready_1.short
+count c = letters_count c.args.key (search rules) c.requires.ready_1.short
 
 -- the next letter
 letter : (c : In-loop-here)
@@ -57,10 +40,15 @@ onward : (c : In-At) →
     (set c.loop-here.nodes (depth + 1) next.node) next
     × (next.depth ≡ depth + 1)
 onward c =
-    let p = start.requires.1.1.1 in
-    following_on c.loop-here.invariant (letter c.before.before.before.before) c.step.ensures
-    (omega (arith, count c.before.before.before.before.before.before.before.before.before.before.before, c.loop-here-test.true))
-    (omega (arith, count c.before.before.before.before.before.before.before.before.before.before.before, p.1.0)) p.0.letters c.in-At.is
+    let a = c.args in
+    let all : length (letters_of a.key) ≡ a.key.len =
+    letters_count a.key (search rules) c.requires.ready_1.short in
+    let next : get_or (letters_of a.key) c.loop-here.here.depth 0
+    ≡ get_or a.key.letters c.loop-here.here.depth 0 =
+    get_or-take a.key.len a.key.letters c.loop-here.here.depth 0 c.loop-here-test.true in
+    following_on c.loop-here.invariant next c.step.ensures
+    (omega (arith, all, c.loop-here-test.true))
+    (omega (arith, all, c.requires.ready_2)) c.requires.ready_1.letters c.in-At.is
 
 -- a letter can follow: there is room for it, and for the node to which it leads
 room : (c : In-At) →
@@ -94,7 +82,7 @@ step-requires c =
       fact_1 = c.requires.fact_1;
       fact_2 = c.requires.fact_3;
       fact_3 = rw f.node (along_within a.h a.image.now within f.along);
-      fact_4 = letter_below a.key (whole (goal.at.step-requires c).Start) c.requires.ready_1.short a.h.n
+      fact_4 = letter_below a.key (search rules) c.requires.ready_1.short a.h.n
           c.loop-here.here.depth c.requires.ready_1.letters c.loop-here-test.true;
       fact_5 = omega (arith, c.loop-here-test.true, c.requires.ready_1.short);
     }
@@ -102,7 +90,7 @@ step-requires c =
 pub returns-in_default : goal.returns-in_default
 returns-in_default c =
     following_stop c.loop-here.invariant (letter (goal.at.returns-in_default c).In-loop-here) c.step.ensures c.requires.fact_2
-    (stays _ c.in_default.in_default-own.keys2)
+    c.in_default.not-At
 
 pub bounds-path-depth : goal.bounds-path-depth
 bounds-path-depth c = (room (goal.at.bounds-path-depth c).In-At).1

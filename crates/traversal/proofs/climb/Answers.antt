@@ -3,10 +3,8 @@
 -- at a depth below max. Assumes nothing.
 use Prim.Native.Nat.{◌-◌, ◌<◌}
 use mathlib.Core.Bool.{true≢false}
-use mathlib.Core.Logic.{⊎_elim}
 use mathlib.Core.Path.{sym, refl, ◌∙◌}
 use native.Mathlib.Omega.{arith}
-use borrow.Author.Tests.{not-true, not-false}
 use Rattle.head.proofs.Permitted.{bounds}
 use Rattle.traversal.proofs.Paths.{along_within}
 use Rattle.traversal.proofs.Searching.{told_none}
@@ -15,11 +13,13 @@ use Rattle.traversal.proofs.Climbing.{climbing_end, climbing_up}
 use Rattle.traversal.proofs.Climbing.{Nothing, nothing_missing, climb_no_keys}
 use Rattle.traversal.proofs.climb.Goals as goal
 use Rattle.traversal.proofs.climb.Goals.{Joined-not-no_keys, Then-not-no_keys}
+use Rattle.traversal.proofs.climb.Goals.{then-from-eq0, else-from-eq0}
+use Rattle.traversal.proofs.climb.Goals.{then-not-no_keys+in_default, else-not-no_keys}
 
 pub loop-from-init : goal.loop-from-init
 loop-from-init c =
-    let p = start.requires.1.1.1 in
-    climbing_start c.args.first p.0 p.1.0 p.1.1.0 p.1.1.1
+    climbing_start c.args.first c.requires.end_le_max_1 c.requires.end_le_max_2
+    c.requires.path_room_1 c.requires.path_room_2
 
 pub offset_bounds-nodes-depth : goal.offset_bounds-nodes-depth
 offset_bounds-nodes-depth c =
@@ -50,13 +50,19 @@ deep : (c : Then-not-no_keys)
     → (c.loop-from.depth < c.args.h.max)
 deep c =
     let at = c.loop-from in
-    ⊎_elim (λ w. w.2.ensures.deep (sym w.3 ∙ c.if-not-no_keys.true))
-    (λ w. at.invariant.deeper (omega (arith, w.0.left))) c.if-from-eq0.branch
+    elim c.if-from-eq0.branch [
+      then-from-eq0 w ↦ w.no_keys_below-no_keys.ensures.deep (sym w.no_keys-is ∙ c.if-not-no_keys.true)
+    | else-from-eq0 w ↦ at.invariant.deeper (omega (arith, w.if-from-eq0.false))
+    ]
 
 pub below-found-requires : goal.below-found-requires
 below-found-requires c =
     let at = c.loop-from.invariant in
-    record { fact = c.requires.fact_1; depth_lt_max = c.requires.fact_2; along = (c.requires.fact_3, (deep (goal.at.below-found-requires c).Then-not-no_keys, (at.room, (at.along, refl)))) }
+    record {
+      fact = (c.requires.fact_1, (c.requires.fact_2, c.requires.fact_3));
+      depth_lt_max = (deep (goal.at.below-found-requires c).Then-not-no_keys, at.room);
+      along = (at.along, refl);
+    }
 
 pub returns-in-Found : goal.returns-in-Found
 returns-in-Found c =
@@ -69,15 +75,19 @@ nothing : (c : Joined-not-no_keys)
     Nothing a.h a.image.now c.loop-from.path c.loop-from.nodes c.loop-from.depth
     c.loop-from.from c.if-not-no_keys.path c.if-not-no_keys.nodes)
 nothing c =
-    ⊎_elim
-    (λ w.
-    nothing_missing w.4.ensures.0 w.10.given.1 w.4.ensures.1
-    w.4.kept.1.1.1.1.1.1.0 w.4.kept.1.1.1.1.1.1.1.0 w.11 w.12)
-    (λ w.
-    let none_below = w.0.left in
-    ⊎_elim (λ v. climb_no_keys v.2.ensures (sym v.3 ∙ none_below) w.1 w.2)
-    (λ v. absurd (true≢false (sym none_below ∙ v.1))) c.if-from-eq0.branch)
-    c.if-not-no_keys.branch
+    elim c.if-not-no_keys.branch [
+      then-not-no_keys+in_default w ↦
+        nothing_missing w.below-found.ensures.search_tells w.in_default.is
+        w.below-found.ensures.path_kept w.below-found.auto.path w.below-found.auto.nodes
+        w.path-is w.nodes-is
+    | else-not-no_keys w ↦
+        elim c.if-from-eq0.branch [
+          then-from-eq0 v ↦
+            climb_no_keys v.no_keys_below-no_keys.ensures (sym v.no_keys-is ∙ w.if-not-no_keys.false)
+            w.path-is w.nodes-is
+        | else-from-eq0 v ↦ absurd (true≢false (sym w.if-not-no_keys.false ∙ v.no_keys-is))
+        ]
+    ]
 
 pub returns-then-depth-eq0 : goal.returns-then-depth-eq0
 returns-then-depth-eq0 c =
@@ -95,11 +105,11 @@ bounds-path-depth c =
 
 pub overflow_cast-from : goal.overflow_cast-from
 overflow_cast-from c =
-    omega (arith, c.slice_known-in-loop-from-1.given (c.loop-from.depth - 1))
+    omega (arith, c.type_inv.path (c.loop-from.depth - 1))
 
 pub overflow_add-from : goal.overflow_add-from
 overflow_add-from c =
-    omega (arith, c.slice_known-in-loop-from-1.given (c.loop-from.depth - 1))
+    omega (arith, c.type_inv.path (c.loop-from.depth - 1))
 
 pub loop-from-smaller : goal.loop-from-smaller
 loop-from-smaller c = omega (arith, c.if-depth-eq0.false)

@@ -8,15 +8,22 @@ use Rattle.traversal.proofs.onward.Goals as goal
 
 pub climb-requires : goal.climb-requires
 climb-requires c =
-    (c.requires.fact_1, (c.requires.fact_2, (c.mask.ensures, (c.requires.len_le_max_1, ((λ b. omega arith), p.1.1.1)))))
+    record {
+      fact_1 = c.requires.fact_1;
+      fact_2 = c.requires.fact_2;
+      fact_3 = c.mask.ensures;
+      end_le_max_1 = c.requires.len_le_max_1;
+      end_le_max_2 = λ b. absurd (omega arith);
+      path_room_1 = c.requires.len_le_max_2;
+      path_room_2 = c.requires.len_le_max_3;
+    }
 
 pub returns : goal.returns
 returns c =
     let a = c.args in
-    let p = start.requires.1.1 in record {
+    record {
       search_tells = told_same a.h a.image.now
-          (after_path a.h a.image.now a.path.now a.nodes.now p.0 p.1.0
-          p.1.1) c.climb.ensures;
-      path_room = room_kept p.1.0 c.climb.auto.1.1.1.1.1.0
-          c.climb.auto.1.1.1.1.1.1.0;
+          (after_path a.h a.image.now a.path.now a.nodes.now c.requires.len_le_max_1
+          c.requires.len_le_max_2 c.requires.len_le_max_3) c.climb.ensures;
+      path_room = room_kept c.requires.len_le_max_2 c.climb.auto.path c.climb.auto.nodes;
     }
