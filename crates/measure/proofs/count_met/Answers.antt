@@ -22,7 +22,15 @@ loop-length-init c =
 
 pub onward-found-requires : goal.onward-found-requires
 onward-found-requires c =
-    walks_on (walkable c.requires.accepted c.requires.h_value) c.loop-length.invariant.walking
+    let (opened, (within, (deep, (room, along)))) =
+    walks_on (walkable c.requires.accepted c.requires.h_value) c.loop-length.invariant.walking in
+    record {
+      fact_1 = opened;
+      fact_2 = within;
+      len_le_max_1 = deep;
+      len_le_max_2 = room;
+      len_le_max_3 = along;
+    }
 
 pub returns-in_default : goal.returns-in_default
 returns-in_default c =
