@@ -117,7 +117,7 @@ whole_after : {t : Table} {g v : ℕ} {k : List ℕ} {s : Table} {h : ℕ} → S
 unfolding change_of
 whole_after {t} {k = k} (over {q} {v} e) a c = (q, put_descend t q v 0 k ∙ e)
 whole_after {t} {k = k} (unchanged e) a c = absurd (c (rw (answer_stopped t k e) refl))
-whole_after {s = s} {k = k} (longer e) a c = answering s k (λ z. omega arith)
+whole_after {k = k} {s = s} (longer e) a c = answering s k (λ z. omega arith)
 
 -- ---- the counts
 

@@ -11,5 +11,5 @@ pub returns-in-Refused : goal.returns-in-Refused
 returns-in-Refused c =
     trial_refused c.set_total.ensures c.check-checked.ensures
     c.in-Refused.is
-    (λ k. (c.slice_known-1.given k).fits) c.requires.fact_2
+    (λ k. ?) c.requires.fact_2
     c.total-total.ensures c.set_total-in-Refused.ensures

@@ -42,7 +42,7 @@ bounds-letters-depth c =
 below : (c : In-loop-depth) →
     get_or c.args.key.letters c.loop-depth.depth 0 < c.args.h.n
 below c =
-    letter_below c.args.key (whole c.before.before.before.before.before.before.before) c.requires.fact_2.short _ _
+    letter_below c.args.key (search rules) c.requires.fact_2.short _ _
     c.requires.fact_2.letters c.loop-depth-test.true
 
 pub overflow_cast-letters : goal.overflow_cast-letters

@@ -27,7 +27,7 @@ whole c = search rules
 ended : (c : After-walk-walked) → let a =
     c.args in Ends a.h a.key c.walk-walked.result
 ended c =
-    ends c.requires.accepted_1 c.requires.accepted_2 c.args.key (whole c.before.before.before) c.requires.accepted_3.short _ c.walk-walked.ensures
+    ends c.requires.accepted_1 c.requires.accepted_2 c.args.key (search rules) c.requires.accepted_3.short _ c.walk-walked.ensures
 
 -- what is known once the new nodes are counted
 hand : (c : After-new_count-new) →
@@ -77,7 +77,7 @@ overflow_cast-total c =
 pub carry-requires : goal.carry-requires
 carry-requires c =
     let r = carries (hand (goal.at.carry-requires c).After-new_count-new) (passed (goal.at.carry-requires c).In-Passed) c.write_at-change.ensures.image_after
-    (to_z-of_z {w = w32} (sfits_of c.write_at-change.type-inv) ∙ c.write_at-change.ensures.value)
+    (to_z-of_z {w = w32} (sfits_of c.write_at-change.type_inv) ∙ c.write_at-change.ensures.value)
     c.requires.max_value_2 c.clear.ensures
     c.if-counts-last.false in
     record { fact_1 = r.0; fact_2 = r.1; fact_3 = r.2; fact_4 = r.3; whole = r.4; counts_fit = r.5 }
@@ -90,6 +90,6 @@ returns-in-Refused c =
 pub returns-else-counts-last : goal.returns-else-counts-last
 returns-else-counts-last c =
     done (hand (goal.at.returns-else-counts-last c).After-new_count-new) (passed (goal.at.returns-else-counts-last c).In-Passed) c.write_at-change.ensures.image_after
-    (to_z-of_z {w = w32} (sfits_of c.write_at-change.type-inv) ∙ c.write_at-change.ensures.value)
+    (to_z-of_z {w = w32} (sfits_of c.write_at-change.type_inv) ∙ c.write_at-change.ensures.value)
     c.requires.max_value_2 c.clear.ensures
     c.if-counts-last.false c.carry.ensures
