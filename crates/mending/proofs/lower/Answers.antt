@@ -1,5 +1,6 @@
 -- `mending::lower` meets its contract: the image with the lower G is checked, and where it is
 -- refused the image is left as it was. Assumes nothing.
+use borrow.Author.Rules.{rules}
 use Rattle.mending.proofs.Trial.{trial_passed, trial_refused}
 use Rattle.mending.proofs.lower.Goals as goal
 
@@ -11,5 +12,5 @@ pub returns-in-Refused : goal.returns-in-Refused
 returns-in-Refused c =
     trial_refused c.set_total.ensures c.check-checked.ensures
     c.in-Refused.is
-    (λ k. ?) c.requires.fact_2
+    (λ k. search rules) c.requires.fact_2
     c.total-total.ensures c.set_total-in-Refused.ensures

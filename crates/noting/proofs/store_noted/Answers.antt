@@ -49,4 +49,4 @@ pub returns-in-Change : goal.returns-in-Change
 returns-in-Change c =
     notes_done c.requires.fact_1 c.requires.fact_2 (letters_of c.args.key) c.walk-walked.ensures _
     c.store_at-stored.ensures c.in-Change.is _
-    (to_z-of_z {w = w32} (sfits_of ?)) c.note_all.ensures
+    (search rules) c.note_all.ensures
