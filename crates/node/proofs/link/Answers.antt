@@ -4,6 +4,7 @@
 use mathlib.Core.Path.{◌≡◌, sym, ap, ◌∙◌}
 use Prim.Native.Nat.{ℕ, ◌+◌, ◌-◌}
 use native.Mathlib.Omega.{arith}
+use borrow.Author.Rules.{rules}
 use Rattle.field.specs.Field.{field_at}
 use Rattle.field.proofs.Field.{field_bound}
 use Rattle.head.proofs.Permitted.{bounds, addresses_fit}
@@ -56,7 +57,7 @@ overflow_cast-result c =
       arith,
       read (goal.at.overflow_cast-result c).After-load_masked,
       field_bound a.image.now (link_place a.h a.q a.i) a.h.a
-          (λ k. (c.shared_slice_known-1.given k).fits),
+          (λ k. search rules),
       addresses_fit (bounds a.h c.requires.fact_1.head_permitted),
     )
 

@@ -1,5 +1,4 @@
 -- `noting::note_all` meets its contract: each end of the walk has its own list. Assumes nothing.
--- the array's length
 use Prim.Native.Nat.{◌-◌}
 use mathlib.Core.Path.{◌≡◌, subst, ◌∙◌, ap}
 use native.Mathlib.Omega.{arith}
@@ -14,6 +13,7 @@ use Rattle.noting.proofs.NotedPath.{missing_left, notes_data, notes_none, notes_
 use Rattle.noting.proofs.note_all.Goals as goal
 use Rattle.noting.proofs.note_all.Goals.{Start}
 
+-- the array's length
 whole : (c : Start) → length c.args.key.letters ≡ most_letters
 whole c = search rules
 
