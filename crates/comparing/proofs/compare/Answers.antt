@@ -20,7 +20,7 @@ pub first_different-differs-requires : goal.first_different-differs-requires
 first_different-differs-requires c =
     let a = c.args in
     let o = c.check_both-checked.ensures in
-    let e = c.enum_told-in-Passed-1.given.1 in
+    let e = c.in-Passed.is in
     let same =
     ap (λ (h : Head). h.g) (compared_head a.image.now a.work.now a.counts.now o e)
     in record {
@@ -38,7 +38,7 @@ pub clear-requires : goal.clear-requires
 clear-requires c =
     let a = c.args in
     let o = c.check_both-checked.ensures in
-    let e = c.enum_told-in-Passed-1.given.1 in
+    let e = c.in-Passed.is in
     let same =
     ap (λ (h : Head). h.g) (compared_head a.image.now a.work.now a.counts.now o e)
     in
@@ -60,7 +60,7 @@ pub returns-in-Passed : goal.returns-in-Passed
 returns-in-Passed c =
     let a = c.args in
     let o = c.check_both-checked.ensures in
-    let e = c.enum_told-in-Passed-1.given.1 in
+    let e = c.in-Passed.is in
     let nodes =
     ap (λ (h : Head). h.g + 1)
     (compared_head a.image.now a.work.now a.counts.now o e) in

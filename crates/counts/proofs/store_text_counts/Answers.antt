@@ -7,8 +7,8 @@ use Rattle.counts.proofs.store_text_counts.Goals as goal
 pub store_counted-requires : goal.store_counted-requires
 store_counted-requires c =
     let a = c.args in
-    store_counted_asks a.work.now a.list.now c.ask_text-named.ensures
-    c.in-Passed.is
+    let asks = store_counted_asks a.work.now a.list.now c.ask_text-named.ensures c.in-Passed.is in
+    record { accepted_1 = asks.0; accepted_2 = asks.1.0; accepted_3 = asks.1.1.0; max_value_1 = asks.1.1.1.0; max_value_2 = asks.1.1.1.1 }
 
 pub returns-in-Refused : goal.returns-in-Refused
 returns-in-Refused c =

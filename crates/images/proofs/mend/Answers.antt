@@ -3,19 +3,19 @@
 use mathlib.Core.Path.{◌∙◌, ap}
 use native.Mathlib.Omega.{arith}
 use Rattle.paper.specs.declared.Verdict.{Verdict}
-use Rattle.images.proofs.MendReturns.{not_eight, lower_asks, mends_passed, mends_other}
+use Rattle.images.proofs.MendReturns.{is_not_linked, lower_asks, mends_passed, mends_other}
 use Rattle.images.proofs.MendReturns.{mends_lowered, mends_kept}
 use Rattle.images.proofs.mend.Goals as goal
 
 pub returns-in_default : goal.returns-in_default
 returns-in_default c =
     mends_other c.check-checked.ensures c.in-Refused.is
-    (not_eight c.in-Refused.why c.in_default.in_default-own.keys2)
+    (λ k. c.in_default.not-NotLinked _ (is_not_linked c.in-Refused.why k))
 
 pub lower-trial-requires : goal.lower-trial-requires
 lower-trial-requires c =
-    lower_asks c.check-checked.ensures
-    (c.in-Refused.is ∙ ap Verdict.Refused c.in-NotLinked.is)
+    let asks = lower_asks c.check-checked.ensures (c.in-Refused.is ∙ ap Verdict.Refused c.in-NotLinked.is) in
+    record { fact_1 = asks.0; fact_2 = asks.1 }
 
 pub returns-in-Passed : goal.returns-in-Passed
 returns-in-Passed c =

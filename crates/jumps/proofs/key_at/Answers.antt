@@ -5,7 +5,8 @@ use Rattle.jumps.proofs.key_at.Goals as goal
 
 pub tell_key-requires : goal.tell_key-requires
 tell_key-requires c =
-    spot_asks c.compare-compared.ensures c.in-Passed.is
+    let asks = spot_asks c.compare-compared.ensures c.in-Passed.is in
+    record { fact_1 = asks.0; fact_2 = asks.1.0; fact_3 = asks.1.1 }
 
 pub returns-in-Refused : goal.returns-in-Refused
 returns-in-Refused c = gives_key_refused c.compare-compared.ensures _ _

@@ -34,12 +34,12 @@ next-found-requires c =
 pub slice_bounds-path-end : goal.slice_bounds-path-end
 slice_bounds-path-end c =
     let told = c.next-found.ensures in
-    found_within told.0 c.in-Found.is told.1
+    found_within told.search_tells c.in-Found.is told.path_room
 
 pub slice_bounds-copy-end : goal.slice_bounds-copy-end
 slice_bounds-copy-end c =
     let told = c.next-found.ensures in
-    found_front told.0 c.in-Found.is told.1
+    found_front told.search_tells c.in-Found.is told.path_room
 
 pub copy-requires : goal.copy-requires
 copy-requires c =

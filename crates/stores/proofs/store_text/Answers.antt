@@ -6,8 +6,8 @@ use Rattle.stores.proofs.store_text.Goals as goal
 
 pub store-requires : goal.store-requires
 store-requires c =
-    store_asks c.ask_text-named.ensures
-    c.in-Passed.is
+    let asks = store_asks c.ask_text-named.ensures c.in-Passed.is in
+    record { fact_1 = asks.0; fact_2 = asks.1.0; fact_3 = asks.1.1 }
 
 pub returns-in-Refused : goal.returns-in-Refused
 returns-in-Refused c = stores_refused _ c.ask_text-named.ensures
