@@ -15,10 +15,10 @@ key : (c : After-letters-end)
     c.args.at
     (key_text (take c.args.len
     c.args.path.now))
-    c.letters-end.result c.letters-end.new.0
+    c.letters-end.result c.letters-end.new.out
 key c = c.letters-end.ensures
 
-room : (c : After-letters-end) → c.letters-end.result + 31 ≤ length c.letters-end.new.0
+room : (c : After-letters-end) → c.letters-end.result + 31 ≤ length c.letters-end.new.out
 room c =
     let a = c.args in
     let bytes = c.shared_slice_known-1.given in
@@ -30,18 +30,15 @@ room c =
           (λ k. (bytes k).fits),
     )
 
-long : (c : After-number-end) → length c.number-end.new.0
-    ≡ length c.letters-end.new.0
-long c = laid_long c.number-end.ensures ∙ simp length-set
+long : (c : After-number-end) → length c.number-end.new.out
+    ≡ length c.letters-end.new.out
+long c =
+    laid_long c.number-end.ensures ∙ length-set c.letters-end.new.out c.letters-end.result 32
 
-end : (c : After-number-end) → c.number-end.result + 10 ≤ length c.number-end.new.0
-end c = omega (
-  arith,
-  room c.before.before.before.before,
-  long c,
-  decimal_end _
-      c.number-end.ensures,
-)
+end : (c : After-number-end)
+    → c.letters-end.result + 31 ≤ length c.letters-end.new.out
+    → c.number-end.result + 10 ≤ length c.number-end.new.out
+end c r = omega (arith, r, long c, decimal_end _ c.number-end.ensures)
 
 pub bounds-out-end : goal.bounds-out-end
 bounds-out-end c = omega (arith, room (goal.at.bounds-out-end c).After-letters-end)
@@ -50,13 +47,26 @@ pub overflow_add-end : goal.overflow_add-end
 overflow_add-end c = omega (arith, room (goal.at.overflow_add-end c).After-letters-end)
 
 pub number-end-requires : goal.number-end-requires
-number-end-requires c = simp length-set (omega (arith, room (goal.at.number-end-requires c).After-letters-end))
+number-end-requires c =
+    omega (
+      arith,
+      room (goal.at.number-end-requires c).After-letters-end,
+      length-set c.letters-end.new.out c.letters-end.result 32,
+    )
 
 pub bounds-out-end-2 : goal.bounds-out-end-2
-bounds-out-end-2 c = omega (arith, end (goal.at.bounds-out-end-2 c).After-number-end)
+bounds-out-end-2 c =
+    let at = goal.at.bounds-out-end-2 c in
+    omega (arith, end at.After-number-end (room at.After-letters-end))
 
 pub overflow_add-result : goal.overflow_add-result
-overflow_add-result c = omega (arith, end (goal.at.overflow_add-result c).After-number-end, long (goal.at.overflow_add-result c).After-number-end)
+overflow_add-result c =
+    let at = goal.at.overflow_add-result c in
+    omega (
+      arith,
+      end at.After-number-end (room at.After-letters-end),
+      long at.After-number-end,
+    )
 
 pub returns : goal.returns
 unfolding entry_line

@@ -19,12 +19,12 @@ first : (c : At-loop-i)
     (decimal (get_or
     c.args.path.now 0 0))
     c.letter-end.result
-    c.letter-end.new.0
+    c.letter-end.new.out
 first c = c.letter-end.ensures
 
 room : (c : In-loop-i) → c.loop-i.end + 4 ≤ length c.loop-i.out
 room c =
-    spelling_room (first c.before) c.loop-i.invariant
+    spelling_room c.letter-end.ensures c.loop-i.invariant
     (λ k. (c.shared_slice_known-2-1.given k).fits)
     (omega arith) (omega arith)
 
@@ -41,7 +41,12 @@ pub overflow_add-end : goal.overflow_add-end
 overflow_add-end c = omega (arith, room (goal.at.overflow_add-end c).In-loop-i, laid_long c.loop-i.invariant.laid)
 
 pub letter-end-requires-in-loop-i : goal.letter-end-requires-in-loop-i
-letter-end-requires-in-loop-i c = simp length-set (omega (arith, room (goal.at.letter-end-requires-in-loop-i c).In-loop-i))
+letter-end-requires-in-loop-i c =
+    omega (
+      arith,
+      room (goal.at.letter-end-requires-in-loop-i c).In-loop-i,
+      length-set c.loop-i.out c.loop-i.end 46,
+    )
 
 pub loop-i-preserved : goal.loop-i-preserved
 loop-i-preserved c =
