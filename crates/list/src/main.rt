@@ -1,18 +1,22 @@
 // 01's listing program: reads an image of at most 65,536 bytes from standard input and writes
 // its stored keys in order, a line for each, or the one line of a refusal. It checks the image
 // once and then walks through it, and it writes many lines at a time. What it hands over to be
-// written, put together, is proved to be the whole output. That it is then written is assumed.
+// written, put together, is proved to be the whole output, whether or not a write fails; and where
+// no write failed, a writer whose bytes are known has got all of it. A failed read or write is what
+// the program ends with.
 #![tactic(auto)]
 
-ghost use Rattle.std.specs.Prelude.{◌≡◌, ◌+◌, ◌≤◌, length};
+ghost use Rattle.std.specs.Prelude.{◌≡◌, ◌+◌, ◌≤◌, length, IfOk, IsOk, OnOk};
+ghost use Rattle.std.specs.Io.KnownBytes.{Appends};
 ghost use Rattle.head.specs.Fields.{head_of};
 ghost use Rattle.paper.specs.Accepted.{Accepted};
 ghost use Rattle.lines.specs.Lines.{TextAt, refused_line, entry_room};
 ghost use Rattle.list.specs.Output.{output_of, listing_text, NextPart, root_line};
 
 use head::Head;
-use libc::{STDIN_FILENO, STDOUT_FILENO};
 use paper::Verdict;
+use std::io;
+use std::io::{Read, Write};
 use traversal::Search;
 
 // The longest image that is read.
@@ -28,47 +32,68 @@ const OUT: usize = 65536;
 const LAST: usize = OUT - (Head::MAX_MOST as usize) * lines::LETTER_ROOM - lines::VALUE_ROOM;
 
 // Reads one byte more than an image may have, to see whether the input is longer.
-fn main() {
+fn main(rt: HostRuntime) -> io::Result<()> {
     let mut space = [0u8; IMAGE + 1];
-    let len = io::read_full(STDIN_FILENO, &mut space);
+    let len = read_full(&mut rt.stdin(), &mut space)?;
     let mut done: usize = 0;
-    tell(&space[..len], &mut done);
+    tell(&mut rt.stdout(), &space[..len], &mut done)
+}
+
+// Reads until the buffer is full or the input ends. Answers how many bytes it put at the buffer's
+// start.
+fn read_full<R: Read>(from: &mut R, space: &mut [u8]) -> io::Result<usize>
+    ensures { IfOk result (λ n. n ≤ length space.new) }
+{
+    let mut len: usize = 0;
+    while len < space.len() {
+        let n = from.read(&mut space[len..])?;
+        if n == 0 {
+            break;
+        }
+        len += n;
+    }
+    Ok(len)
 }
 
 // Hands over the whole output for an input. `done` counts the bytes that were handed over: at the
 // start none, at the end all.
-fn tell(input: &[u8], done: &mut usize)
+fn tell<W: Write>(to: &mut W, input: &[u8], done: &mut usize) -> io::Result<()>
     requires { done.old ≡ 0 }
     ensures { done.new ≡ length (output_of input.now) }
 {
     if IMAGE < input.len() {
-        refuse(input, 1, 0, done);
-        return;
+        return refuse(to, input, 1, 0, done);
     }
     let mut work = [0u32; WORK];
     let mut codes = [0u32; Head::N_MOST as usize];
     let checked = audit::check(input, &mut work, &mut codes);
     let verdict = checked.verdict;
     match verdict {
-        Verdict::Refused(why) => refuse(input, why.number(), why.place(), done),
-        Verdict::Passed => list(input, checked.head, done),
+        Verdict::Refused(why) => refuse(to, input, why.number(), why.place(), done),
+        Verdict::Passed => list(to, input, checked.head, done),
     }
 }
 
 // Hands over the one line of a refusal.
-fn refuse(input: &[u8], number: u32, place: u32, done: &mut usize)
+fn refuse<W: Write>(
+    to: &mut W,
+    input: &[u8],
+    number: u32,
+    place: u32,
+    done: &mut usize,
+) -> io::Result<()>
     requires input_value { output_of input.now ≡ refused_line number place }
     requires done_value { done.old ≡ 0 }
     ensures { done.new ≡ length (output_of input.now) }
 {
     let mut out = [0u8; lines::REFUSED_ROOM];
     let end = lines::refused(&mut out, 0, number, place);
-    hand_over(input, &out[..end], done);
+    hand_over(to, Ok(()), input, &out[..end], done)
 }
 
 // Hands over the number of stored keys, then a line for each: first the root's own key, if it is
 // stored. The lines so far are handed over once the longest line may not fit after them.
-fn list(input: &[u8], h: Head, done: &mut usize)
+fn list<W: Write>(to: &mut W, input: &[u8], h: Head, done: &mut usize) -> io::Result<()>
     requires accepted { Accepted input.now }
     requires h_value { h ≡ head_of input.now }
     requires input_value { output_of input.now ≡ listing_text input.now }
@@ -83,19 +108,20 @@ fn list(input: &[u8], h: Head, done: &mut usize)
     let root = traversal::start(input, h, &mut nodes);
     let mut end = root_line(&mut out, head, root);
     let mut len: usize = 0;
+    let mut sent = Ok(());
     loop {
         let found = traversal::onward(input, h, len, &mut path, &mut nodes);
         let Search::Found { length, value } = found else {
             break;
         };
         if LAST < end {
-            hand_over(input, &out[..end], done);
+            sent = hand_over(to, sent, input, &out[..end], done);
             end = 0;
         }
         end = lines::entry(&mut out, end, &path, length, value);
         len = length;
     }
-    hand_over(input, &out[..end], done);
+    hand_over(to, sent, input, &out[..end], done)
 }
 
 // Writes the line of the root's own key into the buffer, if it is stored. Answers where the line
@@ -113,11 +139,19 @@ fn root_line(out: &mut [u8], at: usize, value: u64) -> usize
 
 // Hands over a piece of the output for an input, to be written, and counts its bytes. It is the
 // next part of the output, after the bytes that were counted before. No other function writes, and
-// no other changes the count.
-fn hand_over(input: &[u8], piece: &[u8], done: &mut usize)
+// no other changes the count. `sent` is how the writes before went, and the answer how they and this
+// one went: after one that failed, no other is begun.
+fn hand_over<W: Write>(
+    to: &mut W,
+    sent: io::Result<()>,
+    input: &[u8],
+    piece: &[u8],
+    done: &mut usize,
+) -> io::Result<()>
     requires { NextPart (output_of input.now) done.old piece.now }
     ensures { done.new ≡ done.old + length piece.now }
 {
-    io::write_all(STDOUT_FILENO, piece);
     *done += piece.len();
+    sent?;
+    to.write_all(piece)
 }
