@@ -1,7 +1,8 @@
 -- Laws over plain values: `OutputCases`, 01's two examples; `Outputs`, the whole output by what
 -- the check gives, and how long it is; `Pieces`, the output handed over piece by piece; `Telling`,
--- what the listing's loop keeps.
+-- what the listing's loop keeps; `Sent`, what a writer has got.
 mod OutputCases
 mod Outputs
 mod Pieces
+mod Sent
 mod Telling

@@ -6,8 +6,8 @@
 // the program ends with.
 #![tactic(auto)]
 
-ghost use Rattle.std.specs.Prelude.{◌≡◌, ◌+◌, ◌≤◌, length, IfOk, IsOk, OnOk};
-ghost use Rattle.std.specs.Io.KnownBytes.{Appends};
+ghost use Rattle.std.specs.Prelude.{◌≡◌, ◌+◌, ◌≤◌, length, take, IfOk, IsOk, OnOk};
+ghost use Rattle.std.specs.Io.KnownBytes.{Appends, Consumes, IsAtEnd};
 ghost use Rattle.head.specs.Fields.{head_of};
 ghost use Rattle.paper.specs.Accepted.{Accepted};
 ghost use Rattle.lines.specs.Lines.{TextAt, refused_line, entry_room};
@@ -42,7 +42,10 @@ fn main(rt: HostRuntime) -> io::Result<()> {
 // Reads until the buffer is full or the input ends. Answers how many bytes it put at the buffer's
 // start.
 fn read_full<R: Read>(from: &mut R, space: &mut [u8]) -> io::Result<usize>
-    ensures { IfOk result (λ n. n ≤ length space.new) }
+    ensures bound { IfOk result (λ n. n ≤ length space.new) }
+    ensures bytes { IfOk result (λ n.
+        Consumes (R.remaining from.old) (R.remaining from.new) (take n space.new)) }
+    ensures end { IfOk result (λ n. n < length space.new → IsAtEnd (R.remaining from.new)) }
 {
     let mut len: usize = 0;
     while len < space.len() {
@@ -59,7 +62,9 @@ fn read_full<R: Read>(from: &mut R, space: &mut [u8]) -> io::Result<usize>
 // start none, at the end all.
 fn tell<W: Write>(to: &mut W, input: &[u8], done: &mut usize) -> io::Result<()>
     requires { done.old ≡ 0 }
-    ensures { done.new ≡ length (output_of input.now) }
+    ensures done_value { done.new ≡ length (output_of input.now) }
+    ensures written { OnOk result
+        (Appends (W.contents to.old) (W.contents to.new) (output_of input.now)) }
 {
     if IMAGE < input.len() {
         return refuse(to, input, 1, 0, done);
@@ -84,7 +89,9 @@ fn refuse<W: Write>(
 ) -> io::Result<()>
     requires input_value { output_of input.now ≡ refused_line number place }
     requires done_value { done.old ≡ 0 }
-    ensures { done.new ≡ length (output_of input.now) }
+    ensures done_value { done.new ≡ length (output_of input.now) }
+    ensures written { OnOk result
+        (Appends (W.contents to.old) (W.contents to.new) (output_of input.now)) }
 {
     let mut out = [0u8; lines::REFUSED_ROOM];
     let end = lines::refused(&mut out, 0, number, place);
@@ -98,7 +105,9 @@ fn list<W: Write>(to: &mut W, input: &[u8], h: Head, done: &mut usize) -> io::Re
     requires h_value { h ≡ head_of input.now }
     requires input_value { output_of input.now ≡ listing_text input.now }
     requires done_value { done.old ≡ 0 }
-    ensures { done.new ≡ length (output_of input.now) }
+    ensures done_value { done.new ≡ length (output_of input.now) }
+    ensures written { OnOk result
+        (Appends (W.contents to.old) (W.contents to.new) (output_of input.now)) }
 {
     let mut out = [0u8; OUT];
     let mut path = [0u8; Head::MAX_MOST as usize];
@@ -149,7 +158,9 @@ fn hand_over<W: Write>(
     done: &mut usize,
 ) -> io::Result<()>
     requires { NextPart (output_of input.now) done.old piece.now }
-    ensures { done.new ≡ done.old + length piece.now }
+    ensures done_value { done.new ≡ done.old + length piece.now }
+    ensures written { OnOk result
+        (IsOk sent × Appends (W.contents to.old) (W.contents to.new) piece.now) }
 {
     *done += piece.len();
     sent?;
