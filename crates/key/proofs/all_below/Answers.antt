@@ -1,6 +1,5 @@
 -- `key::all_below` meets its contract: the letters read so far are below n, and the first that
 -- is not decides. Assumes nothing.
-use Prim.Native.Nat.{◌-◌}
 use mathlib.Core.Path.{◌≡◌, sym}
 use native.Mathlib.Numerals.{add-one}
 use native.Mathlib.Omega.{arith}

@@ -1,9 +1,7 @@
 -- `noting::store_noted` meets its contract: the store is that of `storing`, and a store that is
 -- done has room for its new nodes, so the places of its writes fit. Assumes nothing.
 use mathlib.Core.Path.{◌≡◌}
-use mir.Syntax.{w32}
-use mir.Facts.{to_z-of_z}
-use borrow.Author.Rules.{rules, sfits_of}
+use borrow.Author.Rules.{rules}
 use lib.ListN.{length}
 use Rattle.head.specs.Fields.{most_letters}
 use Rattle.paper.proofs.CheckCall.{head_open}

@@ -58,7 +58,7 @@ wrote : (c : Joined-value-ne0) → let a = c.args in
     a.value)
 wrote c l t =
     elim c.if-value-ne0.branch [
-      then-value-ne0 w ↦ w.image-is ∙ path_built _ _ _ _ _ l _ w.if-value-ne0.true t w.build.ensures
+      | then-value-ne0 w ↦ w.image-is ∙ path_built _ _ _ _ _ l _ w.if-value-ne0.true t w.build.ensures
       | else-value-ne0 w ↦ w.image-is ∙ none_built _ _ _ _ _ l _ w.if-value-ne0.false
     ]
 

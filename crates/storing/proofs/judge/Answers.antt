@@ -3,7 +3,7 @@
 use Prim.Native.Nat.{◌+◌, ◌^◌, ◌<◌}
 use mathlib.Core.Path.{sym, ◌∙◌}
 use native.Mathlib.Omega.{arith}
-use borrow.Author.Tests.{leb-true, leb-false, not-true, not-false}
+use borrow.Author.Tests.{leb-true, leb-false}
 use Rattle.head.specs.Fields.{permitted}
 use Rattle.storing.proofs.Adding.{judged_11, judged_none, judged_12, judged_13}
 use Rattle.storing.proofs.Adding.{judged_passed}

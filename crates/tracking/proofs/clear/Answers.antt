@@ -1,6 +1,5 @@
 -- `tracking::clear` meets its contract: at each turn the numbers from `from` to i - 1 are 0.
 -- Assumes nothing.
-use Prim.Native.Nat.{◌-◌}
 use mathlib.Core.Path.{subst}
 use native.Mathlib.Omega.{arith}
 use Rattle.tracking.specs.Tracking.{RangeCleared}

@@ -1,6 +1,6 @@
 -- `tracking::shift` meets its contract: at each turn the counts of the nodes passed so far have
 -- changed. Assumes nothing.
-use Prim.Native.Nat.{◌-◌, ◌<◌}
+use Prim.Native.Nat.{◌<◌}
 use mathlib.Core.Path.{◌≡◌}
 use native.Mathlib.Omega.{arith}
 use borrow.Author.Rules.{rules}

@@ -1,6 +1,6 @@
 -- `walk::walk` meets its contract: from the position reached, the walk along the letters left
 -- ends as the whole walk does. Assumes nothing.
-use Prim.Native.Nat.{ℕ, suc, ◌+◌, ◌-◌}
+use Prim.Native.Nat.{ℕ, suc, ◌+◌}
 use mathlib.Core.Path.{◌≡◌, refl, sym}
 use mathlib.Core.List.{◌∷◌}
 use native.Mathlib.Omega.{arith}

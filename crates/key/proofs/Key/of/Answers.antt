@@ -1,6 +1,5 @@
 -- `key::Key::of` meets its contract: the array is the letters copied so far, followed by zeros.
 -- Assumes nothing.
-use Prim.Native.Nat.{◌-◌}
 use mathlib.Core.Path.{◌≡◌, refl, ◌∙◌}
 use native.Mathlib.Omega.{arith}
 use lib.ListN.{length}

@@ -1,7 +1,6 @@
 -- `key::Key::spelled` meets its contract: the key is held whole, so its letters are those of the
 -- array. Assumes nothing.
 use mathlib.Core.Path.{sym, ◌∙◌}
-use borrow.Author.Tests.{not-true, not-false}
 use Rattle.paper.specs.Hearing.{row_when}
 use Rattle.paper.specs.Answers.{row_of}
 use Rattle.key.proofs.Judging.{ten_by}

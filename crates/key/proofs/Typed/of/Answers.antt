@@ -1,7 +1,7 @@
 -- `key::Typed::of` meets its contract: each turn reads one character and adds its letter, or
 -- stops at a character that has none. A character takes at least one byte, so the length is at
 -- most the place reached. Assumes nothing.
-use Prim.Native.Nat.{◌-◌, ◌<◌}
+use Prim.Native.Nat.{◌<◌}
 use mathlib.Core.Path.{◌≡◌, sym, ◌∙◌, ap}
 use native.Mathlib.Omega.{arith}
 use lib.ListN.{length, take}
@@ -72,10 +72,10 @@ loop-at-preserved c =
     omega (arith, letters (goal.at.loop-at-preserved c).Start, c.if-n-x.false) in (
       omega (arith, (character-here (goal.at.loop-at-preserved c).Else-size-eq0).some, c.loop-at.invariant.0),
       elim c.if-len-lt-HELD.branch [
-        then-len-lt-HELD w ↦ rw w.kept-is (typing_more c.loop-at.invariant.1 e c.if-size-eq0.false
-          (letter_here (goal.at.loop-at-preserved c).After-letter-x) b w.if-len-lt-HELD.true)
+        | then-len-lt-HELD w ↦ rw w.kept-is (typing_more c.loop-at.invariant.1 e c.if-size-eq0.false
+            (letter_here (goal.at.loop-at-preserved c).After-letter-x) b w.if-len-lt-HELD.true)
         | else-len-lt-HELD w ↦ rw w.kept-is (typing_past c.loop-at.invariant.1 e c.if-size-eq0.false
-          (letter_here (goal.at.loop-at-preserved c).After-letter-x) b w.if-len-lt-HELD.false)
+            (letter_here (goal.at.loop-at-preserved c).After-letter-x) b w.if-len-lt-HELD.false)
       ],
     )
 
