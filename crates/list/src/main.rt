@@ -6,7 +6,7 @@
 // the program ends with.
 #![tactic(auto)]
 
-ghost use Rattle.std.specs.Prelude.{◌≡◌, ◌+◌, ◌≤◌, length, take, IfOk, IsOk, OnOk};
+ghost use Rattle.std.specs.Prelude.{◌≡◌, ◌+◌, ◌<◌, ◌≤◌, length, take, IfOk, IfSome, IsOk, OnOk};
 ghost use Rattle.std.specs.Io.KnownBytes.{Appends, Consumes, IsAtEnd};
 ghost use Rattle.head.specs.Fields.{head_of};
 ghost use Rattle.paper.specs.Accepted.{Accepted};
@@ -31,12 +31,20 @@ const OUT: usize = 65536;
 // The last place in these bytes where the longest line fits.
 const LAST: usize = OUT - (Head::MAX_MOST as usize) * lines::LETTER_ROOM - lines::VALUE_ROOM;
 
-// Reads one byte more than an image may have, to see whether the input is longer.
 fn main(rt: HostRuntime) -> io::Result<()> {
+    answer(&mut rt.stdin(), &mut rt.stdout())
+}
+
+// Writes the whole output for the input that a reader gives. It reads one byte more than an image
+// may have, to see whether the input is longer.
+fn answer<R: Read, W: Write>(from: &mut R, to: &mut W) -> io::Result<()>
+    ensures { OnOk result (IfSome (R.remaining from.old) (λ input.
+        Appends (W.contents to.old) (W.contents to.new) (output_of input))) }
+{
     let mut space = [0u8; IMAGE + 1];
-    let len = read_full(&mut rt.stdin(), &mut space)?;
+    let len = read_full(from, &mut space)?;
     let mut done: usize = 0;
-    tell(&mut rt.stdout(), &space[..len], &mut done)
+    tell(to, &space[..len], &mut done)
 }
 
 // Reads until the buffer is full or the input ends. Answers how many bytes it put at the buffer's
