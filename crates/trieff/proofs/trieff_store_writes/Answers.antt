@@ -6,4 +6,4 @@ use Rattle.trieff.proofs.trieff_store_writes.Goals as goal
 pub returns : goal.returns
 returns c =
     by_numbers c.noted.ensures
-    c.before.before.before.before.before.store-Writes.ensures
+    c.store_writes-answer.ensures
