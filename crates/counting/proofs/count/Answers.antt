@@ -1,7 +1,7 @@
 -- `counting::count` meets its contract: before node q the sum is the number of nodes below q whose
 -- data is not 0, and over all nodes that is the number of stored keys. The measure is how many
 -- nodes are left. Assumes nothing.
-use Prim.Native.Nat.{◌+◌, ◌-◌}
+use Prim.Native.Nat.{◌+◌}
 use mathlib.Core.Logic.{◌≢◌}
 use mathlib.Core.Path.{◌≡◌, sym, ◌∙◌, ap}
 use native.Mathlib.Omega.{arith}
@@ -38,16 +38,16 @@ loop-q-preserved c =
     let so_far : c.loop-q.sum ≡ holding t c.loop-q.q = c.loop-q.invariant.1 in (
       omega arith,
       elim c.if-data_by-ne0.branch [
-        then-data_by-ne0 w ↦
-          let full : t.value c.loop-q.q ≢ 0 =
-          λ z. w.if-data_by-ne0.true (c.data_by.ensures ∙ z) in
-          omega (arith, so_far, holding_full t c.loop-q.q full)
-      | else-data_by-ne0 w ↦
-          omega (
-            arith,
-            so_far,
-            holding_empty t c.loop-q.q (sym c.data_by.ensures ∙ w.if-data_by-ne0.false),
-          )
+        | then-data_by-ne0 w ↦
+            let full : t.value c.loop-q.q ≢ 0 =
+            λ z. w.if-data_by-ne0.true (c.data_by.ensures ∙ z) in
+            omega (arith, so_far, holding_full t c.loop-q.q full)
+        | else-data_by-ne0 w ↦
+            omega (
+              arith,
+              so_far,
+              holding_empty t c.loop-q.q (sym c.data_by.ensures ∙ w.if-data_by-ne0.false),
+            )
       ],
     )
 

@@ -1,6 +1,6 @@
 -- `ranking::branch_at` meets its contract: letter by letter the position falls by the keys that
 -- come before, until it is below the number of keys of a letter. Assumes nothing.
-use Prim.Native.Nat.{◌-◌, ◌<◌}
+use Prim.Native.Nat.{◌<◌}
 use native.Mathlib.Omega.{arith}
 use mathlib.Core.Path.{◌≡◌}
 use lib.ListN.{length, get_or}

@@ -25,13 +25,13 @@ beneath c =
     let w = counted c.requires.accepted_1 c.requires.accepted_2 c.requires.accepted_3 in
     let room = c.requires.position_in_bounds_2 in
     elim c.if-value-ne0.branch [
-      then-value-ne0+else-left-eq0 o ↦
-        rw o.left-is
-        (beneath_own w room c.loop-h.invariant c.own_value-value.ensures o.if-value-ne0.true
-        o.if-left-eq0.false)
-    | else-value-ne0 o ↦
-        rw o.left-is
-        (beneath_none w room c.loop-h.invariant c.own_value-value.ensures o.if-value-ne0.false)
+      | then-value-ne0+else-left-eq0 o ↦
+          rw o.left-is
+          (beneath_own w room c.loop-h.invariant c.own_value-value.ensures o.if-value-ne0.true
+          o.if-left-eq0.false)
+      | else-value-ne0 o ↦
+          rw o.left-is
+          (beneath_none w room c.loop-h.invariant c.own_value-value.ensures o.if-value-ne0.false)
     ]
 
 pub mask-mask-requires : goal.mask-mask-requires

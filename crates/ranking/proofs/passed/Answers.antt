@@ -4,7 +4,7 @@ use Prim.Native.Nat.{◌<◌}
 use mathlib.Core.Path.{◌≡◌}
 use lib.ListN.{length, get_or}
 use native.Mathlib.Omega.{arith}
-use Rattle.ranking.proofs.ByLetter.{sizes, below_link, rest, rest_all, rest_none}
+use Rattle.ranking.proofs.ByLetter.{sizes, below_link, rest_all, rest_none}
 use Rattle.ranking.proofs.ByLetter.{rest_empty, rest_counted}
 use Rattle.ranking.proofs.passed.Goals as goal
 use Rattle.ranking.proofs.passed.Goals.{Then-c-ne0, then-c-ne0, else-c-ne0}
@@ -45,16 +45,16 @@ pub loop-i-preserved : goal.loop-i-preserved
 loop-i-preserved c =
     let a = c.args in
     elim c.if-c-ne0.branch [
-      then-c-ne0 w ↦
-        let here = below_link a.h a.image.now a.node a.depth a.counts.now c.loop-i.i
-        c.requires.child_counts c.link-c.ensures w.if-c-ne0.true in
-        let next = rest_counted a.h a.image.now a.node a.depth a.letter c.loop-i.i
-        (get_or a.counts.now c.link-c.result 0) c.loop-i-test.true here.1 in
-        omega (arith, w.sum-is, c.loop-i.invariant, next)
-    | else-c-ne0 w ↦
-        let e = rest_empty a.h a.image.now a.node a.depth a.letter c.loop-i.i c.loop-i-test.true
-        c.link-c.ensures w.if-c-ne0.false in
-        omega (arith, w.sum-is, c.loop-i.invariant, e)
+      | then-c-ne0 w ↦
+          let here = below_link a.h a.image.now a.node a.depth a.counts.now c.loop-i.i
+          c.requires.child_counts c.link-c.ensures w.if-c-ne0.true in
+          let next = rest_counted a.h a.image.now a.node a.depth a.letter c.loop-i.i
+          (get_or a.counts.now c.link-c.result 0) c.loop-i-test.true here.1 in
+          omega (arith, w.sum-is, c.loop-i.invariant, next)
+      | else-c-ne0 w ↦
+          let e = rest_empty a.h a.image.now a.node a.depth a.letter c.loop-i.i c.loop-i-test.true
+          c.link-c.ensures w.if-c-ne0.false in
+          omega (arith, w.sum-is, c.loop-i.invariant, e)
     ]
 
 pub returns : goal.returns

@@ -1,13 +1,12 @@
 -- `ranking::rank` meets its contract: letter by letter the keys before it are the keys passed,
 -- and the keys under the node reached that come before the rest of the key. Assumes nothing.
-use Prim.Native.Nat.{suc, ◌+◌, ◌-◌, ◌≤◌, ◌<◌}
+use Prim.Native.Nat.{suc, ◌+◌, ◌≤◌, ◌<◌}
 use mathlib.Core.List.{◌∷◌}
 use mathlib.Core.Path.{◌≡◌}
 use native.Mathlib.Omega.{arith}
 use borrow.Author.Rules.{rules}
 use lib.ListN.{length, get_or, drop}
 use Rattle.field.proofs.Range.{between_true}
-use Rattle.head.specs.Fields.{most_letters}
 use Rattle.head.proofs.Permitted.{bounds}
 use Rattle.key.specs.Hand.{letters_of}
 use Rattle.key.proofs.Hand.{letters_count, letters_from, letter_below}
@@ -95,20 +94,20 @@ own-passed : (c : Joined-own_value-ne0)
 own-passed c =
     let a = c.args in
     elim c.if-own_value-ne0.branch [
-      then-own_value-ne0 o ↦
-        omega (
-          arith,
-          o.before-is,
-          owned_one a.h a.image.now c.loop-depth.node
-              c.loop-depth.depth c.own_value.ensures o.if-own_value-ne0.true,
-        )
-    | else-own_value-ne0 o ↦
-        omega (
-          arith,
-          o.before-is,
-          owned_none a.h a.image.now c.loop-depth.node
-              c.loop-depth.depth c.own_value.ensures o.if-own_value-ne0.false,
-        )
+      | then-own_value-ne0 o ↦
+          omega (
+            arith,
+            o.before-is,
+            owned_one a.h a.image.now c.loop-depth.node
+                c.loop-depth.depth c.own_value.ensures o.if-own_value-ne0.true,
+          )
+      | else-own_value-ne0 o ↦
+          omega (
+            arith,
+            o.before-is,
+            owned_none a.h a.image.now c.loop-depth.node
+                c.loop-depth.depth c.own_value.ensures o.if-own_value-ne0.false,
+          )
     ]
 
 pub passed-before-requires : goal.passed-before-requires

@@ -1,7 +1,6 @@
 -- `reaching::reach` meets its contract: the links of the root are followed, then those of the node
 -- at the top of the stack, until it is empty. The measure is how many nodes have not been
 -- followed. Assumes nothing.
-use Prim.Native.Nat.{◌-◌}
 use native.Mathlib.Omega.{arith}
 use lib.ListN.{length-set}
 use Rattle.reaching.proofs.Reaching.{nodes_fit, reaching_start, reaching_room}

@@ -1,7 +1,6 @@
 -- `reaching::spread` meets its contract: a node without links adds nothing; else each turn follows
 -- one more link, and meets its node with its mark if it is new. The measure is how many links are
 -- left. Assumes nothing.
-use Prim.Native.Nat.{◌-◌}
 use native.Mathlib.Omega.{arith}
 use Rattle.reaching.proofs.Spreading.{spreading_none, spreading_room}
 use Rattle.reaching.proofs.Spreading.{spreading_met, spreading_new, spread_all}

@@ -1,7 +1,6 @@
 -- `tallying::first_bad_node` meets its contract: number 0 tells whether the root hides data. Then
 -- each turn counts the links of one more node, or stops at a node with a bad link, which is then
 -- the lowest. The measure is how many nodes are left. Assumes nothing.
-use Prim.Native.Nat.{◌-◌}
 use native.Mathlib.Omega.{arith}
 use lib.ListN.{length-set}
 use Rattle.reaching.proofs.Kept.{kept_set}
@@ -14,8 +13,8 @@ pub loop-q-init : goal.loop-q-init
 loop-q-init c =
     tallying_none _ _ _ _ c.requires.g_in_bounds c.requires.work_value c.hides.ensures
     (λ e. elim c.if-hides.branch [
-      then-hides w ↦ absurd (omega arith)
-    | else-hides w ↦ w.if-hides.false
+      | then-hides w ↦ absurd (omega arith)
+      | else-hides w ↦ w.if-hides.false
     ])
 
 pub tally-requires : goal.tally-requires

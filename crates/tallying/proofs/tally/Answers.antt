@@ -49,12 +49,12 @@ noted : (c : Joined-c-q)
     c.loop-i.work c.if-c-q.work
 noted c =
     elim c.if-c-q.branch [
-      then-c-q w ↦
-        let room : 0 < length c.loop-i.work =
-        omega (arith, c.loop-i.invariant.kept.long, c.requires.g_in_bounds) in
-        rw w.work-is (noted_other _ room)
-    | else-c-q w ↦
-        rw w.work-is (noted_tests _ c.hides.ensures w.if-c-q.false)
+      | then-c-q w ↦
+          let room : 0 < length c.loop-i.work =
+          omega (arith, c.loop-i.invariant.kept.long, c.requires.g_in_bounds) in
+          rw w.work-is (noted_other _ room)
+      | else-c-q w ↦
+          rw w.work-is (noted_tests _ c.hides.ensures w.if-c-q.false)
     ]
 
 -- the link's address has a working number

@@ -1,7 +1,7 @@
 -- `traversal::below`, which calls itself, meets its contract. From letter to letter the key sought
 -- is the first of the keys that are left. At each call of itself the depth left to max falls.
 -- Assumes nothing.
-use Prim.Native.Nat.{ℕ, ◌≤◌}
+use Prim.Native.Nat.{ℕ}
 use native.Mathlib.Omega.{arith}
 use Rattle.head.proofs.Permitted.{bounds}
 use Rattle.traversal.proofs.Paths.{kept_below, along_within}
@@ -60,8 +60,7 @@ loop-i-preserved-then-no_keys_below t c =
 pub below-deeper-requires : goal.below-deeper-requires
 below-deeper-requires t c =
     let o = onto t (goal.at.below-deeper-requires t c).Else-c-eq0 in
-    let deep = c.no_keys_below.ensures.deep c.if-no_keys_below.false in
-    (
+    let deep = c.no_keys_below.ensures.deep c.if-no_keys_below.false in (
       omega (arith, c.decreases, o.passing.deep),
       (c.requires.fact, ((deep, onto_room o), (onto_along o, onto_node o))),
     )

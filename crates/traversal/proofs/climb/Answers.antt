@@ -51,8 +51,8 @@ deep : (c : Then-not-no_keys)
 deep c =
     let at = c.loop-from in
     elim c.if-from-eq0.branch [
-      then-from-eq0 w ↦ w.no_keys_below-no_keys.ensures.deep (sym w.no_keys-is ∙ c.if-not-no_keys.true)
-    | else-from-eq0 w ↦ at.invariant.deeper (omega (arith, w.if-from-eq0.false))
+      | then-from-eq0 w ↦ w.no_keys_below-no_keys.ensures.deep (sym w.no_keys-is ∙ c.if-not-no_keys.true)
+      | else-from-eq0 w ↦ at.invariant.deeper (omega (arith, w.if-from-eq0.false))
     ]
 
 pub below-found-requires : goal.below-found-requires
@@ -76,17 +76,17 @@ nothing : (c : Joined-not-no_keys)
     c.loop-from.from c.if-not-no_keys.path c.if-not-no_keys.nodes)
 nothing c =
     elim c.if-not-no_keys.branch [
-      then-not-no_keys+in_default w ↦
-        nothing_missing w.below-found.ensures.search_tells w.in_default.is
-        w.below-found.ensures.path_kept w.below-found.auto.path w.below-found.auto.nodes
-        w.path-is w.nodes-is
-    | else-not-no_keys w ↦
-        elim c.if-from-eq0.branch [
-          then-from-eq0 v ↦
-            climb_no_keys v.no_keys_below-no_keys.ensures (sym v.no_keys-is ∙ w.if-not-no_keys.false)
-            w.path-is w.nodes-is
-        | else-from-eq0 v ↦ absurd (true≢false (sym w.if-not-no_keys.false ∙ v.no_keys-is))
-        ]
+      | then-not-no_keys+in_default w ↦
+          nothing_missing w.below-found.ensures.search_tells w.in_default.is
+          w.below-found.ensures.path_kept w.below-found.auto.path w.below-found.auto.nodes
+          w.path-is w.nodes-is
+      | else-not-no_keys w ↦
+          elim c.if-from-eq0.branch [
+            | then-from-eq0 v ↦
+                climb_no_keys v.no_keys_below-no_keys.ensures (sym v.no_keys-is ∙ w.if-not-no_keys.false)
+                w.path-is w.nodes-is
+            | else-from-eq0 v ↦ absurd (true≢false (sym w.if-not-no_keys.false ∙ v.no_keys-is))
+          ]
     ]
 
 pub returns-then-depth-eq0 : goal.returns-then-depth-eq0

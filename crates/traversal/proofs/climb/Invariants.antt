@@ -1,4 +1,3 @@
-use Prim.Native.Nat.{◌-◌}
 use Rattle.traversal.proofs.Climbing.{Climbing}
 use Rattle.traversal.proofs.climb.Given as goal
 

@@ -8,11 +8,8 @@ use native.Mathlib.Omega.{arith}
 use lib.ListN.{length, get_or}
 use lib.Seq.{get_or-take}
 use borrow.Author.Rules.{rules}
-use Rattle.trie.specs.Rules.{Within}
 use Rattle.trie.specs.Beyond.{first_of}
-use Rattle.head.specs.Fields.{most_letters}
 use Rattle.head.proofs.Permitted.{bounds}
-use Rattle.node.specs.Image.{table_of}
 use Rattle.key.specs.Hand.{letters_of}
 use Rattle.key.proofs.Hand.{letters_count, letter_below}
 use Rattle.traversal.specs.Search.{coming, PathRoom, next_stored}
@@ -141,15 +138,15 @@ from-here c =
     let end : length (letters_of a.key) ≤ c.along-depth.result =
     omega (arith, all, c.if-depth-key.false) in
     elim c.if-not-after.branch [
-      then-not-after+else-value-ne0 w ↦
-        ap (λ (after : Bool). next_stored a.h a.image.now after (letters_of a.key))
-        w.if-not-after.true
-        ∙ at_key_none c.along-depth.ensures long short end w.own_value-value.ensures
-        w.if-value-ne0.false
-    | else-not-after w ↦
-        ap (λ (after : Bool). next_stored a.h a.image.now after (letters_of a.key))
-        w.if-not-after.false
-        ∙ after_key c.along-depth.ensures long short end
+      | then-not-after+else-value-ne0 w ↦
+          ap (λ (after : Bool). next_stored a.h a.image.now after (letters_of a.key))
+          w.if-not-after.true
+          ∙ at_key_none c.along-depth.ensures long short end w.own_value-value.ensures
+          w.if-value-ne0.false
+      | else-not-after w ↦
+          ap (λ (after : Bool). next_stored a.h a.image.now after (letters_of a.key))
+          w.if-not-after.false
+          ∙ after_key c.along-depth.ensures long short end
     ]
 
 pub climb-requires-2 : goal.climb-requires-2

@@ -32,20 +32,20 @@ own-counted t c =
     let a = c.args in
     let table = table_of a.h a.image.now in
     elim c.if-own_value_by-eq0.branch [
-      then-own_value_by-eq0 w ↦
-        omega (
-          arith,
-          w.one-is,
-          owned_none a.h table c.link-c.result (a.depth + 1)
-              c.own_value_by.ensures w.if-own_value_by-eq0.true,
-        )
-    | else-own_value_by-eq0 w ↦
-        omega (
-          arith,
-          w.one-is,
-          owned_one a.h table c.link-c.result (a.depth + 1)
-              c.own_value_by.ensures w.if-own_value_by-eq0.false,
-        )
+      | then-own_value_by-eq0 w ↦
+          omega (
+            arith,
+            w.one-is,
+            owned_none a.h table c.link-c.result (a.depth + 1)
+                c.own_value_by.ensures w.if-own_value_by-eq0.true,
+          )
+      | else-own_value_by-eq0 w ↦
+          omega (
+            arith,
+            w.one-is,
+            owned_one a.h table c.link-c.result (a.depth + 1)
+                c.own_value_by.ensures w.if-own_value_by-eq0.false,
+          )
     ]
 
 -- the child's address is at most G
@@ -94,8 +94,7 @@ weighed-sum-requires t c =
     let o = onto t j in
     let deep = c.no_keys_below.ensures.deep c.if-no_keys_below.false in
     let long : c.args.h.g + 1 ≤ length c.loop-i.list =
-    omega (arith, c.requires.node_le_g.1.1, o.so_far.long) in
-    (
+    omega (arith, c.requires.node_le_g.1.1, o.so_far.long) in (
       omega (arith, c.decreases, o.deep),
       (
         c.requires.fact,

@@ -28,18 +28,18 @@ own-counted c =
     let a = c.args in
     let e = c.own_value_by.ensures in
     elim c.if-own_value_by-eq0.branch [
-      then-own_value_by-eq0 w ↦
-        omega (
-          arith,
-          w.own-is,
-          owned_none a.h (table_of a.h a.image.now) 0 0 e w.if-own_value_by-eq0.true,
-        )
-    | else-own_value_by-eq0 w ↦
-        omega (
-          arith,
-          w.own-is,
-          owned_one a.h (table_of a.h a.image.now) 0 0 e w.if-own_value_by-eq0.false,
-        )
+      | then-own_value_by-eq0 w ↦
+          omega (
+            arith,
+            w.own-is,
+            owned_none a.h (table_of a.h a.image.now) 0 0 e w.if-own_value_by-eq0.true,
+          )
+      | else-own_value_by-eq0 w ↦
+          omega (
+            arith,
+            w.own-is,
+            owned_one a.h (table_of a.h a.image.now) 0 0 e w.if-own_value_by-eq0.false,
+          )
     ]
 
 pub no_keys_below-requires : goal.no_keys_below-requires
