@@ -1,6 +1,5 @@
 -- `tallying::all_met` meets its contract: while the answer is true, no working number read is 0.
 -- The measure is how many are left. Assumes nothing.
-use Prim.Native.Nat.{◌-◌}
 use native.Mathlib.Omega.{arith}
 use Rattle.tallying.proofs.LowestFound.{met_none, met_more, met_all}
 use Rattle.tallying.proofs.all_met.Goals as goal

@@ -1,6 +1,5 @@
 -- `tallying::clear` meets its contract: each turn sets one more of the first numbers to 0. The
 -- measure is how many are left. Assumes nothing.
-use Prim.Native.Nat.{◌-◌}
 use native.Mathlib.Omega.{arith}
 use Rattle.tallying.proofs.Clearing.{filling_none, filling_more, filling_all}
 use Rattle.tallying.proofs.clear.Goals as goal

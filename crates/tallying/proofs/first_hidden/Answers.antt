@@ -1,6 +1,5 @@
 -- `tallying::first_hidden` meets its contract: a search upwards from the root. The measure is how
 -- many nodes are left. Assumes nothing.
-use Prim.Native.Nat.{◌-◌}
 use mathlib.Core.Path.{sym, ◌∙◌}
 use native.Mathlib.Omega.{arith}
 use Rattle.tallying.proofs.LowestFound.{seeking_none, seeking_more, seeking_found}

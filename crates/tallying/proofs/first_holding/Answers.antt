@@ -1,6 +1,5 @@
 -- `tallying::first_holding` meets its contract: a search upwards from address 1. The measure is
 -- how many addresses are left. Assumes nothing.
-use Prim.Native.Nat.{◌-◌}
 use native.Mathlib.Omega.{arith}
 use borrow.Author.Tests.{eq-eqb, ne_eqb}
 use Rattle.tallying.proofs.LowestFound.{seeking_none, seeking_more, seeking_found}
