@@ -21,13 +21,12 @@ key c = c.letters-end.ensures
 room : (c : After-letters-end) → c.letters-end.result + 31 ≤ length c.letters-end.new.out
 room c =
     let a = c.args in
-    let bytes = c.shared_slice_known-1.given in
     omega (
       arith,
       (key c).ends,
       laid_long (key c),
       letters_long a.path.now a.len
-          (λ k. (bytes k).fits),
+          (λ k. (c.type_inv.path k).fits),
     )
 
 long : (c : After-number-end) → length c.number-end.new.out
@@ -72,7 +71,6 @@ pub returns : goal.returns
 unfolding entry_line
 returns c =
     let a = c.args in
-    let bytes = c.shared_slice_known-1.given in
     let line =
     laid_join (key (goal.at.returns c).After-letters-end) (laid_join (laid_one _ _ _ refl)
     (laid_join c.number-end.ensures (laid_one _ _ _ refl))) in record {
@@ -81,6 +79,6 @@ returns c =
         arith,
         line.ends,
         entry_long a.path.now a.len a.value
-            (λ k. (bytes k).fits),
+            (λ k. (c.type_inv.path k).fits),
       );
     }

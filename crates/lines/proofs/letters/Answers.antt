@@ -25,7 +25,7 @@ first c = c.letter-end.ensures
 room : (c : In-loop-i) → c.loop-i.end + 4 ≤ length c.loop-i.out
 room c =
     spelling_room c.letter-end.ensures c.loop-i.invariant
-    (λ k. (c.shared_slice_known-2-1.given k).fits)
+    (λ k. (c.type_inv.path k).fits)
     (omega arith) (omega arith)
 
 pub returns-then-len-eq0 : goal.returns-then-len-eq0

@@ -3,6 +3,7 @@
 -- loop ends where the search finds none. A line begins where the longest line fits. While no write
 -- failed, the writer has got what was handed over (`Sent`). Assumes nothing.
 use mathlib.Core.Path.{◌≡◌, sym, ◌∙◌}
+use mathlib.Core.Bool.{true}
 use mathlib.Core.List.{List}
 use Prim.Native.Nat.{ℕ, ◌≤◌}
 use native.Mathlib.Omega.{arith}
@@ -13,6 +14,7 @@ use Rattle.std.specs.Io.KnownBytes.{Appends}
 use Rattle.lines.proofs.TextsAt.{laid_long}
 use Rattle.lines.proofs.LineTexts.{entries_long}
 use Rattle.depths.proofs.Walkable.{walkable, short}
+use Rattle.traversal.specs.Search.{next_stored}
 use Rattle.traversal.proofs.Walking.{met, has_room, keys_after}
 use Rattle.list.specs.Output.{output_of}
 use Rattle.list.proofs.Pieces.{Waiting, waiting_front, waiting_part, waiting_handed}
@@ -37,7 +39,7 @@ roomy : (g : Over) (c : Joined-end-gt-LAST g)
 roomy g c =
     let w = c.loop-length.invariant.telling.waiting in
     elim c.if-end-gt-LAST.branch [
-      then-end-gt-LAST b ↦ record {
+      | then-end-gt-LAST b ↦ record {
         waiting =
             waiting_same b.end-is b.done-is (waiting_handed w b.hand_over-sent.ensures.done_value);
         fits = omega (arith, b.end-is);
@@ -55,7 +57,7 @@ got : (g : Over) (c : Joined-end-gt-LAST g)
     (take c.if-end-gt-LAST.done (output_of c.args.input.now)))
 got g c =
     elim c.if-end-gt-LAST.branch [
-      then-end-gt-LAST b ↦
+      | then-end-gt-LAST b ↦
           rw (b.sent-is, b.to-is, b.done-is)
           (sent_more (output_of c.args.input.now) c.loop-length.sent b.hand_over-sent.result
           (g.W.Write.contents c.args.to.now) (g.W.Write.contents c.loop-length.to)
@@ -119,7 +121,9 @@ hand_over-sent-requires g c = waiting_part c.loop-length.invariant.telling.waiti
 pub entry-end-requires : goal.entry-end-requires
 entry-end-requires g c =
     let w = walkable c.requires.accepted c.requires.h_value in
-    let m = met c.onward-found.ensures.search_tells c.in-Found.is in
+    let s =
+    next_stored c.args.h c.args.input.now true (take c.loop-length.len c.loop-length.path) in
+    let m = met {s = s} c.onward-found.ensures.search_tells c.in-Found.is in
     let k = c.loop-length.invariant.telling in
     let r = roomy g (goal.at.entry-end-requires g c).Joined-end-gt-LAST in
     record {
@@ -138,6 +142,8 @@ loop-length-preserved g c =
     let w = walkable c.requires.accepted c.requires.h_value in
     let k = c.loop-length.invariant.telling in
     let told = c.onward-found.ensures.search_tells in
+    let s =
+    next_stored c.args.h c.args.input.now true (take c.loop-length.len c.loop-length.path) in
     let r = roomy g (goal.at.loop-length-preserved g c).Joined-end-gt-LAST in
     record {
       telling =
@@ -147,7 +153,7 @@ loop-length-preserved g c =
           c.entry-end.ensures.text_at
           (omega (
             arith,
-            (met told c.in-Found.is).deep,
+            (met {s = s} told c.in-Found.is).deep,
             short w,
             r.fits,
             c.entry-end.ensures.upper_bound,

@@ -7,10 +7,16 @@ use Rattle.list.proofs.Telling.{root_none, root_stored}
 use Rattle.list.proofs.root_line.Goals as goal
 
 pub returns-then-value-eq0 : goal.returns-then-value-eq0
-returns-then-value-eq0 c = record { text_at = laid_as (sym (root_none c.if-value-eq0.true))
-      (record { bytes = refl; ends = omega arith }); upper_bound = omega arith }
+returns-then-value-eq0 c = record {
+  text_at = laid_as (sym (root_none c.if-value-eq0.true))
+      (record { bytes = refl; ends = omega arith });
+  upper_bound = omega arith;
+}
 
 pub returns : goal.returns
 returns c =
-    record { text_at = laid_as (sym (root_stored c.args.value c.if-value-eq0.false))
-          c.entry.ensures.text_at; upper_bound = c.entry.ensures.upper_bound }
+    record {
+      text_at = laid_as (sym (root_stored c.args.value c.if-value-eq0.false))
+          c.entry.ensures.text_at;
+      upper_bound = c.entry.ensures.upper_bound;
+    }

@@ -14,13 +14,21 @@ refuse-requires g c =
 
 pub refuse-requires-in-Refused : goal.refuse-requires-in-Refused
 refuse-requires-in-Refused g c =
-    record { input_value = output_refused c.args.input.now (omega (arith, c.if-input-gt-IMAGE.false))
+    record {
+      input_value = output_refused c.args.input.now (omega (arith, c.if-input-gt-IMAGE.false))
           (told_refused c.check-checked.ensures.verdict c.in-Refused.is)
-          ∙ ap₂ refused_line (sym c.number.ensures) (sym c.place.ensures); done_value = c.requires }
+          ∙ ap₂ refused_line (sym c.number.ensures) (sym c.place.ensures);
+      done_value = c.requires;
+    }
 
 pub list-requires : goal.list-requires
 list-requires g c =
     let passed = c.in-Passed.is in
     let o = c.check-checked.ensures in
-    record { accepted = checked_accepted o passed; h_value = checked_head o passed; input_value = output_listing c.args.input.now (omega (arith, c.if-input-gt-IMAGE.false))
-              (told_passed o.verdict passed); done_value = c.requires }
+    record {
+      accepted = checked_accepted o passed;
+      h_value = checked_head o passed;
+      input_value = output_listing c.args.input.now (omega (arith, c.if-input-gt-IMAGE.false))
+          (told_passed o.verdict passed);
+      done_value = c.requires;
+    }
