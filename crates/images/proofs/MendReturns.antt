@@ -29,7 +29,8 @@ use Rattle.audit.specs.Audit.{Checked}
 use Rattle.mending.specs.Trial.{Lowers}
 
 -- a refusal is recovered from its numbers: 8 is the number of one variant alone
-pub is_not_linked : (w : Refusal) → (said_of w).number ≡ 8 → w ≡ Refusal.NotLinked (said_of w).place
+pub is_not_linked : (w : Refusal) → (said_of w).number ≡ 8 → w
+    ≡ Refusal.NotLinked (said_of w).place
 unfolding done_of refusal_numbers refused_numbers
 is_not_linked w k =
     let e : done_of (Done.Refused w)

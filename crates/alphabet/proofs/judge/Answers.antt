@@ -13,7 +13,8 @@ use Rattle.alphabet.specs.Letters.{among}
 use Rattle.alphabet.proofs.AlphabetLoops.{judging_none, judging_more, judging_ill}
 use Rattle.alphabet.proofs.AlphabetLoops.{judging_many, judging_again, judging_all}
 use Rattle.alphabet.proofs.judge.Goals as goal
-use Rattle.alphabet.proofs.judge.Goals.{Else-len-eq0, Joined-code-top, then-code-top+else-is_among, else-code-top}
+use Rattle.alphabet.proofs.judge.Goals.{Else-len-eq0, Joined-code-top, then-code-top+else-is_among}
+use Rattle.alphabet.proofs.judge.Goals.{else-code-top}
 
 pub loop-at-init : goal.loop-at-init
 loop-at-init c = judging_none _ _ _ (omega arith)
@@ -38,7 +39,8 @@ whole c = rw c.char_len-len.ensures (character _ _ (stands c)).whole
 
 pub returns-then-n-count : goal.returns-then-n-count
 returns-then-n-count c =
-    judging_many c.loop-at.invariant (stands (goal.at.returns-then-n-count c).Else-len-eq0) (omega arith)
+    judging_many c.loop-at.invariant (stands (goal.at.returns-then-n-count c).Else-len-eq0)
+    (omega arith)
 
 pub char_at-code-requires : goal.char_at-code-requires
 char_at-code-requires c = c.char_len-len.ensures
@@ -66,7 +68,7 @@ new : (c : Joined-code-top)
     × (c.char_at-code.result ≤ c.if-code-top.top)
 new c =
     elim c.if-code-top.branch [
-      then-code-top+else-is_among w ↦ (
+      | then-code-top+else-is_among w ↦ (
         sym w.is_among.ensures ∙ w.if-is_among.false,
         omega arith,
         omega arith,
@@ -82,7 +84,9 @@ pub loop-at-preserved : goal.loop-at-preserved
 loop-at-preserved c =
     judging_more c.loop-at.invariant (omega arith)
     c.char_len-len.ensures
-    c.if-len-eq0.false c.char_at-code.ensures (new (goal.at.loop-at-preserved c).Joined-code-top).0 (new (goal.at.loop-at-preserved c).Joined-code-top).1
+    c.if-len-eq0.false c.char_at-code.ensures
+    (new (goal.at.loop-at-preserved c).Joined-code-top).0
+    (new (goal.at.loop-at-preserved c).Joined-code-top).1
     (new (goal.at.loop-at-preserved c).Joined-code-top).2
 
 pub returns : goal.returns

@@ -36,7 +36,15 @@ reached-requires c =
     let f = c.first_bad_node-bad.ensures in
     let e = c.clear.ensures in
     let room =
-    kept_cleared c.args.h.g _ e (omega (arith, f.kept.long, c.requires.g_in_bounds)) in record { fact_1 = c.requires.fact_1; fact_2 = c.requires.fact_2; within_1 = linked_within f c.if-bad-nodes.false; within_2 = linked_alone f c.if-bad-nodes.false c.first_holding-twice.ensures c.if-twice-nodes.false; g_in_bounds = omega (arith, room.long, f.kept.long, c.requires.g_in_bounds); work_value = cleared_again (c.args.h.g + 1) _ e }
+    kept_cleared c.args.h.g _ e (omega (arith, f.kept.long, c.requires.g_in_bounds)) in record {
+      fact_1 = c.requires.fact_1;
+      fact_2 = c.requires.fact_2;
+      within_1 = linked_within f c.if-bad-nodes.false;
+      within_2 = linked_alone f c.if-bad-nodes.false c.first_holding-twice.ensures
+          c.if-twice-nodes.false;
+      g_in_bounds = omega (arith, room.long, f.kept.long, c.requires.g_in_bounds);
+      work_value = cleared_again (c.args.h.g + 1) _ e;
+    }
 
 pub returns : goal.returns
 returns c =

@@ -7,7 +7,10 @@ use Rattle.checks.proofs.next_key.Goals as goal
 pub seek-requires : goal.seek-requires
 seek-requires c =
     let o = c.check-checked.ensures in
-    record { accepted = checked_accepted o c.in-Passed.is; h_value = checked_head o c.in-Passed.is }
+    record {
+      accepted = checked_accepted o c.in-Passed.is;
+      h_value = checked_head o c.in-Passed.is;
+    }
 
 pub returns-in-Refused : goal.returns-in-Refused
 returns-in-Refused c = nexts_refused c.check-checked.ensures _ _ _

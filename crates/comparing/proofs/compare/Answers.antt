@@ -14,7 +14,12 @@ add_up-requires c =
     let a = c.args in
     let o = c.check_both-checked.ensures in
     let e = c.in-Passed.is in
-    let same = compared_head a.image.now a.work.now a.counts.now o e in record { accepted_1 = compared_accepted a.image.now a.work.now a.counts.now o e; accepted_2 = same; accepted_3 = rw same (long_work a.image.now a.work.now a.counts.now o e); list_value = rw same (zeros_work a.image.now a.work.now a.counts.now o e) }
+    let same = compared_head a.image.now a.work.now a.counts.now o e in record {
+      accepted_1 = compared_accepted a.image.now a.work.now a.counts.now o e;
+      accepted_2 = same;
+      accepted_3 = rw same (long_work a.image.now a.work.now a.counts.now o e);
+      list_value = rw same (zeros_work a.image.now a.work.now a.counts.now o e);
+    }
 
 pub first_different-differs-requires : goal.first_different-differs-requires
 first_different-differs-requires c =

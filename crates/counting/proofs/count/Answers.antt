@@ -23,13 +23,22 @@ loop-q-init c =
 
 pub data_by-requires : goal.data_by-requires
 data_by-requires c =
-    record { fact_1 = head_open c.requires.fact_1 c.requires.fact_2; fact_2 = c.greatest-data_mask.ensures; fact_3 = omega arith }
+    record {
+      fact_1 = head_open c.requires.fact_1 c.requires.fact_2;
+      fact_2 = c.greatest-data_mask.ensures;
+      fact_3 = omega arith;
+    }
 
 pub overflow_add-sum : goal.overflow_add-sum
 overflow_add-sum c =
     let full : (table_of c.args.h c.args.image.now).value c.loop-q.q ≢ 0 =
     λ z. c.if-data_by-ne0.true (c.data_by.ensures ∙ z) in
-    omega (arith, c.loop-q.invariant.1, one_fits c.requires.fact_1 c.requires.fact_2 c.loop-q.q (omega arith) full)
+    omega (
+      arith,
+      c.loop-q.invariant.1,
+      one_fits c.requires.fact_1 c.requires.fact_2 c.loop-q.q
+          (omega arith) full,
+    )
 
 pub loop-q-preserved : goal.loop-q-preserved
 loop-q-preserved c =
@@ -56,4 +65,5 @@ returns c =
     let done = c.loop-q in
     let a = c.args in
     let all : done.q ≡ a.h.g + 1 = omega (arith, done.invariant.0) in
-    done.invariant.1 ∙ ap (holding (table_of a.h a.image.now)) all ∙ scanned c.requires.fact_1 c.requires.fact_2
+    done.invariant.1 ∙ ap (holding (table_of a.h a.image.now)) all
+    ∙ scanned c.requires.fact_1 c.requires.fact_2

@@ -6,7 +6,8 @@ use Rattle.counts.proofs.counts.Goals as goal
 pub weigh-requires : goal.weigh-requires
 weigh-requires c =
     let a = c.args in
-    let asks = weigh_asks a.image.now a.work.now a.list.now c.check_both-checked.ensures c.in-Passed.is in
+    let asks = weigh_asks a.image.now a.work.now a.list.now c.check_both-checked.ensures
+    c.in-Passed.is in
     record { fact_1 = asks.0; fact_2 = asks.1.0; fact_3 = asks.1.1 }
 
 pub returns-in-Refused : goal.returns-in-Refused

@@ -8,7 +8,13 @@ pub store_counted-requires : goal.store_counted-requires
 store_counted-requires c =
     let a = c.args in
     let asks = store_counted_asks a.work.now a.list.now c.ask-asked.ensures c.in-Passed.is in
-    record { accepted_1 = asks.0; accepted_2 = asks.1.0; accepted_3 = asks.1.1.0; max_value_1 = asks.1.1.1.0; max_value_2 = asks.1.1.1.1 }
+    record {
+      accepted_1 = asks.0;
+      accepted_2 = asks.1.0;
+      accepted_3 = asks.1.1.0;
+      max_value_1 = asks.1.1.1.0;
+      max_value_2 = asks.1.1.1.1;
+    }
 
 pub returns-in-Refused : goal.returns-in-Refused
 returns-in-Refused c =

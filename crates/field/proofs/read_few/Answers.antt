@@ -42,28 +42,60 @@ bound : (c : After-wide-one) (i : ℕ) → field_at c.args.s.now
 bound c i = field_bound _ _ i (λ k. (c.shared_slice_known-2-1.given k).fits)
 
 pub overflow_cast-result : goal.overflow_cast-result
-overflow_cast-result c = omega (arith, read-1 (goal.at.overflow_cast-result c).After-wide-one, bound (goal.at.overflow_cast-result c).After-wide-one 1)
+overflow_cast-result c = omega (
+  arith,
+  read-1 (goal.at.overflow_cast-result c).After-wide-one,
+  bound (goal.at.overflow_cast-result c).After-wide-one 1,
+)
 
 pub returns-then-w-eq1 : goal.returns-then-w-eq1
-returns-then-w-eq1 c = read-1 (goal.at.returns-then-w-eq1 c).After-wide-one ∙ ap (field_at _ _) (sym c.if-w-eq1.true)
+returns-then-w-eq1 c = read-1 (goal.at.returns-then-w-eq1 c).After-wide-one
+    ∙ ap (field_at _ _) (sym c.if-w-eq1.true)
 
 pub overflow_mul-two : goal.overflow_mul-two
-overflow_mul-two c = omega (arith, read-1 (goal.at.overflow_mul-two c).After-wide-one, bound (goal.at.overflow_mul-two c).After-wide-one 1)
+overflow_mul-two c = omega (
+  arith,
+  read-1 (goal.at.overflow_mul-two c).After-wide-one,
+  bound
+      (goal.at.overflow_mul-two c).After-wide-one 1,
+)
 
 pub overflow_add-two : goal.overflow_add-two
-overflow_add-two c = omega (arith, read-2 (goal.at.overflow_add-two c).After-wide, bound (goal.at.overflow_add-two c).After-wide-one 2)
+overflow_add-two c = omega (
+  arith,
+  read-2 (goal.at.overflow_add-two c).After-wide,
+  bound
+      (goal.at.overflow_add-two c).After-wide-one 2,
+)
 
 pub overflow_cast-result-then-w-eq2 : goal.overflow_cast-result-then-w-eq2
-overflow_cast-result-then-w-eq2 c = omega (arith, read-2 (goal.at.overflow_cast-result-then-w-eq2 c).After-wide, bound (goal.at.overflow_cast-result-then-w-eq2 c).After-wide-one 2)
+overflow_cast-result-then-w-eq2 c = omega (
+  arith,
+  read-2
+      (goal.at.overflow_cast-result-then-w-eq2 c).After-wide,
+  bound
+      (goal.at.overflow_cast-result-then-w-eq2 c).After-wide-one 2,
+)
 
 pub returns-then-w-eq2 : goal.returns-then-w-eq2
-returns-then-w-eq2 c = read-2 (goal.at.returns-then-w-eq2 c).After-wide ∙ ap (field_at _ _) (sym c.if-w-eq2.true)
+returns-then-w-eq2 c = read-2 (goal.at.returns-then-w-eq2 c).After-wide
+    ∙ ap (field_at _ _) (sym c.if-w-eq2.true)
 
 pub overflow_mul-three : goal.overflow_mul-three
-overflow_mul-three c = omega (arith, read-2 (goal.at.overflow_mul-three c).After-wide, bound (goal.at.overflow_mul-three c).After-wide-one 2)
+overflow_mul-three c = omega (
+  arith,
+  read-2 (goal.at.overflow_mul-three c).After-wide,
+  bound
+      (goal.at.overflow_mul-three c).After-wide-one 2,
+)
 
 pub overflow_add-three : goal.overflow_add-three
-overflow_add-three c = omega (arith, read-3 (goal.at.overflow_add-three c).After-wide-2, bound (goal.at.overflow_add-three c).After-wide-one 3)
+overflow_add-three c = omega (
+  arith,
+  read-3 (goal.at.overflow_add-three c).After-wide-2,
+  bound
+      (goal.at.overflow_add-three c).After-wide-one 3,
+)
 
 pub overflow_cast-result-then-w-eq3 : goal.overflow_cast-result-then-w-eq3
 overflow_cast-result-then-w-eq3 c =
@@ -74,7 +106,8 @@ overflow_cast-result-then-w-eq3 c =
     )
 
 pub returns-then-w-eq3 : goal.returns-then-w-eq3
-returns-then-w-eq3 c = read-3 (goal.at.returns-then-w-eq3 c).After-wide-2 ∙ ap (field_at _ _) (sym c.if-w-eq3.true)
+returns-then-w-eq3 c = read-3 (goal.at.returns-then-w-eq3 c).After-wide-2
+    ∙ ap (field_at _ _) (sym c.if-w-eq3.true)
 
 pub overflow_mul-result : goal.overflow_mul-result
 overflow_mul-result c =

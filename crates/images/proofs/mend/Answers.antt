@@ -14,7 +14,8 @@ returns-in_default c =
 
 pub lower-trial-requires : goal.lower-trial-requires
 lower-trial-requires c =
-    let asks = lower_asks c.check-checked.ensures (c.in-Refused.is ∙ ap Verdict.Refused c.in-NotLinked.is) in
+    let asks = lower_asks c.check-checked.ensures
+    (c.in-Refused.is ∙ ap Verdict.Refused c.in-NotLinked.is) in
     record { fact_1 = asks.0; fact_2 = asks.1 }
 
 pub returns-in-Passed : goal.returns-in-Passed

@@ -7,7 +7,13 @@ use Rattle.jumps.proofs.position_text.Goals as goal
 pub tell_position-requires : goal.tell_position-requires
 tell_position-requires c =
     let asks = place_asks _ _ c.ask_text-named.ensures c.in-Passed.is in
-    record { accepted_1 = asks.0; accepted_2 = asks.1.0; accepted_3 = asks.1.1.0; ready_1 = asks.1.1.1.0; ready_2 = asks.1.1.1.1 }
+    record {
+      accepted_1 = asks.0;
+      accepted_2 = asks.1.0;
+      accepted_3 = asks.1.1.0;
+      ready_1 = asks.1.1.1.0;
+      ready_2 = asks.1.1.1.1;
+    }
 
 pub returns-in-Refused : goal.returns-in-Refused
 returns-in-Refused c =

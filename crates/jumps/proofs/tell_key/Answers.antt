@@ -23,13 +23,22 @@ bounds-counts-0 c = omega (arith, (known (goal.at.bounds-counts-0 c).After-struc
 
 pub overflow_cast-counts : goal.overflow_cast-counts
 overflow_cast-counts c =
-    omega (arith, root_count (known (goal.at.overflow_cast-counts c).After-struct_known-1), few_keys (known (goal.at.overflow_cast-counts c).After-struct_known-1))
+    omega (
+      arith,
+      root_count (known (goal.at.overflow_cast-counts c).After-struct_known-1),
+      few_keys (known (goal.at.overflow_cast-counts c).After-struct_known-1),
+    )
 
 pub returns-then-counts-position : goal.returns-then-counts-position
 returns-then-counts-position c =
     spots_past c.args.image.now c.args.position c.args.buffer.now
     c.requires.fact_2 c.if-buffer-h.false
-    (omega (arith, c.if-counts-position.true, root_count (known (goal.at.returns-then-counts-position c).After-struct_known-1)))
+    (omega (
+      arith,
+      c.if-counts-position.true,
+      root_count
+          (known (goal.at.returns-then-counts-position c).After-struct_known-1),
+    ))
 
 pub overflow_cast-position : goal.overflow_cast-position
 overflow_cast-position c =
@@ -39,7 +48,13 @@ overflow_cast-position c =
 pub key_at-spot-requires : goal.key_at-spot-requires
 key_at-spot-requires c =
     let w = known (goal.at.key_at-spot-requires c).After-struct_known-1 in
-    record { accepted_1 = c.requires.fact_1; accepted_2 = c.requires.fact_2; accepted_3 = c.requires.fact_3; position_in_bounds_1 = omega (arith, c.if-counts-position.false, root_count w); position_in_bounds_2 = path_room w }
+    record {
+      accepted_1 = c.requires.fact_1;
+      accepted_2 = c.requires.fact_2;
+      accepted_3 = c.requires.fact_3;
+      position_in_bounds_1 = omega (arith, c.if-counts-position.false, root_count w);
+      position_in_bounds_2 = path_room w;
+    }
 
 pub slice_bounds-path-end : goal.slice_bounds-path-end
 slice_bounds-path-end c = spotted_within c.key_at-spot.ensures
@@ -54,7 +69,8 @@ copy-requires c =
 pub overflow_cast-result : goal.overflow_cast-result
 overflow_cast-result c =
     record {
-      fits = spotted_fits c.key_at-spot.ensures c.requires.fact_2 (known (goal.at.overflow_cast-result c).After-struct_known-1);
+      fits = spotted_fits c.key_at-spot.ensures c.requires.fact_2
+          (known (goal.at.overflow_cast-result c).After-struct_known-1);
     }
 
 pub returns : goal.returns

@@ -38,7 +38,12 @@ pub bounds-out-end : goal.bounds-out-end
 bounds-out-end c = omega (arith, room (goal.at.bounds-out-end c).In-loop-i)
 
 pub overflow_add-end : goal.overflow_add-end
-overflow_add-end c = omega (arith, room (goal.at.overflow_add-end c).In-loop-i, laid_long c.loop-i.invariant.laid)
+overflow_add-end c = omega (
+  arith,
+  room (goal.at.overflow_add-end c).In-loop-i,
+  laid_long
+      c.loop-i.invariant.laid,
+)
 
 pub letter-end-requires-in-loop-i : goal.letter-end-requires-in-loop-i
 letter-end-requires-in-loop-i c =

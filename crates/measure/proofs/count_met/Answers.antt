@@ -34,11 +34,16 @@ onward-found-requires c =
 
 pub returns-in_default : goal.returns-in_default
 returns-in_default c =
-    meeting_end c.loop-length.invariant c.onward-found.ensures.search_tells c.requires.h_value c.in_default.is
+    meeting_end c.loop-length.invariant c.onward-found.ensures.search_tells c.requires.h_value
+    c.in_default.is
 
 pub overflow_add-met : goal.overflow_add-met
 overflow_add-met c =
-    omega (arith, meeting_few c.loop-length.invariant (walkable c.requires.accepted c.requires.h_value))
+    omega (
+      arith,
+      meeting_few c.loop-length.invariant
+          (walkable c.requires.accepted c.requires.h_value),
+    )
 
 pub loop-length-smaller : goal.loop-length-smaller
 loop-length-smaller c =

@@ -8,7 +8,10 @@ use Rattle.measure.proofs.measure_walk.Goals as goal
 pub count_met-requires : goal.count_met-requires
 count_met-requires c =
     let o = c.check-checked.ensures in
-    record { accepted = checked_accepted o c.in-Passed.is; h_value = checked_head o c.in-Passed.is }
+    record {
+      accepted = checked_accepted o c.in-Passed.is;
+      h_value = checked_head o c.in-Passed.is;
+    }
 
 pub returns-in-Refused : goal.returns-in-Refused
 returns-in-Refused c =

@@ -64,4 +64,5 @@ overflow_cast-result c =
 pub returns : goal.returns
 returns c =
     let a = c.args in
-    read (goal.at.returns c).After-load_masked ∙ sym (child_in a.h a.image.now a.q a.i c.requires.fact_3 c.requires.fact_4)
+    read (goal.at.returns c).After-load_masked
+    ∙ sym (child_in a.h a.image.now a.q a.i c.requires.fact_3 c.requires.fact_4)

@@ -34,6 +34,7 @@ returns c =
     let a = c.args in
     let e = written (goal.at.returns c).After-write in record {
       image_after = e;
-      image_after_2 = ap (table_of a.h) e ∙ table_data a.h a.image.now c.requires.fact_1.room a.q a.v
+      image_after_2 = ap (table_of a.h) e
+          ∙ table_data a.h a.image.now c.requires.fact_1.room a.q a.v
           c.requires.fact_2 c.requires.fact_3;
     }

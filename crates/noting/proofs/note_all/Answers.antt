@@ -33,7 +33,8 @@ returns-then-value-eq0 c =
     let a = c.args in
     let stop = subst (Ends a.h a.key) c.in-Stopped.is c.requires.fact_3 in
     notes_none a.h (letters_of a.key) _ c.in-Stopped.is _ _ _ c.if-value-eq0.true
-    (letters_from a.key (whole (goal.at.returns-then-value-eq0 c).Start) c.requires.fact_2.short _ stop.depth)
+    (letters_from a.key (whole (goal.at.returns-then-value-eq0 c).Start) c.requires.fact_2.short _
+    stop.depth)
 
 pub note_path-requires : goal.note_path-requires
 note_path-requires c =
@@ -43,7 +44,8 @@ note_path-requires c =
     ≡ a.key.len - c.in-Stopped.at.depth
     = length-drop c.in-Stopped.at.depth (letters_of a.key)
     ∙ ap (λ n. n - c.in-Stopped.at.depth)
-    (letters_count a.key (whole (goal.at.note_path-requires c).Start) c.requires.fact_2.short) in record {
+    (letters_count a.key (whole (goal.at.note_path-requires c).Start) c.requires.fact_2.short) in
+    record {
       fact_1 = c.requires.fact_1;
       fact_2 = c.requires.fact_2;
       fact_3 = stop;

@@ -54,7 +54,10 @@ overflow_cast-letters c =
     omega (arith, below (goal.at.overflow_cast-letters c).Start, bounds c.args.h c.requires.fact_1)
 
 pub link_place-link-requires : goal.link_place-link-requires
-link_place-link-requires c = record { fact_1 = c.requires.fact_1; fact_2 = below (goal.at.link_place-link-requires c).Start }
+link_place-link-requires c = record {
+  fact_1 = c.requires.fact_1;
+  fact_2 = below (goal.at.link_place-link-requires c).Start;
+}
 
 pub overflow_cast-link : goal.overflow_cast-link
 overflow_cast-link c =
@@ -62,7 +65,8 @@ overflow_cast-link c =
     omega (
       arith,
       c.link_place-link.ensures,
-      inside_used (link_inside a.h a.at.node (below (goal.at.overflow_cast-link c).Start)) c.requires.fact_3.node,
+      inside_used (link_inside a.h a.at.node (below (goal.at.overflow_cast-link c).Start))
+          c.requires.fact_3.node,
       c.requires.fact_4,
     )
 
@@ -121,7 +125,12 @@ returns c =
     (letters_from a.key (whole (goal.at.returns c).Start) short depth c.requires.fact_3.depth)
     (letters_after a.h.n (take depth k) (drop depth k)
     (rw (take-append-drop depth k) c.requires.fact_2.letters))
-    (omega (arith, length-drop depth k, letters_count a.key (whole (goal.at.returns c).Start) short))
+    (omega (
+      arith,
+      length-drop depth k,
+      letters_count a.key (whole (goal.at.returns c).Start)
+          short,
+    ))
     c.used-place.ensures c.node_width-width.ensures
     c.link_place-link.ensures refl
     (noting_end c.loop-i.invariant total_at total_len c.link_place-link.result a.h.a

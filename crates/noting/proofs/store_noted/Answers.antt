@@ -16,14 +16,18 @@ whole : (c : Start) → length c.args.key.letters ≡ most_letters
 whole c = search rules
 
 pub walk-walked-requires : goal.walk-walked-requires
-walk-walked-requires c = record { fact_1 = head_open c.requires.fact_1 c.requires.fact_2; fact_2 = c.requires.fact_3 }
+walk-walked-requires c = record {
+  fact_1 = head_open c.requires.fact_1 c.requires.fact_2;
+  fact_2 = c.requires.fact_3;
+}
 
 pub store_at-stored-requires : goal.store_at-stored-requires
 store_at-stored-requires c =
     record {
       fact_1 = head_open c.requires.fact_1 c.requires.fact_2;
       fact_2 = c.requires.fact_3;
-      fact_3 = ends c.requires.fact_1 c.requires.fact_2 c.args.key (whole (goal.at.store_at-stored-requires c).Start) c.requires.fact_3.short _
+      fact_3 = ends c.requires.fact_1 c.requires.fact_2 c.args.key
+          (whole (goal.at.store_at-stored-requires c).Start) c.requires.fact_3.short _
           c.walk-walked.ensures;
     }
 
@@ -32,15 +36,18 @@ note_all-requires c =
     record {
       fact_1 = (head_open c.requires.fact_1 c.requires.fact_2).head_permitted;
       fact_2 = c.requires.fact_3;
-      fact_3 = ends c.requires.fact_1 c.requires.fact_2 c.args.key (whole (goal.at.note_all-requires c).Start) c.requires.fact_3.short _
+      fact_3 = ends c.requires.fact_1 c.requires.fact_2 c.args.key
+          (whole (goal.at.note_all-requires c).Start) c.requires.fact_3.short _
           c.walk-walked.ensures;
-      fact_4 = notes_room c.requires.fact_1 c.requires.fact_2 (letters_of c.args.key) c.walk-walked.ensures _
+      fact_4 = notes_room c.requires.fact_1 c.requires.fact_2 (letters_of c.args.key)
+          c.walk-walked.ensures _
           c.store_at-stored.ensures c.in-Change.is;
     }
 
 pub returns-in-Refused : goal.returns-in-Refused
 returns-in-Refused c =
-    notes_refused c.requires.fact_1 c.requires.fact_2 (letters_of c.args.key) c.walk-walked.ensures _
+    notes_refused c.requires.fact_1 c.requires.fact_2 (letters_of c.args.key)
+    c.walk-walked.ensures _
     c.store_at-stored.ensures _ c.in-Refused.is
 
 pub returns-in-Change : goal.returns-in-Change

@@ -45,19 +45,22 @@ pub returns-then-f-eq0 : goal.returns-then-f-eq0
 returns-then-f-eq0 c =
     let s = c.args in
     judged_room _ _ _ c.room.ensures
-    (left_4 _ _ _ (allowed (goal.at.returns-then-f-eq0 c).Else-not-length_allowed) (good-head (goal.at.returns-then-f-eq0 c).Else-not-permitted)
+    (left_4 _ _ _ (allowed (goal.at.returns-then-f-eq0 c).Else-not-length_allowed)
+    (good-head (goal.at.returns-then-f-eq0 c).Else-not-permitted)
     (plain_empty s.h s.alphabet.now s.len c.if-f-eq0.true))
     (omega arith)
     (λ w. sym (no_letters _ (w ∙ c.if-f-eq0.true)))
 
 pub room-requires-then-alphabet-f : goal.room-requires-then-alphabet-f
-room-requires-then-alphabet-f c = good-head (goal.at.room-requires-then-alphabet-f c).Else-not-permitted
+room-requires-then-alphabet-f c = good-head (goal.at.room-requires-then-alphabet-f
+    c).Else-not-permitted
 
 pub returns-then-alphabet-f : goal.returns-then-alphabet-f
 returns-then-alphabet-f c =
     let s = c.args in
     judged_room _ _ _ c.room-then-alphabet-f.ensures
-    (left_4 _ _ _ (allowed (goal.at.returns-then-alphabet-f c).Else-not-length_allowed) (good-head (goal.at.returns-then-alphabet-f c).Else-not-permitted)
+    (left_4 _ _ _ (allowed (goal.at.returns-then-alphabet-f c).Else-not-length_allowed)
+    (good-head (goal.at.returns-then-alphabet-f c).Else-not-permitted)
     (plain_cut s.h s.alphabet.now s.len c.if-alphabet-f.true))
     (omega arith)
     (λ w. absurd (c.if-alphabet-f.true w))
@@ -69,7 +72,8 @@ pub returns-then-not-judge : goal.returns-then-not-judge
 returns-then-not-judge c =
     let s = c.args in
     judged_refused _ _ _ c.refused-then-not-judge.ensures
-    (heard_3 _ _ _ (allowed (goal.at.returns-then-not-judge c).Else-not-length_allowed) (good-head (goal.at.returns-then-not-judge c).Else-not-permitted)
+    (heard_3 _ _ _ (allowed (goal.at.returns-then-not-judge c).Else-not-length_allowed)
+    (good-head (goal.at.returns-then-not-judge c).Else-not-permitted)
     (spoilt_bad s.h s.alphabet.now s.len c.if-f-eq0.false c.if-alphabet-f.false
     (sym c.judge.ensures.good ∙ c.if-not-judge.true)))
 
@@ -81,7 +85,8 @@ returns c =
     let s = c.args in
     let good = c.if-not-judge.false in
     judged_room _ _ _ c.room-2.ensures
-    (left_4 _ _ _ (allowed (goal.at.returns c).Else-not-length_allowed) (good-head (goal.at.returns c).Else-not-permitted)
+    (left_4 _ _ _ (allowed (goal.at.returns c).Else-not-length_allowed)
+    (good-head (goal.at.returns c).Else-not-permitted)
     (plain_good s.h s.alphabet.now s.len (sym c.judge.ensures.good ∙ good)))
     (few (goal.at.returns c).Else-not-permitted)
     (λ w. c.judge.ensures.codes good)

@@ -28,7 +28,12 @@ pub read-h-requires : goal.read-h-requires
 read-h-requires c = fields (goal.at.read-h-requires c).Else-not-length_allowed
 
 pub slice_bounds-judge-count : goal.slice_bounds-judge-count
-slice_bounds-judge-count c = omega (arith, c.alphabet_end-end.ensures, fields (goal.at.slice_bounds-judge-count c).Else-not-length_allowed)
+slice_bounds-judge-count c = omega (
+  arith,
+  c.alphabet_end-end.ensures,
+  fields
+      (goal.at.slice_bounds-judge-count c).Else-not-length_allowed,
+)
 
 pub returns : goal.returns
 returns c =

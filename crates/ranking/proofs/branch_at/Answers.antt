@@ -44,7 +44,8 @@ overflow_cast-result c =
 pub returns-then-left-under : goal.returns-then-left-under
 returns-then-left-under c =
     turning_here _ _ _ _ c.requires.fact_4 c.loop-i.invariant _
-    c.loop-i-test.true (counted (goal.at.returns-then-left-under c).Else-c-eq0).1 c.if-left-under.true
+    c.loop-i-test.true (counted (goal.at.returns-then-left-under c).Else-c-eq0).1
+    c.if-left-under.true
     c.link-c.ensures c.if-c-eq0.false
 
 pub loop-i-preserved : goal.loop-i-preserved

@@ -60,16 +60,27 @@ bounds-letters-depth c =
 
 pub overflow_cast-letter : goal.overflow_cast-letter
 overflow_cast-letter c =
-    omega (arith, bounds c.args.h (known (goal.at.overflow_cast-letter c).Start).opened.head_permitted, low (goal.at.overflow_cast-letter c).In-loop-depth)
+    omega (
+      arith,
+      bounds c.args.h (known (goal.at.overflow_cast-letter
+          c).Start).opened.head_permitted,
+      low (goal.at.overflow_cast-letter c).In-loop-depth,
+    )
 
 pub link-c-requires : goal.link-c-requires
 link-c-requires c =
-    let w = known (goal.at.link-c-requires c).Start in record { fact_1 = w.opened; fact_2 = c.mask-mask.ensures; fact_3 = placing_within w _ c.loop-depth.invariant; fact_4 = low (goal.at.link-c-requires c).In-loop-depth }
+    let w = known (goal.at.link-c-requires c).Start in record {
+      fact_1 = w.opened;
+      fact_2 = c.mask-mask.ensures;
+      fact_3 = placing_within w _ c.loop-depth.invariant;
+      fact_4 = low (goal.at.link-c-requires c).In-loop-depth;
+    }
 
 pub returns-then-c-eq0 : goal.returns-then-c-eq0
 returns-then-c-eq0 c =
     let w = known (goal.at.returns-then-c-eq0 c).Start in
-    placing_stop w _ c.loop-depth.invariant (next (goal.at.returns-then-c-eq0 c).In-loop-depth) c.link-c.ensures
+    placing_stop w _ c.loop-depth.invariant (next (goal.at.returns-then-c-eq0 c).In-loop-depth)
+    c.link-c.ensures
     c.if-c-eq0.true
 
 pub own_value-requires : goal.own_value-requires
@@ -82,8 +93,10 @@ overflow_add-before c =
     let a = c.args in
     let one = owned_one a.h a.image.now c.loop-depth.node c.loop-depth.depth
     c.own_value.ensures c.if-own_value-ne0.true in
-    let few = placing_own (known (goal.at.overflow_add-before c).Start) _ c.loop-depth.invariant (next (goal.at.overflow_add-before c).In-loop-depth) c.link-c.ensures
-    (allowed (goal.at.overflow_add-before c).Start).1 (low (goal.at.overflow_add-before c).In-loop-depth) in
+    let few = placing_own (known (goal.at.overflow_add-before c).Start) _ c.loop-depth.invariant
+    (next (goal.at.overflow_add-before c).In-loop-depth) c.link-c.ensures
+    (allowed (goal.at.overflow_add-before c).Start).1
+    (low (goal.at.overflow_add-before c).In-loop-depth) in
     omega (arith, one, few)
 
 -- the node's own key is passed
@@ -116,15 +129,30 @@ passed-before-requires c =
     let i = c.loop-depth.invariant in
     let link = c.link-c.ensures in
     let short = (allowed (goal.at.passed-before-requires c).Start).1 in
-    let deep = placing_deep w _ i (next (goal.at.passed-before-requires c).In-loop-depth) link short (low (goal.at.passed-before-requires c).In-loop-depth) in
-    let below = placing_below w _ i (next (goal.at.passed-before-requires c).In-loop-depth) link short (low (goal.at.passed-before-requires c).In-loop-depth) in
-    let room = placing_room w _ i (next (goal.at.passed-before-requires c).In-loop-depth) link short (low (goal.at.passed-before-requires c).In-loop-depth) (own-passed (goal.at.passed-before-requires c).Joined-own_value-ne0) in record { fact_1 = w.opened; fact_2 = c.mask-mask.ensures; fact_3 = placing_within w _ i; fact_4 = deep; fact_5 = omega (arith, low (goal.at.passed-before-requires c).In-loop-depth); child_counts = below; rank_fits = room }
+    let deep = placing_deep w _ i (next (goal.at.passed-before-requires c).In-loop-depth) link
+    short (low (goal.at.passed-before-requires c).In-loop-depth) in
+    let below = placing_below w _ i (next (goal.at.passed-before-requires c).In-loop-depth) link
+    short (low (goal.at.passed-before-requires c).In-loop-depth) in
+    let room = placing_room w _ i (next (goal.at.passed-before-requires c).In-loop-depth) link
+    short (low (goal.at.passed-before-requires c).In-loop-depth)
+    (own-passed (goal.at.passed-before-requires c).Joined-own_value-ne0) in record {
+      fact_1 = w.opened;
+      fact_2 = c.mask-mask.ensures;
+      fact_3 = placing_within w _ i;
+      fact_4 = deep;
+      fact_5 = omega (arith, low (goal.at.passed-before-requires c).In-loop-depth);
+      child_counts = below;
+      rank_fits = room;
+    }
 
 pub loop-depth-preserved : goal.loop-depth-preserved
 loop-depth-preserved c =
-    placing_on (known (goal.at.loop-depth-preserved c).Start) _ c.loop-depth.invariant (next (goal.at.loop-depth-preserved c).In-loop-depth) c.link-c.ensures
-    (allowed (goal.at.loop-depth-preserved c).Start).1 (low (goal.at.loop-depth-preserved c).In-loop-depth)
-    (own-passed (goal.at.loop-depth-preserved c).Joined-own_value-ne0) c.if-c-eq0.false c.passed-before.ensures
+    placing_on (known (goal.at.loop-depth-preserved c).Start) _ c.loop-depth.invariant
+    (next (goal.at.loop-depth-preserved c).In-loop-depth) c.link-c.ensures
+    (allowed (goal.at.loop-depth-preserved c).Start).1
+    (low (goal.at.loop-depth-preserved c).In-loop-depth)
+    (own-passed (goal.at.loop-depth-preserved c).Joined-own_value-ne0) c.if-c-eq0.false
+    c.passed-before.ensures
 
 pub own_value-requires-2 : goal.own_value-requires-2
 own_value-requires-2 c =
@@ -144,10 +172,13 @@ ended c =
 
 pub returns-then-own_value-eq0 : goal.returns-then-own_value-eq0
 returns-then-own_value-eq0 c =
-    placing_missing (known (goal.at.returns-then-own_value-eq0 c).Start) _ c.loop-depth.invariant (ended (goal.at.returns-then-own_value-eq0 c).After-loop-depth) (allowed (goal.at.returns-then-own_value-eq0 c).Start).0
+    placing_missing (known (goal.at.returns-then-own_value-eq0 c).Start) _ c.loop-depth.invariant
+    (ended (goal.at.returns-then-own_value-eq0 c).After-loop-depth)
+    (allowed (goal.at.returns-then-own_value-eq0 c).Start).0
     c.own_value-2.ensures c.if-own_value-eq0.true
 
 pub returns : goal.returns
 returns c =
-    placing_end (known (goal.at.returns c).Start) _ c.loop-depth.invariant (ended (goal.at.returns c).After-loop-depth) (allowed (goal.at.returns c).Start).0
+    placing_end (known (goal.at.returns c).Start) _ c.loop-depth.invariant
+    (ended (goal.at.returns c).After-loop-depth) (allowed (goal.at.returns c).Start).0
     c.own_value-2.ensures c.if-own_value-eq0.false

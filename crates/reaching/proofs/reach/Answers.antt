@@ -21,7 +21,15 @@ overflow_add-work c =
 
 pub spread-top-requires : goal.spread-top-requires
 spread-top-requires c =
-    record { fact = c.requires.fact; masks = c.mask-mask.ensures; within = c.requires.within; q_le_g_1 = omega arith; q_le_g_2 = omega arith; q_le_g_3 = nodes_fit c.requires.fact c.requires.image_len_bound; g_in_bounds = simp length-set c.requires.g_in_bounds }
+    record {
+      fact = c.requires.fact;
+      masks = c.mask-mask.ensures;
+      within = c.requires.within;
+      q_le_g_1 = omega arith;
+      q_le_g_2 = omega arith;
+      q_le_g_3 = nodes_fit c.requires.fact c.requires.image_len_bound;
+      g_in_bounds = simp length-set c.requires.g_in_bounds;
+    }
 
 pub loop-top-init : goal.loop-top-init
 loop-top-init c =
@@ -32,11 +40,24 @@ bounds-work-q c = let p = c.loop-top.invariant in omega (arith, p.room)
 
 pub spread-top-requires-in-loop-top : goal.spread-top-requires-in-loop-top
 spread-top-requires-in-loop-top c =
-    record { fact = c.requires.fact; masks = c.mask-mask.ensures; within = c.requires.within; q_le_g_1 = omega arith; q_le_g_2 = reaching_below c.loop-top.invariant (omega arith); q_le_g_3 = nodes_fit c.requires.fact c.requires.image_len_bound; g_in_bounds = c.loop-top.invariant.room }
+    record {
+      fact = c.requires.fact;
+      masks = c.mask-mask.ensures;
+      within = c.requires.within;
+      q_le_g_1 = omega arith;
+      q_le_g_2 = reaching_below c.loop-top.invariant (omega arith);
+      q_le_g_3 = nodes_fit c.requires.fact c.requires.image_len_bound;
+      g_in_bounds = c.loop-top.invariant.room;
+    }
 
 pub overflow_add-followed : goal.overflow_add-followed
 overflow_add-followed c =
-    omega (arith, reaching_room c.loop-top.invariant (omega arith), nodes_fit c.requires.fact c.requires.image_len_bound)
+    omega (
+      arith,
+      reaching_room c.loop-top.invariant (omega arith),
+      nodes_fit c.requires.fact
+          c.requires.image_len_bound,
+    )
 
 pub loop-top-smaller : goal.loop-top-smaller
 loop-top-smaller c =

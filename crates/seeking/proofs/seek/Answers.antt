@@ -19,17 +19,25 @@ known : (c : In-Passed)
     → let args = c.args in
     AfterCheck args.image.now args.h args.letters.now c.of-key.result
 known c =
-    after_check c.requires.accepted c.requires.h_value _ _ c.of-key.ensures c.judge_next-judged.ensures
+    after_check c.requires.accepted c.requires.h_value _ _ c.of-key.ensures
+    c.judge_next-judged.ensures
     c.in-Passed.is
 
 pub returns-then-buffer-h : goal.returns-then-buffer-h
-returns-then-buffer-h c = seek_short (known (goal.at.returns-then-buffer-h c).In-Passed) _ _ c.if-buffer-h.true
+returns-then-buffer-h c = seek_short (known (goal.at.returns-then-buffer-h c).In-Passed) _ _
+    c.if-buffer-h.true
 
 pub next-found-requires : goal.next-found-requires
 next-found-requires c =
     let k = known (goal.at.next-found-requires c).In-Passed in
     let within = accepted_within k.accepted k.same in
-    record { fact_1 = k.walk.opened; fact_2 = within; ready_1 = k.ready; ready_2 = k.short; ready_3 = has_room k.walk refl refl }
+    record {
+      fact_1 = k.walk.opened;
+      fact_2 = within;
+      ready_1 = k.ready;
+      ready_2 = k.short;
+      ready_3 = has_room k.walk refl refl;
+    }
 
 pub slice_bounds-path-end : goal.slice_bounds-path-end
 slice_bounds-path-end c =
@@ -53,15 +61,18 @@ overflow_cast-count c =
 
 pub returns-in-Refused : goal.returns-in-Refused
 returns-in-Refused c =
-    seek_unkeyed c.requires.accepted c.requires.h_value _ _ c.of-key.ensures c.judge_next-judged.ensures _ _
+    seek_unkeyed c.requires.accepted c.requires.h_value _ _ c.of-key.ensures
+    c.judge_next-judged.ensures _ _
     c.in-Refused.is
 
 pub returns-in-Missing : goal.returns-in-Missing
 returns-in-Missing c =
-    seek_missing (known (goal.at.returns-in-Missing c).In-Passed) _ _ c.if-buffer-h.false c.next-found.ensures.search_tells
+    seek_missing (known (goal.at.returns-in-Missing c).In-Passed) _ _ c.if-buffer-h.false
+    c.next-found.ensures.search_tells
     c.in-Missing.is
 
 pub returns-in-Found : goal.returns-in-Found
 returns-in-Found c =
-    seek_found (known (goal.at.returns-in-Found c).In-Passed) _ _ c.if-buffer-h.false c.next-found.ensures.search_tells
+    seek_found (known (goal.at.returns-in-Found c).In-Passed) _ _ c.if-buffer-h.false
+    c.next-found.ensures.search_tells
     c.in-Found.is c.copy.ensures

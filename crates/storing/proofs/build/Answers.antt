@@ -54,7 +54,12 @@ new_nodes-requires c =
     let a = c.args in
     let e : a.h.g + suc (a.key.len - (a.at.depth + 1)) ≡ a.total =
     omega (arith, c.requires.fact_4, c.requires.fact_3.depth) in
-    record { fact_1 = c.requires.fact_1.head_permitted; fact_2 = c.requires.fact_2; fact_3 = omega (arith, c.requires.fact_3.depth); fact_4 = rw e c.requires.fact_5 }
+    record {
+      fact_1 = c.requires.fact_1.head_permitted;
+      fact_2 = c.requires.fact_2;
+      fact_3 = omega (arith, c.requires.fact_3.depth);
+      fact_4 = rw e c.requires.fact_5;
+    }
 
 pub set_total-requires : goal.set_total-requires
 set_total-requires c =
@@ -67,18 +72,32 @@ set_total-requires c =
 
 pub overflow_cast-letters : goal.overflow_cast-letters
 overflow_cast-letters c =
-    omega (arith, below (goal.at.overflow_cast-letters c).Start, bounds c.args.h c.requires.fact_1.head_permitted)
+    omega (
+      arith,
+      below (goal.at.overflow_cast-letters c).Start,
+      bounds c.args.h
+          c.requires.fact_1.head_permitted,
+    )
 
 pub set_link-requires : goal.set_link-requires
 set_link-requires c =
     record {
       fact_1 = record {
         head_permitted = c.requires.fact_1.head_permitted;
-        room = omega (arith, long (goal.at.set_link-requires c).After-set_total, c.requires.fact_1.room);
+        room = omega (
+          arith,
+          long (goal.at.set_link-requires c).After-set_total,
+          c.requires.fact_1.room,
+        );
       };
       fact_2 = c.requires.fact_3.node;
       fact_3 = below (goal.at.set_link-requires c).Start;
-      fact_4 = omega (arith, c.requires.fact_3.depth, c.requires.fact_4, c.requires.fact_5.addresses);
+      fact_4 = omega (
+        arith,
+        c.requires.fact_3.depth,
+        c.requires.fact_4,
+        c.requires.fact_5.addresses,
+      );
     }
 
 pub returns : goal.returns

@@ -58,7 +58,8 @@ wrote : (c : Joined-value-ne0) → let a = c.args in
     a.value)
 wrote c l t =
     elim c.if-value-ne0.branch [
-      | then-value-ne0 w ↦ w.image-is ∙ path_built _ _ _ _ _ l _ w.if-value-ne0.true t w.build.ensures
+      | then-value-ne0 w ↦ w.image-is
+          ∙ path_built _ _ _ _ _ l _ w.if-value-ne0.true t w.build.ensures
       | else-value-ne0 w ↦ w.image-is ∙ none_built _ _ _ _ _ l _ w.if-value-ne0.false
     ]
 
@@ -73,7 +74,17 @@ overflow_add-h c =
 
 pub build-requires : goal.build-requires
 build-requires c =
-    record { fact_1 = c.requires.fact_1; fact_2 = c.requires.fact_2; fact_3 = c.requires.fact_3; fact_4 = refl; fact_5 = room (goal.at.build-requires c).Start c.if-value-ne0.true }
+    record {
+      fact_1 = c.requires.fact_1;
+      fact_2 = c.requires.fact_2;
+      fact_3 = c.requires.fact_3;
+      fact_4 = refl;
+      fact_5 = room (goal.at.build-requires c).Start c.if-value-ne0.true;
+    }
 
 pub returns : goal.returns
-returns c = record { image_after = wrote (goal.at.returns c).Joined-value-ne0 (left (goal.at.returns c).Start) (total (goal.at.returns c).Start); value = to_z-of_z {w = w32} (sfits_of c.change.type_inv) ∙ c.change.ensures }
+returns c = record {
+  image_after = wrote (goal.at.returns c).Joined-value-ne0 (left (goal.at.returns c).Start)
+      (total (goal.at.returns c).Start);
+  value = to_z-of_z {w = w32} (sfits_of c.change.type_inv) ∙ c.change.ensures;
+}

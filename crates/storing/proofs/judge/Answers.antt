@@ -23,11 +23,13 @@ pub returns-then-greatest-value : goal.returns-then-greatest-value
 returns-then-greatest-value c = judged_11 _ _ _ _ c.greatest.ensures c.if-greatest-value.true
 
 pub returns-then-new-eq0 : goal.returns-then-new-eq0
-returns-then-new-eq0 c = judged_none _ _ _ (fits (goal.at.returns-then-new-eq0 c).Else-greatest-value) _ c.if-new-eq0.true
+returns-then-new-eq0 c = judged_none _ _ _ (fits
+    (goal.at.returns-then-new-eq0 c).Else-greatest-value) _ c.if-new-eq0.true
 
 pub returns-then-mask-total : goal.returns-then-mask-total
 returns-then-mask-total c =
-    judged_12 _ _ _ (fits (goal.at.returns-then-mask-total c).Else-greatest-value) _ c.if-new-eq0.false c.mask.ensures
+    judged_12 _ _ _ (fits (goal.at.returns-then-mask-total c).Else-greatest-value) _
+    c.if-new-eq0.false c.mask.ensures
     c.if-mask-total.true
 
 pub fits-requires : goal.fits-requires
@@ -36,10 +38,12 @@ fits-requires c = c.requires.fact_1
 
 pub returns-then-not-fits : goal.returns-then-not-fits
 returns-then-not-fits c =
-    judged_13 _ _ _ (fits (goal.at.returns-then-not-fits c).Else-greatest-value) _ c.if-new-eq0.false (few (goal.at.returns-then-not-fits c).Else-mask-total)
+    judged_13 _ _ _ (fits (goal.at.returns-then-not-fits c).Else-greatest-value) _
+    c.if-new-eq0.false (few (goal.at.returns-then-not-fits c).Else-mask-total)
     (leb-false _ _ (sym c.fits.ensures ∙ c.if-not-fits.true))
 
 pub returns : goal.returns
 returns c =
-    judged_passed _ _ _ (fits (goal.at.returns c).Else-greatest-value) _ (few (goal.at.returns c).Else-mask-total)
+    judged_passed _ _ _ (fits (goal.at.returns c).Else-greatest-value) _
+    (few (goal.at.returns c).Else-mask-total)
     (leb-true _ _ (sym c.fits.ensures ∙ c.if-not-fits.false))

@@ -23,7 +23,10 @@ stop c =
     subst (Ends c.args.h c.args.key) c.in-Stopped.is c.requires.fact_2
 
 pub returns-then-value-eq0 : goal.returns-then-value-eq0
-returns-then-value-eq0 c = record { fact_1 = count_none _ _ c.if-value-eq0.true; fact_2 = omega arith }
+returns-then-value-eq0 c = record {
+  fact_1 = count_none _ _ c.if-value-eq0.true;
+  fact_2 = omega arith;
+}
 
 pub overflow_sub-result : goal.overflow_sub-result
 overflow_sub-result c =
@@ -36,9 +39,11 @@ pub returns-in-Stopped : goal.returns-in-Stopped
 returns-in-Stopped c =
     let key = c.args.key in
     let short = c.requires.fact_1.short in record {
-      fact_1 = ap (λ n. n - c.in-Stopped.at.depth) (sym (letters_count key (whole (goal.at.returns-in-Stopped c).Start) short))
+      fact_1 = ap (λ n. n - c.in-Stopped.at.depth)
+          (sym (letters_count key (whole (goal.at.returns-in-Stopped c).Start) short))
           ∙ count_path _ _ c.if-value-eq0.false c.in-Stopped.is _ _
-          (letters_from key (whole (goal.at.returns-in-Stopped c).Start) short _ (stop (goal.at.returns-in-Stopped c).In-Stopped).depth);
+          (letters_from key (whole (goal.at.returns-in-Stopped c).Start) short _
+          (stop (goal.at.returns-in-Stopped c).In-Stopped).depth);
       fact_2 = omega (arith, short);
     }
 

@@ -33,7 +33,8 @@ left : (c : In-loop-depth) →
     let depth = c.loop-depth.depth in
     drop depth (letters_of key) ≡ get_or key.letters depth 0 ∷ drop (suc depth) (letters_of key)
 left c =
-    letters_from c.args.key (whole c.before.before.before.before.before.before) c.requires.fact_2.short
+    letters_from c.args.key (whole c.before.before.before.before.before.before)
+    c.requires.fact_2.short
     c.loop-depth.depth c.loop-depth-test.true
 
 pub overflow_add-node : goal.overflow_add-node
@@ -46,7 +47,11 @@ overflow_add-node c =
     )
 
 pub loop-depth-init : goal.loop-depth-init
-loop-depth-init c = laying_start (omega (arith, count (goal.at.loop-depth-init c).Start, c.requires.fact_3))
+loop-depth-init c = laying_start (omega (
+  arith,
+  count (goal.at.loop-depth-init c).Start,
+  c.requires.fact_3,
+))
 
 pub overflow_add-next : goal.overflow_add-next
 overflow_add-next c =
@@ -67,16 +72,26 @@ bounds-letters-depth c =
 below : (c : In-loop-depth) →
     get_or c.args.key.letters c.loop-depth.depth 0 < c.args.h.n
 below c =
-    letter_below c.args.key (whole c.before.before.before.before.before.before) c.requires.fact_2.short _ _
+    letter_below c.args.key (whole c.before.before.before.before.before.before)
+    c.requires.fact_2.short _ _
     c.requires.fact_2.letters c.loop-depth-test.true
 
 pub overflow_cast-letters : goal.overflow_cast-letters
 overflow_cast-letters c =
-    omega (arith, below (goal.at.overflow_cast-letters c).In-loop-depth, bounds c.args.h c.requires.fact_1)
+    omega (
+      arith,
+      below (goal.at.overflow_cast-letters c).In-loop-depth,
+      bounds c.args.h
+          c.requires.fact_1,
+    )
 
 pub write_path-requires : goal.write_path-requires
 write_path-requires c =
-    record { fact_1 = c.requires.fact_1; fact_2 = laying_room c.loop-depth.invariant (space (goal.at.write_path-requires c).Start); fact_3 = below (goal.at.write_path-requires c).In-loop-depth }
+    record {
+      fact_1 = c.requires.fact_1;
+      fact_2 = laying_room c.loop-depth.invariant (space (goal.at.write_path-requires c).Start);
+      fact_3 = below (goal.at.write_path-requires c).In-loop-depth;
+    }
 
 pub overflow_add-depth : goal.overflow_add-depth
 overflow_add-depth c =
@@ -87,14 +102,25 @@ loop-depth-smaller c = omega (arith, c.loop-depth-test.true)
 
 pub loop-depth-preserved : goal.loop-depth-preserved
 loop-depth-preserved c =
-    laying_on c.loop-depth.invariant (omega (arith, count (goal.at.loop-depth-preserved c).Start, c.loop-depth-test.true)) (left (goal.at.loop-depth-preserved c).In-loop-depth)
+    laying_on c.loop-depth.invariant (omega (
+      arith,
+      count (goal.at.loop-depth-preserved c).Start,
+      c.loop-depth-test.true,
+    )) (left (goal.at.loop-depth-preserved c).In-loop-depth)
     c.write_path.ensures
 
 pub write_last-requires : goal.write_last-requires
 write_last-requires c =
-    record { fact_1 = c.requires.fact_1; fact_2 = laying_room c.loop-depth.invariant (space (goal.at.write_last-requires c).Start) }
+    record {
+      fact_1 = c.requires.fact_1;
+      fact_2 = laying_room c.loop-depth.invariant (space (goal.at.write_last-requires c).Start);
+    }
 
 pub returns : goal.returns
 returns c =
-    laying_end c.loop-depth.invariant (omega (arith, count (goal.at.returns c).Start, c.loop-depth-test.false))
+    laying_end c.loop-depth.invariant (omega (
+      arith,
+      count (goal.at.returns c).Start,
+      c.loop-depth-test.false,
+    ))
     c.write_last.ensures

@@ -26,7 +26,11 @@ returns-then-old-value c =
     let same : a.value ≡ (table_of a.h l).value a.node =
     sym c.if-old-value.true ∙ c.data-old.ensures in
     let again = data_again a.h l a.node
-    (λ k. search rules) c.requires.fact_1 c.requires.fact_2 in record { image_after = sym (ap (λ (v : ℕ). carried_out l (data_write a.h a.node v ∷ [])) same ∙ again); value = sym (no_change a.value) ∙ ap (λ (old : ℕ). change_of old a.value) same }
+    (λ k. search rules) c.requires.fact_1 c.requires.fact_2 in record {
+      image_after = sym (ap (λ (v : ℕ). carried_out l (data_write a.h a.node v ∷ [])) same
+          ∙ again);
+      value = sym (no_change a.value) ∙ ap (λ (old : ℕ). change_of old a.value) same;
+    }
 
 pub returns : goal.returns
 returns c =

@@ -15,14 +15,18 @@ whole : (c : Start) → length c.args.key.letters ≡ most_letters
 whole c = search rules
 
 pub walk-walked-requires : goal.walk-walked-requires
-walk-walked-requires c = record { fact_1 = head_open c.requires.fact_1 c.requires.fact_2; fact_2 = c.requires.fact_3 }
+walk-walked-requires c = record {
+  fact_1 = head_open c.requires.fact_1 c.requires.fact_2;
+  fact_2 = c.requires.fact_3;
+}
 
 pub store_at-requires : goal.store_at-requires
 store_at-requires c =
     record {
       fact_1 = head_open c.requires.fact_1 c.requires.fact_2;
       fact_2 = c.requires.fact_3;
-      fact_3 = ends c.requires.fact_1 c.requires.fact_2 c.args.key (whole (goal.at.store_at-requires c).Start) c.requires.fact_3.short _
+      fact_3 = ends c.requires.fact_1 c.requires.fact_2 c.args.key
+          (whole (goal.at.store_at-requires c).Start) c.requires.fact_3.short _
           c.walk-walked.ensures;
     }
 

@@ -34,20 +34,23 @@ write_at-requires c =
       fact_1 = c.requires.fact_1;
       fact_2 = c.requires.fact_2;
       fact_3 = c.requires.fact_3;
-      fact_4 = told_passed (c.judge-verdict.ensures ∙ same (goal.at.write_at-requires c).After-new_count)
+      fact_4 = told_passed (c.judge-verdict.ensures
+          ∙ same (goal.at.write_at-requires c).After-new_count)
           c.in-Passed.is;
     }
 
 pub returns-in-Refused : goal.returns-in-Refused
 returns-in-Refused c =
     let a = c.args in
-    refuses a.h _ _ _ _ (told_refused (c.judge-verdict.ensures ∙ same (goal.at.returns-in-Refused c).After-new_count)
+    refuses a.h _ _ _ _ (told_refused (c.judge-verdict.ensures
+    ∙ same (goal.at.returns-in-Refused c).After-new_count)
     c.in-Refused.is)
 
 pub returns-in-Passed : goal.returns-in-Passed
 returns-in-Passed c =
     let a = c.args in
-    done a.h _ _ _ (told_passed (c.judge-verdict.ensures ∙ same (goal.at.returns-in-Passed c).After-new_count)
+    done a.h _ _ _ (told_passed (c.judge-verdict.ensures
+    ∙ same (goal.at.returns-in-Passed c).After-new_count)
     c.in-Passed.is)
     (to_z-of_z {w = w32} (sfits_of c.write_at.type_inv) ∙ c.write_at.ensures.value)
     c.write_at.ensures.image_after

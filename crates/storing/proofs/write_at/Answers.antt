@@ -52,7 +52,8 @@ returns-in-Stopped c =
     let a = c.args in
     let stop = subst (Ends a.h a.key) c.in-Stopped.is c.requires.fact_3 in
     let r = writes_path a.h _ (letters_of a.key) _ c.in-Stopped.is _ _
-    (letters_from a.key (whole (goal.at.returns-in-Stopped c).Start) c.requires.fact_2.short _ stop.depth)
+    (letters_from a.key (whole (goal.at.returns-in-Stopped c).Start) c.requires.fact_2.short _
+    stop.depth)
     c.extend.ensures.image_after
     (to_z-of_z {w = w32} (sfits_of c.extend.type_inv) ∙ c.extend.ensures.value) in
     record { image_after = r.0; value = r.1 }

@@ -19,7 +19,13 @@ loop-q-init c =
 
 pub tally-requires : goal.tally-requires
 tally-requires c =
-    let long = length-set c.args.work.now 0 c.if-hides.work in record { fact = c.requires.fact; masks_1 = c.mask-mask.ensures; masks_2 = c.greatest-data_mask.ensures; q_le_g = omega arith; g_in_bounds = omega (arith, c.loop-q.invariant.kept.long, long, c.requires.g_in_bounds) }
+    let long = length-set c.args.work.now 0 c.if-hides.work in record {
+      fact = c.requires.fact;
+      masks_1 = c.mask-mask.ensures;
+      masks_2 = c.greatest-data_mask.ensures;
+      q_le_g = omega arith;
+      g_in_bounds = omega (arith, c.loop-q.invariant.kept.long, long, c.requires.g_in_bounds);
+    }
 
 pub returns-then-not-tally : goal.returns-then-not-tally
 returns-then-not-tally c =

@@ -30,7 +30,11 @@ returns-then-bad_link c =
 
 pub hides-requires : goal.hides-requires
 hides-requires c =
-    record { fact_1 = c.requires.fact; fact_2 = c.requires.masks_2; fact_3 = (not_bad _ _).0 (sym c.bad_link.ensures ∙ c.if-bad_link.false) }
+    record {
+      fact_1 = c.requires.fact;
+      fact_2 = c.requires.masks_2;
+      fact_3 = (not_bad _ _).0 (sym c.bad_link.ensures ∙ c.if-bad_link.false);
+    }
 
 pub bounds-work-0 : goal.bounds-work-0
 bounds-work-0 c =

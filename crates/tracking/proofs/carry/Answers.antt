@@ -21,7 +21,14 @@ fewer c = sym (to_z-of_z {w = w32} c.ranges.change) ∙ ap (to_z w32)
 
 pub shift-requires : goal.shift-requires
 shift-requires c =
-    let e = more (goal.at.shift-requires c).Then-change-eq1 in record { fact_1 = c.requires.fact_1; fact_2 = c.requires.fact_2; fact_3 = c.requires.fact_3; fact_4 = c.requires.fact_4; whole_1 = c.requires.whole (some_more e); whole_2 = room_more e c.requires.counts_fit }
+    let e = more (goal.at.shift-requires c).Then-change-eq1 in record {
+      fact_1 = c.requires.fact_1;
+      fact_2 = c.requires.fact_2;
+      fact_3 = c.requires.fact_3;
+      fact_4 = c.requires.fact_4;
+      whole_1 = c.requires.whole (some_more e);
+      whole_2 = room_more e c.requires.counts_fit;
+    }
 
 pub returns-then-change-eq1 : goal.returns-then-change-eq1
 returns-then-change-eq1 c = shifted_more (more (goal.at.returns-then-change-eq1 c).Then-change-eq1)
@@ -29,10 +36,18 @@ returns-then-change-eq1 c = shifted_more (more (goal.at.returns-then-change-eq1 
 
 pub shift-requires-then-change-eqminus1 : goal.shift-requires-then-change-eqminus1
 shift-requires-then-change-eqminus1 c =
-    let e = fewer (goal.at.shift-requires-then-change-eqminus1 c).Then-change-eqminus1 in record { fact_1 = c.requires.fact_1; fact_2 = c.requires.fact_2; fact_3 = c.requires.fact_3; fact_4 = c.requires.fact_4; whole_1 = c.requires.whole (some_fewer e); whole_2 = room_fewer e c.requires.counts_fit }
+    let e = fewer (goal.at.shift-requires-then-change-eqminus1 c).Then-change-eqminus1 in record {
+      fact_1 = c.requires.fact_1;
+      fact_2 = c.requires.fact_2;
+      fact_3 = c.requires.fact_3;
+      fact_4 = c.requires.fact_4;
+      whole_1 = c.requires.whole (some_fewer e);
+      whole_2 = room_fewer e c.requires.counts_fit;
+    }
 
 pub returns-then-change-eqminus1 : goal.returns-then-change-eqminus1
-returns-then-change-eqminus1 c = shifted_fewer (fewer (goal.at.returns-then-change-eqminus1 c).Then-change-eqminus1)
+returns-then-change-eqminus1 c = shifted_fewer
+    (fewer (goal.at.returns-then-change-eqminus1 c).Then-change-eqminus1)
     c.shift-then-change-eqminus1.ensures
 
 pub returns : goal.returns

@@ -47,11 +47,21 @@ below c =
 
 pub overflow_cast-letters : goal.overflow_cast-letters
 overflow_cast-letters c =
-    omega (arith, below (goal.at.overflow_cast-letters c).In-loop-depth, bounds c.args.h c.requires.fact_1.head_permitted)
+    omega (
+      arith,
+      below (goal.at.overflow_cast-letters c).In-loop-depth,
+      bounds c.args.h
+          c.requires.fact_1.head_permitted,
+    )
 
 pub link-next-requires : goal.link-next-requires
 link-next-requires c =
-    record { fact_1 = c.requires.fact_1; fact_2 = c.mask-mask.ensures; fact_3 = going_within c.requires.fact_3 c.requires.whole_2 c.loop-depth.invariant; fact_4 = below (goal.at.link-next-requires c).In-loop-depth }
+    record {
+      fact_1 = c.requires.fact_1;
+      fact_2 = c.mask-mask.ensures;
+      fact_3 = going_within c.requires.fact_3 c.requires.whole_2 c.loop-depth.invariant;
+      fact_4 = below (goal.at.link-next-requires c).In-loop-depth;
+    }
 
 pub bump-requires : goal.bump-requires
 bump-requires c = (
@@ -72,10 +82,12 @@ loop-depth-smaller c = omega (arith, c.loop-depth-test.true)
 pub loop-depth-preserved : goal.loop-depth-preserved
 loop-depth-preserved c =
     let key = c.args.key in
-    going_on c.requires.fact_3 c.requires.whole_2 c.loop-depth.invariant (inside (goal.at.loop-depth-preserved c).At-loop-depth) c.bump.ensures
+    going_on c.requires.fact_3 c.requires.whole_2 c.loop-depth.invariant
+    (inside (goal.at.loop-depth-preserved c).At-loop-depth) c.bump.ensures
     c.requires.whole_1 _
     (omega (arith, count (goal.at.loop-depth-preserved c).Start, c.loop-depth-test.true))
-    (letters_from key (whole (goal.at.loop-depth-preserved c).Start) c.requires.fact_2.short _ c.loop-depth-test.true)
+    (letters_from key (whole (goal.at.loop-depth-preserved c).Start) c.requires.fact_2.short _
+    c.loop-depth-test.true)
     c.link-next.ensures
 
 pub bump-requires-2 : goal.bump-requires-2
@@ -89,5 +101,6 @@ bump-requires-2 c = (
 
 pub returns : goal.returns
 returns c =
-    going_end c.requires.fact_3 c.requires.whole_2 c.loop-depth.invariant (inside (goal.at.returns c).At-loop-depth) c.bump-2.ensures
+    going_end c.requires.fact_3 c.requires.whole_2 c.loop-depth.invariant
+    (inside (goal.at.returns c).At-loop-depth) c.bump-2.ensures
     (omega (arith, count (goal.at.returns c).Start, c.loop-depth-test.false))

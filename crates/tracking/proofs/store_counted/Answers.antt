@@ -17,7 +17,8 @@ use Rattle.storing.proofs.StoreStage.{ends}
 use Rattle.tracking.proofs.Tracking.{Hand, refused, too_few, allows, carries, done}
 use Rattle.tracking.proofs.Tracking.{last_fits}
 use Rattle.tracking.proofs.store_counted.Goals as goal
-use Rattle.tracking.proofs.store_counted.Goals.{After-new_count-new, After-walk-walked, In-Passed, Start}
+use Rattle.tracking.proofs.store_counted.Goals.{After-new_count-new, After-walk-walked, In-Passed}
+use Rattle.tracking.proofs.store_counted.Goals.{Start}
 
 -- the array's length
 whole : (c : Start) → length c.args.key.letters ≡ most_letters
@@ -27,7 +28,8 @@ whole c = search rules
 ended : (c : After-walk-walked) → let a =
     c.args in Ends a.h a.key c.walk-walked.result
 ended c =
-    ends c.requires.accepted_1 c.requires.accepted_2 c.args.key (search rules) c.requires.accepted_3.short _ c.walk-walked.ensures
+    ends c.requires.accepted_1 c.requires.accepted_2 c.args.key (search rules)
+    c.requires.accepted_3.short _ c.walk-walked.ensures
 
 -- what is known once the new nodes are counted
 hand : (c : After-new_count-new) →
@@ -53,34 +55,61 @@ passed c = told_passed c.judge-verdict.ensures c.in-Passed.is
 
 pub walk-walked-requires : goal.walk-walked-requires
 walk-walked-requires c =
-    record { fact_1 = head_open c.requires.accepted_1 c.requires.accepted_2; fact_2 = c.requires.accepted_3 }
+    record {
+      fact_1 = head_open c.requires.accepted_1 c.requires.accepted_2;
+      fact_2 = c.requires.accepted_3;
+    }
 
 pub new_count-new-requires : goal.new_count-new-requires
-new_count-new-requires c = record { fact_1 = c.requires.accepted_3; fact_2 = ended (goal.at.new_count-new-requires c).After-walk-walked }
+new_count-new-requires c = record {
+  fact_1 = c.requires.accepted_3;
+  fact_2 = ended (goal.at.new_count-new-requires c).After-walk-walked;
+}
 
 pub judge-verdict-requires : goal.judge-verdict-requires
 judge-verdict-requires c =
-    record { fact_1 = (head_open c.requires.accepted_1 c.requires.accepted_2).head_permitted; fact_2 = c.new_count-new.ensures.fact_2 }
+    record {
+      fact_1 = (head_open c.requires.accepted_1 c.requires.accepted_2).head_permitted;
+      fact_2 = c.new_count-new.ensures.fact_2;
+    }
 
 pub returns-then-counts-last : goal.returns-then-counts-last
 returns-then-counts-last c =
-    too_few (hand (goal.at.returns-then-counts-last c).After-new_count-new) (passed (goal.at.returns-then-counts-last c).In-Passed) _ c.if-counts-last.true
+    too_few (hand (goal.at.returns-then-counts-last c).After-new_count-new)
+    (passed (goal.at.returns-then-counts-last c).In-Passed) _ c.if-counts-last.true
 
 pub write_at-change-requires : goal.write_at-change-requires
 write_at-change-requires c =
-    record { fact_1 = head_open c.requires.accepted_1 c.requires.accepted_2; fact_2 = c.requires.accepted_3; fact_3 = ended (goal.at.write_at-change-requires c).After-walk-walked; fact_4 = allows (hand (goal.at.write_at-change-requires c).After-new_count-new) (passed (goal.at.write_at-change-requires c).In-Passed) }
+    record {
+      fact_1 = head_open c.requires.accepted_1 c.requires.accepted_2;
+      fact_2 = c.requires.accepted_3;
+      fact_3 = ended (goal.at.write_at-change-requires c).After-walk-walked;
+      fact_4 = allows (hand (goal.at.write_at-change-requires c).After-new_count-new)
+          (passed (goal.at.write_at-change-requires c).In-Passed);
+    }
 
 pub overflow_cast-total : goal.overflow_cast-total
 overflow_cast-total c =
-    record { fits = last_fits (hand (goal.at.overflow_cast-total c).After-new_count-new) (passed (goal.at.overflow_cast-total c).In-Passed) }
+    record {
+      fits = last_fits (hand (goal.at.overflow_cast-total c).After-new_count-new)
+          (passed (goal.at.overflow_cast-total c).In-Passed);
+    }
 
 pub carry-requires : goal.carry-requires
 carry-requires c =
-    let r = carries (hand (goal.at.carry-requires c).After-new_count-new) (passed (goal.at.carry-requires c).In-Passed) c.write_at-change.ensures.image_after
+    let r = carries (hand (goal.at.carry-requires c).After-new_count-new)
+    (passed (goal.at.carry-requires c).In-Passed) c.write_at-change.ensures.image_after
     (to_z-of_z {w = w32} (sfits_of c.write_at-change.type_inv) ∙ c.write_at-change.ensures.value)
     c.requires.max_value_2 c.clear.ensures
     c.if-counts-last.false in
-    record { fact_1 = r.0; fact_2 = r.1; fact_3 = r.2; fact_4 = r.3; whole = r.4; counts_fit = r.5 }
+    record {
+      fact_1 = r.0;
+      fact_2 = r.1;
+      fact_3 = r.2;
+      fact_4 = r.3;
+      whole = r.4;
+      counts_fit = r.5;
+    }
 
 pub returns-in-Refused : goal.returns-in-Refused
 returns-in-Refused c =
@@ -89,7 +118,9 @@ returns-in-Refused c =
 
 pub returns-else-counts-last : goal.returns-else-counts-last
 returns-else-counts-last c =
-    done (hand (goal.at.returns-else-counts-last c).After-new_count-new) (passed (goal.at.returns-else-counts-last c).In-Passed) c.write_at-change.ensures.image_after
+    done (hand (goal.at.returns-else-counts-last c).After-new_count-new)
+    (passed (goal.at.returns-else-counts-last c).In-Passed)
+    c.write_at-change.ensures.image_after
     (to_z-of_z {w = w32} (sfits_of c.write_at-change.type_inv) ∙ c.write_at-change.ensures.value)
     c.requires.max_value_2 c.clear.ensures
     c.if-counts-last.false c.carry.ensures

@@ -77,7 +77,8 @@ returns-in-Found t c =
 pub loop-i-preserved : goal.loop-i-preserved
 loop-i-preserved t c =
     onto_missing (onto t (goal.at.loop-i-preserved t c).Else-c-eq0) c.own_value-value.ensures
-    c.if-value-ne0.false c.below-deeper.ensures.search_tells c.in_default.is c.below-deeper.ensures.path_kept
+    c.if-value-ne0.false c.below-deeper.ensures.search_tells c.in_default.is
+    c.below-deeper.ensures.path_kept
     c.below-deeper.auto.path c.below-deeper.auto.nodes
 
 pub returns : goal.returns

@@ -89,7 +89,8 @@ step-requires c =
 
 pub returns-in_default : goal.returns-in_default
 returns-in_default c =
-    following_stop c.loop-here.invariant (letter (goal.at.returns-in_default c).In-loop-here) c.step.ensures c.requires.fact_2
+    following_stop c.loop-here.invariant (letter (goal.at.returns-in_default c).In-loop-here)
+    c.step.ensures c.requires.fact_2
     c.in_default.not-At
 
 pub bounds-path-depth : goal.bounds-path-depth

@@ -51,7 +51,8 @@ deep : (c : Then-not-no_keys)
 deep c =
     let at = c.loop-from in
     elim c.if-from-eq0.branch [
-      | then-from-eq0 w ↦ w.no_keys_below-no_keys.ensures.deep (sym w.no_keys-is ∙ c.if-not-no_keys.true)
+      | then-from-eq0 w ↦ w.no_keys_below-no_keys.ensures.deep
+          (sym w.no_keys-is ∙ c.if-not-no_keys.true)
       | else-from-eq0 w ↦ at.invariant.deeper (omega (arith, w.if-from-eq0.false))
     ]
 
@@ -83,7 +84,8 @@ nothing c =
       | else-not-no_keys w ↦
           elim c.if-from-eq0.branch [
             | then-from-eq0 v ↦
-                climb_no_keys v.no_keys_below-no_keys.ensures (sym v.no_keys-is ∙ w.if-not-no_keys.false)
+                climb_no_keys v.no_keys_below-no_keys.ensures
+                (sym v.no_keys-is ∙ w.if-not-no_keys.false)
                 w.path-is w.nodes-is
             | else-from-eq0 v ↦ absurd (true≢false (sym w.if-not-no_keys.false ∙ v.no_keys-is))
           ]
@@ -93,7 +95,8 @@ pub returns-then-depth-eq0 : goal.returns-then-depth-eq0
 returns-then-depth-eq0 c =
     let a = c.args in
     told_none a.h a.image.now
-    (climbing_end c.loop-from.invariant (nothing (goal.at.returns-then-depth-eq0 c).Joined-not-no_keys) c.if-depth-eq0.true)
+    (climbing_end c.loop-from.invariant (nothing
+    (goal.at.returns-then-depth-eq0 c).Joined-not-no_keys) c.if-depth-eq0.true)
 
 pub overflow_sub-depth : goal.overflow_sub-depth
 overflow_sub-depth c = omega (arith, c.if-depth-eq0.false)
@@ -101,7 +104,13 @@ overflow_sub-depth c = omega (arith, c.if-depth-eq0.false)
 pub bounds-path-depth : goal.bounds-path-depth
 bounds-path-depth c =
     let at = c.loop-from.invariant in
-    omega (arith, c.if-depth-eq0.false, at.deep, at.room.letters, (nothing (goal.at.bounds-path-depth c).Joined-not-no_keys).letters)
+    omega (
+      arith,
+      c.if-depth-eq0.false,
+      at.deep,
+      at.room.letters,
+      (nothing (goal.at.bounds-path-depth c).Joined-not-no_keys).letters,
+    )
 
 pub overflow_cast-from : goal.overflow_cast-from
 overflow_cast-from c =
@@ -116,4 +125,5 @@ loop-from-smaller c = omega (arith, c.if-depth-eq0.false)
 
 pub loop-from-preserved : goal.loop-from-preserved
 loop-from-preserved c = let at = c.loop-from in
-    climbing_up at.depth at.invariant (nothing (goal.at.loop-from-preserved c).Joined-not-no_keys) c.if-depth-eq0.false
+    climbing_up at.depth at.invariant (nothing (goal.at.loop-from-preserved c).Joined-not-no_keys)
+    c.if-depth-eq0.false

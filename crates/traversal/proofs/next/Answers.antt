@@ -71,7 +71,15 @@ overflow_add-letters c =
 
 pub climb-requires : goal.climb-requires
 climb-requires c =
-    let stops = c.if-depth-key.true in record { fact_1 = c.requires.fact_1; fact_2 = c.requires.fact_2; fact_3 = c.mask-mask.ensures; end_le_max_1 = deep (goal.at.climb-requires c).After-along-depth; end_le_max_2 = (λ b. omega (arith, stops, c.requires.ready_2)); path_room_1 = room (goal.at.climb-requires c).After-along-depth; path_room_2 = c.along-depth.ensures.along }
+    let stops = c.if-depth-key.true in record {
+      fact_1 = c.requires.fact_1;
+      fact_2 = c.requires.fact_2;
+      fact_3 = c.mask-mask.ensures;
+      end_le_max_1 = deep (goal.at.climb-requires c).After-along-depth;
+      end_le_max_2 = (λ b. omega (arith, stops, c.requires.ready_2));
+      path_room_1 = room (goal.at.climb-requires c).After-along-depth;
+      path_room_2 = c.along-depth.ensures.along;
+    }
 
 pub returns-then-depth-key : goal.returns-then-depth-key
 returns-then-depth-key c =
@@ -85,7 +93,8 @@ returns-then-depth-key c =
       search_tells = told_same c.args.h c.args.image.now
           (e ∙ ap (λ (y : ℕ). first_of
           (coming c.args.h c.args.image.now c.along-depth.new.path
-          c.along-depth.result (y + 1))) (letter (goal.at.returns-then-depth-key c).Then-depth-key).1)
+          c.along-depth.result (y + 1))) (letter
+          (goal.at.returns-then-depth-key c).Then-depth-key).1)
           c.climb.ensures;
       path_room = room_kept long c.climb.auto.path c.climb.auto.nodes;
     }
@@ -101,7 +110,11 @@ offset_bounds-nodes-depth c =
     )
 
 pub bounds-nodes-depth : goal.bounds-nodes-depth
-bounds-nodes-depth c = omega (arith, deep (goal.at.bounds-nodes-depth c).After-along-depth, (room (goal.at.bounds-nodes-depth c).After-along-depth).ends)
+bounds-nodes-depth c = omega (
+  arith,
+  deep (goal.at.bounds-nodes-depth c).After-along-depth,
+  (room (goal.at.bounds-nodes-depth c).After-along-depth).ends,
+)
 
 pub own_value-value-requires : goal.own_value-value-requires
 own_value-value-requires c = (
@@ -117,9 +130,11 @@ returns-then-value-ne0 c =
       search_tells = told_same c.args.h c.args.image.now
           (ap (λ (after : Bool). next_stored c.args.h c.args.image.now after
           (letters_of c.args.key)) not_after)
-          (at_key_own c.along-depth.ensures (room (goal.at.returns-then-value-ne0 c).After-along-depth)
+          (at_key_own c.along-depth.ensures (room
+          (goal.at.returns-then-value-ne0 c).After-along-depth)
           (omega (arith, count (goal.at.returns-then-value-ne0 c).Start, c.requires.ready_2))
-          (omega (arith, count (goal.at.returns-then-value-ne0 c).Start, end)) c.own_value-value.ensures c.if-value-ne0.true);
+          (omega (arith, count (goal.at.returns-then-value-ne0 c).Start, end))
+          c.own_value-value.ensures c.if-value-ne0.true);
       path_room = room (goal.at.returns-then-value-ne0 c).After-along-depth;
     }
 
@@ -151,7 +166,15 @@ from-here c =
 
 pub climb-requires-2 : goal.climb-requires-2
 climb-requires-2 c =
-    record { fact_1 = c.requires.fact_1; fact_2 = c.requires.fact_2; fact_3 = c.mask-mask.ensures; end_le_max_1 = deep (goal.at.climb-requires-2 c).After-along-depth; end_le_max_2 = (λ b. absurd (omega arith)); path_room_1 = room (goal.at.climb-requires-2 c).After-along-depth; path_room_2 = c.along-depth.ensures.along }
+    record {
+      fact_1 = c.requires.fact_1;
+      fact_2 = c.requires.fact_2;
+      fact_3 = c.mask-mask.ensures;
+      end_le_max_1 = deep (goal.at.climb-requires-2 c).After-along-depth;
+      end_le_max_2 = (λ b. absurd (omega arith));
+      path_room_1 = room (goal.at.climb-requires-2 c).After-along-depth;
+      path_room_2 = c.along-depth.ensures.along;
+    }
 
 pub returns : goal.returns
 returns c =

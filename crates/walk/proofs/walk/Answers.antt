@@ -61,7 +61,8 @@ step-next-requires c =
       fact_1 = c.requires.fact_1;
       fact_2 = c.mask-mask.ensures;
       fact_3 = c.loop-here.invariant.within;
-      fact_4 = letter_below c.args.key (whole (goal.at.step-next-requires c).Start) c.requires.fact_2.short _ _
+      fact_4 = letter_below c.args.key (whole (goal.at.step-next-requires c).Start)
+          c.requires.fact_2.short _ _
           c.requires.fact_2.letters c.loop-here-test.true;
       fact_5 = omega arith;
     }
@@ -69,21 +70,29 @@ step-next-requires c =
 pub returns-in_default-next : goal.returns-in_default-next
 returns-in_default-next c =
     let inv = c.loop-here.invariant in
-    sym (walking_stopped inv (left (goal.at.returns-in_default-next c).In-loop-here) c.step-next.ensures
+    sym (walking_stopped inv (left (goal.at.returns-in_default-next c).In-loop-here)
+    c.step-next.ensures
     (is-empty _ c.in_default.not-At c.in_default-next.not-Bad))
 
 pub returns-in_default : goal.returns-in_default
 returns-in_default c =
     let inv = c.loop-here.invariant in
-    sym (walking_bad inv (left (goal.at.returns-in_default c).In-loop-here) c.step-next.ensures c.in-Bad.is)
+    sym (walking_bad inv (left (goal.at.returns-in_default c).In-loop-here) c.step-next.ensures
+    c.in-Bad.is)
 
 pub loop-here-smaller : goal.loop-here-smaller
-loop-here-smaller c = let on = onward (goal.at.loop-here-smaller c).In-At (left (goal.at.loop-here-smaller c).In-loop-here) in omega (arith, on.1)
+loop-here-smaller c = let on = onward (goal.at.loop-here-smaller c).In-At
+    (left (goal.at.loop-here-smaller c).In-loop-here) in omega (arith, on.1)
 
 pub loop-here-preserved : goal.loop-here-preserved
-loop-here-preserved c = (onward (goal.at.loop-here-preserved c).In-At (left (goal.at.loop-here-preserved c).In-loop-here)).0
+loop-here-preserved c = (onward (goal.at.loop-here-preserved c).In-At
+    (left (goal.at.loop-here-preserved c).In-loop-here)).0
 
 pub returns : goal.returns
 returns c =
     sym (walking_end c.loop-here.invariant
-    (omega (arith, letters_count c.args.key (whole (goal.at.returns c).Start) c.requires.fact_2.short)))
+    (omega (
+      arith,
+      letters_count c.args.key (whole (goal.at.returns c).Start)
+          c.requires.fact_2.short,
+    )))

@@ -1,4 +1,5 @@
--- `weighing::weighed`, which calls itself, meets its contract. From letter to letter each count and
+-- `weighing::weighed`, which calls itself, meets its contract. From letter to letter each count
+-- and
 -- the sum have what the links so far add. At each call of itself the depth left to max falls.
 -- Assumes nothing.
 use Prim.Native.Nat.{ℕ, ◌+◌, ◌≤◌}
@@ -12,7 +13,8 @@ use Rattle.weighing.proofs.Weighing.{weighing_end, fits_end}
 use Rattle.weighing.proofs.Weighing.{Onto, weighing_leaf, weighing_child, fits_one}
 use Rattle.weighing.proofs.Weighing.{fits_sum_one, fits_child, fits_sum}
 use Rattle.weighing.proofs.+weighed.Goals as goal
-use Rattle.weighing.proofs.+weighed.Goals.{Joined-own_value_by-eq0, then-own_value_by-eq0, else-own_value_by-eq0}
+use Rattle.weighing.proofs.+weighed.Goals.{Joined-own_value_by-eq0, then-own_value_by-eq0}
+use Rattle.weighing.proofs.+weighed.Goals.{else-own_value_by-eq0}
 
 pub loop-i-init : goal.loop-i-init
 loop-i-init t c =
@@ -77,11 +79,13 @@ onto t c =
 
 pub overflow_add-list : goal.overflow_add-list
 overflow_add-list t c =
-    let j = (goal.at.overflow_add-list t c).Joined-own_value_by-eq0 in omega (arith, fits_one (onto t j) (own-counted t j))
+    let j = (goal.at.overflow_add-list t c).Joined-own_value_by-eq0 in omega
+    (arith, fits_one (onto t j) (own-counted t j))
 
 pub overflow_add-sum : goal.overflow_add-sum
 overflow_add-sum t c =
-    let j = (goal.at.overflow_add-sum t c).Joined-own_value_by-eq0 in omega (arith, fits_sum_one (onto t j) (own-counted t j))
+    let j = (goal.at.overflow_add-sum t c).Joined-own_value_by-eq0 in omega
+    (arith, fits_sum_one (onto t j) (own-counted t j))
 
 pub loop-i-preserved-then-no_keys_below : goal.loop-i-preserved-then-no_keys_below
 loop-i-preserved-then-no_keys_below t c =
@@ -106,12 +110,14 @@ pub overflow_add-sum-in-loop-i : goal.overflow_add-sum-in-loop-i
 overflow_add-sum-in-loop-i t c =
     omega (
       arith,
-      fits_sum (onto t (goal.at.overflow_add-sum-in-loop-i t c).Joined-own_value_by-eq0) c.weighed-sum.ensures.value,
+      fits_sum (onto t (goal.at.overflow_add-sum-in-loop-i t c).Joined-own_value_by-eq0)
+          c.weighed-sum.ensures.value,
     )
 
 pub loop-i-preserved : goal.loop-i-preserved
 loop-i-preserved t c =
-    weighing_child (onto t (goal.at.loop-i-preserved t c).Joined-own_value_by-eq0) c.weighed-sum.ensures.value
+    weighing_child (onto t (goal.at.loop-i-preserved t c).Joined-own_value_by-eq0)
+    c.weighed-sum.ensures.value
     c.weighed-sum.ensures.weighed
 
 pub overflow_add-list-2 : goal.overflow_add-list-2
@@ -124,5 +130,9 @@ returns t c =
     let high = c.loop-i-test.false in
     record {
       value = weighing_sum w high;
-      weighed = weighing_end w high (omega (arith, c.requires.node_le_g.0, c.requires.node_le_g.1.1));
+      weighed = weighing_end w high (omega (
+        arith,
+        c.requires.node_le_g.0,
+        c.requires.node_le_g.1.1,
+      ));
     }

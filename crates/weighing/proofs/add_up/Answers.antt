@@ -14,11 +14,16 @@ ready : (c : Start) → Walkable c.args.h c.args.image.now
 ready c = walkable c.requires.accepted_1 c.requires.accepted_2
 
 pub greatest-data_mask-requires : goal.greatest-data_mask-requires
-greatest-data_mask-requires c = (ready (goal.at.greatest-data_mask-requires c).Start).opened.head_permitted
+greatest-data_mask-requires c = (ready (goal.at.greatest-data_mask-requires
+    c).Start).opened.head_permitted
 
 pub own_value_by-requires : goal.own_value_by-requires
 own_value_by-requires c =
-    record { fact_1 = (ready (goal.at.own_value_by-requires c).Start).opened; fact_2 = c.greatest-data_mask.ensures; fact_3 = omega arith }
+    record {
+      fact_1 = (ready (goal.at.own_value_by-requires c).Start).opened;
+      fact_2 = c.greatest-data_mask.ensures;
+      fact_3 = omega arith;
+    }
 
 -- the root's own key
 own-counted : (c : Joined-own_value_by-eq0)
@@ -44,12 +49,17 @@ own-counted c =
 
 pub no_keys_below-requires : goal.no_keys_below-requires
 no_keys_below-requires c =
-    record { fact_1 = (ready (goal.at.no_keys_below-requires c).Start).opened; fact_2 = omega arith }
+    record {
+      fact_1 = (ready (goal.at.no_keys_below-requires c).Start).opened;
+      fact_2 = omega arith;
+    }
 
 pub returns-then-no_keys_below : goal.returns-then-no_keys_below
 returns-then-no_keys_below c =
     let clear = c.requires.list_value in
-    leaf_worked c.requires.accepted_1 c.requires.accepted_2 c.args.list.now clear c.requires.accepted_3 (own-counted (goal.at.returns-then-no_keys_below c).Joined-own_value_by-eq0)
+    leaf_worked c.requires.accepted_1 c.requires.accepted_2 c.args.list.now clear
+    c.requires.accepted_3 (own-counted (goal.at.returns-then-no_keys_below
+    c).Joined-own_value_by-eq0)
     c.no_keys_below.ensures c.if-no_keys_below.true
 
 pub mask-requires : goal.mask-requires
@@ -73,12 +83,17 @@ weighed-requires c =
       own_value = (
         own-counted (goal.at.weighed-requires c).Joined-own_value_by-eq0,
         fits_start c.requires.accepted_1 c.requires.accepted_2 list clear
-            (λ q. omega (arith, (goal.at.weighed-requires c).Joined-own_value_by-eq0.type_inv.list q)),
+            (λ q. omega (
+              arith,
+              (goal.at.weighed-requires c).Joined-own_value_by-eq0.type_inv.list
+                  q,
+            )),
       );
     }
 
 pub returns : goal.returns
 returns c =
     let clear = c.requires.list_value in
-    weighed_worked c.requires.accepted_1 c.requires.accepted_2 c.args.list.now clear c.requires.accepted_3
+    weighed_worked c.requires.accepted_1 c.requires.accepted_2 c.args.list.now clear
+    c.requires.accepted_3
     c.weighed.ensures.weighed

@@ -11,7 +11,12 @@ use Rattle.key.proofs.Key.of.Goals.{then-letters-lt-HELD, else-letters-lt-HELD}
 
 pub loop-i-init : goal.loop-i-init
 unfolding padded
-loop-i-init c = (omega arith, elim c.if-letters-lt-HELD.branch [ then-letters-lt-HELD w ↦ omega arith | else-letters-lt-HELD w ↦ omega arith ], refl)
+loop-i-init c = (
+  omega arith,
+  elim c.if-letters-lt-HELD.branch
+      [ then-letters-lt-HELD w ↦ omega arith | else-letters-lt-HELD w ↦ omega arith ],
+  refl,
+)
 
 pub loop-i-preserved : goal.loop-i-preserved
 loop-i-preserved c = (

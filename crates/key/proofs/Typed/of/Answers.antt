@@ -12,7 +12,8 @@ use Rattle.alphabet.specs.Letters.{letter_of}
 use Rattle.key.proofs.Typing.{typing_none, typing_more, typing_past, typing_all}
 use Rattle.key.proofs.Typing.{typing_ill, typing_outside}
 use Rattle.key.proofs.Typed.of.Goals as goal
-use Rattle.key.proofs.Typed.of.Goals.{then-len-lt-HELD, else-len-lt-HELD, After-letter-x, Start, Else-size-eq0}
+use Rattle.key.proofs.Typed.of.Goals.{then-len-lt-HELD, else-len-lt-HELD, After-letter-x, Start}
+use Rattle.key.proofs.Typed.of.Goals.{Else-size-eq0}
 
 -- the alphabet has n letters
 letters : (c : Start)
@@ -53,15 +54,23 @@ char_at-requires c = c.quick_len-size.ensures
 pub returns-then-n-x : goal.returns-then-n-x
 returns-then-n-x c =
     c.nameless-then-n-x.ensures
-    ∙ typing_outside c.loop-at.invariant.1 (λ z. c.if-size-eq0.false (c.quick_len-size.ensures ∙ z))
-    (omega (arith, letters (goal.at.returns-then-n-x c).Start, letter_here (goal.at.returns-then-n-x c).After-letter-x, c.if-n-x.true))
+    ∙ typing_outside c.loop-at.invariant.1 (λ z. c.if-size-eq0.false
+    (c.quick_len-size.ensures ∙ z))
+    (omega (
+      arith,
+      letters (goal.at.returns-then-n-x c).Start,
+      letter_here
+          (goal.at.returns-then-n-x c).After-letter-x,
+      c.if-n-x.true,
+    ))
 
 pub overflow_add-at : goal.overflow_add-at
 overflow_add-at c = omega (arith, (character-here (goal.at.overflow_add-at c).Else-size-eq0).whole)
 
 pub loop-at-smaller : goal.loop-at-smaller
 loop-at-smaller c =
-    let u = character-here (goal.at.loop-at-smaller c).Else-size-eq0 in omega (arith, u.some, u.whole)
+    let u = character-here (goal.at.loop-at-smaller c).Else-size-eq0 in omega
+    (arith, u.some, u.whole)
 
 pub loop-at-preserved : goal.loop-at-preserved
 loop-at-preserved c =
@@ -70,11 +79,17 @@ loop-at-preserved c =
     < length (take c.args.n
     c.args.codes.now) =
     omega (arith, letters (goal.at.loop-at-preserved c).Start, c.if-n-x.false) in (
-      omega (arith, (character-here (goal.at.loop-at-preserved c).Else-size-eq0).some, c.loop-at.invariant.0),
+      omega (
+        arith,
+        (character-here (goal.at.loop-at-preserved c).Else-size-eq0).some,
+        c.loop-at.invariant.0,
+      ),
       elim c.if-len-lt-HELD.branch [
-        | then-len-lt-HELD w ↦ rw w.kept-is (typing_more c.loop-at.invariant.1 e c.if-size-eq0.false
+        | then-len-lt-HELD w ↦ rw w.kept-is (typing_more c.loop-at.invariant.1 e
+            c.if-size-eq0.false
             (letter_here (goal.at.loop-at-preserved c).After-letter-x) b w.if-len-lt-HELD.true)
-        | else-len-lt-HELD w ↦ rw w.kept-is (typing_past c.loop-at.invariant.1 e c.if-size-eq0.false
+        | else-len-lt-HELD w ↦ rw w.kept-is (typing_past c.loop-at.invariant.1 e
+            c.if-size-eq0.false
             (letter_here (goal.at.loop-at-preserved c).After-letter-x) b w.if-len-lt-HELD.false)
       ],
     )

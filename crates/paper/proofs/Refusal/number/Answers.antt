@@ -1,4 +1,5 @@
--- `paper::Refusal::number` meets its contract: each refusal has the number that `said_of` lists for
+-- `paper::Refusal::number` meets its contract: each refusal has the number that `said_of` lists
+-- for
 -- it. Assumes nothing.
 use mathlib.Core.Path.{◌≡◌, sym, ap}
 use Rattle.paper.specs.declared.Refusal.{Refusal}
