@@ -3,7 +3,6 @@
 -- The measure is how many bytes are left. Assumes nothing.
 use mathlib.Core.Path.{sym}
 use mathlib.Core.Bool.{true≢false}
-use Prim.Native.Nat.{◌-◌}
 use native.Mathlib.Omega.{arith}
 use borrow.Author.Tests.{eqb-true}
 use Rattle.field.proofs.FieldLoops.{blanking_none, blanking_more, blanking_all}

@@ -1,7 +1,7 @@
 -- `field::clear` meets its contract. Clearing writes a list of zeros, and each turn stores the
 -- next of them. The measure is how many are left. Assumes nothing.
 use mathlib.Core.Path.{sym}
-use Prim.Native.Nat.{ℕ, ◌-◌}
+use Prim.Native.Nat.{ℕ}
 use native.Mathlib.Omega.{arith}
 use lib.ListN.{length-replicate, get_or-replicate}
 use Rattle.field.proofs.FieldLoops.{laying_none, laying_more, laying_all}

@@ -1,7 +1,6 @@
 -- `field::copy` meets its contract. A turn stores the next element of what is copied. The
 -- measure is how many are left. Assumes nothing.
 use mathlib.Core.Path.{refl}
-use Prim.Native.Nat.{◌-◌}
 use native.Mathlib.Omega.{arith}
 use Rattle.field.proofs.FieldLoops.{laying_none, laying_more, laying_all}
 use Rattle.field.proofs.copy.Goals as goal

@@ -3,7 +3,6 @@
 -- of 1 to 4. Assumes nothing.
 use mathlib.Core.Path.{◌≡◌, refl, sym, ◌∙◌}
 use mathlib.Core.Option.{none}
-use borrow.Author.Tests.{not-true, not-false}
 use Rattle.paper.proofs.Hearing.{told_refused, told_passed}
 use Rattle.paper.proofs.Opening.{heard_1, passed}
 use Rattle.images.proofs.MakeReturns.{heard_of, makes_refused, makes_done, too_many}

@@ -5,7 +5,6 @@ use Prim.Native.Nat.{◌≤◌}
 use mathlib.Core.Path.{◌≡◌, sym, ◌∙◌}
 use mathlib.Core.Bool.{true}
 use native.Mathlib.Omega.{arith}
-use borrow.Author.Tests.{not-true, not-false}
 use Rattle.field.specs.Range.{between}
 use Rattle.head.specs.Fields.{most_links, shortest_image, longest_image, permitted}
 use Rattle.head.proofs.Permitted.{bounds}

@@ -2,7 +2,6 @@
 -- its later rows do. By computing, the table in the code is the table of the definition. The
 -- measure is how many rows are left. Assumes nothing.
 use mathlib.Core.List.{[]}
-use Prim.Native.Nat.{◌-◌}
 use mathlib.Core.Path.{◌≡◌, sym, ◌∙◌}
 use native.Mathlib.Omega.{arith}
 use lib.ListN.{get_or}

@@ -1,5 +1,4 @@
 use Prim.Native.Nat.{◌-◌}
-use Rattle.utf8.specs.Table37.{rows}
 use Rattle.utf8.proofs.Utf8Loops.{Consulting}
 use Rattle.utf8.proofs.char_len.Given as goal
 

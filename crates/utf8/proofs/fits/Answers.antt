@@ -1,10 +1,8 @@
 -- `utf8::fits` meets its contract. The bytes tested so far are in their ranges, so the row's
 -- test is that of the later bytes. The length is tested first, so all of them are inside the
 -- slice. The measure is how many bytes are left. Assumes nothing.
-use Prim.Native.Nat.{◌-◌}
 use mathlib.Core.Path.{sym, ◌∙◌}
 use native.Mathlib.Omega.{arith}
-use borrow.Author.Tests.{not-true, not-false}
 use Rattle.utf8.proofs.Utf8Loops.{testing_none, testing_more, testing_fails}
 use Rattle.utf8.proofs.Utf8Loops.{testing_all, fits_not, fits_if}
 use Rattle.utf8.proofs.fits.Goals as goal
