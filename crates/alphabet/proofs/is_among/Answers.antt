@@ -1,6 +1,5 @@
 -- `alphabet::is_among` meets its contract. The answer so far is that for the codes passed. The
 -- measure is how many codes are left. Assumes nothing.
-use Prim.Native.Nat.{◌-◌}
 use native.Mathlib.Omega.{arith}
 use Rattle.alphabet.proofs.AlphabetLoops.{searching_none, searching_more}
 use Rattle.alphabet.proofs.AlphabetLoops.{searching_all}

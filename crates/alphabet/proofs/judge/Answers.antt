@@ -4,7 +4,7 @@
 use mathlib.Core.Logic.{◌≢◌}
 use Rattle.utf8.specs.Table37.{char_len}
 use Rattle.utf8.proofs.Characters.{character}
-use Prim.Native.Nat.{◌+◌, ◌-◌, ◌≤◌}
+use Prim.Native.Nat.{◌+◌, ◌≤◌}
 use mathlib.Core.Path.{◌≡◌, sym, ◌∙◌}
 use mathlib.Core.Bool.{false}
 use native.Mathlib.Omega.{arith}

@@ -2,9 +2,7 @@
 -- met, this is its first position; if it is not, the number is n. The measure is how many codes
 -- are left. Assumes nothing.
 use mathlib.Core.Path.{sym}
-use Prim.Native.Nat.{◌-◌}
 use native.Mathlib.Omega.{arith}
-use mathlib.Core.Bool.{false}
 use Rattle.alphabet.proofs.AlphabetLoops.{searching_on, searching_found}
 use Rattle.alphabet.proofs.AlphabetLoops.{searching_missed}
 use Rattle.alphabet.proofs.letter.Goals as goal

@@ -1,9 +1,7 @@
 -- `alphabet::near` meets its contract: none of the codes passed is the one sought. The measure
 -- is how many codes are left. Assumes nothing.
 use mathlib.Core.Path.{sym}
-use Prim.Native.Nat.{◌-◌}
 use native.Mathlib.Omega.{arith}
-use mathlib.Core.Bool.{false}
 use Rattle.alphabet.proofs.AlphabetLoops.{searching_none, searching_four}
 use Rattle.alphabet.proofs.near.Goals as goal
 

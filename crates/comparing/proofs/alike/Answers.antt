@@ -1,7 +1,6 @@
 -- `comparing::alike` meets its contract: as long as the answer is true, every number compared is
 -- the same in both lists, and one part more keeps that. The measure is how many numbers are
 -- left. Assumes nothing.
-use Prim.Native.Nat.{◌-◌}
 use native.Mathlib.Omega.{arith}
 use Rattle.comparing.proofs.Comparing.{same_none, same_part, same_all}
 use Rattle.comparing.proofs.alike.Goals as goal

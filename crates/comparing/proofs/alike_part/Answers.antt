@@ -1,7 +1,6 @@
 -- `comparing::alike_part` meets its contract: as long as the answer is true, and the numbers
 -- before the part are the same in both lists, every number compared is the same too. The measure
 -- is how many numbers are left. Assumes nothing.
-use Prim.Native.Nat.{◌-◌}
 use native.Mathlib.Omega.{arith}
 use Rattle.comparing.proofs.Comparing.{same_start, same_more, same_all}
 use Rattle.comparing.proofs.alike_part.Goals as goal

@@ -1,6 +1,5 @@
 -- `comparing::first_different` meets its contract: the search goes upwards from node 0, and is
 -- not made if the lists are alike. The measure is how many nodes are left. Assumes nothing.
-use Prim.Native.Nat.{◌-◌}
 use native.Mathlib.Omega.{arith}
 use borrow.Author.Tests.{eq-eqb, ne_eqb}
 use Rattle.paper.proofs.Hearing.{untrue, unfalse}

@@ -1,6 +1,5 @@
 -- `opening::judge` meets its contract: each way out is one row of the order, once the rows
 -- before it have passed. Assumes nothing.
--- past the first test the length is allowed
 use Prim.Native.Nat.{◌≤◌}
 use mathlib.Core.Path.{◌≡◌, sym, ◌∙◌}
 use mathlib.Core.Bool.{true}
@@ -15,6 +14,7 @@ use Rattle.opening.proofs.Stages.{plain_good, spoilt_bad}
 use Rattle.opening.proofs.judge.Goals as goal
 use Rattle.opening.proofs.judge.Goals.{Else-not-length_allowed, Else-not-permitted}
 
+-- past the first test the length is allowed
 allowed : (c : Else-not-length_allowed) → between c.args.len shortest_image
     longest_image ≡ true
 allowed c = sym c.length_allowed.ensures ∙ c.if-not-length_allowed.false

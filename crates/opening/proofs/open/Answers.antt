@@ -1,6 +1,5 @@
 -- `opening::open` meets its contract: an image that has the seven fields is judged by them, and
 -- its alphabet is the part after them. Assumes nothing.
--- past the first test the seven fields are there
 use Prim.Native.Nat.{◌≤◌}
 use mathlib.Core.Path.{sym, ◌∙◌}
 use native.Mathlib.Omega.{arith}
@@ -13,6 +12,7 @@ use Rattle.opening.proofs.Stages.{opens_refused, opens_judged}
 use Rattle.opening.proofs.open.Goals as goal
 use Rattle.opening.proofs.open.Goals.{Else-not-length_allowed}
 
+-- past the first test the seven fields are there
 fields : (c : Else-not-length_allowed) → fields_len ≤ length c.args.image.now
 fields c =
     (between_true _ _ _ (sym c.length_allowed.ensures ∙ c.if-not-length_allowed.false)).0
