@@ -39,12 +39,13 @@
 
 mod line;
 
-ghost use Rattle.std.specs.Prelude.{◌≤◌, length};
+ghost use Rattle.std.specs.Prelude.{◌≤◌, length, IfOk};
 
 use head::Head;
-use libc::{STDIN_FILENO, STDOUT_FILENO};
 use line::Line;
 use paper::{Counted, Done, Found, Looked, Noted, Refusal, Stored};
+use std::io;
+use std::io::Read;
 
 // How many forms of a line there are.
 const CALLS: usize = 16;
@@ -153,33 +154,51 @@ const SHOWN_NUMBERS: usize = 252;
 // More bytes than can be lent: the answer for a line that is not a case.
 const NONE: usize = 4294967295;
 
-fn main() {
+fn main(rt: HostRuntime) -> io::Result<()> {
     let mut space = [0u8; TEXT_MOST];
-    let len = io::read_full(STDIN_FILENO, &mut space);
+    let len = read_full(&mut rt.stdin(), &mut space)?;
     let mut image = [0u8; IMAGE_MOST];
-    cases(&space[0..len], &mut image);
+    cases(&rt, &space[0..len], &mut image)?;
     if len == TEXT_MOST {
-        say(TOO_MANY);
+        say(&rt, TOO_MANY)?;
     }
+    Ok(())
+}
+
+// Reads until the buffer is full or the input ends. Answers how many bytes it put at the buffer's
+// start.
+fn read_full(from: &mut impl Read, space: &mut [u8]) -> io::Result<usize>
+    ensures { IfOk result (λ n. n ≤ length space.new) }
+{
+    let mut len: usize = 0;
+    while len < space.len() {
+        let n = from.read(&mut space[len..])?;
+        if n == 0 {
+            break;
+        }
+        len += n;
+    }
+    Ok(len)
 }
 
 // Runs one line after the other.
-fn cases(text: &[u8], image: &mut [u8]) {
+fn cases(out: &impl Print, text: &[u8], image: &mut [u8]) -> io::Result<()> {
     let mut lent: usize = 0;
     let mut at: usize = 0;
     let mut number: u64 = 1;
     while at < text.len() {
         let end = find(text, at, b'\n');
-        let next = case(&text[at..end], image, lent);
+        let next = case(out, &text[at..end], image, lent)?;
         if next <= image.len() {
             lent = next;
         } else {
-            fact(LINE, number);
-            say(NO_CASE);
+            fact(out, LINE, number)?;
+            say(out, NO_CASE)?;
         }
         at = end + 1;
         number += 1;
     }
+    Ok(())
 }
 
 // The first place of the byte from `from` on, the length if it is not there.
@@ -198,26 +217,26 @@ fn find(text: &[u8], from: usize, byte: u8) -> usize
 }
 
 // Runs a line. Answers how many bytes of the image are lent from then on.
-fn case(text: &[u8], image: &mut [u8], lent: usize) -> usize
+fn case(out: &impl Print, text: &[u8], image: &mut [u8], lent: usize) -> io::Result<usize>
     requires { lent ≤ length image.old }
 {
     let bar = find(text, 0, b'|');
     let line = Line::of(&text[0..bar]);
-    let call = which(line);
+    let call = which(&line);
     if call < 4 {
-        return edit(call, line, image, lent);
+        return Ok(edit(call, &line, image, lent));
     }
-    if !fits(call, line) {
-        return NONE;
+    if !fits(call, &line) {
+        return Ok(NONE);
     }
-    name(text, bar);
-    run(call, line, &mut image[0..lent]);
-    say(END);
-    lent
+    name(out, text, bar)?;
+    run(out, call, &line, &mut image[0..lent])?;
+    say(out, END)?;
+    Ok(lent)
 }
 
 // The number of a line's form, CALLS if it has none of them.
-fn which(line: Line) -> usize {
+fn which(line: &Line) -> usize {
     let form = line.form;
     let all = FORMS;
     let mut i: usize = 0;
@@ -242,7 +261,7 @@ fn same(a: [u8; 24], b: [u8; 24]) -> bool {
 }
 
 // The lines that make no call: an empty one, `image`, `put` and `lend`.
-fn edit(call: usize, line: Line, image: &mut [u8], lent: usize) -> usize {
+fn edit(call: usize, line: &Line, image: &mut [u8], lent: usize) -> usize {
     match call {
         0 => lent,
         1 => put(line, image, 0, line.len),
@@ -252,9 +271,8 @@ fn edit(call: usize, line: Line, image: &mut [u8], lent: usize) -> usize {
 }
 
 // Writes the bytes into the image. Answers how many bytes are lent from then on.
-fn put(line: Line, image: &mut [u8], at: usize, lend: usize) -> usize {
-    let bytes = line.bytes;
-    let given = first(&bytes, line.len);
+fn put(line: &Line, image: &mut [u8], at: usize, lend: usize) -> usize {
+    let given = first(&line.bytes, line.len);
     let most = image.len();
     if most < at {
         return NONE;
@@ -276,7 +294,7 @@ fn first(bytes: &[u8; Line::BYTES], len: usize) -> &[u8] {
 }
 
 // Whether this is a call, and there is room for the sizes that its numbers give.
-fn fits(call: usize, line: Line) -> bool {
+fn fits(call: usize, line: &Line) -> bool {
     let first = line.a as usize <= LENT_MOST;
     match call {
         4 => narrow(line.a) & narrow(line.b) & narrow(line.c) & narrow(line.d) & narrow(line.e),
@@ -297,31 +315,31 @@ fn low(n: u64) -> u32 {
 }
 
 // Writes what is after the bar and a blank.
-fn name(text: &[u8], bar: usize) {
+fn name(out: &impl Print, text: &[u8], bar: usize) -> io::Result<()> {
     let len = text.len();
     if bar < len {
         let from = bar + 1;
         if from < len {
             let start = from + 1;
-            io::write_all(STDOUT_FILENO, &text[start..]);
+            return out.write_all(&text[start..]);
         }
     }
+    Ok(())
 }
 
 // Runs a call on the lent part of the image, and writes what it answers and leaves.
-fn run(call: usize, line: Line, image: &mut [u8]) {
-    let bytes = line.bytes;
-    let given = first(&bytes, line.len);
+fn run(out: &impl Print, call: usize, line: &Line, image: &mut [u8]) -> io::Result<()> {
+    let given = first(&line.bytes, line.len);
     match call {
-        4 => make(line, given, image),
-        5 => looked(lookups::look_up(image, given)),
-        6 => looked(lookups::look_up_text(image, given)),
-        _ => lend(call, line, given, image),
+        4 => make(out, line, given, image),
+        5 => looked(out, lookups::look_up(image, given)),
+        6 => looked(out, lookups::look_up_text(image, given)),
+        _ => lend(out, call, line, given, image),
     }
 }
 
-fn make(line: Line, alphabet: &[u8], image: &mut [u8]) {
-    plain(images::make(
+fn make(out: &impl Print, line: &Line, alphabet: &[u8], image: &mut [u8]) -> io::Result<()> {
+    let answer = images::make(
         image,
         low(line.a),
         low(line.b),
@@ -329,29 +347,43 @@ fn make(line: Line, alphabet: &[u8], image: &mut [u8]) {
         alphabet,
         low(line.d),
         low(line.e),
-    ));
-    bytes(image, image.len());
+    );
+    plain(out, answer)?;
+    bytes(out, image, image.len())
 }
 
 // The other calls are lent working numbers, as many as the first number says.
-fn lend(call: usize, line: Line, given: &[u8], image: &mut [u8]) {
+fn lend(
+    out: &impl Print,
+    call: usize,
+    line: &Line,
+    given: &[u8],
+    image: &mut [u8],
+) -> io::Result<()> {
     let mut space = [7u32; LENT_MOST];
     let size = least(line.a);
-    work(call, line.b, given, image, &mut space[0..size]);
+    work(out, call, line.b, given, image, &mut space[0..size])
 }
 
-fn work(call: usize, second: u64, given: &[u8], image: &mut [u8], numbers: &mut [u32]) {
+fn work(
+    out: &impl Print,
+    call: usize,
+    second: u64,
+    given: &[u8],
+    image: &mut [u8],
+    numbers: &mut [u32],
+) -> io::Result<()> {
     match call {
         7 => {
-            plain(checks::check(image, numbers));
-            decimals(WORK, numbers, LENT_MOST);
+            plain(out, checks::check(image, numbers))?;
+            decimals(out, WORK, numbers, LENT_MOST)
         }
         8 => {
-            counted(checks::count(image, numbers));
-            decimals(WORK, numbers, LENT_MOST);
+            counted(out, checks::count(image, numbers))?;
+            decimals(out, WORK, numbers, LENT_MOST)
         }
-        9 | 10 => next_key(call == 10, second, given, image, numbers),
-        _ => store(call, second, given, image, numbers),
+        9 | 10 => next_key(out, call == 10, second, given, image, numbers),
+        _ => store(out, call, second, given, image, numbers),
     }
 }
 
@@ -363,135 +395,167 @@ fn least(n: u64) -> usize
     if size <= LENT_MOST { size } else { LENT_MOST }
 }
 
-fn next_key(after: bool, second: u64, key: &[u8], image: &[u8], numbers: &mut [u32]) {
+fn next_key(
+    out: &impl Print,
+    after: bool,
+    second: u64,
+    key: &[u8],
+    image: &[u8],
+    numbers: &mut [u32],
+) -> io::Result<()> {
     let mut space = [0xAAu8; LENT_MOST];
     let room = least(second);
     let buffer = &mut space[0..room];
-    found(checks::next_key(image, numbers, key, after, buffer));
-    decimals(WORK, numbers, LENT_MOST);
-    bytes(buffer, LENT_MOST);
+    found(out, checks::next_key(image, numbers, key, after, buffer))?;
+    decimals(out, WORK, numbers, LENT_MOST)?;
+    bytes(out, buffer, LENT_MOST)
 }
 
 // Runs a call that changes the image.
-fn store(call: usize, value: u64, key: &[u8], image: &mut [u8], numbers: &mut [u32]) {
+fn store(
+    out: &impl Print,
+    call: usize,
+    value: u64,
+    key: &[u8],
+    image: &mut [u8],
+    numbers: &mut [u32],
+) -> io::Result<()> {
     let mut before = [0u8; IMAGE_MOST];
     changes(&mut before, image);
-    change(call, value, key, image, numbers);
-    left(changes(&mut before, image), image);
-    decimals(WORK, numbers, LENT_MOST);
+    change(out, call, value, key, image, numbers)?;
+    left(out, changes(&mut before, image), image)?;
+    decimals(out, WORK, numbers, LENT_MOST)
 }
 
-fn change(call: usize, value: u64, key: &[u8], image: &mut [u8], numbers: &mut [u32]) {
+fn change(
+    out: &impl Print,
+    call: usize,
+    value: u64,
+    key: &[u8],
+    image: &mut [u8],
+    numbers: &mut [u32],
+) -> io::Result<()> {
     match call {
-        11 => stored(stores::store(image, numbers, key, value)),
-        12 => stored(stores::store_text(image, numbers, key, value)),
-        13 | 14 => store_with_writes(call, value, key, image, numbers),
-        _ => plain(images::mend(image, numbers)),
+        11 => stored(out, stores::store(image, numbers, key, value)),
+        12 => stored(out, stores::store_text(image, numbers, key, value)),
+        13 | 14 => store_with_writes(out, call, value, key, image, numbers),
+        _ => plain(out, images::mend(image, numbers)),
     }
 }
 
-fn store_with_writes(call: usize, value: u64, key: &[u8], image: &mut [u8], numbers: &mut [u32]) {
+fn store_with_writes(
+    out: &impl Print,
+    call: usize,
+    value: u64,
+    key: &[u8],
+    image: &mut [u8],
+    numbers: &mut [u32],
+) -> io::Result<()> {
     let mut list = [7u32; Head::NOTED_MOST as usize];
     if call == 13 {
         let answer = stores::store_writes(image, numbers, key, value, &mut list);
-        noted(answer, &list);
+        noted(out, answer, &list)
     } else {
         let answer = stores::store_text_writes(image, numbers, key, value, &mut list);
-        noted(answer, &list);
+        noted(out, answer, &list)
     }
 }
 
-fn plain(answer: Done) {
+fn plain(out: &impl Print, answer: Done) -> io::Result<()> {
     match answer {
-        Done::Done => said(0, 0),
-        Done::Refused(why) => refused(why),
+        Done::Done => said(out, 0, 0),
+        Done::Refused(why) => refused(out, why),
     }
 }
 
-fn counted(answer: Counted) {
+fn counted(out: &impl Print, answer: Counted) -> io::Result<()> {
     match answer {
-        Counted::Keys(n) => done(0, n as u64),
-        Counted::Refused(why) => refused(why),
+        Counted::Keys(n) => done(out, 0, n as u64),
+        Counted::Refused(why) => refused(out, why),
     }
 }
 
-fn looked(answer: Looked) {
+fn looked(out: &impl Print, answer: Looked) -> io::Result<()> {
     match answer {
-        Looked::Value(value) => done(0, value),
-        Looked::Refused(why) => refused(why),
+        Looked::Value(value) => done(out, 0, value),
+        Looked::Refused(why) => refused(out, why),
     }
 }
 
-fn found(answer: Found) {
+fn found(out: &impl Print, answer: Found) -> io::Result<()> {
     match answer {
-        Found::Key { length, value } => done(length, value),
-        Found::Refused(why) => refused(why),
+        Found::Key { length, value } => done(out, length, value),
+        Found::Refused(why) => refused(out, why),
     }
 }
 
-fn stored(answer: Stored) {
+fn stored(out: &impl Print, answer: Stored) -> io::Result<()> {
     match answer {
         Stored::Change(change) => {
-            said(0, 0);
+            said(out, 0, 0)?;
             match change {
-                -1 => say(CHANGE_LESS),
-                0 => fact(CHANGE, 0),
-                1 => fact(CHANGE, 1),
-                _ => say(CHANGE_OTHER),
+                -1 => say(out, CHANGE_LESS),
+                0 => fact(out, CHANGE, 0),
+                1 => fact(out, CHANGE, 1),
+                _ => say(out, CHANGE_OTHER),
             }
         }
-        Stored::Refused(why) => refused(why),
+        Stored::Refused(why) => refused(out, why),
     }
 }
 
 // Writes the numbers of the list that the call wrote, and two more.
-fn noted(answer: Noted, list: &[u32; Head::NOTED_MOST as usize]) {
+fn noted(
+    out: &impl Print,
+    answer: Noted,
+    list: &[u32; Head::NOTED_MOST as usize],
+) -> io::Result<()> {
     match answer {
         Noted::Change { change, writes } => {
-            stored(Stored::Change(change));
-            fact(WRITES, writes as u64);
-            decimals(LIST, list, writes as usize * 2 + 2);
+            stored(out, Stored::Change(change))?;
+            fact(out, WRITES, writes as u64)?;
+            decimals(out, LIST, list, writes as usize * 2 + 2)
         }
         Noted::Refused(why) => {
-            refused(why);
-            decimals(LIST, list, 2);
+            refused(out, why)?;
+            decimals(out, LIST, list, 2)
         }
     }
 }
 
-fn refused(why: Refusal) {
-    said(why.number(), why.place());
+fn refused(out: &impl Print, why: Refusal) -> io::Result<()> {
+    said(out, why.number(), why.place())
 }
 
 // Writes the number of an answer and its place.
-fn said(number: u32, place: u32) {
-    fact(BLANK, number as u64);
-    fact(AT, place as u64);
-    say(COLON);
+fn said(out: &impl Print, number: u32, place: u32) -> io::Result<()> {
+    fact(out, BLANK, number as u64)?;
+    fact(out, AT, place as u64)?;
+    say(out, COLON)
 }
 
 // Writes an answer that is done: its length, if the call has one, and its value.
-fn done(length: u32, value: u64) {
-    said(0, 0);
-    fact(LENGTH, length as u64);
-    fact(VALUE, value);
+fn done(out: &impl Print, length: u32, value: u64) -> io::Result<()> {
+    said(out, 0, 0)?;
+    fact(out, LENGTH, length as u64)?;
+    fact(out, VALUE, value)
 }
 
 // Writes the image or, if it is too long for a line, G and how many bytes changed.
-fn left(changed: u64, image: &[u8]) {
+fn left(out: &impl Print, changed: u64, image: &[u8]) -> io::Result<()> {
     if image.len() <= SHOWN_BYTES {
-        say(IMAGE);
-        bytes(image, SHOWN_BYTES);
+        say(out, IMAGE)?;
+        bytes(out, image, SHOWN_BYTES)
     } else {
-        say(GREATEST);
-        bytes(image, 4);
-        fact(CHANGED, changed);
+        say(out, GREATEST)?;
+        bytes(out, image, 4)?;
+        fact(out, CHANGED, changed)
     }
 }
 
 // Writes words and the numbers of a list, up to a place.
-fn decimals(words: usize, list: &[u32], to: usize) {
-    say(words);
+fn decimals(out: &impl Print, words: usize, list: &[u32], to: usize) -> io::Result<()> {
+    say(out, words)?;
     let mut i: usize = 0;
     if SHOWN_NUMBERS < list.len() {
         i = SHOWN_NUMBERS;
@@ -500,24 +564,27 @@ fn decimals(words: usize, list: &[u32], to: usize) {
         if to <= i {
             break;
         }
-        fact(BLANK, list[i] as u64);
+        fact(out, BLANK, list[i] as u64)?;
         i += 1;
     }
+    Ok(())
 }
 
 // Writes the bytes in hexadecimal, four by four, up to a place.
-fn bytes(image: &[u8], to: usize) {
+fn bytes(out: &impl Print, image: &[u8], to: usize) -> io::Result<()> {
     let mut i: usize = 0;
     while i < image.len() {
         if to <= i {
             break;
         }
         if i % 4 == 0 {
-            say(BLANK);
+            say(out, BLANK)?;
         }
-        io::print_hex(STDOUT_FILENO, field::wide(image[i]), 2);
+        let byte = image[i];
+        print!(out; "{byte:02x}")?;
         i += 1;
     }
+    Ok(())
 }
 
 // How many bytes of the image differ from `before`, which then becomes a copy of it.
@@ -538,21 +605,22 @@ fn changes(before: &mut [u8], image: &[u8]) -> u64 {
 }
 
 // Writes words and a number.
-fn fact(words: usize, n: u64) {
-    say(words);
-    io::print_decimal(STDOUT_FILENO, n);
+fn fact(out: &impl Print, words: usize, n: u64) -> io::Result<()> {
+    say(out, words)?;
+    print!(out; "{n}")
 }
 
-fn say(words: usize) {
+fn say(out: &impl Print, words: usize) -> io::Result<()> {
     let all = WORDS;
     if words < ROWS {
         let row = all[words];
-        write(&row);
+        return write(out, &row);
     }
+    Ok(())
 }
 
-fn write(row: &[u8; 16]) {
+fn write(out: &impl Print, row: &[u8; 16]) -> io::Result<()> {
     let text: &[u8] = row;
     let end = find(text, 0, b'.');
-    io::write_all(STDOUT_FILENO, &text[0..end]);
+    out.write_all(&text[0..end])
 }
