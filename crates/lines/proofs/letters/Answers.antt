@@ -2,7 +2,7 @@
 -- next letter, for which there are four bytes of room. The measure is how many letters are left.
 -- Assumes nothing.
 use mathlib.Core.Path.{refl}
-use Prim.Native.Nat.{◌+◌, ◌-◌, ◌≤◌}
+use Prim.Native.Nat.{◌+◌, ◌≤◌}
 use native.Mathlib.Omega.{arith}
 use lib.ListN.{length, get_or, length-set}
 use Rattle.lines.specs.Lines.{TextAt, decimal}
