@@ -1,8 +1,6 @@
 -- `list::answer` meets its contract: what was read decides the output, which `tell` writes.
 -- Assumes nothing.
 use borrow.Author.Rules.{rules}
-use native.Mathlib.Omega.{arith}
-use lib.ListN.{take}
 use Rattle.list.proofs.Inputs.{output_whole}
 use Rattle.list.proofs.answer.Goals as goal
 

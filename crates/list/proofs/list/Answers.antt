@@ -2,7 +2,7 @@
 -- those of the keys after the path's key (`Telling`). The measure is how many these keys are; the
 -- loop ends where the search finds none. A line begins where the longest line fits. While no write
 -- failed, the writer has got what was handed over (`Sent`). Assumes nothing.
-use mathlib.Core.Path.{◌≡◌, sym, ◌∙◌}
+use mathlib.Core.Path.{◌∙◌}
 use mathlib.Core.Bool.{true}
 use mathlib.Core.List.{List}
 use Prim.Native.Nat.{ℕ, ◌≤◌}
@@ -17,7 +17,7 @@ use Rattle.depths.proofs.Walkable.{walkable, short}
 use Rattle.traversal.specs.Search.{next_stored}
 use Rattle.traversal.proofs.Walking.{met, has_room, keys_after}
 use Rattle.list.specs.Output.{output_of}
-use Rattle.list.proofs.Pieces.{Waiting, waiting_front, waiting_part, waiting_handed}
+use Rattle.list.proofs.Pieces.{Waiting, waiting_part, waiting_handed}
 use Rattle.list.proofs.Pieces.{waiting_same}
 use Rattle.list.proofs.Telling.{lined, telling_start, telling_end, telling_less}
 use Rattle.list.proofs.Telling.{telling_on}

@@ -1,4 +1,3 @@
-use Prim.Native.Nat.{◌+◌}
 use lib.ListN.{length, take}
 use Rattle.std.specs.Prelude.{OnOk}
 use Rattle.std.specs.Io.KnownBytes.{Appends}
