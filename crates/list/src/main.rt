@@ -1,9 +1,9 @@
 // 01's listing program: reads an image of at most 65,536 bytes from standard input and writes
 // its stored keys in order, a line for each, or the one line of a refusal. It checks the image
 // once and then walks through it, and it writes many lines at a time. What it hands over to be
-// written, put together, is proved to be the whole output, whether or not a write fails; and where
-// no write failed, a writer whose bytes are known has got all of it. A failed read or write is what
-// the program ends with.
+// written, put together, is proved to be the whole output. Where no write failed, a writer whose
+// bytes are known has got all of it; that standard output is one is assumed. After a failed read
+// or write nothing more is written, and the program ends with that error.
 #![tactic(auto)]
 
 ghost use Rattle.std.specs.Prelude.{◌≡◌, ◌+◌, ◌<◌, ◌≤◌, length, take, IfOk, IfSome, IsOk, OnOk};
@@ -156,8 +156,9 @@ fn root_line(out: &mut [u8], at: usize, value: u64) -> usize
 
 // Hands over a piece of the output for an input, to be written, and counts its bytes. It is the
 // next part of the output, after the bytes that were counted before. No other function writes, and
-// no other changes the count. `sent` is how the writes before went, and the answer how they and this
-// one went: after one that failed, no other is begun.
+// no other changes the count. `sent` is how the writes before went, and the answer how they and
+// this one went: after one that failed, no other is begun, and the pieces are counted all the
+// same.
 fn hand_over<W: Write>(
     to: &mut W,
     sent: io::Result<()>,

@@ -29,7 +29,8 @@ pub slice_bounds-out-end : goal.slice_bounds-out-end
 slice_bounds-out-end g c = (waits g (goal.at.slice_bounds-out-end g c).After-refused-end).inside
 
 pub slice_bounds-hand_over-end : goal.slice_bounds-hand_over-end
-slice_bounds-hand_over-end g c = sym (waiting_front (waits g (goal.at.slice_bounds-hand_over-end g c).After-refused-end))
+slice_bounds-hand_over-end g c = sym (waiting_front
+    (waits g (goal.at.slice_bounds-hand_over-end g c).After-refused-end))
 
 pub hand_over-requires : goal.hand_over-requires
 hand_over-requires g c = waiting_part (waits g (goal.at.hand_over-requires g c).After-refused-end)

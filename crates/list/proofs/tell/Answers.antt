@@ -10,7 +10,11 @@ use Rattle.list.proofs.tell.Goals as goal
 
 pub refuse-requires : goal.refuse-requires
 refuse-requires g c =
-    record { input_value = output_longer c.args.input.now (omega (arith, c.if-input-gt-IMAGE.true)); done_value = c.requires }
+    record {
+      input_value = output_longer c.args.input.now
+          (omega (arith, c.if-input-gt-IMAGE.true));
+      done_value = c.requires;
+    }
 
 pub refuse-requires-in-Refused : goal.refuse-requires-in-Refused
 refuse-requires-in-Refused g c =
