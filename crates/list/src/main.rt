@@ -6,7 +6,7 @@
 // or write nothing more is written, and the program ends with that error.
 #![tactic(auto)]
 
-ghost use Rattle.std.specs.Prelude.{◌≡◌, ◌+◌, ◌<◌, ◌≤◌, length, take, IfOk, IfSome, IsOk, OnOk};
+ghost use Rattle.std.specs.Prelude.{◌≡◌, ◌+◌, ◌<◌, ◌≤◌, length, take, IfOk, IfSome, IsOk, OnErr, OnOk};
 ghost use Rattle.std.specs.Io.KnownBytes.{Appends, Consumes, IsAtEnd};
 ghost use Rattle.head.specs.Fields.{head_of};
 ghost use Rattle.paper.specs.Accepted.{Accepted};
@@ -170,6 +170,7 @@ fn hand_over<W: Write>(
     ensures done_value { done.new ≡ done.old + length piece.now }
     ensures written { OnOk result
         (IsOk sent × Appends (W.contents to.old) (W.contents to.new) piece.now) }
+    ensures failed { OnErr sent ((result ≡ sent) × (to.new ≡ to.old)) }
 {
     *done += piece.len();
     sent?;
