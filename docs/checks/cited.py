@@ -26,7 +26,7 @@ def names_of(path):
         return {head["type"] or head["name"] for head in heads if head}
     if path.suffix == ".rt":
         found = set(re.findall(r"\b(?:fn|struct|enum|const) (\w+)", text(path)))
-        block = r"^(?:pub )?(?:impl|enum) (\w+)[^{;]*\{(.*?)^\}"
+        block = r"^(?:pub )?(?:impl|enum)(?:<[^>]*>)? (\w+)[^{;]*\{(.*?)^\}"
         for kind, inner in re.findall(block, text(path), re.M | re.S):
             inside = re.findall(r"^ +(?:pub )?(?:fn |const )?(\w+)", inner, re.M)
             found |= {f"{kind}::{name}" for name in inside}

@@ -13,10 +13,10 @@ use native.Mathlib.Omega.{arith}
 use lib.Dec.{eqb, ltb}
 use lib.ListN.{length, get_or}
 use borrow.Author.Tests.{lt-ltb, le-ltb, eq-eqb, ne_eqb}
+use Rattle.std.specs.Prelude.{Option, Some, None, Ok, Err}
 use Rattle.field.specs.Range.{between}
 use Rattle.field.proofs.Range.{between_true, true_between}
 use Rattle.trie.specs.Table.{Table}
-use Rattle.trie.specs.Lowest.{lowest}
 use Rattle.trie.specs.Rules.{Framed, Once}
 use Rattle.trie.specs.Tree.{depth_of, depth_within}
 use Rattle.trie.proofs.Depth.{reached_depth, depth_reached, walk_within, within_walk}
@@ -27,14 +27,13 @@ use Rattle.node.specs.Image.{Open, table_of}
 use Rattle.node.proofs.Tables.{framed}
 use Rattle.head.proofs.Permitted.{bounds}
 use Rattle.paper.specs.declared.Refusal.{Refusal}
-use Rattle.paper.specs.declared.Verdict.{Verdict}
 use Rattle.paper.specs.Answers.{row_of}
 use Rattle.paper.specs.Rows.{row16, is_hidden, row19}
 use Rattle.paper.proofs.Hearing.{first_nil, first_some, first_none}
 use Rattle.paper.proofs.Linking.{row16_none, unreached}
 use Rattle.reaching.specs.Reaching.{Searched, Marked, mark_in}
-use Rattle.tallying.specs.Tallied.{FoundFrom, hidden_at, HiddenFrom}
-use Rattle.tallying.proofs.LowestFound.{lowest_same, given_at, given_nowhere}
+use Rattle.tallying.specs.Tallied.{lowest_in, FoundFrom, hidden_at, HiddenFrom}
+use Rattle.tallying.proofs.LowestFound.{found_none, found_same, given_at, given_nowhere}
 use Rattle.audit.specs.Audit.{ReachedJudged}
 
 -- ---- marks and depths
@@ -108,69 +107,71 @@ module _ {h : Head} {l work work' : List ℕ} {met : ℕ} (s : Searched h l work
       go (no d) =
           ne_eqb (get_or work' x 0) 0 d ∙ sym (le-ltb h.g (depth x) (shallow x (omega arith) d))
 
-  module _ {x : ℕ} (found : FoundFrom work' (h.g + 1) 0 x) where
-    place : x ≡ lowest (unreached h table) 1 h.g
-    place =
-        let k : h.g + 1 - 1 ≡ h.g = omega arith in
-        found
-        ∙ ap (lowest (λ y. eqb (get_or work' y 0) 0) 1) k
-        ∙ lowest_same (λ y. eqb (get_or work' y 0) 0) (unreached h table) 1 h.g same
+  -- the search in the numbers is one for the lowest node that is not reached
+  place_16 : {r : Option ℕ} → FoundFrom work' (h.g + 1) 0 r
+      → r ≡ lowest_in (unreached h table) 1 h.g
+  place_16 found =
+      let k : h.g + 1 - 1 ≡ h.g = omega arith in
+      found
+      ∙ ap (lowest_in (λ y. eqb (get_or work' y 0) 0) 1) k
+      ∙ found_same (λ y. eqb (get_or work' y 0) 0) (unreached h table) 1 h.g same
 
-    -- where fewer nodes were met than there are, one is found
-    pub unreached_found : met ≢ h.g + 1 → x < h.g + 1
-    unreached_found few =
-        let (y, low, high, z) = s.some few in
-        go y low high z (dec_le (h.g + 1) x)
-      where
-        go : (y : ℕ) → 1 ≤ y → y ≤ h.g → get_or work' y 0 ≡ 0 → Dec (h.g + 1 ≤ x) → x < h.g + 1
-        go y low high z (no b) = omega arith
-        go y low high z (yes b) =
-            let none_is = none_lowest (λ w. eqb (get_or work' w 0) 0) 1 (h.g + 1 - 1)
-            (omega (arith, found)) y low (omega arith) in
-            absurd (true≢false (sym (eq-eqb (get_or work' y 0) 0 z) ∙ none_is))
+  pub reached_not : {x : ℕ} → FoundFrom work' (h.g + 1) 0 (Some x)
+      → ReachedJudged h l work (Err (Refusal.NotReached x)) work'
+  unfolding row_of row16
+  reached_not found =
+      record {
+        verdict = sym (first_some _ _ (given_at 16 _ 1 h.g (place_16 found)));
+        kept = s.kept;
+      }
 
-    pub reached_not : met ≢ h.g + 1
-        → ReachedJudged h l work (Verdict.Refused (Refusal.NotReached x)) work'
-    unfolding row_of row16
-    reached_not few =
-        record {
-          verdict =
-              sym (first_some _ _ (given_at 16 _ 1 h.g place
-              (omega (arith, unreached_found few))));
-          kept = s.kept;
-        }
+  -- where it finds none, each was met
+  pub each_met : FoundFrom work' (h.g + 1) 0 None → met ≡ h.g + 1
+  each_met found = go (ℕ_discrete met (h.g + 1))
+    where
+      zero_at : ℕ → Bool
+      zero_at y = eqb (get_or work' y 0) 0
+
+      go : Dec (met ≡ h.g + 1) → met ≡ h.g + 1
+      go (yes all) = all
+      go (no few) =
+          let (y, low, high, z) = s.some few in
+          let none_is =
+          none_lowest zero_at 1 (h.g + 1 - 1) (found_none zero_at 1 (h.g + 1 - 1) found refl) y low
+          (omega arith) in
+          absurd (true≢false (sym (eq-eqb (get_or work' y 0) 0 z) ∙ none_is))
 
   -- every node is met, and 19 is judged by the marks
-  module _ (o : Open h l) (once : Once table) (all : met ≡ h.g + 1) {x : ℕ}
-      (found : HiddenFrom h l work' x) where
+  module _ (o : Open h l) (once : Once table) (all : met ≡ h.g + 1) where
     past_16 : row16 h table ≡ none
     past_16 = row16_none h table (λ y low high. shallow y high (s.all all y high))
 
-    place_19 : x ≡ lowest (is_hidden h table) 0 (h.g + 1)
-    place_19 =
-        found ∙ lowest_same (λ y. hidden_at h table y (mark_in work' y)) (is_hidden h table) 0
+    place_19 : {r : Option ℕ} → HiddenFrom h l work' r
+        → r ≡ lowest_in (is_hidden h table) 0 (h.g + 1)
+    place_19 found =
+        found ∙ found_same (λ y. hidden_at h table y (mark_in work' y)) (is_hidden h table) 0
         (h.g + 1)
         (λ y low high. mark_hidden o once
         (s.marked y (omega arith) (s.all all y (omega arith))))
 
-    pub reached_hidden : x < h.g + 1
-        → ReachedJudged h l work (Verdict.Refused (Refusal.Hidden x)) work'
+    pub reached_hidden : {x : ℕ} → HiddenFrom h l work' (Some x)
+        → ReachedJudged h l work (Err (Refusal.Hidden x)) work'
     unfolding row_of row19
-    reached_hidden low =
+    reached_hidden found =
         record {
           verdict =
               sym (first_none _ _ past_16 ∙ first_some _ _
-              (given_at 19 _ 0 (h.g + 1) place_19 (omega arith)));
+              (given_at 19 _ 0 (h.g + 1) (place_19 found)));
           kept = s.kept;
         }
 
-    pub reached_shown : h.g + 1 ≤ x → ReachedJudged h l work Verdict.Passed work'
+    pub reached_shown : HiddenFrom h l work' None → ReachedJudged h l work (Ok tt) work'
     unfolding row_of row19
-    reached_shown high =
+    reached_shown found =
         record {
           verdict =
               sym (first_none _ _ past_16
-              ∙ first_none _ _ (given_nowhere 19 _ 0 (h.g + 1) place_19 (omega arith))
+              ∙ first_none _ _ (given_nowhere 19 _ 0 (h.g + 1) (place_19 found))
               ∙ first_nil);
           kept = s.kept;
         }

@@ -7,101 +7,85 @@
 ghost use Rattle.std.specs.Prelude.{◌≡◌, ◌≤◌, ◌+◌, ◌++◌, length, drop, replicate};
 ghost use Rattle.trie.specs.Rules.{Within, Once};
 ghost use Rattle.head.specs.Fields.{longest_image};
-ghost use Rattle.node.specs.Image.{Open, table_of};
+ghost use Rattle.node.specs.Read.{node_table};
 ghost use Rattle.audit.specs.Audit.{Checked, Audited, LinksJudged, ReachedJudged};
 
+use alphabet::Codes;
 use head::Head;
-use opening::Opened;
-use paper::{Refusal, Verdict};
+use node::Nodes;
+use paper::Refusal;
 
-// Checks an image, and answers its head and letters as opening does. Refusals: 1 to 8, 16
-// and 19.
-pub fn check(image: &[u8], work: &mut [u32], codes: &mut [u32; Head::N_MOST as usize]) -> Opened
-    ensures { Checked image.now work.old result work.new
-        codes.new }
+// Checks an image, and answers its head and leaves its letters as opening does. Refusals: 1 to 8,
+// 16 and 19.
+pub fn check(image: &[u8], work: &mut [u32], codes: &mut Codes) -> Result<Head, Refusal>
+    ensures { Checked image.now work.old result work.new codes.new }
 {
-    let opened = opening::open(image, codes);
-    let verdict = opened.verdict;
-    match verdict {
-        Verdict::Refused(_) => opened,
-        Verdict::Passed => {
-            let h = opened.head;
-            Opened {
-                verdict: audit(image, h, work),
-                head: h,
-                count: opened.count,
-            }
-        }
-    }
+    let h = opening::open(image, codes)?;
+    audit(Nodes::of(image, h), work)?;
+    Ok(h)
 }
 
 // Judges 5 to 8, 16 and 19. Once 5 is passed, the first G+1 working numbers are 0 when it returns,
 // and the rest keep what they held; at 5 all keep it.
-fn audit(image: &[u8], h: Head, work: &mut [u32]) -> Verdict
-    requires fact_1 { Open h image.now }
-    requires fact_2 { length image.now ≤ longest_image }
-    ensures { Audited h image.now work.old result work.new }
+fn audit(nodes: Nodes, work: &mut [u32]) -> Result<(), Refusal>
+    requires { length nodes.image.now ≤ longest_image }
+    ensures { Audited nodes.entry.head nodes.entry.image.now work.old result work.new }
 {
-    let nodes = (h.g as usize) + 1;
-    if work.len() < nodes {
-        return Verdict::Refused(Refusal::TooFewNumbers);
+    let count = nodes.count();
+    if work.len() < count {
+        return Err(Refusal::TooFewNumbers);
     }
-    tallying::clear(work, nodes);
-    let verdict = links(image, h, work);
-    tallying::clear(work, nodes);
+    tallying::clear(work, count);
+    let verdict = links(nodes, work);
+    tallying::clear(work, count);
     verdict
 }
 
 // Judges 6 to 8, 16 and 19, with working numbers whose first G+1 are 0.
-fn links(image: &[u8], h: Head, work: &mut [u32]) -> Verdict
-    requires fact_1 { Open h image.now }
-    requires fact_2 { length image.now ≤ longest_image }
-    requires g_in_bounds { h.g + 1 ≤ length work.old }
-    requires work_value { work.old ≡ replicate (h.g + 1) 0 ++ drop (h.g + 1) work.old }
-    ensures { LinksJudged h image.now work.old result
-        work.new }
+fn links(nodes: Nodes, work: &mut [u32]) -> Result<(), Refusal>
+    requires short { length nodes.image.now ≤ longest_image }
+    requires room { nodes.head.g + 1 ≤ length work.old }
+    requires zeros { work.old ≡ replicate (nodes.head.g + 1) 0
+        ++ drop (nodes.head.g + 1) work.old }
+    ensures { LinksJudged nodes.entry.head nodes.entry.image.now work.old result work.new }
 {
-    let nodes = (h.g as usize) + 1;
-    let bad = tallying::first_bad_node(image, h, work);
-    if bad < nodes {
-        return Verdict::Refused(Refusal::Link(bad as u32));
+    let count = nodes.count();
+    if let Some(bad) = tallying::first_bad_node(nodes, work) {
+        return Err(Refusal::Link(bad));
     }
-    if tallying::all_met(work, nodes) & (work[0] == 1) {
-        return Verdict::Passed;
+    if tallying::all_met(work, count) & (work[0] == 1) {
+        return Ok(());
     }
-    let twice = tallying::first_holding(work, nodes, tallying::AGAIN);
-    if twice < nodes {
-        return Verdict::Refused(Refusal::LinkedTwice(twice as u32));
+    if let Some(twice) = tallying::first_holding(work, count, tallying::AGAIN) {
+        return Err(Refusal::LinkedTwice(twice as u32));
     }
-    let missing = tallying::first_holding(work, nodes, 0);
-    if missing < nodes {
-        return Verdict::Refused(Refusal::NotLinked(missing as u32));
+    if let Some(missing) = tallying::first_holding(work, count, 0) {
+        return Err(Refusal::NotLinked(missing as u32));
     }
-    tallying::clear(work, nodes);
-    reached(image, h, work)
+    tallying::clear(work, count);
+    reached(nodes, work)
 }
 
 // Judges 16 and 19, where no link is above G and no address stands in two links, with working
 // numbers whose first G+1 are 0.
-fn reached(image: &[u8], h: Head, work: &mut [u32]) -> Verdict
-    requires fact_1 { Open h image.now }
-    requires fact_2 { length image.now ≤ longest_image }
-    requires within_1 { Within (table_of h image.now) h.g }
-    requires within_2 { Once (table_of h image.now) }
-    requires g_in_bounds { h.g + 1 ≤ length work.old }
-    requires work_value { work.old ≡ replicate (h.g + 1) 0 ++ drop (h.g + 1) work.old }
-    ensures { ReachedJudged h image.now work.old result
-        work.new }
+fn reached(nodes: Nodes, work: &mut [u32]) -> Result<(), Refusal>
+    requires short { length nodes.image.now ≤ longest_image }
+    requires within { Within (node_table nodes) nodes.head.g }
+    requires once { Once (node_table nodes) }
+    requires room { nodes.head.g + 1 ≤ length work.old }
+    requires zeros { work.old ≡ replicate (nodes.head.g + 1) 0
+        ++ drop (nodes.head.g + 1) work.old }
+    ensures { ReachedJudged nodes.entry.head nodes.entry.image.now work.old result work.new }
 {
-    let nodes = (h.g as usize) + 1;
-    let met = reaching::reach(image, h, work);
-    if met as usize != nodes {
-        let unreached = tallying::first_holding(work, nodes, 0);
-        return Verdict::Refused(Refusal::NotReached(unreached as u32));
+    let count = nodes.count();
+    let met = reaching::reach(nodes, work);
+    if met as usize != count {
+        if let Some(unreached) = tallying::first_holding(work, count, 0) {
+            return Err(Refusal::NotReached(unreached as u32));
+        }
     }
-    let hidden = tallying::first_hidden(image, h, work);
-    if hidden < nodes {
-        return Verdict::Refused(Refusal::Hidden(hidden as u32));
+    if let Some(hidden) = tallying::first_hidden(nodes, work) {
+        return Err(Refusal::Hidden(hidden));
     }
-    Verdict::Passed
+    Ok(())
 }

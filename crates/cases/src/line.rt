@@ -1,265 +1,166 @@
 // A line that is read byte by byte: a `Line` is what has been read so far, and `step` takes the
 // next byte. main.rt says how a line is written.
 
-// A line: its form, its numbers and its bytes, and the state of the reading.
+// The most numbers of a call.
+const NUMBERS: usize = 5;
+
+// The most bytes that a line gives.
+const BYTES: usize = 2048;
+
+// A line: its call, its numbers and its bytes.
 #[derive(Drop)]
-pub struct Line {
-    // The call, then an `n` for each number and a `b` for bytes, filled up with blanks.
-    pub form: [u8; 24],
-    // The numbers, in order.
-    pub a: u64,
-    pub b: u64,
-    pub c: u64,
-    pub d: u64,
-    pub e: u64,
-    // The bytes.
-    pub bytes: [u8; Line::BYTES],
-    // How many bytes there are.
-    pub len: usize,
-    // What is being read: one of the constants below.
-    mode: u8,
-    // How many bytes of the form are read.
-    end: usize,
+pub struct Line<'a> {
+    // The call.
+    pub call: &'a [u8],
+    numbers: [u64; NUMBERS],
     // How many numbers are read.
-    count: u8,
-    // The digits of a number or a byte that are read so far.
-    value: u64,
+    count: usize,
+    bytes: [u8; BYTES],
+    // How many bytes are read, if bytes are given.
+    len: Option<usize>,
 }
 
-// The call is being read.
-const WORD: u8 = 0;
+// What is being read.
+#[derive(Clone, Copy)]
+enum Mode {
+    // The blanks before a number or the bytes.
+    Gap,
+    // A number; its digits so far give this one.
+    Number(u64),
+    // Bytes.
+    Bytes,
+    // The second digit of a byte; this is the first.
+    Half(u8),
+    // A text in quotation marks.
+    Quoted,
+    // The number after a `*`; its digits so far give this one.
+    Times(u64),
+    // The blanks after the bytes.
+    End,
+}
 
-// Blanks are being read.
-const GAP: u8 = 1;
-
-// A number is being read.
-const NUMBER: u8 = 2;
-
-// Bytes are being read.
-const BYTES: u8 = 3;
-
-// The second digit of a byte is being read.
-const HALF: u8 = 4;
-
-// A text in quotation marks is being read.
-const QUOTED: u8 = 5;
-
-// The number after a `*` is being read.
-const TIMES: u8 = 6;
-
-// Nothing more is read, since the line is not a case.
-const WRONG: u8 = 7;
-
-// The greatest number of 64 bits.
-const MOST: u64 = 18446744073709551615;
-
-impl Line {
-    // The most bytes that a line gives.
-    pub const BYTES: usize = 2048;
-
-    // Reads a line. If it is not a case, it has a form that no call has.
-    pub fn of(text: &[u8]) -> Line {
-        let mut l = Line {
-            form: [32; 24],
-            a: 0,
-            b: 0,
-            c: 0,
-            d: 0,
-            e: 0,
-            bytes: [0; Self::BYTES],
-            len: 0,
-            mode: WORD,
-            end: 0,
+impl<'a> Line<'a> {
+    // Reads a line, if it is written as that of a case.
+    pub fn of(text: &'a [u8]) -> Option<Line<'a>> {
+        let (call, rest) = cut(text, b' ');
+        let mut line = Line {
+            call,
+            numbers: [0; NUMBERS],
             count: 0,
-            value: 0,
+            bytes: [0; BYTES],
+            len: None,
         };
-        let mut i: usize = 0;
-        while i < text.len() {
-            l = l.step(text[i]);
-            i += 1;
+        let mut mode = Mode::Gap;
+        for b in rest {
+            mode = line.step(mode, *b)?;
         }
-        l = l.step(32);
-        if l.mode != GAP {
-            l.form = [63; 24];
+        match line.step(mode, b' ')? {
+            Mode::Gap | Mode::End => Some(line),
+            _ => None,
         }
-        l
     }
 
-    // Takes the next byte; after the last one, a blank.
-    fn step(self, b: u8) -> Line {
-        let mode = self.mode;
+    // The numbers, in order.
+    pub fn numbers(&self) -> &[u64] {
+        self.numbers.get(..self.count).unwrap_or(&[])
+    }
+
+    // The bytes, if bytes are given.
+    pub fn bytes(&self) -> Option<&[u8]> {
+        self.bytes.get(..self.len?)
+    }
+
+    // Takes the next byte; after the last one, a blank. Answers what is read next.
+    fn step(&mut self, mode: Mode, b: u8) -> Option<Mode> {
         match mode {
-            WORD => {
-                if b == 32 {
-                    self.formed(32, GAP)
-                } else {
-                    self.formed(b, WORD)
-                }
-            }
-            GAP => match b {
-                32 => self,
-                b'x' => self.formed(b'b', BYTES),
-                b'"' => self.formed(b'b', QUOTED),
-                _ => self.number(b),
-            },
-            NUMBER => self.number(b),
-            BYTES => self.bytes(b),
-            HALF => self.half(b),
-            QUOTED => {
-                if b == b'"' {
-                    self.at(BYTES, 0)
-                } else {
-                    self.byte(b, QUOTED)
-                }
-            }
-            TIMES => self.times(b),
-            _ => self,
+            Mode::Gap => self.begin(b),
+            Mode::Number(n) if b == b' ' => self.number(n),
+            Mode::Number(n) => Some(Mode::Number(more(n, b)?)),
+            Mode::Bytes => Some(after(b)),
+            Mode::Half(first) => self.byte(pair(first, b)?, Mode::Bytes),
+            Mode::Quoted if b == b'"' => Some(Mode::Bytes),
+            Mode::Quoted => self.byte(b, mode),
+            Mode::Times(n) => self.times(n, b),
+            Mode::End => (b == b' ').then_some(mode),
         }
     }
 
-    // What is read next, with the digits so far.
-    fn at(mut self, mode: u8, value: u64) -> Line {
-        self.mode = mode;
-        self.value = value;
-        self
-    }
-
-    // One more byte of the form.
-    fn formed(mut self, b: u8, mode: u8) -> Line {
-        let end = self.end;
-        if end < 24 {
-            self.form[end] = b;
-            self.end = end + 1;
-            return self.at(mode, 0);
-        }
-        self.at(WRONG, 0)
-    }
-
-    // A digit of a number of 64 bits, or the blank after it.
-    fn number(self, b: u8) -> Line {
-        let value = self.value;
-        let d = digit(b);
-        if d < 10 {
-            if MOST / 10 < value {
-                return self.at(WRONG, 0);
-            }
-            let tens = value * 10;
-            let last = d as u64;
-            if MOST - last < tens {
-                return self.at(WRONG, 0);
-            }
-            return self.at(NUMBER, tens + last);
-        }
-        if b != 32 {
-            return self.at(WRONG, 0);
-        }
-        self.kept(value).formed(b'n', GAP)
-    }
-
-    // The next number. No form has a sixth.
-    fn kept(mut self, n: u64) -> Line {
-        let count = self.count;
-        match count {
-            0 => self.a = n,
-            1 => self.b = n,
-            2 => self.c = n,
-            3 => self.d = n,
-            _ => self.e = n,
-        }
-        if count < 5 {
-            self.count = count + 1;
-        }
-        self
-    }
-
-    // A digit of the next byte, or what may be between two bytes.
-    fn bytes(self, b: u8) -> Line {
+    // Another blank, or the first byte of a number or of the bytes.
+    fn begin(&mut self, b: u8) -> Option<Mode> {
         match b {
-            32 => self.at(GAP, 0),
-            b'.' => self,
-            b'"' => self.at(QUOTED, 0),
-            b'*' => self.at(TIMES, 0),
-            _ => {
-                let d = digit(b);
-                if d < 16 {
-                    self.at(HALF, d as u64)
-                } else {
-                    self.at(WRONG, 0)
-                }
+            b' ' => Some(Mode::Gap),
+            b'x' => {
+                self.len = Some(0);
+                Some(Mode::Bytes)
             }
+            b'"' => {
+                self.len = Some(0);
+                Some(Mode::Quoted)
+            }
+            _ => Some(Mode::Number(more(0, b)?)),
         }
     }
 
-    // The second digit of a byte.
-    fn half(self, b: u8) -> Line {
-        let d = digit(b);
-        let value = self.value;
-        if 15 < d {
-            return self.at(WRONG, 0);
-        }
-        if 15 < value {
-            return self.at(WRONG, 0);
-        }
-        self.byte(value as u8 * 16 + d, BYTES)
+    // One more number.
+    fn number(&mut self, n: u64) -> Option<Mode> {
+        *self.numbers.get_mut(self.count)? = n;
+        self.count += 1;
+        Some(Mode::Gap)
     }
 
-    // One more byte.
-    fn byte(mut self, b: u8, mode: u8) -> Line {
-        let len = self.len;
-        if len < Self::BYTES {
-            self.bytes[len] = b;
-            self.len = len + 1;
-            return self.at(mode, 0);
-        }
-        self.at(WRONG, 0)
+    // One more byte, and what is read next.
+    fn byte(&mut self, b: u8, next: Mode) -> Option<Mode> {
+        let len = self.len?;
+        *self.bytes.get_mut(len)? = b;
+        self.len = Some(len + 1);
+        Some(next)
     }
 
-    // A digit of how often a byte is there, or what follows it.
-    fn times(self, b: u8) -> Line {
-        let d = digit(b);
-        let value = self.value;
-        if Self::BYTES < value as usize {
-            return self.at(WRONG, 0);
+    // A digit of how often the last byte is there, or what follows it.
+    fn times(&mut self, n: u64, b: u8) -> Option<Mode> {
+        if b.is_ascii_digit() {
+            return Some(Mode::Times(more(n, b)?));
         }
-        if d < 10 {
-            return self.at(TIMES, value * 10 + d as u64);
+        let last = *self.bytes()?.last()?;
+        for _ in 0..n.checked_sub(1)? {
+            self.byte(last, Mode::Bytes)?;
         }
-        let line = self.repeated(value);
-        if line.mode == WRONG {
-            return line;
+        match (n, b) {
+            // After `*1.` a digit is one more of the number.
+            (1, b'.') => Some(Mode::Times(1)),
+            _ => Some(after(b)),
         }
-        line.bytes(b)
-    }
-
-    // Repeats the last byte, so that it is there `value` times.
-    fn repeated(self, value: u64) -> Line {
-        let len = self.len;
-        if value == 0 {
-            return self.at(WRONG, 0);
-        }
-        if len == 0 {
-            return self.at(WRONG, 0);
-        }
-        if Self::BYTES < len {
-            return self.at(WRONG, 0);
-        }
-        let last = self.bytes[len - 1];
-        let mut l = self;
-        let mut left = value;
-        while 1 < left {
-            l = l.byte(last, BYTES);
-            left -= 1;
-        }
-        l
     }
 }
 
-// The value of a hexadecimal digit, otherwise 16.
-fn digit(b: u8) -> u8 {
+// What is read after the byte that follows a whole byte or a text.
+fn after(b: u8) -> Mode {
     match b {
-        48..=57 => b - 48,
-        65..=70 => b - 55,
-        97..=102 => b - 87,
-        _ => 16,
+        b' ' => Mode::End,
+        b'.' => Mode::Bytes,
+        b'"' => Mode::Quoted,
+        b'*' => Mode::Times(0),
+        _ => Mode::Half(b),
+    }
+}
+
+// The number with one more decimal digit, if 64 bits hold it.
+fn more(n: u64, b: u8) -> Option<u64> {
+    let last = char::from(b).to_digit(10)?;
+    n.checked_mul(10)?.checked_add(u64::from(last))
+}
+
+// The byte with these two hexadecimal digits.
+fn pair(first: u8, second: u8) -> Option<u8> {
+    let high = char::from(first).to_digit(16)?;
+    let low = char::from(second).to_digit(16)?;
+    Some((high * 16 + low) as u8)
+}
+
+// What is before the first such byte, or all, and what is after it.
+pub fn cut(text: &[u8], at: u8) -> (&[u8], &[u8]) {
+    match text.iter().position(|b| *b == at) {
+        Some(i) => (&text[..i], &text[i + 1..]),
+        None => (text, b""),
     }
 }

@@ -4,31 +4,37 @@
 use Prim.Native.Nat.{ℕ, ◌+◌, ◌≤◌, ◌<◌}
 use native.Mathlib.Omega.{arith}
 use mathlib.Core.Path.{◌≡◌, refl, sym, ◌∙◌, ap}
-use mathlib.Core.Bool.{not}
+use mathlib.Core.Bool.{Bool, not}
 use mathlib.Core.Option.{none, some}
 use mathlib.Core.List.{List, [], ◌∷◌, ◌++◌}
-use lib.Dec.{ltb, eqb}
-use lib.ListN.{length, get_or, drop, replicate, length-append, length-replicate}
+use lib.Dec.{eqb}
+use lib.ListN.{length, get_or, take, drop, replicate, length-append, length-replicate}
 use lib.Seq.{sets-eq, drop_at}
-use Rattle.trie.specs.Lowest.{lowest}
+use Rattle.std.specs.Prelude.{Option, Some, None, Result, Ok, Err}
+use Rattle.std.proofs.lemmas.List.{get_or-take, length-take-le}
+use Rattle.std.proofs.lemmas.Result.{IfOk-at_ok}
+use Rattle.head.specs.declared.Head.{Head}
 use Rattle.head.specs.Fields.{head_of}
+use Rattle.node.specs.Image.{Open}
+use Rattle.alphabet.specs.declared.codes.Codes.{Codes}
 use Rattle.paper.specs.declared.Refusal.{Refusal}
-use Rattle.paper.specs.declared.Verdict.{Verdict}
-use Rattle.paper.specs.Hearing.{Row, first, row_when}
+use Rattle.paper.specs.Hearing.{Row, first}
 use Rattle.paper.specs.Answers.{row_of}
-use Rattle.paper.specs.Rows.{row_when_lowest}
+use Rattle.paper.specs.Given.{alphabet_in}
 use Rattle.paper.specs.Orders.{check_order}
 use Rattle.paper.specs.Accepted.{Accepted}
 use Rattle.paper.proofs.Hearing.{first_part, second_part, told_refused, told_passed}
-use Rattle.paper.proofs.CheckCall.{check_accepts, checked}
+use Rattle.paper.proofs.CheckCall.{check_accepts, checked, head_open}
 use Rattle.position.specs.Counts.{count_in, counts_in, row25}
 use Rattle.position.specs.Orders.{usable, counts_order, check_counts_order}
 use Rattle.position.specs.Calls.{work_left, worked}
 use Rattle.position.proofs.Plain.{both_lent, work_left_lem}
 use Rattle.position.proofs.Right.{counts_length, worked_length, worked_right}
-use Rattle.opening.specs.declared.Opened.{Opened}
+use Rattle.opening.specs.Opened.{Decoded}
+use Rattle.tallying.specs.Tallied.{lowest_in}
 use Rattle.tallying.proofs.Clearing.{cleared_rest, cleared_again}
-use Rattle.tallying.proofs.LowestFound.{lowest_same}
+use Rattle.tallying.proofs.LowestFound.{found_same}
+use Rattle.tallying.proofs.LowestFound.{given_at, given_nowhere}
 use Rattle.comparing.specs.Comparing.{CheckedBoth, Compared}
 
 -- working the counts out keeps what comes after them
@@ -48,9 +54,9 @@ unfolding first
 last_row none = refl
 last_row (some s) = refl
 
-module _ (l work counts : List ℕ) {r : Opened} {work₁ codes : List ℕ}
+module _ (l work counts : List ℕ) {r : Result Head Refusal} {work₁ : List ℕ} {codes : Codes}
     (o : CheckedBoth l work (length counts) r work₁ codes) where
-  told : row_of r.verdict ≡ first (counts_order l work counts)
+  told : row_of r ≡ first (counts_order l work counts)
   unfolding counts_order usable
   told = o.verdict
 
@@ -58,21 +64,21 @@ module _ (l work counts : List ℕ) {r : Opened} {work₁ codes : List ℕ}
   unfolding work_left usable
   left = o.numbers
 
-  pub compared_refused : {why : Refusal} → r.verdict ≡ Verdict.Refused why
-      → Compared l work counts r work₁ codes
+  pub compared_refused : {why : Refusal} → r ≡ Err why
+      → Compared l work counts (Err why) work₁ codes
   unfolding check_counts_order
   compared_refused e =
       let refused = told_refused told e in
       record {
         verdict =
-            told ∙ refused ∙ sym (first_part (counts_order l work counts) (row25 l counts ∷ [])
-            refused);
+            ap row_of (sym e) ∙ told ∙ refused
+            ∙ sym (first_part (counts_order l work counts) (row25 l counts ∷ []) refused);
         numbers = left;
-        head = o.head;
-        decoded = o.decoded;
+        head = tt;
+        decoded = tt;
       }
 
-  module _ (e : r.verdict ≡ Verdict.Passed) where
+  module _ {h : Head} (e : r ≡ Ok h) where
     passes : first (check_order l (usable work counts)) ≡ none
     unfolding counts_order
     passes = told_passed told e
@@ -80,74 +86,109 @@ module _ (l work counts : List ℕ) {r : Opened} {work₁ codes : List ℕ}
     pub compared_accepted : Accepted l
     compared_accepted = check_accepts l (usable work counts) passes
 
-    pub compared_head : r.head ≡ head_of l
-    compared_head = o.head (told_passed refl e)
+    pub compared_head : h ≡ head_of l
+    compared_head = IfOk-at_ok (λ (k : Head). k ≡ head_of l) e o.head
+
+    pub compared_open : Open h l
+    compared_open = head_open compared_accepted compared_head
 
     -- both lists are long enough
-    pub long_counts : (head_of l).g + 1 ≤ length counts
-    long_counts = ((both_lent l work counts).0 (checked l (usable work counts) passes).lent).1
+    pub long_counts : h.g + 1 ≤ length counts
+    long_counts =
+        rw compared_head ((both_lent l work counts).0
+        (checked l (usable work counts) passes).lent).1
 
-    cleared : work₁ ≡ replicate ((head_of l).g + 1) 0 ++ drop ((head_of l).g + 1) work
-    cleared = left ∙ (work_left_lem l work counts passes).1
+    cleared : work₁ ≡ replicate (h.g + 1) 0 ++ drop (h.g + 1) work
+    cleared = rw compared_head (left ∙ (work_left_lem l work counts passes).1)
 
-    pub long_work : (head_of l).g + 1 ≤ length work₁
+    pub long_work : h.g + 1 ≤ length work₁
     long_work =
         omega (
           arith,
           ap length cleared,
-          length-append (replicate {A = ℕ} ((head_of l).g + 1) 0)
-              (drop ((head_of l).g + 1) work),
-          length-replicate {A = ℕ} ((head_of l).g + 1) 0,
+          length-append (replicate {A = ℕ} (h.g + 1) 0) (drop (h.g + 1) work),
+          length-replicate {A = ℕ} (h.g + 1) 0,
         )
 
     -- what the check left begins with zeros, so the counts can be added up there
-    pub zeros_work : work₁ ≡ replicate ((head_of l).g + 1) 0 ++ drop ((head_of l).g + 1) work₁
-    zeros_work = cleared_again ((head_of l).g + 1) work cleared
+    pub zeros_work : work₁ ≡ replicate (h.g + 1) 0 ++ drop (h.g + 1) work₁
+    zeros_work = cleared_again (h.g + 1) work cleared
 
     -- the fresh counts are the front of the working numbers
     module _ {fresh : List ℕ} (weighed : fresh ≡ worked l work₁) where
-      pub fresh_long : length fresh ≡ length work₁
-      fresh_long = ap length weighed ∙ worked_length l work₁
+      pub fresh_long : h.g + 1 ≤ length fresh
+      fresh_long = omega (arith, ap length weighed, worked_length l work₁, long_work)
 
-      fresh_count : (q : ℕ) → q < (head_of l).g + 1 → get_or fresh q 0 ≡ count_in l q
-      fresh_count q b = ap (λ (w : List ℕ). get_or w q 0) weighed
-          ∙ (worked_right l work₁ long_work).each q (omega arith)
+      fresh_count : (q : ℕ) → q < h.g + 1 → get_or fresh q 0 ≡ count_in l q
+      fresh_count q b =
+          ap (λ (w : List ℕ). get_or w q 0) weighed
+          ∙ (worked_right l work₁ (rw (← compared_head) long_work)).each q
+          (omega (arith, ap (λ (k : Head). k.g) compared_head))
 
-      -- the node found is the place of row 25
-      pub lowest_25 : {differs : ℕ}
-          → differs ≡ lowest (λ q. not (eqb (get_or counts q 0) (get_or fresh q 0))) 0
-          ((head_of l).g + 1)
-          → row_when 25 differs (ltb differs ((head_of l).g + 1)) ≡ row25 l counts
-      unfolding row25 row_when_lowest
-      lowest_25 {differs} f =
-          let same : differs ≡ lowest (λ q. not (eqb (get_or counts q 0) (count_in l q))) 0
-          ((head_of l).g + 1) =
-          f ∙ lowest_same _ _ 0 ((head_of l).g + 1)
-          (λ q low high. ap (λ (n : ℕ). not (eqb (get_or counts q 0) n))
-          (fresh_count q (omega arith))) in
-          let k : 0 + ((head_of l).g + 1) ≡ (head_of l).g + 1 = omega arith in
-          rw (k, ← same)
+      -- the numbers compared are those of the fronts of both lists
+      abbrev pub differ : ℕ → ℕ → Bool
+      differ nodes q =
+          not (eqb (get_or (take nodes counts) q 0) (get_or (take nodes fresh) q 0))
 
-      pub compared : {differs nodes : ℕ} {v : Verdict} {last : List ℕ} → nodes ≡ (head_of l).g + 1
-          → differs ≡ lowest (λ q. not (eqb (get_or counts q 0) (get_or fresh q 0))) 0 nodes
-          → row_of v ≡ row_when 25 differs (ltb differs nodes)
-          → last ≡ replicate nodes 0 ++ drop nodes fresh
-          → Compared l work counts (record { verdict = v; head = r.head; count = r.count }) last
-          codes
+      -- they differ where a count is not the fresh one
+      abbrev wrong : ℕ → Bool
+      wrong q = not (eqb (get_or counts q 0) (count_in l q))
+
+      same_found : {nodes : ℕ} → nodes ≡ h.g + 1
+          → lowest_in (differ nodes) 0 (length (take nodes counts))
+          ≡ lowest_in wrong 0 ((head_of l).g + 1)
+      same_found {nodes} n =
+          let size : length (take nodes counts) ≡ (head_of l).g + 1 =
+          length-take-le nodes counts (omega (arith, long_counts))
+          ∙ n ∙ ap (λ (k : Head). k.g + 1) compared_head in
+          rw size
+          (found_same (differ nodes) wrong 0 ((head_of l).g + 1)
+          (λ q low high.
+          let in_front : q < nodes = omega (arith, ap (λ (k : Head). k.g) compared_head) in
+          rw (get_or-take nodes counts q 0 in_front, get_or-take nodes fresh q 0 in_front)
+          (rw (fresh_count q (omega arith)))))
+
+      -- what clearing the front leaves
+      left_again : {nodes : ℕ} {last : List ℕ} → nodes ≡ h.g + 1
+          → last ≡ replicate nodes 0 ++ drop nodes fresh → last ≡ work_left l work counts
+      left_again n clears =
+          rw (n, compared_head) at clears
+          ∙ ap (replicate ((head_of l).g + 1) 0 ++◌)
+          (ap (drop ((head_of l).g + 1)) weighed
+          ∙ worked_drop l work₁ (rw (← compared_head) long_work)
+          ∙ cleared_rest ((head_of l).g + 1) work (rw compared_head at cleared))
+          ∙ sym (work_left_lem l work counts passes).1
+
+      ends : first (check_counts_order l work counts) ≡ row25 l counts
       unfolding check_counts_order counts_order
-      compared {v = v} n f says clears =
-          let d = o.decoded (told_passed refl e) in
-          record {
-            verdict = (rw n at says)
-                ∙ lowest_25 (rw n at f)
-                ∙ sym (second_part (check_order l (usable work counts)) (row25 l counts ∷ [])
-                passes
-                ∙ last_row (row25 l counts));
-            numbers = (rw n at clears)
-                ∙ ap (replicate ((head_of l).g + 1) 0 ++◌)
-                (ap (drop ((head_of l).g + 1)) weighed ∙ worked_drop l work₁ long_work
-                ∙ cleared_rest ((head_of l).g + 1) work cleared)
-                ∙ sym (work_left_lem l work counts passes).1;
-            head = λ _. compared_head;
-            decoded = λ _. record { count = d.count; codes = d.codes };
-          }
+      ends =
+          second_part (check_order l (usable work counts)) (row25 l counts ∷ []) passes
+          ∙ last_row (row25 l counts)
+
+      module _ {differs : Option ℕ} {nodes : ℕ} {last : List ℕ} (n : nodes ≡ h.g + 1)
+          (f : differs ≡ lowest_in (differ nodes) 0 (length (take nodes counts)))
+          (clears : last ≡ replicate nodes 0 ++ drop nodes fresh) where
+        pub compared_25 : {q : ℕ} → differs ≡ Some q
+            → Compared l work counts (Err (Refusal.CountsDiffer q)) last codes
+        unfolding row_of row25
+        compared_25 s =
+            record {
+              verdict =
+                  sym (given_at 25 wrong 0 ((head_of l).g + 1) (sym s ∙ f ∙ same_found n))
+                  ∙ sym ends;
+              numbers = left_again n clears;
+              head = tt;
+              decoded = tt;
+            }
+
+        pub compared_none : differs ≡ None → Compared l work counts (Ok h) last codes
+        unfolding row_of row25
+        compared_none s =
+            record {
+              verdict =
+                  sym (given_nowhere 25 wrong 0 ((head_of l).g + 1) (sym s ∙ f ∙ same_found n))
+                  ∙ sym ends;
+              numbers = left_again n clears;
+              head = compared_head;
+              decoded = IfOk-at_ok (λ _. Decoded (alphabet_in (head_of l) l) codes) e o.decoded;
+            }

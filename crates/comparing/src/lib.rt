@@ -2,15 +2,14 @@
 // The public functions have no `requires`.
 #![tactic(auto)]
 
-ghost use Rattle.std.specs.Prelude.{◌≡◌, true, not, ◌+◌, ◌^◌, ◌≤◌, min, length, get_or, ltb, eqb};
-ghost use Rattle.trie.specs.Lowest.{lowest};
-ghost use Rattle.paper.specs.Hearing.{row_when};
-ghost use Rattle.paper.specs.Answers.{row_of};
-ghost use Rattle.comparing.specs.Comparing.{CheckedBoth, Compared, Alike};
+ghost use Rattle.std.specs.Prelude.{◌≡◌, not, length, get_or, eqb};
+ghost use Rattle.tallying.specs.Tallied.{lowest_in};
+ghost use Rattle.comparing.specs.Comparing.{CheckedBoth, Compared};
 
+use alphabet::Codes;
 use head::Head;
-use opening::Opened;
-use paper::{Refusal, Verdict};
+use node::Nodes;
+use paper::Refusal;
 
 // Judges the check's rows of an image with `lent` counts beside it. The check is lent no more
 // working numbers than there are counts, so that 5 is given for either list.
@@ -18,19 +17,12 @@ pub fn check_both(
     image: &[u8],
     work: &mut [u32],
     lent: usize,
-    codes: &mut [u32; Head::N_MOST as usize],
-) -> Opened
-    ensures { CheckedBoth image.now work.old lent result work.new
-        codes.new }
+    codes: &mut Codes,
+) -> Result<Head, Refusal>
+    ensures { CheckedBoth image.now work.old lent result work.new codes.new }
 {
-    let most = lesser(lent, work.len());
-    audit::check(image, &mut work[0..most], codes)
-}
-
-fn lesser(a: usize, b: usize) -> usize
-    ensures { result ≡ min a b }
-{
-    if a < b { a } else { b }
+    let most = lent.min(work.len());
+    audit::check(image, &mut work[..most], codes)
 }
 
 // Judges the check's rows, then 25. The fresh counts are worked out in the working numbers and
@@ -39,94 +31,36 @@ pub fn compare(
     image: &[u8],
     work: &mut [u32],
     counts: &[u32],
-    codes: &mut [u32; Head::N_MOST as usize],
-) -> Opened
-    ensures { Compared image.now work.old counts.now result
-        work.new codes.new }
+    codes: &mut Codes,
+) -> Result<Head, Refusal>
+    ensures { Compared image.now work.old counts.now result work.new codes.new }
 {
-    let checked = check_both(image, work, counts.len(), codes);
-    let verdict = checked.verdict;
-    match verdict {
-        Verdict::Refused(_) => checked,
-        Verdict::Passed => {
-            let h = checked.head;
-            let nodes = (h.g as usize) + 1;
-            weighing::add_up(image, h, work);
-            let differs = first_different(work, counts, nodes);
-            tallying::clear(work, nodes);
-            Opened {
-                verdict: judge(differs, nodes),
-                head: h,
-                count: checked.count,
-            }
-        }
+    let h = check_both(image, work, counts.len(), codes)?;
+    let nodes = Nodes::of(image, h);
+    let count = nodes.count();
+    weighing::add_up(nodes, work);
+    let differs = first_different(&work[..count], &counts[..count]);
+    tallying::clear(work, count);
+    match differs {
+        Some(node) => Err(Refusal::CountsDiffer(node as u32)),
+        None => Ok(h),
     }
 }
 
-// 25, given the lowest node whose count differs, or `nodes` if none does.
-fn judge(differs: usize, nodes: usize) -> Verdict
-    requires { nodes ≤ 2 ^ 32 }
-    ensures { row_of result ≡ row_when 25 differs (ltb differs nodes) }
+// The lowest place at which the numbers of two lists of one length differ, if there is one. All
+// are compared first, since they are mostly the same.
+fn first_different(fresh: &[u32], counts: &[u32]) -> Option<usize>
+    requires { length fresh.now ≡ length counts.now }
+    ensures { result ≡ lowest_in (λ q. not (eqb (get_or counts.now q 0) (get_or fresh.now q 0))) 0
+        (length counts.now) }
 {
-    if differs < nodes {
-        return Verdict::Refused(Refusal::CountsDiffer(differs as u32));
+    if fresh == counts {
+        return None;
     }
-    Verdict::Passed
-}
-
-// The lowest of the first `nodes` nodes whose two numbers differ, `nodes` if none does. `alike`
-// comes first: it has no early exit, so that it runs over several numbers at once.
-fn first_different(fresh: &[u32], counts: &[u32], nodes: usize) -> usize
-    requires fact_1 { nodes ≤ length fresh.now }
-    requires fact_2 { nodes ≤ length counts.now }
-    ensures { result ≡ lowest
-        (λ q. not (eqb (get_or counts.now q 0) (get_or fresh.now q 0))) 0
-        nodes }
-{
-    if alike(fresh, counts, nodes) {
-        return nodes;
-    }
-    let mut q: usize = 0;
-    while q < nodes {
+    for q in 0..counts.len() {
         if counts[q] != fresh[q] {
-            return q;
+            return Some(q);
         }
-        q += 1;
     }
-    nodes
-}
-
-// How many numbers are compared at a time. The compiler knows this length, so it can compare
-// them by straight-line code.
-const PART: usize = 128;
-
-// Are the first `nodes` numbers of the two lists the same? The answer false promises nothing.
-fn alike(fresh: &[u32], counts: &[u32], nodes: usize) -> bool
-    requires fact_1 { nodes ≤ length fresh.now }
-    requires fact_2 { nodes ≤ length counts.now }
-    ensures { result ≡ true → Alike fresh.now counts.now nodes }
-{
-    let mut same = true;
-    let mut q: usize = 0;
-    while nodes - q >= PART {
-        same = same & alike_part(fresh, counts, q, PART);
-        q += PART;
-    }
-    same & alike_part(fresh, counts, q, nodes - q)
-}
-
-// Are the `many` numbers after the first `from` the same too? The loop has no early exit.
-fn alike_part(fresh: &[u32], counts: &[u32], from: usize, many: usize) -> bool
-    requires fact_1 { from + many ≤ length fresh.now }
-    requires fact_2 { from + many ≤ length counts.now }
-    ensures { result ≡ true → Alike fresh.now counts.now from
-        → Alike fresh.now counts.now (from + many) }
-{
-    let mut same = true;
-    let mut i: usize = 0;
-    while i < many {
-        same = same & (counts[from + i] == fresh[from + i]);
-        i += 1;
-    }
-    same
+    None
 }

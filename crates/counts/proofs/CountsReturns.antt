@@ -3,26 +3,30 @@
 -- are the front of the list.
 use Prim.Native.Nat.{ℕ, ◌+◌, ◌≤◌}
 use mathlib.Core.Path.{◌≡◌, refl, sym, ◌∙◌, ap, ap₂}
+use mathlib.Core.Option.{none, some}
 use mathlib.Core.List.{List, [], ◌∷◌}
 use lib.ListN.{length}
+use Rattle.std.specs.Prelude.{Result, Ok, Err}
+use Rattle.std.proofs.lemmas.Result.{IfOk-at_ok}
+use Rattle.head.specs.declared.Head.{Head}
+use Rattle.alphabet.specs.declared.codes.Codes.{Codes}
 use Rattle.head.specs.Fields.{head_of}
 use Rattle.paper.specs.declared.Refusal.{Refusal}
-use Rattle.paper.specs.declared.Verdict.{Verdict}
-use Rattle.paper.specs.declared.Done.{Done}
 use Rattle.paper.specs.Hearing.{Numbers, first, outcome}
-use Rattle.paper.specs.Answers.{row_of, refusal_numbers, done_of}
+use Rattle.paper.specs.Answers.{row_of, said_of, refusal_numbers, done_of}
 use Rattle.paper.specs.Accepted.{Accepted}
+use Rattle.paper.specs.Orders.{check_order}
+use Rattle.paper.proofs.CheckCall.{check_accepts, checked}
 use Rattle.paper.proofs.Hearing.{heard_refused, heard_done, told_refused, told_passed}
 use Rattle.position.specs.Orders.{usable, counts_order}
 use Rattle.position.specs.Calls.{work_left, worked, counts_of, check_counts_of}
 use Rattle.position.specs.Promises.{WorksOut, ChecksCounts}
-use Rattle.opening.specs.declared.Opened.{Opened}
 use Rattle.comparing.specs.Comparing.{CheckedBoth, Compared}
-use Rattle.comparing.proofs.CompareReturns.{compared_accepted, compared_head, long_counts}
+use Rattle.position.proofs.Plain.{both_lent}
 
-module _ (l work counts : List ℕ) {r : Opened} {work' codes : List ℕ}
+module _ (l work counts : List ℕ) {r : Result Head Refusal} {work' : List ℕ} {codes : Codes}
     (o : CheckedBoth l work (length counts) r work' codes) where
-  told : row_of r.verdict ≡ first (counts_order l work counts)
+  told : row_of r ≡ first (counts_order l work counts)
   unfolding counts_order usable
   told = o.verdict
 
@@ -33,34 +37,43 @@ module _ (l work counts : List ℕ) {r : Opened} {work' codes : List ℕ}
   unfolding work_left usable
   left n e = ap₂ (λ (w c : List ℕ). outcome n (w ∷ c ∷ [])) o.numbers e
 
-  pub counts_refused : {why : Refusal} → r.verdict ≡ Verdict.Refused why
-      → WorksOut l work counts (done_of (Done.Refused why)) work' counts
+  pub counts_refused : {why : Refusal} → r ≡ Err why
+      → WorksOut l work counts (done_of (Err why)) work' counts
   unfolding counts_of done_of refusal_numbers
   counts_refused e = left _ refl ∙ sym (heard_refused _ _ _ (told_refused told e))
 
-  module _ (e : r.verdict ≡ Verdict.Passed) where
+  module _ {h : Head} (e : r ≡ Ok h) where
+    passes : first (check_order l (usable work counts)) ≡ none
+    unfolding counts_order
+    passes = told_passed told e
+
     -- what `weigh` requires
-    pub weigh_asks : Accepted l × ((r.head ≡ head_of l) × (r.head.g + 1 ≤ length counts))
+    pub weigh_asks : Accepted l × ((h ≡ head_of l) × (h.g + 1 ≤ length counts))
     weigh_asks =
-        let same = compared_head l work counts o e in
-        (compared_accepted l work counts o e, (same, rw same (long_counts l work counts o e)))
+        let same : h ≡ head_of l = IfOk-at_ok _ e o.head in (
+          check_accepts l (usable work counts) passes,
+          (
+            same,
+            rw same ((both_lent l work counts).0 (checked l (usable work counts) passes).lent).1,
+          ),
+        )
 
     pub counts_done : {list : List ℕ} → list ≡ worked l counts
-        → WorksOut l work counts (done_of Done.Done) work' list
+        → WorksOut l work counts (done_of (Ok tt)) work' list
     unfolding counts_of done_of
     counts_done w = left _ w ∙ sym (heard_done _ _ _ (told_passed told e))
 
-module _ {l work counts : List ℕ} {r : Opened} {work' codes : List ℕ}
+module _ {l work counts : List ℕ} {r : Result Head Refusal} {work' : List ℕ} {codes : Codes}
     (o : Compared l work counts r work' codes) where
   left_too : (n : Numbers) → outcome n (work' ∷ []) ≡ outcome n (work_left l work counts ∷ [])
   left_too n = ap (λ (w : List ℕ). outcome n (w ∷ [])) o.numbers
 
-  pub check_counts_refused : {why : Refusal} → r.verdict ≡ Verdict.Refused why
-      → ChecksCounts l work counts (done_of (Done.Refused why)) work'
+  pub check_counts_refused : {why : Refusal} → r ≡ Err why
+      → ChecksCounts l work counts (done_of (Err why)) work'
   unfolding check_counts_of done_of refusal_numbers
   check_counts_refused e = left_too _ ∙ sym (heard_refused _ _ _ (told_refused o.verdict e))
 
-  pub check_counts_done : r.verdict ≡ Verdict.Passed → ChecksCounts l work counts
-      (done_of Done.Done) work'
+  pub check_counts_done : {h : Head} → r ≡ Ok h
+      → ChecksCounts l work counts (done_of (Ok tt)) work'
   unfolding check_counts_of done_of
   check_counts_done e = left_too _ ∙ sym (heard_done _ _ _ (told_passed o.verdict e))

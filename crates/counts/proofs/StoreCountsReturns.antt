@@ -6,13 +6,13 @@ use mathlib.Core.Bool.{true}
 use mathlib.Core.Option.{none, some}
 use mathlib.Core.List.{List, [], ◌∷◌, ◌++◌, append_assoc}
 use lib.ListN.{length}
+use lib.IntN.{ℤ}
+use Rattle.std.specs.Prelude.{Result, Ok, Err}
 use Rattle.field.specs.Range.{between}
 use Rattle.trie.specs.Table.{answer}
 use Rattle.trie.specs.Storing.{change_of}
 use Rattle.head.specs.Fields.{head_of}
 use Rattle.paper.specs.declared.Refusal.{Refusal}
-use Rattle.paper.specs.declared.Verdict.{Verdict}
-use Rattle.paper.specs.declared.Stored.{Stored}
 use Rattle.paper.specs.Hearing.{Row, Numbers, Outcome, first, heard, outcome, done_numbers}
 use Rattle.paper.specs.Answers.{said_of, refusal_numbers, stored_of}
 use Rattle.paper.specs.Given.{Given, key_in}
@@ -26,9 +26,7 @@ use Rattle.position.specs.Calls.{work_left, worked, store_counts_of}
 use Rattle.position.specs.Promises.{StoresCounts}
 use Rattle.key.specs.Hand.{letters_of, Ready}
 use Rattle.asking.specs.declared.Asked.{Asked}
-use Rattle.asking.proofs.Asking.{store_asks}
 use Rattle.asking_counts.specs.AskedCounts.{AsksCounts}
-use Rattle.asking_counts.proofs.AskingCounts.{asked_right, asked_length}
 use Rattle.tracking.specs.Tracking.{adding_counts_rows, store_counted, StoresCounted}
 
 -- ---- one buffer more, between the two
@@ -85,7 +83,7 @@ module _ (l work : List ℕ) (given : Given) (value : ℕ) (counts : List ℕ) w
   unfolding refusal_numbers
   refuses why e = asked ∙ heard_refused _ _ _ (first_part front rest e)
 
-  stores : first front ≡ none → (r : Stored) {l' counts' : List ℕ}
+  stores : first front ≡ none → (r : Result ℤ Refusal) {l' counts' : List ℕ}
       → StoresCounted l key value counts r l' counts'
       → StoresCounts l work given value counts (stored_of r) l' left counts'
   unfolding store_counted
@@ -96,29 +94,18 @@ module _ (l work : List ℕ) (given : Given) (value : ℕ) (counts : List ℕ) w
 
 -- ---- the returns
 
-module _ {l : List ℕ} (work counts : List ℕ) {given : Given} {r : Asked} {work' : List ℕ}
-    (a : AsksCounts l work counts given r work') where
-  pub store_counts_refused : (value : ℕ) {why : Refusal} → r.verdict ≡ Verdict.Refused why
-      → StoresCounts l work given value counts (stored_of (Stored.Refused why)) l work' counts
+module _ {l : List ℕ} (work counts : List ℕ) {given : Given} {work' : List ℕ} where
+  pub store_counts_refused : {why : Refusal} → AsksCounts l work counts given (Err why) work'
+      → (value : ℕ) → StoresCounts l work given value counts (stored_of (Err why)) l work' counts
   unfolding stored_of
-  store_counts_refused value {why} e =
-      rw a.numbers (sym (refuses l work given value counts why (told_refused a.verdict e)))
+  store_counts_refused {why} a value =
+      rw a.numbers (sym (refuses l work given value counts why
+      (told_refused {X = Asked} a.verdict refl)))
 
-  module _ (e : r.verdict ≡ Verdict.Passed) where
-    -- what the part after 10 requires
-    pub store_counted_asks : Accepted l
-        × ((r.head ≡ head_of l)
-        × (Ready r.head r.key
-        × ((between (length (letters_of r.key)) r.head.min r.head.max ≡ true)
-        × RightCounts l counts)))
-    store_counted_asks =
-        let b = store_asks a e in
-        (b.0, (b.1.0, (b.1.1, (asked_length work counts a e, asked_right work counts a e))))
-
-    pub store_counts_passed : (value : ℕ) (s : Stored) {l' counts' : List ℕ}
+  module _ {r : Asked} (a : AsksCounts l work counts given (Ok r) work') where
+    pub store_counts_passed : (value : ℕ) (s : Result ℤ Refusal) {l' counts' : List ℕ}
         → StoresCounted l (letters_of r.key) value counts s l' counts'
         → StoresCounts l work given value counts (stored_of s) l' work' counts'
     store_counts_passed value s g =
-        let same = (a.allowed (told_passed refl e)).letters in
-        rw a.numbers (stores l work given value counts (told_passed a.verdict e) s
-        (rw same at g))
+        rw a.numbers (stores l work given value counts (told_passed a.verdict refl) s
+        (rw a.allowed.letters at g))

@@ -1,87 +1,51 @@
-// The calls that keep counts beside an image. None has a `requires`: any bytes, counts, key,
-// text or value may be passed. Each contract is one line: the numbers of the answer and the last
-// content of every lent buffer are the outcome that 02, Ask 7, states (crate `position`).
+// The calls that keep counts beside an image. None has a `requires`: any bytes, counts, key or
+// value may be passed. Each contract is one line: the numbers of the answer and the last content
+// of every lent buffer are the outcome that 02, Ask 7, states (crate `position`).
 #![tactic(auto)]
 
 ghost use Rattle.paper.specs.Answers.{done_of, stored_of};
-ghost use Rattle.paper.specs.Given.{as_letters, as_text};
 ghost use Rattle.position.specs.Promises.{WorksOut, ChecksCounts, StoresCounts};
+ghost use Rattle.key.specs.Hand.{given_of};
 
-use head::Head;
-use paper::{Done, Stored, Verdict};
+use alphabet::Codes;
+use key::GivenKey;
+use node::Nodes;
+use paper::Refusal;
 
-// Works the counts out afresh, at the front of the list. Refusals: 1 to 8 (5 for either list), 16.
-pub fn counts(image: &[u8], work: &mut [u32], list: &mut [u32]) -> Done
-    ensures { WorksOut image.now work.old list.old
-        (done_of result) work.new list.new }
+// Works the counts out afresh, at the front of the list. Refusals: 1 to 8 (5 for either list), 16,
+// 19.
+pub fn counts(image: &[u8], work: &mut [u32], list: &mut [u32]) -> Result<(), Refusal>
+    ensures { WorksOut image.now work.old list.old (done_of result) work.new list.new }
 {
-    let mut codes = [0u32; Head::N_MOST as usize];
-    let checked = comparing::check_both(image, work, list.len(), &mut codes);
-    let verdict = checked.verdict;
-    match verdict {
-        Verdict::Refused(why) => Done::Refused(why),
-        Verdict::Passed => {
-            weighing::weigh(image, checked.head, list);
-            Done::Done
-        }
-    }
+    let mut codes = Codes::none();
+    let h = comparing::check_both(image, work, list.len(), &mut codes)?;
+    weighing::weigh(Nodes::of(image, h), list);
+    Ok(())
 }
 
 // Checks an image and compares its counts with fresh ones. Refusals: 1 to 8 (5 for either list),
-// 16, 25.
-pub fn check_counts(image: &[u8], work: &mut [u32], list: &[u32]) -> Done
-    ensures { ChecksCounts image.now work.old list.now
-        (done_of result) work.new }
+// 16, 19, 25.
+pub fn check_counts(image: &[u8], work: &mut [u32], list: &[u32]) -> Result<(), Refusal>
+    ensures { ChecksCounts image.now work.old list.now (done_of result) work.new }
 {
-    let mut codes = [0u32; Head::N_MOST as usize];
-    let compared = comparing::compare(image, work, list, &mut codes);
-    let verdict = compared.verdict;
-    match verdict {
-        Verdict::Refused(rule) => Done::Refused(rule),
-        Verdict::Passed => Done::Done,
-    }
+    let mut codes = Codes::none();
+    comparing::compare(image, work, list, &mut codes)?;
+    Ok(())
 }
 
-// As `stores::store`, and keeps the counts right. Refusals: 1 to 8 (5 for either list), 16, 25, 9,
-// 10, 11, 12, 13, then 5 again if the list has no number for a new node.
+// As `stores::store`, and keeps the counts right. Refusals: 1 to 8 (5 for either list), 16, 19,
+// 25, then 9, 10 of letters or 10, 9 of a text, 11, 12, 13, then 5 again if the list has no number
+// for a new node.
 pub fn store_counts(
     image: &mut [u8],
     work: &mut [u32],
-    letters: &[u8],
+    given: GivenKey,
     value: u64,
     list: &mut [u32],
-) -> Stored
-    ensures { StoresCounts image.old work.old
-        (as_letters letters.now) value list.old (stored_of result)
-        image.new work.new list.new }
+) -> Result<i32, Refusal>
+    ensures { StoresCounts image.old work.old (given_of given.entry) value list.old
+        (stored_of result) image.new work.new list.new }
 {
-    let asked = asking_counts::ask(image, work, list, letters);
-    let verdict = asked.verdict;
-    let head = asked.head;
-    match verdict {
-        Verdict::Refused(why) => Stored::Refused(why),
-        Verdict::Passed => tracking::store_counted(image, head, asked.key, value, list),
-    }
-}
-
-// The same for a key given as text. Refusals: 1 to 8 (5 for either list), 16, 25, 10, 9, 11, 12,
-// 13, then 5 again.
-pub fn store_text_counts(
-    image: &mut [u8],
-    work: &mut [u32],
-    text: &[u8],
-    value: u64,
-    list: &mut [u32],
-) -> Stored
-    ensures { StoresCounts image.old work.old
-        (as_text text.now) value list.old (stored_of result) image.new
-        work.new list.new }
-{
-    let named = asking_counts::ask_text(image, work, list, text);
-    let verdict = named.verdict;
-    let head = named.head;
-    match verdict {
-        Verdict::Refused(at_text) => Stored::Refused(at_text),
-        Verdict::Passed => tracking::store_counted(image, head, named.key, value, list),
-    }
+    let asked = asking_counts::ask(image, work, list, given)?;
+    tracking::store_counted(image, asked.head, asked.key, value, list)
 }

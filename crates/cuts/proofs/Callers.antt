@@ -15,7 +15,7 @@ use Rattle.head.specs.declared.Head.{Head}
 use Rattle.head.specs.Fields.{most_writes, most_noted, head_of}
 use Rattle.head.proofs.Permitted.{bounds}
 use Rattle.node.specs.Writes.{Write, noted, total_write, link_write, store_writes}
-use Rattle.node.proofs.Nodes.{nodes_count}
+use Rattle.node.proofs.WholeNodes.{nodes_count}
 use Rattle.paper.specs.Hearing.{outcome, done_numbers}
 use Rattle.paper.specs.Given.{Given, key_in}
 use Rattle.paper.specs.Calls.{table_in, work_after, writes_in, stored_image, store_of, with_writes}

@@ -21,7 +21,7 @@ use Rattle.node.specs.Writes.{total_write}
 use Rattle.node.specs.Writes.{link_write, data_write, store_writes}
 use Rattle.node.proofs.FieldPlaces.{link_from, link_inside, data_inside, inside_used}
 use Rattle.node.proofs.Heads.{used_total}
-use Rattle.node.proofs.Nodes.{length_path, length_last}
+use Rattle.node.proofs.WholeNodes.{length_path, length_last}
 use Rattle.paper.specs.Calls.{table_in, writes_in, stored_image}
 use Rattle.paper.specs.Granted.{Granted}
 use Rattle.paper.proofs.StoreCall.{able}

@@ -1,11 +1,10 @@
 -- 01, "Walking, storing, listing": "A stored key is one with length in min..max whose data is
 -- not 0". What this means for a node at a depth. The depth is the length of the key that ends
 -- there.
-use Rattle.std.specs.Prelude.{ℕ, ◌+◌, ◌-◌, ◌^◌, ◌<◌, ◌≡◌, Bool, true, false, cond, [], ltb}
+use Rattle.std.specs.Prelude.{ℕ, ◌-◌, ◌<◌, ◌≡◌, Bool, true, false, cond, [], ltb}
 use Rattle.trie.specs.Table.{Table}
 use Rattle.trie.specs.Beyond.{keys_from}
 use Rattle.head.specs.declared.Head.{Head}
-use Rattle.node.specs.Image.{Masks}
 
 -- the data of a node at a depth, or 0 where a key of that length is too short to be stored
 unfoldable pub own_value : Head → Table → ℕ → ℕ → ℕ
@@ -17,8 +16,3 @@ pub record KeysBelow (h : Head) (t : Table) (q depth : ℕ) (no_keys : Bool) : T
   pub nothing : no_keys ≡ true
       → (x : ℕ) → keys_from t h.n (h.min - depth) (h.max - depth) q x ≡ []
   pub deep : no_keys ≡ false → depth < h.max
-
--- the masks with which a walk reads the links and the data of the nodes that it meets
-pub record ReadMasks (h : Head) (mask data_mask : ℕ) : Type 0 where
-  pub links : Masks h mask
-  pub values : data_mask + 1 ≡ 256 ^ h.d

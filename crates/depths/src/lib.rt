@@ -3,43 +3,40 @@
 // of the crates above read nodes by these functions.
 #![tactic(auto)]
 
-ghost use Rattle.std.specs.Prelude.{◌≡◌, ◌+◌, ◌^◌, ◌≤◌};
-ghost use Rattle.node.specs.Image.{Open, table_of};
+ghost use Rattle.std.specs.Prelude.{◌≡◌, ◌≤◌};
+ghost use Rattle.node.specs.Read.{node_table};
 ghost use Rattle.depths.specs.Depths.{own_value, KeysBelow};
 
-use head::Head;
+use node::Nodes;
+
+// A stored key on a path: the number of its letters, which are the front of the path, and its
+// value.
+#[derive(Clone, Copy)]
+pub struct Spot {
+    pub length: usize,
+    pub value: u64,
+}
 
 // The data of a node at a depth; 0 if the depth is below min, since such a key is too short to
 // be stored.
-pub fn own_value(image: &[u8], h: Head, node: u32, depth: usize) -> u64
-    requires { (Open h image.now) × (node ≤ h.g) }
-    ensures { result ≡ own_value h (table_of h image.now) node depth }
+pub fn own_value(nodes: Nodes, node: u32, depth: usize) -> u64
+    requires { node ≤ nodes.head.g }
+    ensures { result ≡ own_value nodes.entry.head (node_table nodes.entry) node depth }
 {
-    own_value_by(image, h, node::greatest(h), node, depth)
-}
-
-// The same, with the mask of the data's bytes. A walk that meets many nodes makes the mask once.
-pub fn own_value_by(image: &[u8], h: Head, mask: u64, node: u32, depth: usize) -> u64
-    requires fact_1 { Open h image.now }
-    requires fact_2 { mask + 1 ≡ 256 ^ h.d }
-    requires fact_3 { node ≤ h.g }
-    ensures { result ≡ own_value h (table_of h image.now) node depth }
-{
-    if depth < (h.min as usize) {
+    if depth < (nodes.head.min as usize) {
         return 0;
     }
-    node::data_by(image, h, mask, node)
+    nodes.data(node)
 }
 
 // True only if no stored key lies below a node at a depth: no letter may follow, or all its
 // links are empty. Most keys end at such a node, and a search need not go there.
-pub fn no_keys_below(image: &[u8], h: Head, node: u32, depth: usize) -> bool
-    requires fact_1 { Open h image.now }
-    requires fact_2 { node ≤ h.g }
-    ensures { KeysBelow h (table_of h image.now) node depth result }
+pub fn no_keys_below(nodes: Nodes, node: u32, depth: usize) -> bool
+    requires { node ≤ nodes.head.g }
+    ensures { KeysBelow nodes.entry.head (node_table nodes.entry) node depth result }
 {
-    if (h.max as usize) <= depth {
+    if (nodes.head.max as usize) <= depth {
         return true;
     }
-    node::childless(image, h, node)
+    nodes.childless(node)
 }

@@ -3,12 +3,12 @@
 #![tactic(auto)]
 
 ghost use Rattle.std.specs.Prelude.{◌≡◌};
-ghost use Rattle.paper.specs.Answers.{refusal_numbers, done_of, counted_of, placed_of, looked_of};
-ghost use Rattle.paper.specs.Answers.{stored_of, noted_of, found_of};
+ghost use Rattle.paper.specs.Answers.{refusal_numbers, done_of, value_of, stored_of, noted_of};
+ghost use Rattle.paper.specs.Answers.{found_of};
 ghost use Rattle.paper.specs.Hearing.{done_numbers};
 ghost use Rattle.face.specs.Face.{numbers_of};
 
-use paper::{Counted, Done, Found, Looked, Noted, Placed, Refusal, Stored};
+use paper::{Found, Noted, Refusal};
 
 // The answer of every call, in the numbers of 01. A field that a call does not use is 0. In a
 // refusal all fields but number and place are 0.
@@ -54,71 +54,80 @@ pub fn done_with(length: u32, change: i32, value: u64) -> TrieffAnswer
 }
 
 // The answer of make, check, mend, counts and check_counts.
-pub fn done(answer: Done) -> TrieffAnswer
-    ensures { numbers_of result ≡ done_of answer }
-{
-    match answer {
-        Done::Done => done_with(0, 0, 0),
-        Done::Refused(why) => refused(why),
-    }
-}
+impl From<Result<(), Refusal>> for TrieffAnswer {
+    ghost from_gives = { λ r a. numbers_of a ≡ done_of r };
 
-// The answer of count: the number of stored keys is the value.
-pub fn counted(answer: Counted) -> TrieffAnswer
-    ensures { numbers_of result ≡ counted_of answer }
-{
-    match answer {
-        Counted::Keys(keys) => done_with(0, 0, keys as u64),
-        Counted::Refused(why) => refused(why),
-    }
-}
-
-// The answer of position and position_text: the key's position is the value.
-pub fn placed(answer: Placed) -> TrieffAnswer
-    ensures { numbers_of result ≡ placed_of answer }
-{
-    match answer {
-        Placed::At(position) => done_with(0, 0, position as u64),
-        Placed::Refused(why) => refused(why),
+    #[tactic(auto, unfolding(paper::specs::Answers::done_of))]
+    fn from(answer: Result<(), Refusal>) -> TrieffAnswer {
+        match answer {
+            Ok(()) => done_with(0, 0, 0),
+            Err(why) => refused(why),
+        }
     }
 }
 
 // The answer of look_up and look_up_text: the value, 0 for absent.
-pub fn looked(answer: Looked) -> TrieffAnswer
-    ensures { numbers_of result ≡ looked_of answer }
-{
-    match answer {
-        Looked::Value(value) => done_with(0, 0, value),
-        Looked::Refused(why) => refused(why),
+impl From<Result<u64, Refusal>> for TrieffAnswer {
+    ghost from_gives = { λ r a. numbers_of a ≡ value_of r };
+
+    #[tactic(auto, unfolding(paper::specs::Answers::value_of))]
+    fn from(answer: Result<u64, Refusal>) -> TrieffAnswer {
+        match answer {
+            Ok(value) => done_with(0, 0, value),
+            Err(why) => refused(why),
+        }
+    }
+}
+
+// The answer of count, position and position_text: the number of stored keys, or the key's
+// position, is the value.
+impl From<Result<u32, Refusal>> for TrieffAnswer {
+    ghost from_gives = { λ r a. numbers_of a ≡ value_of r };
+
+    #[tactic(auto, unfolding(paper::specs::Answers::value_of))]
+    fn from(answer: Result<u32, Refusal>) -> TrieffAnswer {
+        match answer {
+            Ok(number) => done_with(0, 0, u64::from(number)),
+            Err(why) => refused(why),
+        }
     }
 }
 
 // The answer of a store without writes, with or without counts: the change.
-pub fn stored(answer: Stored) -> TrieffAnswer
-    ensures { numbers_of result ≡ stored_of answer }
-{
-    match answer {
-        Stored::Change(change) => done_with(0, change, 0),
-        Stored::Refused(why) => refused(why),
+impl From<Result<i32, Refusal>> for TrieffAnswer {
+    ghost from_gives = { λ r a. numbers_of a ≡ stored_of r };
+
+    #[tactic(auto, unfolding(paper::specs::Answers::stored_of))]
+    fn from(answer: Result<i32, Refusal>) -> TrieffAnswer {
+        match answer {
+            Ok(change) => done_with(0, change, 0),
+            Err(why) => refused(why),
+        }
     }
 }
 
 // The answer of a store with writes: the change, and the number of writes as the length.
-pub fn noted(answer: Noted) -> TrieffAnswer
-    ensures { numbers_of result ≡ noted_of answer }
-{
-    match answer {
-        Noted::Change { change, writes } => done_with(writes, change, 0),
-        Noted::Refused(why) => refused(why),
+impl From<Result<Noted, Refusal>> for TrieffAnswer {
+    ghost from_gives = { λ r a. numbers_of a ≡ noted_of r };
+
+    #[tactic(auto, unfolding(paper::specs::Answers::noted_of))]
+    fn from(answer: Result<Noted, Refusal>) -> TrieffAnswer {
+        match answer {
+            Ok(noted) => done_with(noted.writes, noted.change, 0),
+            Err(why) => refused(why),
+        }
     }
 }
 
 // The answer of next_key and key_at: the length and the value of the key found.
-pub fn found(answer: Found) -> TrieffAnswer
-    ensures { numbers_of result ≡ found_of answer }
-{
-    match answer {
-        Found::Key { length, value } => done_with(length, 0, value),
-        Found::Refused(why) => refused(why),
+impl From<Result<Found, Refusal>> for TrieffAnswer {
+    ghost from_gives = { λ r a. numbers_of a ≡ found_of r };
+
+    #[tactic(auto, unfolding(paper::specs::Answers::found_of))]
+    fn from(answer: Result<Found, Refusal>) -> TrieffAnswer {
+        match answer {
+            Ok(found) => done_with(found.length, 0, found.value),
+            Err(why) => refused(why),
+        }
     }
 }

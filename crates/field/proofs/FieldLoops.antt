@@ -1,47 +1,29 @@
--- What the loops keep. In a copy from the front, each turn stores one more element of the list
--- (`sets_append`). In a write from the last byte, the rest of the number is still to be written,
--- in the width that is left (`put_last`).
-use mathlib.Core.Path.{◌≡◌, refl, sym, ap, ap₂, ◌∙◌, subst}
-use Prim.Native.Nat.{ℕ, zero, suc, ◌+◌, ◌-◌, ◌*◌, ◌/◌, ◌%◌, ◌≤◌, ◌<◌}
-use native.Mathlib.Nat.{add-zero, not-suc-le-zero}
-use native.Mathlib.Numerals.{add-one, sub-one}
+-- What a part of a slice holds once all of it is written, and what the loops keep. In a write from
+-- the last byte, the rest of the number is still to be written, in the width that is left
+-- (`put_last`).
+use mathlib.Core.Path.{◌≡◌, refl, sym, ◌∙◌, subst}
+use Prim.Native.Nat.{ℕ, zero, suc, ◌+◌, ◌-◌, ◌/◌, ◌%◌, ◌≤◌, ◌<◌}
+use native.Mathlib.Nat.{not-suc-le-zero}
+use native.Mathlib.Numerals.{sub-one}
 use native.Mathlib.Omega.{arith}
 use native.Mathlib.Decide.{dec_lt}
-use mathlib.Core.List.{List, [], ◌∷◌}
-use lib.ListN.{length, get_or, set, take, length-set}
-use lib.Seq.{sets, take_all, take-suc, length-take-le}
+use mathlib.Core.List.{List, append_assoc}
+use lib.ListN.{length, get_or, set, take, drop, length-set}
+use lib.Seq.{sets}
+use borrow.Rule.Slice.PartMut.{put_mid}
+use Rattle.std.proofs.lemmas.Slice.{put_mid-paste}
+use Rattle.std.proofs.lemmas.List.Edits.{paste_all, sets-eq}
 use Rattle.field.specs.Field.{Zeros, field_at, digits, put_field}
-use Rattle.field.proofs.Sets.{sets_append}
 use Rattle.field.proofs.Field.{field_zero, put_last}
 
--- s is l with the first i elements of vs written from `at` on
-pub record Laying (l : List ℕ) (at : ℕ) (vs s : List ℕ) (i : ℕ) : Type 0 where
-  pub within : i ≤ length vs
-  pub long : length s ≡ length l
-  pub laid : s ≡ sets l at (take i vs)
-
-pub laying_none : (l : List ℕ) (at : ℕ) (vs : List ℕ) → Laying l at vs l 0
-laying_none l at vs = record { within = omega arith; long = refl; laid = refl }
-
-pub laying_more : {l : List ℕ} {at : ℕ} {vs s : List ℕ} {i x : ℕ} → Laying l at vs s i
-    → i < length vs → x ≡ get_or vs i 0 → Laying l at vs (set s (at + i) x) (i + 1)
-laying_more {l} {at} {vs} {s} {i} {x} p h e =
-    record {
-      within = omega arith;
-      long = length-set s (at + i) x ∙ p.long;
-      laid =
-          rw (
-            add-one i,
-            take-suc vs i 0 h,
-            sets_append l at (take i vs) (get_or vs i 0 ∷ []),
-            length-take-le i vs p.within,
-          )
-          (ap₂ (λ (r : List ℕ) (y : ℕ). set r (at + i) y) p.laid e);
-    }
-
-pub laying_all : {l : List ℕ} {at : ℕ} {vs s : List ℕ} {i : ℕ} → Laying l at vs s i → length vs ≤ i
-    → s ≡ sets l at vs
-laying_all {l} {at} {vs} {i} p h = p.laid ∙ ap (λ (r : List ℕ). sets l at r) (take_all i vs h)
+-- what a part of k elements from `at` on holds after they were all written
+pub part_written : (l vs part : List ℕ) (at k : ℕ) → part ≡ vs → k ≡ length vs
+    → at + length vs ≤ length l → put_mid at k l part ≡ sets l at vs
+part_written l vs part at k e f h =
+    put_mid-paste at k l part vs (length vs) e (sym f) refl
+    ∙ paste_all l at vs (length vs) refl
+    ∙ sym (append_assoc (take at l) vs (drop (at + length vs) l))
+    ∙ sym (sets-eq vs l at h)
 
 -- x is what is left of the number and i what is left of the width: writing x into s gives what
 -- writing v into l gives
@@ -131,26 +113,3 @@ blanking_all {l} {from} {to} {first} {at} p h long z a b =
     let last : Zeros l (to - 16) (to - 16 + 16) = sixteen_zeros l (to - 16) a (rw e b) in
     zeros_join l from at (to - 16) to (p.zeros z) (omega arith)
     (λ k low high. last k low (omega arith))
-
--- `eight`: eight bytes that give 0, read with the last byte the most significant, are a field
--- that is 0
-pub turned : (l : List ℕ) (at : ℕ) {a b c d e f g h : ℕ} → a ≡ get_or l at 0 → b
-    ≡ get_or l (at + 1) 0
-    → c ≡ get_or l (at + 2) 0
-    → d ≡ get_or l (at + 3) 0 → e ≡ get_or l (at + 4) 0 → f ≡ get_or l (at + 5) 0 → g
-    ≡ get_or l (at + 6) 0
-    → h ≡ get_or l (at + 7) 0
-    → a + b * 256 + c * 65536 + d * 16777216 + (e + f * 256 + g * 65536 + h * 16777216) *
-    4294967296 ≡ 0
-    → field_at l at 8 ≡ 0
-unfolding field_at
-turned l at ea eb ec ed ee ef eg eh z =
-    let za : get_or l at 0 ≡ 0 = omega arith in
-    let zb : get_or l (at + 1) 0 ≡ 0 = omega arith in
-    let zc : get_or l (at + 2) 0 ≡ 0 = omega arith in
-    let zd : get_or l (at + 3) 0 ≡ 0 = omega arith in
-    let ze : get_or l (at + 4) 0 ≡ 0 = omega arith in
-    let zf : get_or l (at + 5) 0 ≡ 0 = omega arith in
-    let zg : get_or l (at + 6) 0 ≡ 0 = omega arith in
-    let zh : get_or l (at + 7) 0 ≡ 0 = omega arith in
-    rw (add-zero at, za, zb, zc, zd, ze, zf, zg, zh) refl

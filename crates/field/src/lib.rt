@@ -13,11 +13,7 @@ pub fn read4(s: &[u8], at: usize) -> u32
     requires { at + 4 ≤ length s.now }
     ensures { result ≡ field_at s.now at 4 }
 {
-    let a = wide(s[at]);
-    let b = wide(s[at + 1]);
-    let c = wide(s[at + 2]);
-    let d = wide(s[at + 3]);
-    (((a * 256 + b) * 256 + c) * 256 + d) as u32
+    u32::from_be_bytes([s[at], s[at + 1], s[at + 2], s[at + 3]])
 }
 
 // The number in 1 to 4 bytes, such as those of a character. It has no loop.
@@ -25,19 +21,12 @@ pub fn read_few(s: &[u8], at: usize, w: usize) -> u32
     requires { (1 ≤ w) × (w ≤ 4) × (at + w ≤ length s.now) }
     ensures { result ≡ field_at s.now at w }
 {
-    let one = wide(s[at]);
-    if w == 1 {
-        return one as u32;
+    match w {
+        1 => u32::from(s[at]),
+        2 => u32::from_be_bytes([0, 0, s[at], s[at + 1]]),
+        3 => u32::from_be_bytes([0, s[at], s[at + 1], s[at + 2]]),
+        _ => read4(s, at),
     }
-    let two = one * 256 + wide(s[at + 1]);
-    if w == 2 {
-        return two as u32;
-    }
-    let three = two * 256 + wide(s[at + 2]);
-    if w == 3 {
-        return three as u32;
-    }
-    (three * 256 + wide(s[at + 3])) as u32
 }
 
 // The number in the w bytes that end at `end`, where the mask is 256^w - 1. It loads eight bytes
@@ -46,8 +35,9 @@ pub fn read_few(s: &[u8], at: usize, w: usize) -> u32
 // load of the two halves, and of the last half alone where the mask has 32 bits.
 pub fn load_masked(s: &[u8], end: usize, mask: u64) -> u64
     requires { (8 ≤ end) × (end ≤ length s.now) }
-    ensures { (w : ℕ) → w ≤ 8 → mask + 1 ≡ 256 ^ w → result ≡ field_at s.now
-        (end - w) w }
+    ensures field { (w : ℕ) → w ≤ 8 → mask + 1 ≡ 256 ^ w
+        → result ≡ field_at s.now (end - w) w }
+    ensures most { result ≤ mask }
 {
     let high = read4(s, end - 8) as u64;
     let low = read4(s, end - 4) as u64;
@@ -75,6 +65,8 @@ pub fn blank(s: &[u8], from: usize, to: usize) -> bool
     if eight(s, to - 8) != first {
         return false;
     }
+    // A loop of its own: measured over 28 to 40 bytes, an `or` of all bytes takes about twice as
+    // long and `all` six times.
     let mut at = from + 16;
     while at + 16 < to {
         if eight(s, at) != first {
@@ -103,24 +95,22 @@ fn short_blank(s: &[u8], from: usize, to: usize) -> bool
     first == 0
 }
 
-// Eight bytes as one number, the last byte the most significant. It is the sum of two numbers of
-// four bytes, since the compiler then makes one load of each. The contract covers only the
+// Eight bytes as one number, the last byte the most significant. The contract covers only the
 // result 0.
 fn eight(s: &[u8], at: usize) -> u64
     requires { at + 8 ≤ length s.now }
     ensures { result ≡ 0 → field_at s.now at 8 ≡ 0 }
 {
-    let a = wide(s[at]);
-    let b = wide(s[at + 1]);
-    let c = wide(s[at + 2]);
-    let d = wide(s[at + 3]);
-    let e = wide(s[at + 4]);
-    let f = wide(s[at + 5]);
-    let g = wide(s[at + 6]);
-    let h = wide(s[at + 7]);
-    let low = a + b * 256 + c * 65536 + d * 16777216;
-    let high = e + f * 256 + g * 65536 + h * 16777216;
-    low + high * 4294967296
+    u64::from_le_bytes([
+        s[at],
+        s[at + 1],
+        s[at + 2],
+        s[at + 3],
+        s[at + 4],
+        s[at + 5],
+        s[at + 6],
+        s[at + 7],
+    ])
 }
 
 // Writes v into the w bytes from `at` on, the last byte first. What does not fit the width is
@@ -130,11 +120,9 @@ pub fn write(s: &mut [u8], at: usize, w: usize, v: u64)
     ensures { s.new ≡ put_field s.old at w v }
 {
     let mut x = v;
-    let mut i = w;
-    while 0 < i {
-        i -= 1;
+    for i in (0..w).rev() {
         s[at + i] = (x % 256) as u8;
-        x = x / 256;
+        x /= 256;
     }
 }
 
@@ -143,11 +131,7 @@ pub fn clear(s: &mut [u8], at: usize, n: usize)
     requires { at + n ≤ length s.old }
     ensures { s.new ≡ cleared s.old at n }
 {
-    let mut i: usize = 0;
-    while i < n {
-        s[at + i] = 0;
-        i += 1;
-    }
+    s[at..at + n].fill(0);
 }
 
 // Copies all of `from` into s, from `at` on.
@@ -155,16 +139,5 @@ pub fn copy(s: &mut [u8], at: usize, from: &[u8])
     requires { at + length from.now ≤ length s.old }
     ensures { s.new ≡ sets s.old at from.now }
 {
-    let mut i: usize = 0;
-    while i < from.len() {
-        s[at + i] = from[i];
-        i += 1;
-    }
-}
-
-// A byte as a 64-bit number. The type of x says that it is below 256.
-pub fn wide(x: u8) -> u64
-    ensures { result ≡ x }
-{
-    x as u64
+    s[at..at + from.len()].copy_from_slice(from);
 }

@@ -156,8 +156,8 @@ impl Head {
 
     // The byte at which node q begins. q may be G+1, which is one above every address.
     pub fn node_place(self, q: u64) -> u64
-        requires fact_1 { permitted self ≡ true }
-        requires fact_2 { q ≤ 2 ^ 32 }
+        requires head_permitted { permitted self ≡ true }
+        requires address { q ≤ 2 ^ 32 }
         ensures { result ≡ node_place self q }
     {
         (Head::FIELDS_LEN as u64) + (self.f as u64) + q * self.node_width()

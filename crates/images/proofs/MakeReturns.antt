@@ -8,12 +8,12 @@ use mathlib.Core.List.{List, [], ◌∷◌}
 use native.Mathlib.Omega.{arith}
 use lib.ListN.{length}
 use lib.IntN.{pos}
+use Rattle.std.specs.Prelude.{Ok, Err}
 use Rattle.field.specs.Range.{between}
 use Rattle.head.specs.declared.Head.{Head}
 use Rattle.head.specs.Fields.{shortest_image, longest_image, most_alphabet, permitted}
 use Rattle.head.proofs.Permitted.{bounds}
 use Rattle.paper.specs.declared.Refusal.{Refusal}
-use Rattle.paper.specs.declared.Done.{Done}
 use Rattle.paper.specs.Hearing.{Row, first, outcome, done_numbers}
 use Rattle.paper.specs.Answers.{number_at, said_of, refusal_numbers, done_of}
 use Rattle.paper.specs.Orders.{opening_rows}
@@ -31,12 +31,12 @@ module _ (image : List ℕ) (n a d : ℕ) (alphabet : List ℕ) (least most : �
   heard_of = first (opening_rows fresh alphabet (length image))
 
   pub makes_refused : (why : Refusal) → heard_of ≡ some (said_of why)
-      → Makes image n a d alphabet least most (done_of (Done.Refused why)) image
+      → Makes image n a d alphabet least most (done_of (Err why)) image
   unfolding make_of fresh_head done_of refusal_numbers
   makes_refused why e = sym (heard_refused _ _ _ e)
 
   pub makes_done : {after : List ℕ} → heard_of ≡ none → after ≡ fresh_image fresh alphabet image
-      → Makes image n a d alphabet least most (done_of Done.Done) after
+      → Makes image n a d alphabet least most (done_of (Ok tt)) after
   unfolding make_of fresh_head done_of
   makes_done e f =
       ap (λ (l : List ℕ). outcome (done_numbers 0 (pos 0) 0) (l ∷ [])) f ∙ sym (heard_done _ _ _ e)

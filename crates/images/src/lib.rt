@@ -6,21 +6,29 @@
 ghost use Rattle.paper.specs.Answers.{done_of};
 ghost use Rattle.paper.specs.Promises.{Makes, Mends};
 
+use alphabet::Codes;
 use head::Head;
-use paper::{Done, Refusal, Verdict};
+use paper::Refusal;
 
 // Makes a fresh image in the lent slice: head, alphabet and a zero root. Refusals: 1, 2, 3, 4.
-pub fn make(image: &mut [u8], n: u32, a: u32, d: u32, alphabet: &[u8], min: u32, max: u32) -> Done
-    ensures { Makes image.old n a d alphabet.now min max (done_of result)
-        image.new }
+pub fn make(
+    image: &mut [u8],
+    n: u32,
+    a: u32,
+    d: u32,
+    alphabet: &[u8],
+    min: u32,
+    max: u32,
+) -> Result<(), Refusal>
+    ensures { Makes image.old n a d alphabet.now min max (done_of result) image.new }
 {
     let len = image.len();
     if !head::length_allowed(len) {
-        return Done::Refused(Refusal::ImageLength);
+        return Err(Refusal::ImageLength);
     }
     let f = alphabet.len();
     if (Head::F_MOST as usize) < f {
-        return Done::Refused(Refusal::HeadField);
+        return Err(Refusal::HeadField);
     }
     let h = Head {
         g: 0,
@@ -31,39 +39,25 @@ pub fn make(image: &mut [u8], n: u32, a: u32, d: u32, alphabet: &[u8], min: u32,
         min,
         max,
     };
-    let mut codes = [0u32; Head::N_MOST as usize];
-    let opened = opening::judge(h, alphabet, len, &mut codes);
-    let verdict = opened.verdict;
-    match verdict {
-        Verdict::Refused(why) => Done::Refused(why),
-        Verdict::Passed => {
-            making::fresh(image, h, alphabet);
-            Done::Done
-        }
-    }
+    let mut codes = Codes::none();
+    opening::judge(h, alphabet, len, &mut codes)?;
+    making::fresh(image, h, alphabet);
+    Ok(())
 }
 
 // Mends an image after a cut between two writes of a store: if the check answers 8 at p, and the
 // image with G set to p-1 is accepted, G becomes p-1. Otherwise nothing changes, and the check's
-// answer is returned. Refusals: 1 to 8, 16, 19, 19.
-pub fn mend(image: &mut [u8], work: &mut [u32]) -> Done
-    ensures { Mends image.old work.old (done_of result) image.new
-        work.new }
+// answer is returned. Refusals: 1 to 8, 16, 19.
+pub fn mend(image: &mut [u8], work: &mut [u32]) -> Result<(), Refusal>
+    ensures { Mends image.old work.old (done_of result) image.new work.new }
 {
-    let mut codes = [0u32; Head::N_MOST as usize];
-    let checked = audit::check(image, work, &mut codes);
-    let verdict = checked.verdict;
-    match verdict {
-        Verdict::Passed => Done::Done,
-        Verdict::Refused(why) => {
-            let Refusal::NotLinked(p) = why else {
-                return Done::Refused(why);
-            };
-            let trial = mending::lower(image, work, p, &mut codes);
-            match trial {
-                Verdict::Passed => Done::Done,
-                Verdict::Refused(_worse) => Done::Refused(why),
-            }
-        }
-    }
+    let mut codes = Codes::none();
+    let Err(why) = audit::check(image, work, &mut codes) else {
+        return Ok(());
+    };
+    let Refusal::NotLinked(p) = why else {
+        return Err(why);
+    };
+    let trial = mending::lower(image, work, p, &mut codes);
+    trial.or(Err(why))
 }

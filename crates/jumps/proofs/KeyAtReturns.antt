@@ -7,6 +7,7 @@ use mathlib.Core.Option.{Option, none, some}
 use mathlib.Core.List.{List, [], ◌∷◌, ◌++◌}
 use native.Mathlib.Omega.{arith}
 use borrow.Author.Tests.{lt-ltb, le-ltb}
+use Rattle.std.specs.Prelude.{Result, Ok, Err}
 use lib.ListN.{length, get_or, take, length-take}
 use lib.Seq.{sets}
 use Rattle.trie.specs.Table.{answer}
@@ -17,11 +18,10 @@ use Rattle.passing.proofs.Passing.{passes_here}
 use Rattle.passing.proofs.Ranks.{at_none, at_held}
 use Rattle.head.specs.declared.Head.{Head}
 use Rattle.head.specs.Fields.{most_letters, head_of}
-use Rattle.head.proofs.Permitted.{bounds}
+use Rattle.alphabet.specs.declared.codes.Codes.{Codes}
 use Rattle.alphabet.specs.Letters.{or_empty}
 use Rattle.node.specs.Image.{table_of}
 use Rattle.paper.specs.declared.Refusal.{Refusal}
-use Rattle.paper.specs.declared.Verdict.{Verdict}
 use Rattle.paper.specs.declared.Found.{Found}
 use Rattle.paper.specs.Hearing.{Row, Outcome, first, heard}
 use Rattle.paper.specs.Answers.{said_of, refusal_numbers, found_of}
@@ -36,10 +36,9 @@ use Rattle.position.specs.Orders.{check_counts_order, key_at_order}
 use Rattle.position.specs.Calls.{work_left, placed_key, key_at_of}
 use Rattle.position.specs.Promises.{GivesKey}
 use Rattle.position.proofs.Plain.{counts_checked}
-use Rattle.opening.specs.declared.Opened.{Opened}
+use Rattle.depths.specs.declared.Spot.{Spot}
 use Rattle.comparing.specs.Comparing.{Compared}
 use Rattle.asking_counts.proofs.AskingCounts.{compared_right}
-use Rattle.ranking.specs.declared.Spot.{Spot}
 use Rattle.ranking.specs.Ranking.{Spotted}
 use Rattle.ranking.proofs.Below.{Counted}
 use Rattle.jumps.specs.Jumps.{TellsKey}
@@ -61,11 +60,11 @@ module _ (l work counts : List ℕ) (position : ℕ) (buffer : List ℕ) where
   unfolding key_at_of key_at_order
   asked = refl
 
-  abbrev Leaves : Found → List ℕ → Type 0
+  abbrev Leaves : Result Found Refusal → List ℕ → Type 0
   Leaves r buffer' =
       GivesKey l work counts position buffer (found_of r) (work_left l work counts) buffer'
 
-  refuses : (why : Refusal) → first order ≡ some (said_of why) → Leaves (Found.Refused why) buffer
+  refuses : (why : Refusal) → first order ≡ some (said_of why) → Leaves (Err why) buffer
   unfolding found_of refusal_numbers
   refuses why e = sym (asked ∙ heard_refused _ _ _ e)
 
@@ -74,7 +73,7 @@ module _ (l work counts : List ℕ) (position : ℕ) (buffer : List ℕ) where
     left : first order ≡ first rest
     left = second_part (check_counts_order l work counts) _ compared
 
-    short : length buffer < (head_of l).max → Leaves (Found.Refused Refusal.ShortBuffer) buffer
+    short : length buffer < (head_of l).max → Leaves (Err Refusal.ShortBuffer) buffer
     unfolding row14
     short b =
         refuses Refusal.ShortBuffer
@@ -86,7 +85,7 @@ module _ (l work counts : List ℕ) (position : ℕ) (buffer : List ℕ) where
       left_15 = left ∙ no_row 14 0 _ (le-ltb (length buffer) (head_of l).max room)
 
       missing : key_at (stored_keys l) position ≡ none
-          → Leaves (Found.Refused Refusal.NoKey) buffer
+          → Leaves (Err Refusal.NoKey) buffer
       unfolding row15 is_none
       missing e = refuses Refusal.NoKey (left_15 ∙ yes_row 15 0 [] (ap is_none e))
 
@@ -100,7 +99,7 @@ module _ (l work counts : List ℕ) (position : ℕ) (buffer : List ℕ) where
 
         found : {n x : ℕ} {buffer' : List ℕ} → n ≡ length k → x ≡ answer (table_in l) k
             → buffer' ≡ sets buffer 0 k
-            → Leaves (Found.Key n x) buffer'
+            → Leaves (Ok (record { length = n; value = x })) buffer'
         unfolding found_of placed_key
         found count value laid = rw (count, value, laid) (sym done)
 
@@ -119,47 +118,34 @@ module _ {h : Head} {l counts : List ℕ} (w : Counted h l counts) where
   pub few_keys : length (stored_keys l) < 2 ^ 32
   few_keys = omega (arith, w.few, ap length w.stored)
 
-  pub path_room : h.max ≤ most_letters
-  path_room = omega (arith, bounds h w.opened.head_permitted)
-
 -- ---- what the way by counts answered
 
 module _ {l : List ℕ} {position : ℕ} {s : Spot} {path : List ℕ} (t : Spotted l position s path)
   where
-    -- the key is no longer than max, so it is inside the path
+    -- the key is no longer than max
     spotted_short : s.length ≤ (head_of l).max
     spotted_short =
         let (_, high, _) =
         (stored_exactly l t.key).0 (at_held (stored_keys l) position t.there) in
         omega (arith, t.long, high)
 
-    pub spotted_within : s.length ≤ length path
-    spotted_within =
-        omega (arith, t.long, ap length t.letters, length-take (length t.key) path)
-
     front : take s.length path ≡ t.key
     front = ap (λ (m : ℕ). take m path) t.long ∙ t.letters
 
-    pub spotted_front : s.length ≡ length (take s.length path)
-    spotted_front = t.long ∙ ap length (sym front)
-
-    -- it fits a buffer that 14 has passed, and its length fits 32 bits
+    -- so it fits a buffer that 14 has passed
     module _ {h : Head} (same : h ≡ head_of l) where
-      short_head : s.length ≤ h.max
-      short_head = omega (arith, spotted_short, ap (λ (k : Head). k.max) same)
+      pub spotted_deep : s.length ≤ h.max
+      spotted_deep = omega (arith, spotted_short, ap (λ (k : Head). k.max) same)
 
       pub spotted_room : {most : ℕ} → h.max ≤ most → 0 + length (take s.length path) ≤ most
-      spotted_room b = omega (arith, short_head, spotted_front)
-
-      pub spotted_fits : {counts : List ℕ} → Counted h l counts → s.length < 2 ^ 32
-      spotted_fits w = omega (arith, short_head, path_room w)
+      spotted_room b = omega (arith, spotted_deep, length-take s.length path)
 
     -- ---- the returns after 25
 
     pub spots_found : (buffer : List ℕ) {h : Head} {buffer' : List ℕ} → h ≡ head_of l
         → h.max ≤ length buffer
         → buffer' ≡ sets buffer 0 (take s.length path)
-        → TellsKey l position buffer (Found.Key s.length s.value) buffer'
+        → TellsKey l position buffer (Ok (record { length = s.length; value = s.value })) buffer'
     spots_found buffer same room laid work counts compared =
         found l work counts position buffer compared (rw same at room) t.key t.there
         t.long
@@ -167,39 +153,36 @@ module _ {l : List ℕ} {position : ℕ} {s : Spot} {path : List ℕ} (t : Spott
 
 module _ (l : List ℕ) (position : ℕ) (buffer : List ℕ) {h : Head} (same : h ≡ head_of l) where
   pub spots_short : length buffer < h.max → TellsKey l position buffer
-      (Found.Refused Refusal.ShortBuffer) buffer
+      (Err Refusal.ShortBuffer) buffer
   spots_short b work counts compared = short l work counts position buffer compared (rw same at b)
 
   pub spots_past : h.max ≤ length buffer → length (stored_keys l) ≤ position
-      → TellsKey l position buffer (Found.Refused Refusal.NoKey) buffer
+      → TellsKey l position buffer (Err Refusal.NoKey) buffer
   spots_past room past work counts compared =
       missing l work counts position buffer compared (rw same at room)
       (at_none (stored_keys l) position past)
 
 -- ---- the returns of the whole call
 
-module _ {l work counts : List ℕ} {r : Opened} {work' codes : List ℕ}
-    (o : Compared l work counts r work' codes) where
-  -- what the part after 25 requires
-  pub spot_asks : r.verdict ≡ Verdict.Passed
-      → Accepted l × ((r.head ≡ head_of l) × RightCounts l counts)
-  spot_asks e =
-      let passed = told_passed o.verdict e in (
-        (counts_checked l work counts passed).accepted,
-        (o.head (told_passed refl e), compared_right l work counts passed),
-      )
-
-  pub gives_key_refused : (position : ℕ) (buffer : List ℕ) {why : Refusal}
-      → r.verdict ≡ Verdict.Refused why
-      → GivesKey l work counts position buffer (found_of (Found.Refused why)) work' buffer
-  gives_key_refused position buffer {why} e =
+module _ {l work counts work' : List ℕ} {codes : Codes} (position : ℕ) (buffer : List ℕ) where
+  pub gives_key_refused : {why : Refusal} → Compared l work counts (Err why) work' codes
+      → GivesKey l work counts position buffer (found_of (Err why)) work' buffer
+  gives_key_refused {why} o =
       rw o.numbers
       (refuses l work counts position buffer why
-      (first_part (check_counts_order l work counts) _ (told_refused o.verdict e)))
+      (first_part (check_counts_order l work counts) _ (told_refused o.verdict refl)))
 
-  pub gives_key_spotted : (position : ℕ) (buffer : List ℕ) (f : Found) {buffer' : List ℕ}
-      → r.verdict ≡ Verdict.Passed
-      → TellsKey l position buffer f buffer' → GivesKey l work counts position buffer
-      (found_of f) work' buffer'
-  gives_key_spotted position buffer f e s =
-      rw o.numbers (s work counts (told_passed o.verdict e))
+  pub gives_key_spotted : {h : Head} (f : Result Found Refusal) {buffer' : List ℕ}
+      → Compared l work counts (Ok h) work' codes → TellsKey l position buffer f buffer'
+      → GivesKey l work counts position buffer (found_of f) work' buffer'
+  gives_key_spotted f o s = rw o.numbers (s work counts (told_passed o.verdict refl))
+
+-- what the part after 25 requires
+pub spot_asks : {l work counts work' : List ℕ} {codes : Codes} {h : Head}
+    → Compared l work counts (Ok h) work' codes
+    → Accepted l × ((h ≡ head_of l) × RightCounts l counts)
+spot_asks {l} {work} {counts} o =
+    let passed = told_passed o.verdict refl in (
+      (counts_checked l work counts passed).accepted,
+      (o.head, compared_right l work counts passed),
+    )

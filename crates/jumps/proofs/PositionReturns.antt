@@ -9,16 +9,16 @@ use mathlib.Core.List.{List, [], ◌∷◌, ◌++◌, append_assoc}
 use native.Mathlib.Omega.{arith}
 use lib.Dec.{eqb}
 use lib.IntN.{pos}
+use Rattle.std.specs.Prelude.{Result, Ok, Err, Option as Maybe, Some, None}
+use Rattle.std.specs.Option.{ok_or}
 use lib.ListN.{length}
 use Rattle.field.specs.Range.{between}
 use Rattle.trie.specs.Table.{answer}
 use Rattle.passing.specs.Passing.{rank_in}
 use Rattle.head.specs.Fields.{head_of}
 use Rattle.paper.specs.declared.Refusal.{Refusal}
-use Rattle.paper.specs.declared.Verdict.{Verdict}
-use Rattle.paper.specs.declared.Placed.{Placed}
 use Rattle.paper.specs.Hearing.{Row, Outcome, first, heard, outcome, done_numbers}
-use Rattle.paper.specs.Answers.{said_of, refusal_numbers, placed_of}
+use Rattle.paper.specs.Answers.{said_of, refusal_numbers, value_of}
 use Rattle.paper.specs.Rows.{row15, is_none}
 use Rattle.paper.specs.Given.{Given, key_in}
 use Rattle.paper.specs.Orders.{key_rows}
@@ -34,33 +34,23 @@ use Rattle.key.specs.Hand.{Ready, letters_of}
 use Rattle.asking.specs.declared.Asked.{Asked}
 use Rattle.asking_counts.specs.AskedCounts.{AsksCounts}
 use Rattle.asking_counts.proofs.AskingCounts.{asked_right, asked_length}
-use Rattle.ranking.specs.declared.Ranked.{Ranked}
 use Rattle.ranking.specs.Ranking.{ranked_of}
 use Rattle.jumps.specs.Jumps.{ranks_as}
 
 -- ---- what the way by counts answered
 
-module _ (l key : List ℕ) {r : Ranked} (told : r ≡ ranked_of l key) where
-  abbrev at : ℕ
-  at = rank_in (stored_keys l) key
+pub ranks_told : (l key : List ℕ) {r : Maybe ℕ} → r ≡ ranked_of l key
+    → ok_or r Refusal.NoKey ≡ ranks_as l key
+unfolding ranked_of ranks_as
+ranks_told l key e = rw e (go (eqb (answer (table_in l) key) 0))
+  where
+    at : ℕ
+    at = rank_in (stored_keys l) key
 
-  pub ranks_missing : r ≡ Ranked.Missing → Placed.Refused Refusal.NoKey ≡ ranks_as l key
-  unfolding ranked_of ranks_as
-  ranks_missing e = go (eqb (answer (table_in l) key) 0) (sym told ∙ e)
-    where
-      go : (b : Bool) → cond b Ranked.Missing (Ranked.At at) ≡ Ranked.Missing
-          → Placed.Refused Refusal.NoKey ≡ cond b (Placed.Refused Refusal.NoKey) (Placed.At at)
-      go true f = refl
-      go false f = let z : ◌≡◌ {A = ℕ} 0 1 = cc in absurd (omega arith)
-
-  pub ranks_at : {n : ℕ} → r ≡ Ranked.At n → Placed.At n ≡ ranks_as l key
-  unfolding ranked_of ranks_as
-  ranks_at {n} e = go (eqb (answer (table_in l) key) 0) (sym told ∙ e)
-    where
-      go : (b : Bool) → cond b Ranked.Missing (Ranked.At at) ≡ Ranked.At n
-          → Placed.At n ≡ cond b (Placed.Refused Refusal.NoKey) (Placed.At at)
-      go true f = let z : ◌≡◌ {A = ℕ} 0 1 = cc in absurd (omega arith)
-      go false f = let same : at ≡ n = cc in ap Placed.At (sym same)
+    go : (b : Bool) → ok_or (cond b None (Some at)) Refusal.NoKey
+        ≡ cond b (Err Refusal.NoKey) (Ok at)
+    go true = refl
+    go false = refl
 
 -- ---- over the rows
 
@@ -82,16 +72,16 @@ module _ (l work counts : List ℕ) (given : Given) where
   unfolding position_of position_order
   asked = refl
 
-  abbrev Leaves : Placed → Type 0
-  Leaves p = GivesPosition l work counts given (placed_of p) (work_left l work counts)
+  abbrev Leaves : Result ℕ Refusal → Type 0
+  Leaves p = GivesPosition l work counts given (value_of p) (work_left l work counts)
 
   -- before 15, and then 15
   joined : first order ≡ first ((check_counts_order l work counts ++ key_rows l given) ++ last)
   joined = ap first (sym (append_assoc (check_counts_order l work counts) (key_rows l given) last))
 
   refuses : (why : Refusal) → first (check_counts_order l work counts ++ key_rows l given)
-      ≡ some (said_of why) → Leaves (Placed.Refused why)
-  unfolding placed_of refusal_numbers
+      ≡ some (said_of why) → Leaves (Err why)
+  unfolding value_of refusal_numbers
   refuses why e =
       sym (asked ∙ heard_refused _ _ _
       (joined ∙ first_part (check_counts_order l work counts ++ key_rows l given) last e))
@@ -101,12 +91,11 @@ module _ (l work counts : List ℕ) (given : Given) where
     left = joined ∙ second_part (check_counts_order l work counts ++ key_rows l given) last passed
 
     placed : Leaves (ranks_as l key)
-    unfolding ranks_as placed_of refusal_numbers row15 is_none if_stored
+    unfolding ranks_as value_of refusal_numbers row15 is_none if_stored
     placed = go (eqb (answer (table_in l) key) 0) refl
       where
         go : (b : Bool) → eqb (answer (table_in l) key) 0 ≡ b
-            → Leaves (cond b (Placed.Refused Refusal.NoKey)
-            (Placed.At (rank_in (stored_keys l) key)))
+            → Leaves (cond b (Err Refusal.NoKey) (Ok (rank_in (stored_keys l) key)))
         go true e =
             let missing : is_none (if_stored l key) ≡ true = rw e in
             sym (asked ∙ heard_refused _ _ _ (left ∙ yes_row 15 0 [] missing))
@@ -116,37 +105,19 @@ module _ (l work counts : List ℕ) (given : Given) where
 
 -- ---- the returns
 
-module _ {l : List ℕ} (work counts : List ℕ) {given : Given} {r : Asked} {work' : List ℕ}
-    (a : AsksCounts l work counts given r work') where
-  pub gives_position_refused : {why : Refusal} → r.verdict ≡ Verdict.Refused why
-      → GivesPosition l work counts given (placed_of (Placed.Refused why)) work'
-  gives_position_refused {why} e =
-      rw a.numbers (refuses l work counts given why (told_refused a.verdict e))
+module _ {l : List ℕ} (work counts : List ℕ) {given : Given} {work' : List ℕ} where
+  pub gives_position_refused : {why : Refusal} → AsksCounts l work counts given (Err why) work'
+      → GivesPosition l work counts given (value_of (Err why)) work'
+  gives_position_refused {why} o =
+      rw o.numbers (refuses l work counts given why (told_refused o.verdict refl))
 
-  module _ (e : r.verdict ≡ Verdict.Passed) where
-    -- what the part after 10 requires
-    pub place_asks : Accepted l
-        × ((r.head ≡ head_of l)
-        × (RightCounts l counts ×
-        (Ready r.head r.key
-        × (between (length (letters_of r.key)) r.head.min r.head.max ≡ true))))
-    place_asks =
-        let b = a.allowed (told_passed refl e) in (
-          b.accepted,
-          (
-            b.head,
-            (
-              asked_right work counts a e,
-              (b.ready, asked_length work counts a e),
-            ),
-          ),
-        )
-
-    pub gives_position_placed : {p : Placed} → p ≡ ranks_as l (letters_of r.key)
-        → GivesPosition l work counts given (placed_of p) work'
-    gives_position_placed told =
-        let same : ranks_as l (letters_of r.key) ≡ ranks_as l (key_in l given) =
-        ap (ranks_as l) (a.allowed (told_passed refl e)).letters in
-        rw a.numbers
-        (ap (λ (p : Placed). outcome (placed_of p) (work_left l work counts ∷ [])) (told ∙ same)
-        ∙ placed l work counts given (told_passed a.verdict e))
+  pub gives_position_placed : {a : Asked} {p : Result ℕ Refusal}
+      → AsksCounts l work counts given (Ok a) work' → p ≡ ranks_as l (letters_of a.key)
+      → GivesPosition l work counts given (value_of p) work'
+  gives_position_placed {a} o told =
+      let same : ranks_as l (letters_of a.key) ≡ ranks_as l (key_in l given) =
+      ap (ranks_as l) o.allowed.letters in
+      rw o.numbers
+      (ap (λ (p : Result ℕ Refusal). outcome (value_of p) (work_left l work counts ∷ []))
+      (told ∙ same)
+      ∙ placed l work counts given (told_passed o.verdict refl))

@@ -1,16 +1,12 @@
 -- The key in hand of a list of letters holds the list: the list is the front of the array where
 -- it fits, and zeros fill the rest. Each law follows the array from its front.
-use Prim.Native.Nat.{ℕ, zero, suc, ◌+◌, ◌≤◌, ◌<◌, min}
+use Prim.Native.Nat.{ℕ, zero, suc, ◌≤◌, ◌<◌, min}
 use mathlib.Core.Path.{◌≡◌, refl, sym, ◌∙◌, ap}
-use mathlib.Core.Bool.{Bool, true, false}
 use mathlib.Core.List.{List, [], ◌∷◌, ◌++◌}
 use native.Mathlib.Nat.{le_of_suc-le-suc, not-suc-le-zero}
-use native.Mathlib.Numerals.{add-one}
 use native.Mathlib.Omega.{arith}
-use lib.Dec.{leb}
 use lib.ListN.{length, get_or, take, drop, set, replicate}
-use lib.Seq.{length-take-le, take_all, take-suc, drop-cons, get_or-take}
-use borrow.Author.Tests.{leb-true, leb-false}
+use lib.Seq.{length-take-le, drop-cons, get_or-take}
 use Rattle.trie.specs.Table.{LettersBelow}
 use Rattle.trie.proofs.LettersBelow.{letters_at}
 use Rattle.head.specs.Fields.{most_letters}
@@ -47,36 +43,17 @@ padded_full (suc w) [] x h = absurd (not-suc-le-zero h)
 padded_full (suc w) (y ∷ k) x h =
     ap (λ (l : List ℕ). y ∷ l) (padded_full w k x (le_of_suc-le-suc h))
 
--- letters past the array's end are not kept
-pub padded_take : (w : ℕ) (k : List ℕ) → padded w (take w k) ≡ padded w k
+-- the letters that are copied into an array of zeros: all of them, or as many as it can hold
+pub copied : (w : ℕ) (k : List ℕ) (m : ℕ) → m ≡ min (length k) w
+    → take m k ++ drop m (replicate w 0) ≡ padded w k
 unfolding padded
-padded_take zero k = refl
-padded_take (suc w) [] = refl
-padded_take (suc w) (x ∷ k) = ap (λ (l : List ℕ). x ∷ l) (padded_take w k)
-
--- ---- the loop that copies letters
-
-pub copy_more : (w : ℕ) (l kept : List ℕ) (i : ℕ) → i < length l → i < w
-    → kept ≡ padded w (take i l)
-    → set kept i (get_or l i 0) ≡ padded w (take (i + 1) l)
-copy_more w l kept i h k e =
-    let so : length (take i l) ≡ i = length-take-le i l (omega arith) in
-    ap (λ (a : List ℕ). set a i (get_or l i 0)) e
-    ∙ ap (λ (j : ℕ). set (padded w (take i l)) j (get_or l i 0)) (sym so)
-    ∙ padded_more w (take i l) (get_or l i 0) (omega arith)
-    ∙ ap (padded w) (sym (take-suc l i 0 h) ∙ ap (λ (j : ℕ). take j l) (sym (add-one i)))
-
--- all letters, or as many as the array can hold
-pub copy_all : (w : ℕ) (l : List ℕ) (i : ℕ) → i ≡ min (length l) w → padded w (take i l)
-    ≡ padded w l
-copy_all w l i e = go (leb (length l) w) refl
-  where
-    go : (b : Bool) → leb (length l) w ≡ b → padded w (take i l) ≡ padded w l
-    go true b = let h : length l ≤ w = leb-true _ _ b in ap (padded w) (take_all i l (omega arith))
-    go false b =
-        let h : w < length l = leb-false _ _ b in
-        let so : i ≡ w = omega arith in
-        ap (λ (j : ℕ). padded w (take j l)) so ∙ padded_take w l
+copied zero k zero e = refl
+copied zero k (suc m) e = absurd (omega arith)
+copied (suc w) [] zero e = sym (padded_nil (suc w))
+copied (suc w) [] (suc m) e = absurd (omega arith)
+copied (suc w) (x ∷ k) zero e = absurd (omega arith)
+copied (suc w) (x ∷ k) (suc m) e =
+    ap (λ (l : List ℕ). x ∷ l) (copied w k m (omega arith))
 
 pub hand_holds : (k : List ℕ) → Holds (in_hand k) k
 unfolding in_hand

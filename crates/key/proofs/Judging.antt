@@ -1,17 +1,19 @@
 -- 9 and 10, row by row, for a key in hand. A key whose length is allowed has at most max
 -- letters, and max is at most 64, so the key is held whole. A key that passes is ready for a
 -- walk: its letters are those of the array, and all are below N.
-use Prim.Native.Nat.{ℕ, zero, suc, ◌≤◌, ◌<◌}
+use Prim.Native.Nat.{ℕ, ◌≤◌}
 use mathlib.Core.Path.{◌≡◌, refl, sym, ◌∙◌, ap}
-use mathlib.Core.Bool.{Bool, true, false, not, true≢false, and-false}
+use mathlib.Core.Bool.{Bool, true, false, not, ◌&&◌}
 use mathlib.Core.Option.{Option, none, some}
 use mathlib.Core.List.{List, [], ◌∷◌}
 use native.Mathlib.Omega.{arith}
 use lib.Dec.{ltb}
-use lib.ListN.{length, get_or, take}
-use borrow.Author.Tests.{lt-ltb, le-ltb, ltb-false, not-false}
+use lib.ListN.{length}
+use borrow.Author.Tests.{ltb-false, not-false}
+use Rattle.std.specs.Prelude.{Some, None}
+use Rattle.std.specs.List.{list_all}
 use Rattle.field.specs.Range.{between}
-use Rattle.field.proofs.Range.{both, between_true}
+use Rattle.field.proofs.Range.{between_true}
 use Rattle.head.specs.declared.Head.{Head}
 use Rattle.head.specs.Fields.{permitted, most_letters}
 use Rattle.head.proofs.Permitted.{bounds}
@@ -26,8 +28,7 @@ use Rattle.paper.proofs.Hearing.{was_false, yes_row, no_row, passed_row}
 use Rattle.paper.proofs.Keying.{below_letters}
 use Rattle.paper.proofs.Named.{named_letters}
 use Rattle.key.specs.declared.Key.{Key}
-use Rattle.key.specs.declared.Typed.{Typed}
-use Rattle.key.specs.Hand.{in_hand, Holds, typed_as, letters_of, Ready}
+use Rattle.key.specs.Hand.{in_hand, Holds, hand_of, letters_of, Ready}
 use Rattle.key.proofs.Hand.{hand_holds}
 
 -- the letters of a key that is held whole are those of the array
@@ -74,55 +75,30 @@ module _ (h : Head) (test : ℕ → Bool) {hand : Key} {k : List ℕ} (o : Holds
 -- ---- 10, then 9, for a key by its text
 
 -- a text that names no key
-pub text_10 : (h : Head) → first (text_rows h none) ≡ some (number_at 10 0)
-unfolding text_rows row10text is_none
-text_10 h = yes_row 10 0 _ refl
+pub text_10 : (h : Head) (named : Option (List ℕ)) → hand_of named ≡ None
+    → first (text_rows h named) ≡ some (number_at 10 0)
+unfolding hand_of text_rows row10text is_none
+text_10 h none e = yes_row 10 0 _ refl
+text_10 h (some k) e = cc
 
 -- a text that names a key: 9 by the key's length
-text_by_lem : (h : Head) (k : List ℕ) {b : Bool} → between (length k) h.min h.max ≡ b
-    → first (text_rows h (some k)) ≡ row_when 9 0 (not b)
-unfolding text_rows row10text is_none row9 or_empty
-text_by_lem h k e = no_row 10 0 _ refl ∙ alone _ ∙ ap (λ (t : Bool). row_when 9 0 (not t)) e
+pub text_by : (h : Head) (named : Option (List ℕ)) {hand : Key} → hand_of named ≡ Some hand
+    → {b : Bool} → between hand.len h.min h.max ≡ b
+    → first (text_rows h named) ≡ row_when 9 0 (not b)
+unfolding hand_of in_hand text_rows row10text is_none row9 or_empty
+text_by h none e b = cc
+text_by h (some k) {hand} e b =
+    let same : in_hand k ≡ hand = cc in
+    no_row 10 0 _ refl ∙ alone _
+    ∙ ap (λ (t : Bool). row_when 9 0 (not t))
+    (ap (λ (g : Key). between g.len h.min h.max) same ∙ b)
 
--- the same for the key in hand of a text
-module _ (h : Head) (t : Typed) where
-  pub typed_10 : (named : Option (List ℕ)) → t ≡ typed_as named → t.named ≡ false
-      → first (text_rows h named) ≡ some (number_at 10 0)
-  unfolding typed_as
-  typed_10 none e f = text_10 h
-  typed_10 (some k) e f = let z : ◌≡◌ {A = Bool} true false = ap (λ (r : Typed). r.named) (sym e)
-      ∙ f in absurd (true≢false z)
+-- ---- the letters of a key
 
-  pub typed_by : (named : Option (List ℕ)) → t ≡ typed_as named → t.named ≡ true → {b : Bool}
-      → between t.key.len h.min h.max ≡ b → first (text_rows h named) ≡ row_when 9 0
-      (not b)
-  unfolding typed_as in_hand
-  typed_by none e f b = let z : ◌≡◌ {A = Bool} true false =
-      sym f ∙ ap (λ (r : Typed). r.named) e in absurd (true≢false z)
-  typed_by (some k) e f b = text_by_lem h k (rw (ap (λ (r : Typed). r.key.len) e) at b)
-
--- ---- the loop over the letters
-
-pub below_none : (n : ℕ) (l : List ℕ) → all_below n (take 0 l) ≡ true
+pub below_is : (n : ℕ) (k : List ℕ) → list_all (λ x. ltb x n) k ≡ all_below n k
 unfolding all_below
-below_none n l = refl
-
-pub below_more : (n : ℕ) (l : List ℕ) (i : ℕ) → all_below n (take i l) ≡ true → get_or l i 0 < n
-    → all_below n (take (suc i) l) ≡ true
-unfolding all_below
-below_more n [] i a h = refl
-below_more n (x ∷ l) zero a h = rw (lt-ltb x n h)
-below_more n (x ∷ l) (suc i) a h =
-    let u = both (ltb x n) (all_below n (take i l)) a in rw (u.0, below_more n l i u.1 h)
-
-pub below_not : (n : ℕ) (l : List ℕ) (i len : ℕ) → i < len → i < length l → n ≤ get_or l i 0
-    → all_below n (take len l) ≡ false
-unfolding all_below
-below_not n [] i len k m h = absurd (omega arith)
-below_not n (x ∷ l) i zero k m h = absurd (omega arith)
-below_not n (x ∷ l) zero (suc len) k m h = rw (le-ltb x n h)
-below_not n (x ∷ l) (suc i) (suc len) k m h =
-    rw (below_not n l i len (omega arith) (omega arith) h) (and-false (ltb x n))
+below_is n [] = refl
+below_is n (x ∷ k) = ap (λ (t : Bool). ltb x n && t) (below_is n k)
 
 -- ---- what is known of a key that has passed 9 and 10
 
@@ -157,27 +133,21 @@ module _ (h : Head) {hand : Key} {k : List ℕ} (p : permitted h ≡ true) (o : 
       let r = ready h o (omega (arith, bounds h p)) u.1 in
       (r.0, r.1, rw o.len most)
 
--- a text that passes names a key, whose length is allowed
-text_passing : (h : Head) (named : Option (List ℕ)) → first (text_rows h named) ≡ none
-    → (k : List ℕ) × (named ≡ some k) × (between (length k) h.min h.max ≡ true)
-unfolding text_rows row10text is_none row9 or_empty
-text_passing h none e = let z : ◌≡◌ {A = ℕ} 0 1 = cc (text_10 h) in absurd (omega arith)
-text_passing h (some k) e =
-    let u = passed_row _ _ e in
-    let v = passed_row _ _ u.1 in
-    (k, refl, not-false _ (was_false 9 0 _ v.0))
-
--- the same for a text, whose letters are those of an alphabet of at most N letters
-pub typed_ready : (h : Head) (t : Typed) (alphabet text : List ℕ) {named : Option (List ℕ)}
-    → permitted h ≡ true → t ≡ typed_as named
-    → named ≡ key_of_text alphabet text → length alphabet ≤ h.n → first (text_rows h named) ≡ none
-    → Ready h t.key × (named ≡ some (letters_of t.key))
-unfolding typed_as
-typed_ready h t alphabet text {named} p e spelt few passed =
-    let (k, is, allowed) = text_passing h named passed in
-    let same : t.key ≡ in_hand k = ap (λ (r : Typed). r.key) (e ∙ ap typed_as is) in
-    let among = named_letters alphabet text (sym spelt ∙ is) in
-    let o : Holds t.key k = rw same (hand_holds k) in
-    let r = ready h o (short h p allowed)
-    (letters_of_lem h.n k (λ i b. omega (arith, letters_at (length alphabet) k among i b))) in
-    (r.0, is ∙ ap some (sym r.1))
+-- the same for a text whose key has a length that is allowed, and whose letters are those of an
+-- alphabet of at most N letters
+pub text_ready : (h : Head) (alphabet text : List ℕ) {hand : Key} → permitted h ≡ true
+    → length alphabet ≤ h.n → hand_of (key_of_text alphabet text) ≡ Some hand
+    → between hand.len h.min h.max ≡ true
+    → Ready h hand × (letters_of hand ≡ or_empty (key_of_text alphabet text))
+unfolding hand_of or_empty
+text_ready h alphabet text {hand} p few e allowed = go (key_of_text alphabet text) refl e
+  where
+    go : (named : Option (List ℕ)) → key_of_text alphabet text ≡ named → hand_of named ≡ Some hand
+        → Ready h hand × (letters_of hand ≡ or_empty named)
+    go none spelt e = cc
+    go (some k) spelt e =
+        let same : in_hand k ≡ hand = cc in
+        let o : Holds hand k = rw (← same) (hand_holds k) in
+        let among = named_letters alphabet text spelt in
+        ready h o (rw o.len at (short h p allowed))
+        (letters_of_lem h.n k (λ i b. omega (arith, letters_at (length alphabet) k among i b)))

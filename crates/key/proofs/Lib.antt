@@ -1,4 +1,4 @@
 pub mod Hand
 pub mod Judging
-pub mod Keyed
+mod Keyed
 mod Typing

@@ -3,19 +3,17 @@
 use Prim.Native.Nat.{ℕ, ◌+◌, ◌≤◌, ◌<◌}
 use mathlib.Core.Path.{◌≡◌, refl, sym, ◌∙◌, ap}
 use mathlib.Core.Logic.{◌≢◌}
-use mathlib.Core.Bool.{true}
-use mathlib.Core.Option.{none}
 use mathlib.Core.List.{List, [], ◌∷◌, ◌++◌}
 use native.Mathlib.Omega.{arith}
 use lib.ListN.{length, set, replicate, length-append}
+use Rattle.std.specs.Prelude.{Some, None}
 use Rattle.utf8.specs.Table37.{char_len}
 use Rattle.utf8.specs.Text.{char_at}
 use Rattle.head.specs.Fields.{most_letters}
 use Rattle.alphabet.specs.Letters.{letter_of, key_of_text}
 use Rattle.alphabet.proofs.Spelling.{Spelling, spelling_none, spelling_more, spelling_all}
 use Rattle.alphabet.proofs.Spelling.{spelling_ill, spelling_outside}
-use Rattle.key.specs.declared.Typed.{Typed}
-use Rattle.key.specs.Hand.{padded, in_hand, typed_as}
+use Rattle.key.specs.Hand.{padded, in_hand, hand_of}
 use Rattle.key.proofs.Hand.{padded_nil, padded_more, padded_full}
 
 pub record Typing (alphabet text kept : List ℕ) (len at : ℕ) : Type 0 where
@@ -65,18 +63,19 @@ module _ {alphabet text kept : List ℕ} {len at : ℕ} (t : Typing alphabet tex
       }
 
   pub typing_all : length text ≤ at
-      → ◌≡◌ {A = Typed} (record { named = true; key = record { letters = kept; len = len } })
-      (typed_as (key_of_text alphabet text))
-  unfolding typed_as in_hand
+      → Some (record { letters = kept; len = len }) ≡ hand_of (key_of_text alphabet text)
+  unfolding hand_of in_hand
   typing_all h =
       rw (spelling_all t.spelling h)
-      (λ j. record { named = true; key = record { letters = t.array j; len = t.count j } })
+      (λ j. Some (record { letters = t.array j; len = t.count j }))
 
-  pub typing_ill : at < length text → char_len text at ≡ 0 → typed_as none
-      ≡ typed_as (key_of_text alphabet text)
-  typing_ill h e = ap typed_as (sym (spelling_ill t.spelling h e))
+  pub typing_ill : at < length text → char_len text at ≡ 0
+      → None ≡ hand_of (key_of_text alphabet text)
+  unfolding hand_of
+  typing_ill h e = ap hand_of (sym (spelling_ill t.spelling h e))
 
   pub typing_outside : char_len text at ≢ 0
       → length alphabet ≤ letter_of alphabet (char_at text at)
-      → typed_as none ≡ typed_as (key_of_text alphabet text)
-  typing_outside z h = ap typed_as (sym (spelling_outside t.spelling z h))
+      → None ≡ hand_of (key_of_text alphabet text)
+  unfolding hand_of
+  typing_outside z h = ap hand_of (sym (spelling_outside t.spelling z h))

@@ -1,12 +1,19 @@
 -- 01, "Walking, storing, listing": "A key in hand is up to 64 letter numbers together with its
 -- length." Of a longer key the first 64 letters are held, and a length that is above every max.
-use Rattle.std.specs.Prelude.{ℕ, zero, suc, ◌≤◌, ◌≡◌, true, false, List, [], ◌∷◌, length, take}
+use Rattle.std.specs.Prelude.{ℕ, zero, suc, ◌≤◌, ◌≡◌, List, [], ◌∷◌, length, take}
+use Rattle.std.specs.Prelude.{Option as Maybe, Some, None, Result, IfOk}
 use Rattle.std.proofs.Math.Option.{Option, none, some}
 use Rattle.trie.specs.Table.{LettersBelow}
 use Rattle.head.specs.declared.Head.{Head}
-use Rattle.head.specs.Fields.{most_letters}
+use Rattle.head.specs.Fields.{most_letters, head_of}
+use Rattle.paper.specs.declared.Refusal.{Refusal}
+use Rattle.paper.specs.Hearing.{first}
+use Rattle.paper.specs.Answers.{row_of}
+use Rattle.paper.specs.Given.{Given, as_letters, as_text, key_in}
+use Rattle.paper.specs.Orders.{key_rows}
 use Rattle.key.specs.declared.Key.{Key}
-use Rattle.key.specs.declared.Typed.{Typed}
+use Rattle.key.specs.declared.GivenKey.{GivenKey}
+use Rattle.key.specs.declared.GivenKey.TheVariants.{Letters, Text}
 
 -- the first w letters of a key, followed by zeros where it has fewer
 unfoldable pub padded : ℕ → List ℕ → List ℕ
@@ -25,11 +32,16 @@ pub record Holds (hand : Key) (k : List ℕ) : Type 0 where
   pub len : hand.len ≡ length k
   pub letters : length k ≤ most_letters → take (length k) hand.letters ≡ k
 
--- what a text names: no key, or this one
-unfoldable pub typed_as : Option (List ℕ) → Typed
+-- the key in hand of the key that a text names, if it names one
+unfoldable pub hand_of : Option (List ℕ) → Maybe Key
 unfolding in_hand
-typed_as none = record { named = false; key = in_hand [] }
-typed_as (some k) = record { named = true; key = in_hand k }
+hand_of none = None
+hand_of (some k) = Some (in_hand k)
+
+-- a key as it is given, by its letters or by its text
+abbrev pub given_of : GivenKey → Given
+given_of (Letters letters) = as_letters letters.now
+given_of (Text text) = as_text text.now
 
 -- the letters of a key in hand
 abbrev pub letters_of : Key → List ℕ
@@ -39,3 +51,9 @@ letters_of hand = take hand.len hand.letters
 pub record Ready (h : Head) (hand : Key) : Type 0 where
   pub short : hand.len ≤ most_letters
   pub letters : LettersBelow h.n (letters_of hand)
+
+-- 9 and 10 of a key as it is given, in an image that has been opened: the first of them that is
+-- given or, where none is, the key in hand that is meant
+pub record Keyed (l : List ℕ) (given : Given) (r : Result Key Refusal) : Type 0 where
+  pub verdict : row_of r ≡ first (key_rows l given)
+  pub key : IfOk r (λ k. Ready (head_of l) k × (letters_of k ≡ key_in l given))

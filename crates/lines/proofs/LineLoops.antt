@@ -7,8 +7,9 @@ use native.Mathlib.Nat.{not-suc-le-zero}
 use native.Mathlib.Numerals.{add-one, sub-one}
 use native.Mathlib.Omega.{arith}
 use mathlib.Core.List.{List, [], ◌∷◌, ◌++◌}
-use lib.ListN.{length, get_or, set, take, drop, length-set, length-append, length-drop}
-use lib.Seq.{sets, take-suc, length-take-le, drop-append-le, get_or-take}
+use lib.ListN.{length, get_or, set, take, drop, length-set, length-append, length-take}
+use lib.ListN.{length-drop}
+use lib.Seq.{sets, take-suc, take_all}
 use Rattle.field.specs.Field.{Bytes}
 use Rattle.field.proofs.Bytes.{bytes_take, bytes_drop}
 use Rattle.lines.specs.Lines.{decimal, dotted, key_text, TextAt}
@@ -80,77 +81,53 @@ unfolding figures
 filling_all {i = zero} p h = p.left
 filling_all {i = suc i} p h = absurd (not-suc-le-zero h)
 
--- `letters`: the letters 1 to i - 1 of the path are written from `start` on, each after a dot
-pub record Spelling (l : List ℕ) (start : ℕ) (path : List ℕ) (len : ℕ) (s : List ℕ)
-    (end i : ℕ) : Type 0 where
-  pub some : 0 < i
-  pub within : i ≤ len
-  pub inside : len ≤ length path
-  pub laid : TextAt l start (dotted (drop 1 (take i path))) end s
+-- `letters`: the letters after the first are written from `start` on, each after a dot
+abbrev pub others : List ℕ → List ℕ
+others key = take (length key - 1) (drop 1 key)
 
-pub spelling_none : (l : List ℕ) (start : ℕ) (path : List ℕ) {len : ℕ} → 0 < len
-    → len ≤ length path → Spelling l start path len l start 1
-unfolding dotted
-spelling_none l start [] h f = absurd (omega arith)
-spelling_none l start (x ∷ path) h f =
-    record {
-      some = omega arith;
-      within = h;
-      inside = f;
-      laid = record { bytes = refl; ends = omega arith };
-    }
+others_all : (key : List ℕ) → others key ≡ drop 1 key
+others_all key = take_all (length key - 1) (drop 1 key) (omega (arith, length-drop 1 key))
 
-taken : {l : List ℕ} {start : ℕ} {path : List ℕ} {len : ℕ} {s : List ℕ} {end i : ℕ}
-    → Spelling l start path len s end i
-    → length (take i path) ≡ i
-taken {path} {i} p = length-take-le i path (omega (arith, p.within, p.inside))
-
-pub spelling_more : {l : List ℕ} {start : ℕ} {path : List ℕ} {len : ℕ} {s : List ℕ} {end i : ℕ}
+pub spelling_more : (letters : List ℕ) {l : List ℕ} {start : ℕ} {s : List ℕ} {end i : ℕ}
     {s' : List ℕ} {end' : ℕ}
-    → Spelling l start path len s end i
-    → i < len
-    → TextAt (set s end 46) (end + 1) (decimal (get_or path i 0)) end' s'
-    → Spelling l start path len s' end' (i + 1)
-spelling_more {path} {s} {end} {i} p h q =
-    let e : dotted (drop 1 (take i path)) ++ (46 ∷ decimal (get_or path i 0))
-    ≡ dotted (drop 1 (take (i + 1) path)) =
-    sym (dotted_more (drop 1 (take i path)) (get_or path i 0))
-    ∙ ap dotted (sym (drop-append-le 1 (take i path) (get_or path i 0 ∷ [])
-    (omega (arith, p.some, taken p))))
-    ∙ ap (λ (k : List ℕ). dotted (drop 1 k)) (sym (take-suc path i 0 (omega (arith, p.inside))))
-    ∙ ap (λ (k : ℕ). dotted (drop 1 (take k path))) (sym (add-one i)) in
-    record {
-      some = omega arith;
-      within = omega arith;
-      inside = p.inside;
-      laid = laid_as e (laid_join p.laid (laid_join (laid_one s end 46 refl) q));
-    }
+    → TextAt l start (dotted (take i letters)) end s
+    → i < length letters
+    → TextAt (set s end 46) (end + 1) (decimal (get_or letters i 0)) end' s'
+    → TextAt l start (dotted (take (i + 1) letters)) end' s'
+spelling_more letters {s} {end} {i} p h q =
+    let e : dotted (take i letters) ++ (46 ∷ decimal (get_or letters i 0))
+    ≡ dotted (take (i + 1) letters) =
+    sym (dotted_more (take i letters) (get_or letters i 0))
+    ∙ ap dotted (sym (take-suc letters i 0 h))
+    ∙ ap (λ (k : ℕ). dotted (take k letters)) (sym (add-one i)) in
+    laid_as e (laid_join p (laid_join (laid_one s end 46 refl) q))
 
-module _ {l' : List ℕ} {at : ℕ} {l : List ℕ} {start : ℕ} {path : List ℕ} {len : ℕ} {s : List ℕ}
-    {end i : ℕ}
-    (first : TextAt l' at (decimal (get_or path 0 0)) start l)
-    (p : Spelling l start path len s end i) where
+module _ (key : List ℕ) {l' : List ℕ} {at : ℕ} {l : List ℕ} {start : ℕ} {s : List ℕ} {end i : ℕ}
+    (first : TextAt l' at (decimal (get_or key 0 0)) start l)
+    (p : TextAt l start (dotted (take i (others key))) end s) where
   -- there is room for a dot and one more letter
-  pub spelling_room : Bytes path → i < len → at + (len * 4 + 1) ≤ length l' → end + 4 ≤ length s
+  pub spelling_room : Bytes key → i < length (others key) → at + (length key * 4 + 1) ≤ length l'
+      → end + 4 ≤ length s
   spelling_room b h f =
       omega (
         arith,
-        taken p,
-        p.some,
-        p.laid.ends,
+        length-take i (others key),
+        length-take (length key - 1) (drop 1 key),
+        length-drop 1 key,
+        p.ends,
         first.ends,
         laid_long first,
-        laid_long p.laid,
-        letter_long (get_or path 0 0) (b 0),
-        length-drop 1 (take i path),
-        dotted_long (drop 1 (take i path)) (bytes_drop 1 (take i path) (bytes_take i path b)),
+        laid_long p,
+        letter_long (get_or key 0 0) (b 0),
+        dotted_long (take i (others key))
+            (bytes_take i (others key)
+            (bytes_take (length key - 1) (drop 1 key) (bytes_drop 1 key b))),
       )
 
-  pub spelling_all : len ≤ i → TextAt l' at (key_text (take len path)) end s
-  spelling_all h =
-      let e : i ≡ len = omega (arith, p.within) in
-      let t : decimal (get_or path 0 0) ++ dotted (drop 1 (take i path)) ≡ key_text (take i path) =
-      ap (λ (x : ℕ). decimal x ++ dotted (drop 1 (take i path)))
-      (sym (get_or-take i path 0 0 p.some))
-      ∙ sym (key_parts (take i path) (omega (arith, p.some, taken p))) in
-      laid_as (t ∙ ap (λ (k : ℕ). key_text (take k path)) e) (laid_join first p.laid)
+  pub spelling_all : 0 < length key → length (others key) ≤ i → TextAt l' at (key_text key) end s
+  spelling_all some h =
+      laid_as
+      (ap (λ (k : List ℕ). decimal (get_or key 0 0) ++ dotted k)
+      (take_all i (others key) h ∙ others_all key)
+      ∙ sym (key_parts key some))
+      (laid_join first p)

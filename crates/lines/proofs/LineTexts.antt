@@ -6,9 +6,8 @@ use Prim.Native.Nat.{ℕ, suc, ◌+◌, ◌*◌, ◌≤◌, ◌<◌}
 use native.Mathlib.Nat.{not-suc-le-zero}
 use native.Mathlib.Omega.{arith}
 use mathlib.Core.List.{List, [], ◌∷◌, ◌++◌, append_assoc, append-nil}
-use lib.ListN.{length, get_or, take, drop, length-append, length-take}
+use lib.ListN.{length, get_or, drop, length-append}
 use Rattle.field.specs.Field.{Bytes}
-use Rattle.field.proofs.Bytes.{bytes_take}
 use Rattle.lines.specs.Lines.{decimal, dotted, key_text, entry_line, entries_line, refused_line}
 use Rattle.lines.specs.Lines.{entry_room, entries_room, refused_room, TextAt}
 use Rattle.lines.proofs.Digits.{decimal_long, letter_long}
@@ -22,9 +21,10 @@ dotted_more (y ∷ k) x =
     ap (λ (d : List ℕ). 46 ∷ (decimal y ++ d)) (dotted_more k x)
     ∙ ap (λ (d : List ℕ). 46 ∷ d) (sym (append_assoc (decimal y) (dotted k) (46 ∷ decimal x)))
 
-pub key_none : {n : ℕ} (path : List ℕ) → n ≡ 0 → 45 ∷ [] ≡ key_text (take n path)
+pub key_none : (k : List ℕ) → length k ≡ 0 → 45 ∷ [] ≡ key_text k
 unfolding key_text
-key_none path e = sym (ap (λ (k : ℕ). key_text (take k path)) e)
+key_none [] e = refl
+key_none (x ∷ k) e = absurd (omega arith)
 
 pub key_parts : (k : List ℕ) → 0 < length k → key_text k
     ≡ decimal (get_or k 0 0) ++ dotted (drop 1 k)
@@ -50,25 +50,19 @@ dotted_long (x ∷ k) b =
           (λ j. b (suc j)),
     )
 
-key_long : (k : List ℕ) → Bytes k → length (key_text k) ≤ length k * 4 + 1
+pub key_long : (k : List ℕ) → Bytes k → length (key_text k) ≤ length k * 4 + 1
 unfolding key_text dotted
 key_long [] b = omega arith
 key_long (x ∷ k) b = omega (arith, dotted_long (x ∷ k) b)
 
-pub letters_long : (path : List ℕ) (len : ℕ) → Bytes path → length (key_text (take len path))
-    ≤ len * 4 + 1
-letters_long path len b =
-    omega (arith, length-take len path, key_long (take len path) (bytes_take len path b))
-
-pub entry_long : (path : List ℕ) (len v : ℕ) → Bytes path → length (entry_line (take len path) v)
-    ≤ entry_room len
+pub entry_long : (k : List ℕ) (v : ℕ) → Bytes k → length (entry_line k v) ≤ entry_room (length k)
 unfolding entry_line
-entry_long path len v b =
+entry_long k v b =
     omega (
       arith,
-      length-append (key_text (take len path)) (32 ∷ (decimal v ++ (10 ∷ []))),
+      length-append (key_text k) (32 ∷ (decimal v ++ (10 ∷ []))),
       length-append (decimal v) (10 ∷ []),
-      letters_long path len b,
+      key_long k b,
       decimal_long v,
     )
 

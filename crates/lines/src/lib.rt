@@ -2,7 +2,7 @@
 // `at` on and answers where it ends. The caller shows that there is room.
 #![tactic(auto)]
 
-ghost use Rattle.std.specs.Prelude.{◌≡◌, ◌+◌, ◌*◌, ◌≤◌, length, take};
+ghost use Rattle.std.specs.Prelude.{◌≡◌, ◌+◌, ◌*◌, ◌≤◌, length};
 ghost use Rattle.lines.specs.Lines.{TextAt, decimal, entries_line, entry_line, refused_line};
 ghost use Rattle.lines.specs.Lines.{key_text, entry_room, entries_room, refused_room};
 
@@ -37,38 +37,32 @@ pub fn refused(out: &mut [u8], at: usize, n: u32, place: u32) -> usize
     word(out, end, b"\n")
 }
 
-// Writes the line of a stored key, the first `len` letters of the path, and its value.
-pub fn entry(out: &mut [u8], at: usize, path: &[u8], len: usize, value: u64) -> usize
-    requires len_in_bounds { len ≤ length path.now }
-    requires len_in_bounds_2 { at + entry_room len ≤ length out.old }
-    ensures text_at { TextAt out.old at (entry_line (take len path.now) value)
-        result out.new }
-    ensures upper_bound { result ≤ at + entry_room len }
+// Writes the line of a stored key, by its letters, and its value.
+pub fn entry(out: &mut [u8], at: usize, key: &[u8], value: u64) -> usize
+    requires { at + entry_room (length key.now) ≤ length out.old }
+    ensures text_at { TextAt out.old at (entry_line key.now value) result out.new }
+    ensures upper_bound { result ≤ at + entry_room (length key.now) }
 {
-    let mut end = letters(out, at, path, len);
-    out[end] = 32;
+    let mut end = letters(out, at, key);
+    out[end] = b' ';
     end = number(out, end + 1, value);
-    out[end] = 10;
+    out[end] = b'\n';
     end + 1
 }
 
 // Writes letter numbers joined by dots; the empty key is a dash.
-fn letters(out: &mut [u8], at: usize, path: &[u8], len: usize) -> usize
-    requires len_in_bounds { len ≤ length path.now }
-    requires len_in_bounds_2 { at + (len * 4 + 1) ≤ length out.old }
-    ensures { TextAt out.old at (key_text (take len path.now)) result
-        out.new }
+fn letters(out: &mut [u8], at: usize, key: &[u8]) -> usize
+    requires { at + (length key.now * 4 + 1) ≤ length out.old }
+    ensures { TextAt out.old at (key_text key.now) result out.new }
 {
-    if len == 0 {
-        out[at] = 45;
+    if key.is_empty() {
+        out[at] = b'-';
         return at + 1;
     }
-    let mut end = letter(out, at, path[0]);
-    let mut i: usize = 1;
-    while i < len {
-        out[end] = 46;
-        end = letter(out, end + 1, path[i]);
-        i += 1;
+    let mut end = letter(out, at, key[0]);
+    for x in &key[1..] {
+        out[end] = b'.';
+        end = letter(out, end + 1, *x);
     }
     end
 }
@@ -80,44 +74,43 @@ fn letter(out: &mut [u8], at: usize, x: u8) -> usize
     ensures { TextAt out.old at (decimal x) result out.new }
 {
     if x < 10 {
-        out[at] = 48 + x;
+        out[at] = b'0' + x;
         return at + 1;
     }
     if x < 100 {
-        out[at] = 48 + x / 10;
-        out[at + 1] = 48 + x % 10;
+        out[at] = b'0' + x / 10;
+        out[at + 1] = b'0' + x % 10;
         return at + 2;
     }
-    out[at] = 48 + x / 100;
-    out[at + 1] = 48 + x / 10 % 10;
-    out[at + 2] = 48 + x % 10;
+    out[at] = b'0' + x / 100;
+    out[at + 1] = b'0' + x / 10 % 10;
+    out[at + 2] = b'0' + x % 10;
     at + 3
 }
 
-// Writes a number in decimal, from its last digit on.
+// Writes a number in decimal, from its last digit on. Decimal text is written by hand, since each
+// line is proved byte by byte, in lent memory and with no heap.
 fn number(out: &mut [u8], at: usize, v: u64) -> usize
     requires { at + 20 ≤ length out.old }
     ensures { TextAt out.old at (decimal v) result out.new }
 {
     let width = places(v);
     let mut x = v;
-    let mut i = width;
-    while 0 < i {
-        i -= 1;
-        out[at + i] = 48 + ((x % 10) as u8);
-        x = x / 10;
+    for i in (0..width).rev() {
+        out[at + i] = b'0' + ((x % 10) as u8);
+        x /= 10;
     }
     at + width
 }
 
-// How many digits a number has.
+// How many digits a number has. The loop divides; it goes over no range.
 fn places(v: u64) -> usize
     ensures { result ≡ length (decimal v) }
 {
     let mut x = v;
     let mut n: usize = 1;
     while 10 <= x {
-        x = x / 10;
+        x /= 10;
         n += 1;
     }
     n

@@ -10,17 +10,18 @@ use mathlib.Core.List.{List, [], ◌++◌}
 use mathlib.Core.Logic.{◌≢◌}
 use mathlib.Core.Path.{◌≡◌, refl, sym, ◌∙◌, ap}
 use lib.ListN.{length, take}
+use Rattle.std.specs.Prelude.{Option as Maybe, Some, None}
 use Rattle.trie.specs.Table.{answer}
 use Rattle.trie.specs.Keys.{own_key}
 use Rattle.head.specs.declared.Head.{Head}
-use Rattle.head.specs.Fields.{most_letters, most_path, head_of}
+use Rattle.head.specs.Fields.{head_of}
 use Rattle.node.specs.Image.{table_of}
 use Rattle.paper.specs.Calls.{table_in, stored_keys}
 use Rattle.depths.specs.Depths.{own_value}
 use Rattle.depths.proofs.Links.{own_empty, own_full, own_long, own_data}
-use Rattle.traversal.specs.declared.Search.{Search}
+use Rattle.depths.specs.declared.Spot.{Spot}
 use Rattle.traversal.specs.Search.{next_stored, SearchTells}
-use Rattle.traversal.proofs.Walking.{met, Walking, all_keys, keys_after, from_root, none_after}
+use Rattle.traversal.proofs.Walking.{met, Met, all_keys, keys_after, from_root, none_after}
 use Rattle.traversal.proofs.Walking.{next_after, next_value}
 use Rattle.lines.specs.Lines.{TextAt, entries_line, entry_line}
 use Rattle.lines.proofs.TextsAt.{laid_long, laid_as}
@@ -82,7 +83,7 @@ buffer_len = 65536
 
 -- the path's first n letters are the last key whose line is in the buffer or was handed over
 pub record Telling (h : Head) (l out path nodes : List ℕ) (done end n : ℕ) : Type 0 where
-  pub walking : Walking h l path nodes n
+  pub met : Met h l path nodes n
   pub long : length out ≡ buffer_len
   pub waiting : Waiting (output_of l) done out end (lined h l (keys_after h l (take n path)))
 
@@ -96,15 +97,15 @@ pub telling_start : {h : Head} {l out₀ out₁ out path nodes : List ℕ} {coun
     → TextAt out₁ head (root_line root) end out
     → head ≤ buffer_len
     → end ≤ buffer_len
-    → Walking h l path nodes 0
+    → Met h l path nodes 0
     → done ≡ 0
     → Telling h l out path nodes done end 0
-telling_start {h} {l} {out₀} same listed counted value long first second fits fits₁ w none =
+telling_start {h} {l} {out₀} same listed counted value long first second fits fits₁ m none =
     let titled =
     waiting_more (waiting_none (output_of l) out₀ none) (listed ∙ listing_lines h l same counted)
     first (omega arith) in
     record {
-      walking = w;
+      met = m;
       long = laid_long second ∙ laid_long first ∙ long;
       waiting =
           waiting_more titled (root_lines h l value) second (omega (arith, laid_long first));
@@ -112,30 +113,28 @@ telling_start {h} {l} {out₀} same listed counted value long first second fits 
 
 -- the search for the key after m
 module _ {h : Head} {l out : List ℕ} {done end : ℕ} (m : List ℕ)
-    (w : Waiting (output_of l) done out end (lined h l (keys_after h l m))) {r : Search}
+    (w : Waiting (output_of l) done out end (lined h l (keys_after h l m))) {r : Maybe Spot}
     {path nodes : List ℕ}
     (told : SearchTells h l (next_stored h l true m) r path nodes) where
   -- it finds none: the buffer's front ends the output
-  pub telling_end : r ≡ Search.Missing → done + length (take end out) ≡ length (output_of l)
+  pub telling_end : r ≡ None → done + length (take end out) ≡ length (output_of l)
   unfolding lines_of
   telling_end e = waiting_all w (ap (lined h l) (none_after h l m told e))
 
   -- it finds a key, whose line is put into the buffer
-  module _ {n v : ℕ} (e : r ≡ Search.Found n v) where
-    pub telling_less : length (keys_after h l (take n path)) < length (keys_after h l m)
+  module _ {p : Spot} (e : r ≡ Some p) where
+    pub telling_less : length (keys_after h l (take p.length path)) < length (keys_after h l m)
     telling_less = omega (arith, ap length (next_after h l m told e))
 
-    pub telling_on : {out' : List ℕ} {end' : ℕ} → length path ≡ most_letters
-        → length nodes ≡ most_path
-        → length out ≡ buffer_len
-        → TextAt out end (entry_line (take n path) v) end' out'
+    pub telling_on : {out' : List ℕ} {end' : ℕ} → length out ≡ buffer_len
+        → TextAt out end (entry_line (take p.length path) p.value) end' out'
         → end' ≤ buffer_len
-        → Telling h l out' path nodes done end' n
+        → Telling h l out' path nodes done end' p.length
     unfolding lines_of
-    telling_on p q long laid fits =
-        let line = laid_as (ap (entry_line (take n path)) (next_value h l m told e)) laid in
+    telling_on long laid fits =
+        let line = laid_as (ap (entry_line (take p.length path)) (next_value h l m told e)) laid in
         record {
-          walking = record { letters = p; ends = q; key = met told e };
+          met = met told e;
           long = laid_long laid ∙ long;
           waiting =
               waiting_more w (ap (lined h l) (next_after h l m told e)) line (omega arith);

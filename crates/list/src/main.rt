@@ -14,11 +14,12 @@ ghost use Rattle.paper.specs.Accepted.{Accepted};
 ghost use Rattle.lines.specs.Lines.{TextAt, refused_line, entry_room};
 ghost use Rattle.list.specs.Output.{output_of, listing_text, NextPart, root_line};
 
+use alphabet::Codes;
 use head::Head;
-use paper::Verdict;
+use node::Nodes;
 use std::io;
 use std::io::{Read, Write};
-use traversal::Search;
+use traversal::Path;
 
 // The longest image that is read.
 const IMAGE: usize = 65536;
@@ -49,7 +50,7 @@ fn answer<R: Read, W: Write>(from: &mut R, to: &mut W) -> io::Result<()>
 }
 
 // Reads until the buffer is full or the input ends. Answers how many bytes it put at the buffer's
-// start.
+// start. The loop has no range: only the input knows how much each read gives.
 fn read_full<R: Read>(from: &mut R, space: &mut [u8]) -> io::Result<usize>
     ensures bound { IfOk result (λ n. n ≤ length space.new) }
     ensures bytes { IfOk result (λ n.
@@ -79,12 +80,10 @@ fn tell<W: Write>(to: &mut W, input: &[u8], done: &mut usize) -> io::Result<()>
         return refuse(to, input, 1, 0, done);
     }
     let mut work = [0u32; WORK];
-    let mut codes = [0u32; Head::N_MOST as usize];
-    let checked = audit::check(input, &mut work, &mut codes);
-    let verdict = checked.verdict;
-    match verdict {
-        Verdict::Refused(why) => refuse(to, input, why.number(), why.place(), done),
-        Verdict::Passed => list(to, input, checked.head, done),
+    let mut codes = Codes::none();
+    match audit::check(input, &mut work, &mut codes) {
+        Ok(h) => list(to, Nodes::of(input, h), done),
+        Err(why) => refuse(to, input, why.number(), why.place(), done),
     }
 }
 
@@ -109,35 +108,30 @@ fn refuse<W: Write>(
 
 // Hands over the number of stored keys, then a line for each: first the root's own key, if it is
 // stored. The lines so far are handed over once the longest line may not fit after them.
-fn list<W: Write>(to: &mut W, input: &[u8], h: Head, done: &mut usize) -> io::Result<()>
-    requires accepted { Accepted input.now }
-    requires h_value { h ≡ head_of input.now }
-    requires input_value { output_of input.now ≡ listing_text input.now }
+fn list<W: Write>(to: &mut W, nodes: Nodes, done: &mut usize) -> io::Result<()>
+    requires accepted { Accepted nodes.image.now }
+    requires own { nodes.head ≡ head_of nodes.image.now }
+    requires input_value { output_of nodes.image.now ≡ listing_text nodes.image.now }
     requires done_value { done.old ≡ 0 }
-    ensures done_value { done.new ≡ length (output_of input.now) }
+    ensures done_value { done.new ≡ length (output_of nodes.entry.image.now) }
     ensures written { OnOk result
-        (Appends (W.contents to.old) (W.contents to.new) (output_of input.now)) }
+        (Appends (W.contents to.old) (W.contents to.new) (output_of nodes.entry.image.now)) }
 {
+    let input = nodes.image;
     let mut out = [0u8; OUT];
-    let mut path = [0u8; Head::MAX_MOST as usize];
-    let mut nodes = [0u32; Head::PATH_MOST as usize];
-    let count = counting::count(input, h);
-    let head = lines::entries(&mut out, 0, count);
-    let root = traversal::start(input, h, &mut nodes);
+    let mut path = Path::new();
+    let head = lines::entries(&mut out, 0, counting::count(nodes));
+    let root = traversal::start(nodes, &mut path);
     let mut end = root_line(&mut out, head, root);
     let mut len: usize = 0;
     let mut sent = Ok(());
-    loop {
-        let found = traversal::onward(input, h, len, &mut path, &mut nodes);
-        let Search::Found { length, value } = found else {
-            break;
-        };
+    while let Some(spot) = traversal::onward(nodes, len, &mut path) {
         if LAST < end {
             sent = hand_over(to, sent, input, &out[..end], done);
             end = 0;
         }
-        end = lines::entry(&mut out, end, &path, length, value);
-        len = length;
+        len = spot.length;
+        end = lines::entry(&mut out, end, &path.letters[..len], spot.value);
     }
     hand_over(to, sent, input, &out[..end], done)
 }
@@ -152,7 +146,7 @@ fn root_line(out: &mut [u8], at: usize, value: u64) -> usize
     if value == 0 {
         return at;
     }
-    lines::entry(out, at, b"", 0, value)
+    lines::entry(out, at, b"", value)
 }
 
 // Hands over a piece of the output for an input, to be written, and counts its bytes. It is the

@@ -26,7 +26,7 @@ use Rattle.node.specs.Frame.{InBytes, Touched, data_of_key, node_total, one_link
 use Rattle.node.proofs.FieldPlaces.{link_inside, data_inside, inside_least, inside_used}
 use Rattle.node.proofs.FieldPlaces.{link_from}
 use Rattle.node.proofs.Heads.{with_total, used_more}
-use Rattle.node.proofs.Nodes.{path_node_lem, last_node_lem}
+use Rattle.node.proofs.WholeNodes.{path_node_lem, last_node_lem}
 use Rattle.node.proofs.StoreOnTable.{carried_append}
 
 -- where a key's walk can end: at one of the nodes, and the letters left are below N

@@ -28,7 +28,7 @@ use Rattle.node.proofs.FieldPlaces.{link_from}
 use Rattle.node.proofs.Tables.{table_eq}
 use Rattle.node.proofs.Writes.{table_outside, table_total, table_link, table_data}
 use Rattle.node.proofs.Heads.{with_total, used_total}
-use Rattle.node.proofs.Nodes.{blank_cleared, table_blank, path_node_lem, last_node_lem}
+use Rattle.node.proofs.WholeNodes.{blank_cleared, table_blank, path_node_lem, last_node_lem}
 
 -- ---- writes done one after the other
 

@@ -1,3 +1,4 @@
 pub mod Frame
+pub mod Read
 pub mod Image
 pub mod Writes

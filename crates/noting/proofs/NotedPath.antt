@@ -1,7 +1,7 @@
 -- The writes of a store as they are noted. The write of a new node is as long as a node and
 -- begins where the one before it ends, so the entries of the new nodes follow from their number.
 -- At each turn the entries that are left give the list that all entries together give.
-use Prim.Native.Nat.{ℕ, zero, suc, ◌+◌, ◌-◌, ◌*◌, ◌≤◌, ◌<◌}
+use Prim.Native.Nat.{ℕ, zero, suc, ◌+◌, ◌-◌, ◌*◌, ◌<◌}
 use mathlib.Core.Path.{◌≡◌, refl, sym, ◌∙◌, ap}
 use mathlib.Core.Logic.{◌≢◌}
 use mathlib.Core.List.{List, [], ◌∷◌, ◌++◌}
@@ -15,11 +15,11 @@ use Rattle.trie.specs.Table.{LettersBelow, missing}
 use Rattle.trie.specs.Storing.{added}
 use Rattle.head.specs.declared.Head.{Head}
 use Rattle.head.specs.Fields.{total_len, node_width, node_place, used_len}
-use Rattle.head.proofs.Places.{row, place_add}
+use Rattle.head.proofs.Places.{place_add}
 use Rattle.node.specs.Image.{link_place, data_place}
 use Rattle.node.specs.Writes.{Write, noted, new_nodes, total_write, link_write, data_write}
 use Rattle.node.specs.Writes.{store_writes}
-use Rattle.node.proofs.Nodes.{length_path, length_last, nodes_count}
+use Rattle.node.proofs.WholeNodes.{length_path, length_last, nodes_count}
 use Rattle.walk.specs.declared.Position.{Position}
 use Rattle.walk.specs.declared.Walked.{Walked}
 use Rattle.storing.specs.StoreStage.{end_of, stopped_at}
@@ -116,45 +116,29 @@ module _ (h : Head) (k list : List ℕ) {o : Walked} where
 
 -- The first i nodes are noted; before the first of them the list was list₀.
 pub record Noting (nodes width from : ℕ) (list₀ list : List ℕ) (i place : ℕ) : Type 0 where
-  pub few : i ≤ nodes
   pub here : place ≡ from + i * width
   pub rest : (more : List ℕ) → sets list (2 * i) (nodes_at place width (nodes - i) ++ more)
       ≡ sets list₀ 0 (nodes_at from width nodes ++ more)
 
-module _ {nodes width from : ℕ} {list₀ : List ℕ} where
-  pub noting_start : Noting nodes width from list₀ list₀ 0 from
-  noting_start =
-      let all : nodes - 0 ≡ nodes = omega arith in
+module _ {nodes width from : ℕ} {list₀ list : List ℕ} {i place : ℕ}
+    (w : Noting nodes width from list₀ list i place) where
+  pub noting_on : {list' : List ℕ} → i < nodes → list' ≡ sets list (2 * i) (place ∷ width ∷ [])
+      → Noting nodes width from list₀ list' (i + 1) (place + width)
+  unfolding nodes_at
+  noting_on b e =
+      let left : nodes - i ≡ suc (nodes - (i + 1)) = omega arith in
+      let on : 2 * (i + 1) ≡ suc (suc (2 * i)) = omega arith in
       record {
-        few = omega arith;
-        here = omega arith;
-        rest = λ more. ap (λ (k : ℕ). sets list₀ 0 (nodes_at from width k ++ more)) all;
+        here = omega (arith, w.here, add-mul i 1 width);
+        rest = λ more. rw (e, on) (rw left at (w.rest more));
       }
 
-  module _ {list : List ℕ} {i place : ℕ} (w : Noting nodes width from list₀ list i place) where
-    -- the next node ends where all of them end, or before
-    pub noting_room : i < nodes → place + width ≤ from + nodes * width
-    noting_room b = omega (arith, w.here, row width b)
-
-    pub noting_on : {list' : List ℕ} → i < nodes → list' ≡ sets list (2 * i) (place ∷ width ∷ [])
-        → Noting nodes width from list₀ list' (i + 1) (place + width)
-    unfolding nodes_at
-    noting_on b e =
-        let left : nodes - i ≡ suc (nodes - (i + 1)) = omega arith in
-        let on : 2 * (i + 1) ≡ suc (suc (2 * i)) = omega arith in
-        record {
-          few = omega arith;
-          here = omega (arith, w.here, add-mul i 1 width);
-          rest = λ more. rw (e, on) (rw left at (w.rest more));
-        }
-
-    pub noting_end : (p m q n : ℕ) {list₁ list₂ : List ℕ} → nodes ≤ i
-        → list₁ ≡ sets list (2 * nodes) (p ∷ m ∷ [])
-        → list₂ ≡ sets list₁ (2 * (nodes + 1)) (q ∷ n ∷ [])
-        → list₂ ≡ sets list₀ 0 (nodes_at from width nodes ++ (p ∷ m ∷ q ∷ n ∷ []))
-    unfolding nodes_at
-    noting_end p m q n b e f =
-        let all : i ≡ nodes = omega (arith, w.few) in
-        let none : nodes - i ≡ 0 = omega arith in
-        let on : 2 * (nodes + 1) ≡ suc (suc (2 * nodes)) = omega arith in
-        f ∙ rw (e, on) (rw (none, all) at (w.rest (p ∷ m ∷ q ∷ n ∷ [])))
+  pub noting_end : (p m q n : ℕ) {list₁ list₂ : List ℕ} → i ≡ nodes
+      → list₁ ≡ sets list (2 * nodes) (p ∷ m ∷ [])
+      → list₂ ≡ sets list₁ (2 * (nodes + 1)) (q ∷ n ∷ [])
+      → list₂ ≡ sets list₀ 0 (nodes_at from width nodes ++ (p ∷ m ∷ q ∷ n ∷ []))
+  unfolding nodes_at
+  noting_end p m q n all e f =
+      let none : nodes - i ≡ 0 = omega arith in
+      let on : 2 * (nodes + 1) ≡ suc (suc (2 * nodes)) = omega arith in
+      f ∙ rw (e, on) (rw (none, all) at (w.rest (p ∷ m ∷ q ∷ n ∷ [])))

@@ -10,6 +10,7 @@ use lib.IntN.{ℤ}
 use lib.Dec.{ltb}
 use lib.ListN.{length}
 use lib.Seq.{sets}
+use Rattle.std.specs.Prelude.{Ok, Err}
 use Rattle.trie.specs.Table.{Descent, descend, missing}
 use Rattle.trie.specs.Storing.{added}
 use Rattle.head.specs.declared.Head.{Head}
@@ -17,8 +18,6 @@ use Rattle.head.specs.Fields.{longest_image, head_of, node_width, used_len}
 use Rattle.node.specs.Image.{table_of}
 use Rattle.node.specs.Writes.{Write, noted}
 use Rattle.paper.specs.declared.Refusal.{Refusal}
-use Rattle.paper.specs.declared.Stored.{Stored}
-use Rattle.paper.specs.declared.Noted.{Noted}
 use Rattle.paper.specs.Hearing.{Outcome, outcome, done_numbers, refused_numbers, first, row_when}
 use Rattle.paper.specs.Hearing.{heard}
 use Rattle.paper.specs.Answers.{refusal_numbers, stored_of, noted_of}
@@ -39,14 +38,15 @@ use Rattle.noting.specs.Noting.{NotesIn, Notes}
 -- ---- the list after the store's outcome
 
 module _ (ws : List Write) (list : List ℕ) {o : Outcome} {l' : List ℕ} where
-  refused_notes : (why : Refusal) → outcome (stored_of (Stored.Refused why)) (l' ∷ []) ≡ o
-      → outcome (noted_of (Noted.Refused why)) (l' ∷ list ∷ []) ≡ with_writes ws list o
+  refused_notes : (why : Refusal) → outcome (stored_of (Err why)) (l' ∷ []) ≡ o
+      → outcome (noted_of (Err why)) (l' ∷ list ∷ []) ≡ with_writes ws list o
   unfolding with_writes stored_of noted_of refusal_numbers refused_numbers
   refused_notes why e = rw (← e, refusal_said why)
 
   done_notes : (c : ℤ) {n : ℕ} {list' : List ℕ} → n ≡ length ws → list' ≡ sets list 0 (noted ws)
-      → outcome (stored_of (Stored.Change c)) (l' ∷ []) ≡ o → outcome (noted_of (Noted.Change c n))
-      (l' ∷ list' ∷ []) ≡ with_writes ws list o
+      → outcome (stored_of (Ok c)) (l' ∷ []) ≡ o
+      → outcome (noted_of (Ok (record { change = c; writes = n }))) (l' ∷ list' ∷ [])
+      ≡ with_writes ws list o
   unfolding with_writes stored_of noted_of done_numbers
   done_notes c n w e = rw (← e, n, w)
 
@@ -62,7 +62,7 @@ none_given false false false kept done e = refl
 
 -- a store that is done has room for its new nodes
 room : (h : Head) (l : List ℕ) (d : Descent) (value : ℕ) (c : ℤ) {l' : List ℕ}
-    → Leaves h l d value (Stored.Change c) l'
+    → Leaves h l d value (Ok c) l'
     → 0 < added (missing d) value → used_len h + added (missing d) value * node_width h ≤ length l
 unfolding store_at adding_rows row11 row12 row13 stored_of done_numbers
 room h l d value c e =
@@ -75,20 +75,17 @@ room h l d value c e =
 
 -- ---- the whole part
 
--- s is what the store answered
 module _ {l : List ℕ} {h : Head} (a : Accepted l) (same : h ≡ head_of l) (k : List ℕ) {o : Walked}
-    (walked : o ≡ walked_from h.g (table_of h l) at_root k)
-    (value : ℕ) {s : Stored} {l' : List ℕ} (e : Leaves h l (end_of k o) value s l') where
-  pub notes_refused : (list : List ℕ) {why : Refusal} → s ≡ Stored.Refused why
-      → NotesIn l k value list (Noted.Refused why) l' list
-  notes_refused list {why} f = refused_notes (writes_in l k value) list why
-      (stores a same k walked value (Stored.Refused why) (rw f at e))
+    (walked : Ok o ≡ walked_from h.g (table_of h l) at_root k) (value : ℕ) {l' : List ℕ} where
+  pub notes_refused : (list : List ℕ) (why : Refusal) → Leaves h l (end_of k o) value (Err why) l'
+      → NotesIn l k value list (Err why) l' list
+  notes_refused list why e = refused_notes (writes_in l k value) list why
+      (stores a same k walked value (Err why) e)
 
-  module _ {c : ℤ} (f : s ≡ Stored.Change c) where
+  module _ (c : ℤ) (e : Leaves h l (end_of k o) value (Ok c) l') where
     -- the new nodes fit the image, which is no longer than the longest image
     pub notes_room : used_len h + added (missing (end_of k o)) value * node_width h ≤ longest_image
-    notes_room = go (added (missing (end_of k o)) value)
-        (room h l (end_of k o) value c (rw f at e))
+    notes_room = go (added (missing (end_of k o)) value) (room h l (end_of k o) value c e)
       where
         go : (n : ℕ) → (0 < n → used_len h + n * node_width h ≤ length l)
             → used_len h + n * node_width h ≤ longest_image
@@ -96,11 +93,11 @@ module _ {l : List ℕ} {h : Head} (a : Accepted l) (same : h ≡ head_of l) (k 
             let used : used_len h ≤ length l = rw same a.room in omega (arith, a.short_enough)
         go (suc n) far = omega (arith, a.short_enough, far (omega arith))
 
-    pub notes_done : (list : List ℕ) {b : ℤ} {n : ℕ} {list' : List ℕ} → b ≡ c
+    pub notes_done : (list : List ℕ) {n : ℕ} {list' : List ℕ}
         → Notes h (end_of k o) value list n list'
-        → NotesIn l k value list (Noted.Change b n) l' list'
-    notes_done list {n = n} {list'} same_change w =
+        → NotesIn l k value list (Ok (record { change = c; writes = n })) l' list'
+    notes_done list {n} {list'} w =
         let own : Notes (head_of l) (descend (table_in l) 0 k) value list n list' =
         rw (in_hand_lem a same k walked, same) at w in
-        rw same_change (done_notes (writes_in l k value) list c own.count own.entries
-        (stores a same k walked value (Stored.Change c) (rw f at e)))
+        done_notes (writes_in l k value) list c own.count own.entries
+        (stores a same k walked value (Ok c) e)

@@ -16,7 +16,8 @@ ghost use Rattle.noting.specs.Noting.{NotesIn, Notes};
 
 use head::Head;
 use key::Key;
-use paper::{Noted, Stored};
+use node::Nodes;
+use paper::{Noted, Refusal};
 use walk::{Position, Walked};
 
 // Stores a value under a key, 0 to delete it, and notes its writes. Refusals: 11, 12, 13; they
@@ -27,22 +28,19 @@ pub fn store_noted(
     key: Key,
     value: u64,
     writes: &mut [u32; Head::NOTED_MOST as usize],
-) -> Noted
-    requires fact_1 { Accepted image.old }
-    requires fact_2 { h ≡ head_of image.old }
-    requires fact_3 { Ready h key }
+) -> Result<Noted, Refusal>
+    requires accepted { Accepted image.old }
+    requires own { h ≡ head_of image.old }
+    requires ready { Ready h key }
     ensures { NotesIn image.old (letters_of key) value writes.old result
         image.new writes.new }
 {
-    let walked = walk::walk(image, h, key);
-    let stored = storing::store_at(image, h, key, walked, value);
-    match stored {
-        Stored::Refused(why) => Noted::Refused(why),
-        Stored::Change(change) => Noted::Change {
-            change,
-            writes: note_all(writes, h, key, walked, value),
-        },
-    }
+    let walked = walk::walk(Nodes::of(image, h), key)?;
+    let change = storing::store_at(image, h, key, walked, value)?;
+    Ok(Noted {
+        change,
+        writes: note_all(writes, h, key, walked, value),
+    })
 }
 
 // Notes the writes of a store, given how the key's walk ended, and answers how many they are.
@@ -54,10 +52,10 @@ fn note_all(
     walked: Walked,
     value: u64,
 ) -> u32
-    requires fact_1 { permitted h ≡ true }
-    requires fact_2 { Ready h key }
-    requires fact_3 { Ends h key walked }
-    requires fact_4 { used_len h
+    requires permitted { permitted h ≡ true }
+    requires ready { Ready h key }
+    requires ends { Ends h key walked }
+    requires short { used_len h
         + added (missing (end_of (letters_of key) walked)) value * node_width h
         ≤ longest_image }
     ensures { Notes h (end_of (letters_of key) walked) value writes.old result
@@ -68,22 +66,17 @@ fn note_all(
             note(writes, 0, node::data_place(h, node) as u32, h.d);
             1
         }
-        Walked::Stopped(at) => {
-            if value == 0 {
-                return 0;
-            }
-            note_path(writes, h, key, at)
-        }
-        Walked::Refused(_) => 0,
+        Walked::Stopped(at) if value != 0 => note_path(writes, h, key, at),
+        Walked::Stopped(_) => 0,
     }
 }
 
 // Notes the writes of a new path: the new nodes by rising address, G, the link.
 fn note_path(writes: &mut [u32; Head::NOTED_MOST as usize], h: Head, key: Key, at: Position) -> u32
-    requires fact_1 { permitted h ≡ true }
-    requires fact_2 { Ready h key }
-    requires fact_3 { Stop h key at }
-    requires fact_4 { used_len h + (key.len - at.depth) * node_width h ≤ longest_image }
+    requires permitted { permitted h ≡ true }
+    requires ready { Ready h key }
+    requires stop { Stop h key at }
+    requires short { used_len h + (key.len - at.depth) * node_width h ≤ longest_image }
     ensures { (v : ℕ) → Notes h (stopped_at at.node (drop at.depth (letters_of key)))
         (suc v) writes.old result writes.new }
 {
@@ -92,12 +85,10 @@ fn note_path(writes: &mut [u32; Head::NOTED_MOST as usize], h: Head, key: Key, a
     let nodes = key.len - depth;
     let width = h.node_width() as u32;
     let link = node::link_place(h, at.node, letters[depth] as u32) as u32;
-    let mut i: usize = 0;
     let mut place = h.used() as u32;
-    while i < nodes {
+    for i in 0..nodes {
         note(writes, i, place, width);
         place += width;
-        i += 1;
     }
     note(writes, nodes, Head::TOTAL_AT, Head::TOTAL_LEN);
     note(writes, nodes + 1, link, h.a);

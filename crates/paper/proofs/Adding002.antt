@@ -28,7 +28,7 @@ use Rattle.node.specs.Image.{link_place, data_place, table_of}
 use Rattle.node.specs.Writes.{Write, carried_out, last_node, path_node, new_nodes, total_write}
 use Rattle.node.specs.Writes.{link_write, data_write, store_writes}
 use Rattle.node.proofs.FieldPlaces.{link_from, link_inside}
-use Rattle.node.proofs.Nodes.{path_node_lem, last_node_lem}
+use Rattle.node.proofs.WholeNodes.{path_node_lem, last_node_lem}
 use Rattle.node.proofs.StoreOnTable.{carried_append}
 use Rattle.alphabet.specs.Letters.{or_empty}
 use Rattle.paper.specs.Hearing.{Outcome}

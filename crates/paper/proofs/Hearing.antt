@@ -8,8 +8,8 @@ use mathlib.Core.Logic.{◌≢◌}
 use mathlib.Core.Option.{none, some}
 use mathlib.Core.List.{List, [], ◌∷◌, ◌++◌}
 use native.Mathlib.Omega.{arith}
+use Rattle.std.specs.Prelude.{Result, Ok, Err}
 use Rattle.paper.specs.declared.Refusal.{Refusal}
-use Rattle.paper.specs.declared.Verdict.{Verdict}
 use Rattle.paper.specs.Answers.{said_of, row_of}
 use Rattle.paper.specs.Hearing.{Said, Row, Outcome, row_when, first, heard, outcome}
 use Rattle.paper.specs.Hearing.{refused_numbers}
@@ -100,12 +100,13 @@ silent_end xs ys e = go (first xs) refl
 
 -- ---- a verdict: the row that its part of an order gives
 
-pub told_refused : {v : Verdict} {row : Row} {why : Refusal} → row_of v ≡ row
-    → v ≡ Verdict.Refused why → row ≡ some (said_of why)
+pub told_refused : {X : Type 0} {v : Result X Refusal} {row : Row} {why : Refusal}
+    → row_of v ≡ row → v ≡ Err why → row ≡ some (said_of why)
 unfolding row_of
 told_refused told e = sym told ∙ ap row_of e
 
-pub told_passed : {v : Verdict} {row : Row} → row_of v ≡ row → v ≡ Verdict.Passed → row ≡ none
+pub told_passed : {X : Type 0} {v : Result X Refusal} {row : Row} {x : X} → row_of v ≡ row
+    → v ≡ Ok x → row ≡ none
 unfolding row_of
 told_passed told e = sym told ∙ ap row_of e
 

@@ -26,7 +26,7 @@ use Rattle.head.proofs.Fields.{fit_bounds, length_head, head_begun}
 use Rattle.alphabet.specs.Letters.{among}
 use Rattle.node.specs.Image.{table_of}
 use Rattle.node.proofs.Tables.{framed}
-use Rattle.node.proofs.Nodes.{Blank, blank_child, blank_value, blank_cleared}
+use Rattle.node.proofs.WholeNodes.{Blank, blank_child, blank_value, blank_cleared}
 use Rattle.paper.specs.Hearing.{first, outcome, done_numbers}
 use Rattle.paper.specs.Given.{alphabet_in}
 use Rattle.paper.specs.Orders.{opening_rows}

@@ -9,6 +9,7 @@ use native.Mathlib.Nat.{suc-ne-zero}
 use borrow.Author.Tests.{ne_eqb}
 use lib.Dec.{eqb}
 use lib.ListN.{get_or}
+use Rattle.std.specs.Prelude.{ℤ, Result, Ok, Err}
 use Rattle.paper.specs.declared.Refusal.{Refusal}
 use Rattle.paper.specs.declared.Refusal.TheVariants.{ImageLength, HeadField, Alphabet}
 use Rattle.paper.specs.declared.Refusal.TheVariants.{ImageRoom, TooFewNumbers, Link}
@@ -16,16 +17,11 @@ use Rattle.paper.specs.declared.Refusal.TheVariants.{LinkedTwice, NotLinked, Key
 use Rattle.paper.specs.declared.Refusal.TheVariants.{Letter, ValueTooGreat, NoAddress}
 use Rattle.paper.specs.declared.Refusal.TheVariants.{NoRoom, ShortBuffer, NoKey}
 use Rattle.paper.specs.declared.Refusal.TheVariants.{NotReached, Hidden, CountsDiffer}
-use Rattle.paper.specs.declared.Done.{Done}
-use Rattle.paper.specs.declared.Counted.{Counted}
-use Rattle.paper.specs.declared.Placed.{Placed}
-use Rattle.paper.specs.declared.Looked.{Looked}
-use Rattle.paper.specs.declared.Stored.{Stored}
 use Rattle.paper.specs.declared.Noted.{Noted}
 use Rattle.paper.specs.declared.Found.{Found}
 use Rattle.paper.specs.Hearing.{Numbers, Outcome, outcome, refused_numbers, done_numbers}
-use Rattle.paper.specs.Answers.{said_of, refusal_numbers, done_of, counted_of, placed_of}
-use Rattle.paper.specs.Answers.{looked_of, stored_of, noted_of, found_of}
+use Rattle.paper.specs.Answers.{said_of, refusal_numbers, done_of, value_of, stored_of}
+use Rattle.paper.specs.Answers.{noted_of, found_of}
 use Rattle.paper.specs.Given.{Given}
 use Rattle.paper.specs.Promises.{Makes, Checks, CountsKeys, LooksUp, Stores, StoresWrites}
 use Rattle.paper.specs.Promises.{Mends, Nexts}
@@ -104,88 +100,65 @@ pub record Told (R : Type 0) (numbers_of : R → Numbers) : Type 0 where
   pub back : Numbers → R
   pub inverse : (r : R) → back (numbers_of r) ≡ r
 
--- an answer that is done in one way, or refused: either is recovered from the numbers
-tell_by : {R : Type 0} → (Numbers → R) → (Refusal → R) → Numbers → R
-tell_by done refused m = by_number m.number (done m) (refused (refusal_in m))
+-- an answer that is done, with what it answers, or refused: either is recovered from the numbers
+tell_by : {X : Type 0} → (Numbers → X) → Numbers → Result X Refusal
+tell_by done m = by_number m.number (Ok (done m)) (Err (refusal_in m))
 
-tell_refused : {R : Type 0} (done : Numbers → R) (refused : Refusal → R) (r : Refusal)
-    → tell_by done refused (refusal_numbers r) ≡ refused r
+tell_refused : {X : Type 0} (done : Numbers → X) (r : Refusal)
+    → tell_by done (refusal_numbers r) ≡ Err r
 unfolding tell_by
-tell_refused done refused r =
-    by_refusal (done (refusal_numbers r)) (refused (refusal_in (refusal_numbers r))) r
+tell_refused {X} done r =
+    let refused : Refusal → Result X Refusal = λ why. Err why in
+    by_refusal (Ok (done (refusal_numbers r))) (refused (refusal_in (refusal_numbers r))) r
     ∙ ap refused (refusal_back r)
 
-pub told_done : Told Done done_of
+pub told_done : Told (Result (Unit {0}) Refusal) done_of
 unfolding tell_by by_number done_of done_numbers
-told_done = record { back = tell_by (λ m. Done.Done) Done.Refused; inverse = inverse }
+told_done = record { back = tell_by (λ m. tt); inverse = inverse }
   where
-    inverse : (r : Done) → tell_by (λ m. Done.Done) Done.Refused (done_of r) ≡ r
-    inverse Done.Done = refl
-    inverse (Done.Refused r) = tell_refused (λ m. Done.Done) Done.Refused r
+    inverse : (r : Result (Unit {0}) Refusal) → tell_by (λ m. tt) (done_of r) ≡ r
+    inverse (Ok x) = refl
+    inverse (Err r) = tell_refused (λ m. tt) r
 
-pub told_counted : Told Counted counted_of
-unfolding tell_by by_number counted_of done_numbers
-told_counted =
-    record { back = tell_by (λ m. Counted.Keys m.value) Counted.Refused; inverse = inverse }
+pub told_value : Told (Result ℕ Refusal) value_of
+unfolding tell_by by_number value_of done_numbers
+told_value = record { back = tell_by (λ m. m.value); inverse = inverse }
   where
-    inverse : (r : Counted) → tell_by (λ m. Counted.Keys m.value) Counted.Refused (counted_of r)
-        ≡ r
-    inverse (Counted.Keys n) = refl
-    inverse (Counted.Refused r) = tell_refused (λ m. Counted.Keys m.value) Counted.Refused r
+    inverse : (r : Result ℕ Refusal) → tell_by (λ m. m.value) (value_of r) ≡ r
+    inverse (Ok v) = refl
+    inverse (Err r) = tell_refused (λ m. m.value) r
 
-pub told_placed : Told Placed placed_of
-unfolding tell_by by_number placed_of done_numbers
-told_placed =
-    record { back = tell_by (λ m. Placed.At m.value) Placed.Refused; inverse = inverse }
-  where
-    inverse : (r : Placed) → tell_by (λ m. Placed.At m.value) Placed.Refused (placed_of r) ≡ r
-    inverse (Placed.At n) = refl
-    inverse (Placed.Refused r) = tell_refused (λ m. Placed.At m.value) Placed.Refused r
-
-pub told_looked : Told Looked looked_of
-unfolding tell_by by_number looked_of done_numbers
-told_looked =
-    record { back = tell_by (λ m. Looked.Value m.value) Looked.Refused; inverse = inverse }
-  where
-    inverse : (r : Looked) → tell_by (λ m. Looked.Value m.value) Looked.Refused (looked_of r) ≡ r
-    inverse (Looked.Value v) = refl
-    inverse (Looked.Refused r) = tell_refused (λ m. Looked.Value m.value) Looked.Refused r
-
-pub told_stored : Told Stored stored_of
+pub told_stored : Told (Result ℤ Refusal) stored_of
 unfolding tell_by by_number stored_of done_numbers
-told_stored =
-    record { back = tell_by (λ m. Stored.Change m.change) Stored.Refused; inverse = inverse }
+told_stored = record { back = tell_by (λ m. m.change); inverse = inverse }
   where
-    inverse : (r : Stored) → tell_by (λ m. Stored.Change m.change) Stored.Refused (stored_of r)
-        ≡ r
-    inverse (Stored.Change c) = refl
-    inverse (Stored.Refused r) = tell_refused (λ m. Stored.Change m.change) Stored.Refused r
+    inverse : (r : Result ℤ Refusal) → tell_by (λ m. m.change) (stored_of r) ≡ r
+    inverse (Ok c) = refl
+    inverse (Err r) = tell_refused (λ m. m.change) r
 
-pub told_noted : Told Noted noted_of
-unfolding tell_by by_number noted_of done_numbers
-told_noted = record {
-  back = tell_by (λ m. Noted.Change m.change m.length) Noted.Refused;
-  inverse = inverse;
-}
-  where
-    inverse : (r : Noted) → tell_by (λ m. Noted.Change m.change m.length) Noted.Refused
-        (noted_of r) ≡ r
-    inverse (Noted.Change change writes) = refl
-    inverse (Noted.Refused r) =
-        tell_refused (λ m. Noted.Change m.change m.length) Noted.Refused r
+-- the change and the number of writes in the numbers of a store with writes
+noted_in : Numbers → Noted
+noted_in m = record { change = m.change; writes = m.length }
 
-pub told_found : Told Found found_of
-unfolding tell_by by_number found_of done_numbers
-told_found = record {
-  back = tell_by (λ m. Found.Key m.length m.value) Found.Refused;
-  inverse = inverse;
-}
+pub told_noted : Told (Result Noted Refusal) noted_of
+unfolding tell_by by_number noted_in noted_of done_numbers
+told_noted = record { back = tell_by noted_in; inverse = inverse }
   where
-    inverse : (r : Found) → tell_by (λ m. Found.Key m.length m.value) Found.Refused
-        (found_of r) ≡ r
-    inverse (Found.Key length value) = refl
-    inverse (Found.Refused r) =
-        tell_refused (λ m. Found.Key m.length m.value) Found.Refused r
+    inverse : (r : Result Noted Refusal) → tell_by noted_in (noted_of r) ≡ r
+    inverse (Ok n) = refl
+    inverse (Err r) = tell_refused noted_in r
+
+-- the length and the value in the numbers of a key that was found
+found_in : Numbers → Found
+found_in m = record { length = m.length; value = m.value }
+
+pub told_found : Told (Result Found Refusal) found_of
+unfolding tell_by by_number found_in found_of done_numbers
+told_found = record { back = tell_by found_in; inverse = inverse }
+  where
+    inverse : (r : Result Found Refusal) → tell_by found_in (found_of r) ≡ r
+    inverse (Ok f) = refl
+    inverse (Err r) = tell_refused found_in r
 
 -- ---- the law
 

@@ -1,5 +1,6 @@
-// Document 01, "What the bench may hear": the refusals with their numbers and places, and the
-// answer of each call. specs/ has the rows, their orders and the outcome of each call.
+// Document 01, "What the bench may hear": the refusals with their numbers and places. A call
+// answers `Err` with its refusal, or `Ok` with what is done. specs/ has the rows, their orders and
+// the outcome of each call.
 #![tactic(auto)]
 
 ghost use Rattle.std.specs.Prelude.{◌≡◌};
@@ -110,74 +111,20 @@ pub fn bad_link(g: u32, c: u32) -> bool
     g < c
 }
 
-// The outcome of a part of an order.
+// What a store with writes answers where it is done.
 #[derive(Clone, Copy)]
-pub enum Verdict {
-    // None of its refusals is given.
-    Passed,
-    // The first of its refusals that is given.
-    Refused(Refusal),
+pub struct Noted {
+    // The change in the number of stored keys.
+    pub change: i32,
+    // How many writes are noted in the list.
+    pub writes: u32,
 }
 
-// The answer of make, check and mend, and of the calls that work out and check counts.
-#[derive(Drop)]
-pub enum Done {
-    // Done, with nothing more to answer.
-    Done,
-    // The refusal that is given.
-    Refused(Refusal),
-}
-
-// The answer of number of keys.
-#[derive(Drop)]
-pub enum Counted {
-    // The number of stored keys.
-    Keys(u32),
-    // The refusal that is given.
-    Refused(Refusal),
-}
-
-// The answer of position of a key.
-#[derive(Drop)]
-pub enum Placed {
-    // The position: how many stored keys come before the key.
-    At(u32),
-    // The refusal that is given.
-    Refused(Refusal),
-}
-
-// The answer of look up.
-#[derive(Drop)]
-pub enum Looked {
-    // The value, 0 for absent.
-    Value(u64),
-    // The refusal that is given.
-    Refused(Refusal),
-}
-
-// The answer of a store, with counts or without.
-#[derive(Drop)]
-pub enum Stored {
-    // The change in the number of stored keys: -1, 0 or 1.
-    Change(i32),
-    // The refusal that is given.
-    Refused(Refusal),
-}
-
-// The answer of a store with writes.
-#[derive(Drop)]
-pub enum Noted {
-    // The change in the number of stored keys, and how many writes are noted in the list.
-    Change { change: i32, writes: u32 },
-    // The refusal that is given.
-    Refused(Refusal),
-}
-
-// The answer of next key and of key at a position.
-#[derive(Drop)]
-pub enum Found {
-    // The key's length and its value. Its letters are at the front of the key buffer.
-    Key { length: u32, value: u64 },
-    // The refusal that is given.
-    Refused(Refusal),
+// A stored key that a call found. Its letters are at the front of the key buffer.
+#[derive(Clone, Copy)]
+pub struct Found {
+    // The number of its letters.
+    pub length: u32,
+    // Its value.
+    pub value: u64,
 }

@@ -1,5 +1,5 @@
 pub mod Plain
-pub mod Positions
+pub mod KeyPositions
 pub mod Right
 pub mod StoreCounts
 mod Tabulated

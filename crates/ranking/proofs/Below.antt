@@ -13,12 +13,12 @@ use Rattle.trie.specs.Rules.{Linked}
 use Rattle.trie.proofs.Walk.{descend_nil, descend_on, descend_append, complete_within}
 use Rattle.head.specs.declared.Head.{Head}
 use Rattle.head.specs.Fields.{head_of}
-use Rattle.node.specs.Image.{Open, table_of}
+use Rattle.node.specs.Image.{table_of}
 use Rattle.passing.specs.Passing.{count_at}
 use Rattle.passing.proofs.Reached.{count_reached}
 use Rattle.paper.specs.Calls.{table_in, stored_keys}
 use Rattle.paper.specs.Accepted.{Accepted}
-use Rattle.paper.proofs.CheckCall.{accepted_open, accepted_linked}
+use Rattle.paper.proofs.CheckCall.{accepted_linked}
 use Rattle.paper.proofs.NextKeyCall.{counted_fits}
 use Rattle.position.specs.Counts.{RightCounts, count_in}
 use Rattle.ranking.specs.Ranking.{ChildCounts}
@@ -30,7 +30,6 @@ held h l p depth = keys_under (table_of h l) h.n (h.min - depth) (h.max - depth)
 
 -- what the way needs to know: an accepted image, right counts, and the image's own head in hand
 pub record Counted (h : Head) (l counts : List ℕ) : Type 0 where
-  pub opened : Open h l
   pub linked : Linked (table_of h l) h.g h.n
   pub stored : stored_keys l ≡ listing (table_of h l) h.n h.min h.max
   pub table : table_in l ≡ table_of h l
@@ -47,7 +46,6 @@ counted {h} {l} {counts} a e right =
     (λ (k : Head). Counted k l counts)
     (sym e)
     (record {
-      opened = accepted_open a;
       linked = accepted_linked a;
       stored = refl;
       table = refl;

@@ -7,6 +7,7 @@ use native.Mathlib.Numerals.{add-one}
 use mathlib.Core.List.{List, [], ◌∷◌, ◌++◌}
 use mathlib.Core.Logic.{◌≢◌}
 use mathlib.Core.Path.{◌≡◌, sym, ◌∙◌, ap, ap₂}
+use Rattle.std.specs.Prelude.{Some, None}
 use lib.ListN.{length, take, drop, length-drop, take-append-drop}
 use lib.Seq.{length-take-le, take_all, drop-length, take-add, drop-drop}
 use borrow.Author.Tests.{ne_eqb}
@@ -22,7 +23,6 @@ use Rattle.depths.proofs.Links.{own_empty, own_full, own_data}
 use Rattle.passing.specs.Passing.{rank_in}
 use Rattle.passing.proofs.Ranks.{rank_nil, rank_few, rank_append, rank_own}
 use Rattle.paper.specs.Calls.{table_in, stored_keys}
-use Rattle.ranking.specs.declared.Ranked.{Ranked}
 use Rattle.ranking.specs.Ranking.{ranked_of, under_letter, ChildCounts, under_lower, RankFits}
 use Rattle.ranking.proofs.ByLetter.{onward, by_child, rank_letters}
 use Rattle.ranking.proofs.Below.{Counted, held, within, one_more, below}
@@ -45,22 +45,22 @@ module _ (h : Head) (l : List ℕ) (node depth : ℕ) {v : ℕ}
   pub owned_one : v ≢ 0 → owned h l node depth ≡ 1
   owned_one full = ap length (own_full h (table_of h l) node depth (λ z. full (own ∙ z)))
 
-stored_at : (l k : List ℕ) → answer (table_in l) k ≢ 0 → Ranked.At (rank_in (stored_keys l) k)
+stored_at : (l k : List ℕ) → answer (table_in l) k ≢ 0 → Some (rank_in (stored_keys l) k)
     ≡ ranked_of l k
 unfolding ranked_of
 stored_at l k full = rw (ne_eqb (answer (table_in l) k) 0 full)
 
 module _ {h : Head} {l counts : List ℕ} (w : Counted h l counts) (k : List ℕ) where
   -- a key that is not stored, and one that is
-  missing : answer (table_of h l) k ≡ 0 → Ranked.Missing ≡ ranked_of l k
+  missing : answer (table_of h l) k ≡ 0 → None ≡ ranked_of l k
   unfolding ranked_of
   missing e = rw (w.table, e)
 
   there : answer (table_of h l) k ≢ 0 → {passed : ℕ}
       → passed ≡ rank_in (listing (table_of h l) h.n h.min h.max) k
-      → Ranked.At passed ≡ ranked_of l k
+      → Some passed ≡ ranked_of l k
   there full e =
-      ap Ranked.At (e ∙ ap (λ (keys : List (List ℕ)). rank_in keys k) (sym w.stored))
+      ap Some (e ∙ ap (λ (keys : List (List ℕ)). rank_in keys k) (sym w.stored))
       ∙ stored_at l k (λ z. full (ap (λ (t : Table). answer t k) (sym w.table) ∙ z))
 
   pub placing_start : Placing h l k 0 0 0
@@ -86,10 +86,10 @@ module _ {h : Head} {l counts : List ℕ} (w : Counted h l counts) (k : List ℕ
           (ap (descend (table_of h l) 0) (sym (take_all depth k ended)) ∙ s.reaches)
           ∙ sym (own ∙ own_data h (table_of h l) node depth (omega arith))
 
-      pub placing_missing : v ≡ 0 → Ranked.Missing ≡ ranked_of l k
+      pub placing_missing : v ≡ 0 → None ≡ ranked_of l k
       placing_missing empty = missing (answers ∙ empty)
 
-      pub placing_end : v ≢ 0 → Ranked.At passed ≡ ranked_of l k
+      pub placing_end : v ≢ 0 → Some passed ≡ ranked_of l k
       placing_end full =
           let end : depth ≡ length k = omega (arith, s.short) in
           let none_left : drop depth k ≡ [] = ap (λ (d : ℕ). drop d k) end ∙ drop-length k in
@@ -101,7 +101,7 @@ module _ {h : Head} {l counts : List ℕ} (w : Counted h l counts) (k : List ℕ
     module _ {x : ℕ} {xs : List ℕ} (next : drop depth k ≡ x ∷ xs) {c : ℕ}
         (link : c ≡ (table_of h l).child node x) where
       -- an empty link
-      pub placing_stop : c ≡ 0 → Ranked.Missing ≡ ranked_of l k
+      pub placing_stop : c ≡ 0 → None ≡ ranked_of l k
       placing_stop empty =
           missing
           (answer_stopped (table_of h l) k

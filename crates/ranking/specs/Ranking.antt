@@ -1,7 +1,7 @@
 -- 02, Ask 7: "From it answer the key at position i [..] and the position of a stored key." What
 -- the way by counts answers, and the counts that it goes by at each node.
 use Rattle.std.specs.Prelude.{ℕ, suc, ◌+◌, ◌-◌, ◌^◌, ◌<◌, ◌≡◌, cond, ◌≢◌, List, [], ◌∷◌, eqb}
-use Rattle.std.specs.Prelude.{length, get_or, take}
+use Rattle.std.specs.Prelude.{length, get_or, take, Option, Some, None}
 use Rattle.std.proofs.Math.Option.{some}
 use Rattle.trie.specs.Table.{answer, follow}
 use Rattle.trie.specs.Keys.{keys_under}
@@ -9,10 +9,9 @@ use Rattle.trie.specs.Beyond.{keys_from}
 use Rattle.head.specs.declared.Head.{Head}
 use Rattle.node.specs.Image.{table_of}
 use Rattle.passing.specs.Passing.{key_at, rank_in}
+use Rattle.depths.specs.declared.Spot.{Spot}
 use Rattle.passing.specs.Weights.{sum_from}
 use Rattle.paper.specs.Calls.{table_in, stored_keys}
-use Rattle.ranking.specs.declared.Spot.{Spot}
-use Rattle.ranking.specs.declared.Ranked.{Ranked}
 use Rattle.ranking.specs.declared.Branch.{Branch}
 
 -- the key at a position: its length, its value, and its letters at the front of the path
@@ -24,10 +23,10 @@ pub record Spotted (l : List ℕ) (position : ℕ) (r : Spot) (path : List ℕ) 
   pub letters : take (length key) path ≡ key
 
 -- the position of a key, if it is stored
-unfoldable pub ranked_of : List ℕ → List ℕ → Ranked
+unfoldable pub ranked_of : List ℕ → List ℕ → Option ℕ
 unfolding answer table_in rank_in stored_keys
 ranked_of l key =
-    cond (eqb (answer (table_in l) key) 0) Ranked.Missing (Ranked.At (rank_in (stored_keys l) key))
+    cond (eqb (answer (table_in l) key) 0) None (Some (rank_in (stored_keys l) key))
 
 -- the keys at or under the child for letter i of node p at a depth; none if the link is empty
 abbrev pub under_letter : Head → List ℕ → ℕ → ℕ → ℕ → List (List ℕ)

@@ -9,10 +9,11 @@
 ghost use Rattle.std.specs.Prelude.{◌≡◌, ◌≤◌, ◌+◌, ◌++◌, length, drop, replicate};
 ghost use Rattle.trie.specs.Rules.{Within};
 ghost use Rattle.head.specs.Fields.{longest_image};
-ghost use Rattle.node.specs.Image.{Open, Masks, table_of};
+ghost use Rattle.node.specs.Read.{node_table};
 ghost use Rattle.reaching.specs.Reaching.{Searched, Spread, deeper_of};
 
 use head::Head;
+use node::Nodes;
 
 // The mark of a depth above every key's: 64 letters at most, one more, and one.
 pub const DEEPEST: u32 = Head::MAX_MOST + 2;
@@ -24,23 +25,22 @@ pub const MARKS: u32 = 128;
 // working numbers are 0 before. Afterwards the number of a node is 0 if it is not reached, else it
 // has the node's mark. Of the answer the contract says whether it is G+1: exactly then every node
 // is reached.
-pub fn reach(image: &[u8], h: Head, work: &mut [u32]) -> u32
-    requires fact { Open h image.now }
-    requires image_len_bound { length image.now ≤ longest_image }
-    requires within { Within (table_of h image.now) h.g }
-    requires g_in_bounds { h.g + 1 ≤ length work.old }
-    requires work_value { work.old ≡ replicate (h.g + 1) 0 ++ drop (h.g + 1) work.old }
-    ensures { Searched h image.now work.old result work.new }
+pub fn reach(nodes: Nodes, work: &mut [u32]) -> u32
+    requires short { length nodes.image.now ≤ longest_image }
+    requires within { Within (node_table nodes) nodes.head.g }
+    requires room { nodes.head.g + 1 ≤ length work.old }
+    requires zeros { work.old ≡ replicate (nodes.head.g + 1) 0
+        ++ drop (nodes.head.g + 1) work.old }
+    ensures { Searched nodes.entry.head nodes.entry.image.now work.old result work.new }
 {
-    let mask = node::mask(h);
-    let nodes = h.g + 1;
-    work[0] = nodes * MARKS + 1;
-    let mut top = spread(image, h, mask, 0, nodes, work);
+    let count = nodes.head.g + 1;
+    work[0] = count * MARKS + 1;
+    let mut top = spread(nodes, 0, count, work);
     let mut followed: u32 = 1;
-    while top < nodes {
+    while top < count {
         let q = top;
         let below = work[q as usize] / MARKS;
-        top = spread(image, h, mask, q, below, work);
+        top = spread(nodes, q, below, work);
         followed += 1;
     }
     followed
@@ -49,26 +49,21 @@ pub fn reach(image: &[u8], h: Head, work: &mut [u32]) -> u32
 // Puts the children of node q that have not been met on the stack, and answers its new top. An
 // empty link is 0, and the root has been met. A node that `childless` finds without links is
 // passed over at once.
-fn spread(image: &[u8], h: Head, mask: u32, q: u32, top: u32, work: &mut [u32]) -> u32
-    requires fact { Open h image.now }
-    requires masks { Masks h mask }
-    requires within { Within (table_of h image.now) h.g }
-    requires q_le_g_1 { q ≤ h.g }
-    requires q_le_g_2 { top ≤ h.g + 1 }
-    requires q_le_g_3 { h.g + 1 ≤ longest_image }
-    requires g_in_bounds { h.g + 1 ≤ length work.old }
-    ensures { Spread h image.now q top work.old result
-        work.new }
+fn spread(nodes: Nodes, q: u32, top: u32, work: &mut [u32]) -> u32
+    requires within { Within (node_table nodes) nodes.head.g }
+    requires node { q ≤ nodes.head.g }
+    requires stack { top ≤ nodes.head.g + 1 }
+    requires short { nodes.head.g + 1 ≤ longest_image }
+    requires room { nodes.head.g + 1 ≤ length work.old }
+    ensures { Spread nodes.entry.head nodes.entry.image.now q top work.old result work.new }
 {
-    if node::childless(image, h, q) {
+    if nodes.childless(q) {
         return top;
     }
     let mark = deeper(work[q as usize] % MARKS);
     let mut top = top;
-    let mut i: u32 = 0;
-    while i < h.n {
-        let c = node::link(image, h, mask, q, i);
-        i += 1;
+    for i in 0..nodes.head.n {
+        let c = nodes.link(q, i);
         if work[c as usize] == 0 {
             work[c as usize] = top * MARKS + mark;
             top = c;
@@ -81,8 +76,5 @@ fn spread(image: &[u8], h: Head, mask: u32, q: u32, top: u32, work: &mut [u32]) 
 pub fn deeper(mark: u32) -> u32
     ensures { result ≡ deeper_of mark }
 {
-    if mark < DEEPEST {
-        return mark + 1;
-    }
-    DEEPEST
+    if mark < DEEPEST { mark + 1 } else { DEEPEST }
 }

@@ -49,7 +49,7 @@ use Rattle.paper.proofs.MakeCall.{Made, make_done, fresh_head_lem, fresh_alphabe
 use Rattle.paper.proofs.MakeCall.{fresh_answers, fresh_keys}
 use Rattle.position.specs.Counts.{RightCounts}
 use Rattle.position.specs.Calls.{key_at_of, position_of}
-use Rattle.position.proofs.Positions.{heard_at, position_of_lem}
+use Rattle.position.proofs.KeyPositions.{heard_at, position_of_lem}
 use Rattle.position.specs.Orders.{counts_order, check_counts_order, key_at_order, position_order}
 use Rattle.calls.specs.Call.{Call, make, check, count, look_up, store, store_writes, mend}
 use Rattle.calls.specs.Call.{next_key}

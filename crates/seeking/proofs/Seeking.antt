@@ -3,20 +3,20 @@
 -- then the front of the path.
 use Prim.Native.Nat.{ℕ, ◌+◌, ◌≤◌, ◌<◌}
 use mathlib.Core.Path.{◌≡◌, refl, sym, ◌∙◌, ap}
-use mathlib.Core.Bool.{Bool, true}
+use mathlib.Core.Bool.{Bool}
 use mathlib.Core.Option.{Option, none, some}
 use mathlib.Core.List.{List, [], ◌∷◌, ◌++◌}
 use native.Mathlib.Omega.{arith}
 use borrow.Author.Tests.{lt-ltb, le-ltb}
-use lib.ListN.{length, take}
-use lib.Seq.{sets, length-take-le}
+use Rattle.std.specs.Prelude.{Result, Ok, Err, Option as Maybe, Some, None}
+use lib.ListN.{length, take, length-take}
+use lib.Seq.{sets}
 use Rattle.trie.specs.Table.{answer}
 use Rattle.head.specs.declared.Head.{Head}
-use Rattle.head.specs.Fields.{head_of, permitted}
+use Rattle.head.specs.Fields.{head_of}
 use Rattle.alphabet.specs.Letters.{or_empty}
 use Rattle.node.specs.Image.{table_of}
 use Rattle.paper.specs.declared.Refusal.{Refusal}
-use Rattle.paper.specs.declared.Verdict.{Verdict}
 use Rattle.paper.specs.declared.Found.{Found}
 use Rattle.paper.specs.Hearing.{Row, Outcome, first, heard}
 use Rattle.paper.specs.Answers.{said_of, row_of, refusal_numbers, found_of}
@@ -31,8 +31,8 @@ use Rattle.key.specs.declared.Key.{Key}
 use Rattle.key.specs.Hand.{in_hand, Holds, letters_of, Ready}
 use Rattle.key.proofs.Hand.{hand_holds}
 use Rattle.key.proofs.Judging.{next_ready}
-use Rattle.traversal.specs.declared.Search.{Search}
-use Rattle.traversal.specs.Search.{next_stored, search_of, PathRoom, SearchTells}
+use Rattle.depths.specs.declared.Spot.{Spot}
+use Rattle.traversal.specs.Search.{next_stored, search_of, SearchTells}
 use Rattle.traversal.proofs.Searching.{was_missing, was_found}
 use Rattle.depths.proofs.Walkable.{Walkable, walkable}
 use Rattle.traversal.proofs.Walking.{met}
@@ -56,19 +56,19 @@ module _ (l work key : List ℕ) (after : Bool) (buffer : List ℕ) where
   unfolding next_key_of next_key_order
   asked = refl
 
-  abbrev Leaves : Found → List ℕ → Type 0
+  abbrev Leaves : Result Found Refusal → List ℕ → Type 0
   Leaves r buffer' = Nexts l work key after buffer (found_of r) (work_after l work) buffer'
 
   pub refuses : (why : Refusal) → first order ≡ some (said_of why)
-      → Leaves (Found.Refused why) buffer
+      → Leaves (Err why) buffer
   unfolding found_of refusal_numbers
   refuses why e = sym (asked ∙ heard_refused _ _ _ e)
 
   -- after the check, after 9 and 10, and after 14
   module _ (checked : first (check_order l work) ≡ none) where
-    unkeyed : {v : Verdict} {why : Refusal} → row_of v ≡ first (next_rows (head_of l) key)
-        → v ≡ Verdict.Refused why
-        → Leaves (Found.Refused why) buffer
+    unkeyed : {v : Result (Unit {0}) Refusal} {why : Refusal}
+        → row_of v ≡ first (next_rows (head_of l) key) → v ≡ Err why
+        → Leaves (Err why) buffer
     unkeyed {why = why} told e =
         refuses why (second_part (check_order l work) _ checked
         ∙ first_part (next_rows (head_of l) key) _ (told_refused told e))
@@ -79,7 +79,7 @@ module _ (l work key : List ℕ) (after : Bool) (buffer : List ℕ) where
           second_part (check_order l work) _ checked
           ∙ second_part (next_rows (head_of l) key) _ keyed
 
-      short : length buffer < (head_of l).max → Leaves (Found.Refused Refusal.ShortBuffer) buffer
+      short : length buffer < (head_of l).max → Leaves (Err Refusal.ShortBuffer) buffer
       unfolding row14
       short b =
           refuses Refusal.ShortBuffer
@@ -90,7 +90,7 @@ module _ (l work key : List ℕ) (after : Bool) (buffer : List ℕ) where
         unfolding row14
         left_15 = left ∙ no_row 14 0 _ (le-ltb (length buffer) (head_of l).max room)
 
-        missing : next_in l key after ≡ none → Leaves (Found.Refused Refusal.NoKey) buffer
+        missing : next_in l key after ≡ none → Leaves (Err Refusal.NoKey) buffer
         unfolding row15 is_none
         missing e = refuses Refusal.NoKey (left_15 ∙ yes_row 15 0 [] (ap is_none e))
 
@@ -104,41 +104,33 @@ module _ (l work key : List ℕ) (after : Bool) (buffer : List ℕ) where
 
           found : {n x : ℕ} {buffer' : List ℕ} → n ≡ length k → x ≡ answer (table_in l) k
               → buffer' ≡ sets buffer 0 k
-              → Leaves (Found.Key n x) buffer'
+              → Leaves (Ok (record { length = n; value = x })) buffer'
           unfolding found_of found_in
           found count value laid = rw (count, value, laid) (sym done)
 
 -- ---- what the search answered
 
-module _ {h : Head} {l : List ℕ} {o : Option (List ℕ)} {r : Search} {path nodes : List ℕ}
+module _ {h : Head} {l : List ℕ} {o : Option (List ℕ)} {r : Maybe Spot} {path nodes : List ℕ}
     (t : SearchTells h l o r path nodes)
-    {n x : ℕ} (f : r ≡ Search.Found n x) where
-  -- the key found: its letters are the first n of the path
-  key_found : (k : List ℕ) × (o ≡ some k) × (n ≡ length k) × (x ≡ answer (table_of h l) k)
-      × (take n path ≡ k)
+    {p : Spot} (f : r ≡ Some p) where
+  -- the key found: its letters are the front of the path
+  key_found : (k : List ℕ) × (o ≡ some k) × (p.length ≡ length k)
+      × (p.value ≡ answer (table_of h l) k) × (take p.length path ≡ k)
   unfolding search_of
   key_found =
       let (k, is, count) = was_found h l t f in
-      let told : Search.Found n x ≡ search_of (table_of h l) (some k) =
+      let told : Some p ≡ search_of (table_of h l) (some k) =
       sym f ∙ t.answers ∙ ap (search_of (table_of h l)) is in
       (k, is, count, cc, ap (λ (m : ℕ). take m path) count ∙ (t.reached k is).letters)
 
-  -- it is no longer than max, so it is inside the path and fits a buffer that 14 has passed
-  module _ (room : PathRoom h path nodes) where
-    pub found_within : n ≤ length path
-    found_within = omega (arith, (met t f).deep, room.letters)
-
-    pub found_front : n ≡ length (take n path)
-    found_front = sym (length-take-le n path found_within)
-
-    pub found_room : {most : ℕ} → h.max ≤ most → 0 + length (take n path) ≤ most
-    found_room b = omega (arith, (met t f).deep, found_front)
+  -- it is no longer than max, so it fits a buffer that 14 has passed
+  pub found_room : {most : ℕ} → h.max ≤ most → 0 + length (take p.length path) ≤ most
+  found_room b = omega (arith, (met t f).deep, length-take p.length path)
 
 -- ---- after the check, with the image's head and a key in hand
 
 -- what is known once 9 and 10 have passed
 pub record AfterCheck (l : List ℕ) (h : Head) (key : List ℕ) (hand : Key) : Type 0 where
-  pub accepted : Accepted l
   pub same : h ≡ head_of l
   pub walk : Walkable h l
   pub unheard : first (next_rows (head_of l) key) ≡ none
@@ -146,57 +138,54 @@ pub record AfterCheck (l : List ℕ) (h : Head) (key : List ℕ) (hand : Key) : 
   pub letters : letters_of hand ≡ key
   pub short : hand.len ≤ h.max
 
-module _ {l : List ℕ} {h : Head} (a : Accepted l) (same : h ≡ head_of l) where
-  pub head_permitted : permitted h ≡ true
-  head_permitted = (walkable a same).opened.head_permitted
+module _ {l : List ℕ} {h : Head} (a : Accepted l) (same : h ≡ head_of l) (key : List ℕ)
+    {hand : Key} (v : Result (Unit {0}) Refusal) (made : hand ≡ in_hand key)
+    (told : (k : List ℕ) → Holds hand k → row_of v ≡ first (next_rows h k)) where
+  holds : Holds hand key
+  holds = rw made (hand_holds key)
 
-  module _ (key : List ℕ) {hand : Key} (v : Verdict) (made : hand ≡ in_hand key)
-      (told : (k : List ℕ) → Holds hand k → row_of v ≡ first (next_rows h k)) where
-    holds : Holds hand key
-    holds = rw made (hand_holds key)
+  judged : row_of v ≡ first (next_rows (head_of l) key)
+  judged = rw same at (told key holds)
 
-    judged : row_of v ≡ first (next_rows (head_of l) key)
-    judged = rw same at (told key holds)
+  pub seek_unkeyed : (after : Bool) (buffer : List ℕ) {why : Refusal} → v ≡ Err why
+      → Seeks l key after buffer (Err why) buffer
+  seek_unkeyed after buffer e work checked = unkeyed l work key after buffer checked judged e
 
-    pub seek_unkeyed : (after : Bool) (buffer : List ℕ) {why : Refusal} → v ≡ Verdict.Refused why
-        → Seeks l key after buffer (Found.Refused why) buffer
-    seek_unkeyed after buffer e work checked = unkeyed l work key after buffer checked judged e
-
-    pub after_check : v ≡ Verdict.Passed → AfterCheck l h key hand
-    after_check e =
-        let r = next_ready h head_permitted holds (told_passed (told key holds) e) in
-        record {
-          accepted = a;
-          same = same;
-          walk = walkable a same;
-          unheard = told_passed judged e;
-          ready = r.0;
-          letters = r.1;
-          short = r.2;
-        }
+  pub after_check : {x : Unit {0}} → v ≡ Ok x → AfterCheck l h key hand
+  after_check e =
+      let walk = walkable a same in
+      let r = next_ready h walk.opened.head_permitted holds (told_passed (told key holds) e) in
+      record {
+        same = same;
+        walk = walk;
+        unheard = told_passed judged e;
+        ready = r.0;
+        letters = r.1;
+        short = r.2;
+      }
 
 module _ {l : List ℕ} {h : Head} {key : List ℕ} {hand : Key} (p : AfterCheck l h key hand)
     (after : Bool) (buffer : List ℕ) where
   pub seek_short : length buffer < h.max
-      → Seeks l key after buffer (Found.Refused Refusal.ShortBuffer) buffer
+      → Seeks l key after buffer (Err Refusal.ShortBuffer) buffer
   seek_short b work checked =
       short l work key after buffer checked p.unheard (rw p.same at b)
 
-  module _ (room : h.max ≤ length buffer) {r : Search} {path nodes : List ℕ}
+  module _ (room : h.max ≤ length buffer) {r : Maybe Spot} {path nodes : List ℕ}
       (t : SearchTells h l (next_stored h l after (letters_of hand)) r path nodes) where
     told_next : SearchTells (head_of l) l (next_in l key after) r path nodes
     unfolding next_in stored_keys table_in
     told_next = rw (p.same, p.letters) at t
 
-    pub seek_missing : r ≡ Search.Missing → Seeks l key after buffer (Found.Refused Refusal.NoKey)
+    pub seek_missing : r ≡ None → Seeks l key after buffer (Err Refusal.NoKey)
         buffer
     seek_missing f work checked =
         missing l work key after buffer checked p.unheard (rw p.same at room)
         (was_missing (head_of l) l told_next f)
 
-    pub seek_found : {n x : ℕ} {buffer' : List ℕ} → r ≡ Search.Found n x
-        → buffer' ≡ sets buffer 0 (take n path)
-        → Seeks l key after buffer (Found.Key n x) buffer'
+    pub seek_found : {p : Spot} {buffer' : List ℕ} → r ≡ Some p
+        → buffer' ≡ sets buffer 0 (take p.length path)
+        → Seeks l key after buffer (Ok (record { length = p.length; value = p.value })) buffer'
     unfolding table_in
     seek_found f laid work checked =
         let (k, is, count, value, front) = key_found told_next f in

@@ -16,7 +16,7 @@ use Rattle.head.specs.Fields.{node_width, node_place}
 use Rattle.head.proofs.Places.{place_add}
 use Rattle.node.specs.Writes.{Write, carried_out, last_node, path_node, new_nodes}
 use Rattle.node.specs.Frame.{InBytes}
-use Rattle.node.proofs.Nodes.{length_path, length_last}
+use Rattle.node.proofs.WholeNodes.{length_path, length_last}
 
 module _ (p : ℕ) where
   -- the two images agree on byte p

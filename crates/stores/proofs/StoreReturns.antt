@@ -9,12 +9,12 @@ use mathlib.Core.List.{List, [], ◌∷◌, ◌++◌, append_assoc}
 use lib.Dec.{eqb}
 use lib.ListN.{length}
 use lib.Seq.{sets}
+use lib.IntN.{ℤ}
+use Rattle.std.specs.Prelude.{Result, Ok, Err}
 use Rattle.trie.specs.Table.{answer}
 use Rattle.trie.specs.Storing.{change_of}
 use Rattle.node.specs.Writes.{Write, noted}
 use Rattle.paper.specs.declared.Refusal.{Refusal}
-use Rattle.paper.specs.declared.Verdict.{Verdict}
-use Rattle.paper.specs.declared.Stored.{Stored}
 use Rattle.paper.specs.declared.Noted.{Noted}
 use Rattle.paper.specs.Hearing.{Row, Numbers, Outcome, first, heard, outcome, refused_numbers}
 use Rattle.paper.specs.Hearing.{done_numbers}
@@ -112,7 +112,8 @@ module _ (l work : List ℕ) (given : Given) (value : ℕ) where
         (ap first (sym (append_assoc (check_order l work) (key_rows l given) (valued l key value)))
         ∙ second_part (check_order l work ++ key_rows l given) _ passed)
 
-    stored : (r : Stored) {l' : List ℕ} → StoresIn l key value r l' → Stores l work given value
+    stored : (r : Result ℤ Refusal) {l' : List ℕ} → StoresIn l key value r l'
+        → Stores l work given value
         (stored_of r) l' (work_after l work)
     unfolding store_at stored_image new_of table_in answer
     stored r e =
@@ -120,7 +121,7 @@ module _ (l work : List ℕ) (given : Given) (value : ℕ) where
         ∙ sym (left ∙ more (first (valued l key value)) done l (stored_image l key value)
         (work_after l work))
 
-    listed_by : (list : List ℕ) (r : Noted) {l' list' : List ℕ}
+    listed_by : (list : List ℕ) (r : Result Noted Refusal) {l' list' : List ℕ}
         → NotesIn l key value list r l' list'
         → StoresWrites l work given value list (noted_of r) l' (work_after l work) list'
     unfolding store_writes_of store_at stored_image new_of table_in answer
@@ -131,35 +132,33 @@ module _ (l work : List ℕ) (given : Given) (value : ℕ) where
 
 -- ---- the returns
 
-module _ {l : List ℕ} (work : List ℕ) {given : Given} {r : Asked} {work' : List ℕ}
-    (a : Asks l work given r work') (value : ℕ) where
-  module _ {why : Refusal} (e : r.verdict ≡ Verdict.Refused why) where
+module _ {l : List ℕ} (work : List ℕ) {given : Given} {work' : List ℕ} (value : ℕ) where
+  module _ {why : Refusal} (a : Asks l work given (Err why) work') where
     unasked : store_of l work given value ≡ outcome (refusal_numbers why) (l ∷ work' ∷ [])
-    unasked = rw a.numbers (refuses l work given value why (told_refused a.verdict e))
+    unasked =
+        rw a.numbers (refuses l work given value why (told_refused {X = Asked} a.verdict refl))
 
-    pub stores_refused : Stores l work given value (stored_of (Stored.Refused why)) l work'
+    pub stores_refused : Stores l work given value (stored_of (Err why)) l work'
     unfolding stored_of
     stores_refused = sym unasked
 
     pub stores_writes_refused : (list : List ℕ) → StoresWrites l work given value list
-        (noted_of (Noted.Refused why)) l work' list
+        (noted_of (Err why)) l work' list
     unfolding store_writes_of noted_of with_writes refusal_numbers refused_numbers
     stores_writes_refused list = rw (unasked, refusal_said why)
 
-  module _ (e : r.verdict ≡ Verdict.Passed) where
+  module _ {r : Asked} (a : Asks l work given (Ok r) work') where
     none_asked : first (check_order l work ++ key_rows l given) ≡ none
-    none_asked = told_passed a.verdict e
+    none_asked = told_passed a.verdict refl
 
-    same_letters : letters_of r.key ≡ key_in l given
-    same_letters = (a.allowed (told_passed refl e)).letters
-
-    pub stores_passed : (s : Stored) {l' : List ℕ} → StoresIn l (letters_of r.key) value s l'
+    pub stores_passed : (s : Result ℤ Refusal) {l' : List ℕ}
+        → StoresIn l (letters_of r.key) value s l'
         → Stores l work given value (stored_of s) l' work'
     stores_passed s g =
-        rw a.numbers (stored l work given value none_asked s (rw same_letters at g))
+        rw a.numbers (stored l work given value none_asked s (rw a.allowed.letters at g))
 
-    pub stores_writes_passed : (list : List ℕ) (s : Noted) {l' list' : List ℕ}
+    pub stores_writes_passed : (list : List ℕ) (s : Result Noted Refusal) {l' list' : List ℕ}
         → NotesIn l (letters_of r.key) value list s l' list'
         → StoresWrites l work given value list (noted_of s) l' work' list'
     stores_writes_passed list s g =
-        rw a.numbers (listed_by l work given value none_asked list s (rw same_letters at g))
+        rw a.numbers (listed_by l work given value none_asked list s (rw a.allowed.letters at g))

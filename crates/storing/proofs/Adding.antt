@@ -11,6 +11,7 @@ use borrow.Author.Tests.{lt-ltb}
 use lib.IntN.{ℤ, pos, negsuc}
 use lib.Dec.{ltb}
 use lib.ListN.{length}
+use Rattle.std.specs.Prelude.{Result, Ok, Err}
 use Rattle.trie.specs.Table.{Descent, missing, value_at}
 use Rattle.trie.specs.Storing.{added, change_of}
 use Rattle.head.specs.declared.Head.{Head}
@@ -19,8 +20,6 @@ use Rattle.node.specs.Image.{table_of}
 use Rattle.node.specs.Writes.{carried_out, store_writes}
 use Rattle.node.proofs.Heads.{with_total, used_more}
 use Rattle.paper.specs.declared.Refusal.{Refusal}
-use Rattle.paper.specs.declared.Stored.{Stored}
-use Rattle.paper.specs.declared.Verdict.{Verdict}
 use Rattle.paper.specs.Hearing.{Row, outcome, first}
 use Rattle.paper.specs.Answers.{said_of, row_of, refusal_numbers, stored_of}
 use Rattle.paper.specs.Rows.{row11, row12, row13}
@@ -61,11 +60,11 @@ some_new k b = rw (lt-ltb 0 (suc k) (omega arith)) refl
 
 module _ (h : Head) (value len : ℕ) where
   -- at each return of the code
-  abbrev Judged : ℕ → Verdict → Type 0
+  abbrev Judged : ℕ → Result (Unit {0}) Refusal → Type 0
   Judged new v = row_of v ≡ first (adding_rows h value new len)
 
   pub judged_11 : (new : ℕ) {most : ℕ} → most + 1 ≡ 256 ^ h.d → most < value
-      → Judged new (Verdict.Refused Refusal.ValueTooGreat)
+      → Judged new (Err Refusal.ValueTooGreat)
   unfolding row_of adding_rows row11
   judged_11 new m b = sym (yes_row 11 0 _ (lt-ltb (256 ^ h.d - 1) value (omega arith)))
 
@@ -75,7 +74,7 @@ module _ (h : Head) (value len : ℕ) where
     left_12 k = first_none _ _ ((none_11 h value).1 fits)
 
     -- no node is new
-    pub judged_none : (new : ℕ) → new ≡ 0 → Judged new Verdict.Passed
+    pub judged_none : (new : ℕ) → new ≡ 0 → Judged new (Ok tt)
     unfolding row_of
     judged_none new z =
         rw z
@@ -86,7 +85,7 @@ module _ (h : Head) (value len : ℕ) where
         ∙ first_nil))
 
     pub judged_12 : (new : ℕ) → new ≢ 0 → {most : ℕ} → most + 1 ≡ 256 ^ h.a → most < h.g + new
-        → Judged new (Verdict.Refused Refusal.NoAddress)
+        → Judged new (Err Refusal.NoAddress)
     unfolding row_of row12
     judged_12 zero z m b = absurd (z refl)
     judged_12 (suc k) z m b =
@@ -97,7 +96,7 @@ module _ (h : Head) (value len : ℕ) where
       left_13 : first (adding_rows h value new len) ≡ first (row13 h new len ∷ [])
       left_13 = left_12 new ∙ first_none _ _ ((none_12 h new).1 (λ _. few))
 
-      pub judged_passed : used_len (with_total h (h.g + new)) ≤ len → Judged new Verdict.Passed
+      pub judged_passed : used_len (with_total h (h.g + new)) ≤ len → Judged new (Ok tt)
       unfolding row_of
       judged_passed b =
           sym (left_13 ∙ first_none _ _ ((none_13 h new len).1 (λ _. rw (used_more h new) at b))
@@ -105,7 +104,7 @@ module _ (h : Head) (value len : ℕ) where
 
     pub judged_13 : (new : ℕ) → new ≢ 0 → h.g + new < 256 ^ h.a
         → len < used_len (with_total h (h.g + new))
-        → Judged new (Verdict.Refused Refusal.NoRoom)
+        → Judged new (Err Refusal.NoRoom)
     unfolding row_of row13
     judged_13 zero z few b = absurd (z refl)
     judged_13 (suc k) z few b =
@@ -136,20 +135,20 @@ module _ (h : Head) (value len : ℕ) where
 
 module _ (h : Head) (l : List ℕ) where
   -- the outcome, given how the walk ended
-  abbrev pub Leaves : Descent → ℕ → Stored → List ℕ → Type 0
+  abbrev pub Leaves : Descent → ℕ → Result ℤ Refusal → List ℕ → Type 0
   Leaves d value r l' = outcome (stored_of r) (l' ∷ []) ≡ store_at h l d value
 
   abbrev rows : Descent → ℕ → List Row
   rows d value = adding_rows h value (added (missing d) value) (length l)
 
   pub refuses : (d : Descent) (value : ℕ) (why : Refusal) → first (rows d value)
-      ≡ some (said_of why) → Leaves d value (Stored.Refused why) l
+      ≡ some (said_of why) → Leaves d value (Err why) l
   unfolding store_at stored_of refusal_numbers
   refuses d value why e = sym (heard_refused _ _ _ e)
 
   pub done : (d : Descent) (value : ℕ) → first (rows d value) ≡ none → {c : ℤ} {l' : List ℕ}
       → c ≡ change_of (value_at (table_of h l) d) value
-      → l' ≡ carried_out l (store_writes h d value) → Leaves d value (Stored.Change c) l'
+      → l' ≡ carried_out l (store_writes h d value) → Leaves d value (Ok c) l'
   unfolding store_at stored_of
   done d value e c w = rw (c, w) (sym (heard_done _ _ _ e))
 

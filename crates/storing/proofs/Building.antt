@@ -1,11 +1,11 @@
 -- The writes of a new path, as the code does them. At each turn the writes that are left, done
 -- on the image so far, give the image that all writes together give.
-use Prim.Native.Nat.{ℕ, suc, ◌+◌, ◌-◌, ◌^◌, ◌≤◌, ◌<◌}
-use mathlib.Core.Path.{◌≡◌, refl, sym, ◌∙◌, ap}
+use Prim.Native.Nat.{ℕ, suc, ◌+◌, ◌^◌, ◌≤◌, ◌<◌}
+use mathlib.Core.Path.{◌≡◌, sym, ◌∙◌, ap}
 use mathlib.Core.List.{List, [], ◌∷◌}
 use native.Mathlib.Omega.{arith}
-use lib.ListN.{length, drop}
-use lib.Seq.{drop-length}
+use lib.ListN.{length, get_or, drop}
+use lib.Seq.{drop-length, drop-cons}
 use Rattle.head.specs.declared.Head.{Head}
 use Rattle.head.specs.Fields.{put_total, node_width, node_place, used_len}
 use Rattle.head.proofs.Places.{place_le}
@@ -23,67 +23,53 @@ space few room = record { addresses = few; room = room }
 
 -- ---- the new nodes
 
--- The nodes for the letters before this depth are written; before the first of them the image
--- was l₀.
-pub record Laying (h : Head) (k : List ℕ) (from value : ℕ) (l₀ l : List ℕ) (depth node : ℕ)
-    : Type 0 where
-  pub deep : depth ≤ length k
-  pub count : node + (length k - depth) ≡ h.g + suc (length k - from)
+-- the nodes for the first i letters are written; before the first of them the image was l₀
+pub record Laying (h : Head) (ys : List ℕ) (value : ℕ) (l₀ l : List ℕ) (i node : ℕ) : Type 0 where
+  pub count : node ≡ h.g + suc i
   pub long : length l ≡ length l₀
-  pub rest : carried_out l (new_nodes h node (drop depth k) value) ≡ carried_out l₀
-      (new_nodes h (suc h.g) (drop from k) value)
+  pub rest : carried_out l (new_nodes h node (drop i ys) value) ≡ carried_out l₀
+      (new_nodes h (suc h.g) ys value)
 
-module _ {h : Head} {k : List ℕ} {from value : ℕ} {l₀ : List ℕ} where
-  pub laying_start : from ≤ length k → Laying h k from value l₀ l₀ from (h.g + 1)
-  laying_start b =
-      let e : h.g + 1 ≡ suc h.g = omega arith in
+module _ {h : Head} {ys : List ℕ} {value : ℕ} {l₀ l : List ℕ} {i node : ℕ}
+    (w : Laying h ys value l₀ l i node) where
+  -- there is room for the next node
+  pub laying_room : i ≤ length ys → Space h l₀ (h.g + suc (length ys))
+      → node_place h (node + 1) ≤ length l
+  laying_room b s =
+      omega (
+        arith,
+        w.long,
+        s.room,
+        place_le h (node + 1) (h.g + suc (length ys) + 1)
+            (omega (arith, w.count)),
+      )
+
+  pub laying_on : {l' : List ℕ} → i < length ys
+      → l' ≡ carried_out l (path_write h node (get_or ys i 0) (node + 1) ∷ [])
+      → Laying h ys value l₀ l' (i + 1) (node + 1)
+  unfolding carried_out new_nodes
+  laying_on b e =
+      let d : i + 1 ≡ suc i = omega arith in
+      let n : node + 1 ≡ suc node = omega arith in
       record {
-        deep = b;
-        count = omega arith;
-        long = refl;
-        rest = ap (λ (q : ℕ). carried_out l₀ (new_nodes h q (drop from k) value)) e;
+        count = omega (arith, w.count);
+        long = ap length e
+            ∙ length_carried l (path_write h node (get_or ys i 0) (node + 1) ∷ [])
+            ∙ w.long;
+        rest =
+            rw (e, d, n)
+            (ap (λ (zs : List ℕ). carried_out l (new_nodes h node zs value))
+            (sym (drop-cons ys i 0 b))
+            ∙ w.rest);
       }
 
-  module _ {l : List ℕ} {depth node : ℕ} (w : Laying h k from value l₀ l depth node) where
-    pub laying_most : node ≤ h.g + suc (length k - from)
-    laying_most = omega (arith, w.count)
-
-    -- there is room for the next node
-    pub laying_room : Space h l₀ (h.g + suc (length k - from)) → node_place h (node + 1) ≤ length l
-    laying_room s =
-        omega (
-          arith,
-          w.long,
-          s.room,
-          place_le h (node + 1) (h.g + suc (length k - from) + 1)
-              (omega (arith, laying_most)),
-        )
-
-    module _ {l' : List ℕ} where
-      pub laying_on : {y : ℕ} → depth < length k → drop depth k ≡ y ∷ drop (suc depth) k
-          → l' ≡ carried_out l (path_write h node y (node + 1) ∷ []) → Laying h k from value l₀ l'
-          (depth + 1) (node + 1)
-      unfolding carried_out new_nodes
-      laying_on {y} b more e =
-          let d : depth + 1 ≡ suc depth = omega arith in
-          let n : node + 1 ≡ suc node = omega arith in
-          record {
-            deep = omega arith;
-            count = omega (arith, w.count);
-            long = ap length e ∙ length_carried l (path_write h node y (node + 1) ∷ []) ∙ w.long;
-            rest =
-                rw (e, d, n)
-                (ap (λ (ys : List ℕ). carried_out l (new_nodes h node ys value)) (sym more)
-                ∙ w.rest);
-          }
-
-      pub laying_end : length k ≤ depth → l' ≡ carried_out l (last_write h node value ∷ [])
-          → l' ≡ carried_out l₀ (new_nodes h (suc h.g) (drop from k) value)
-      unfolding carried_out new_nodes
-      laying_end b e =
-          let d : depth ≡ length k = omega (arith, w.deep) in
-          e ∙ ap (λ (ys : List ℕ). carried_out l (new_nodes h node ys value))
-          (sym (ap (λ (m : ℕ). drop m k) d ∙ drop-length k)) ∙ w.rest
+  pub laying_end : {l' : List ℕ} → i ≡ length ys
+      → l' ≡ carried_out l (last_write h node value ∷ [])
+      → l' ≡ carried_out l₀ (new_nodes h (suc h.g) ys value)
+  unfolding carried_out new_nodes
+  laying_end d e =
+      e ∙ ap (λ (zs : List ℕ). carried_out l (new_nodes h node zs value))
+      (sym (ap (λ (m : ℕ). drop m ys) d ∙ drop-length ys)) ∙ w.rest
 
 -- ---- and the two writes after them
 

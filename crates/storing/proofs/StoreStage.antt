@@ -9,6 +9,7 @@ use mathlib.Core.List.{List, [], ◌∷◌}
 use native.Mathlib.Omega.{arith}
 use lib.IntN.{ℤ}
 use lib.ListN.{length, drop, length-drop}
+use Rattle.std.specs.Prelude.{Result, Ok, Err}
 use Rattle.trie.specs.Table.{Table, descend, missing, value_at}
 use Rattle.trie.specs.Storing.{added, change_of}
 use Rattle.trie.proofs.Storing.{none_added}
@@ -17,7 +18,6 @@ use Rattle.head.specs.Fields.{most_letters, head_of}
 use Rattle.node.specs.Image.{table_of}
 use Rattle.node.specs.Writes.{carried_out, data_write, store_writes}
 use Rattle.paper.specs.declared.Refusal.{Refusal}
-use Rattle.paper.specs.declared.Stored.{Stored}
 use Rattle.paper.specs.Calls.{table_in}
 use Rattle.paper.specs.Accepted.{Accepted}
 use Rattle.paper.proofs.StoreCall.{unfaulted}
@@ -98,37 +98,37 @@ stops_before key whole short {p = p} s =
     )
 
 module _ {l : List ℕ} {h : Head} (a : Accepted l) (same : h ≡ head_of l) where
-  never_bad : (k : List ℕ) {o : Walked} → o ≡ walked_from h.g (table_of h l) at_root k
-      → {why : Refusal} → o ≡ Walked.Refused why → ⊥
+  pub never_bad : (k : List ℕ) {why : Refusal}
+      → Err why ≡ walked_from h.g (table_of h l) at_root k → ⊥
   unfolding table_in
-  never_bad k walked e =
-      let w = walked_bad _ _ k walked e in
+  never_bad k walked =
+      let w = walked_bad _ _ k walked in
       let f : none ≡ some w.node = sym (unfaulted a 0 k) ∙ (rw same at w).faulty in
       let z : ◌≡◌ {A = ℕ} 0 1 = cc in
       omega arith
 
   pub ends : (key : Key) → length key.letters ≡ most_letters → key.len ≤ most_letters
-      → (o : Walked) → o ≡ walked_from h.g (table_of h l) at_root (letters_of key) → Ends h key o
+      → (o : Walked) → Ok o ≡ walked_from h.g (table_of h l) at_root (letters_of key)
+      → Ends h key o
   ends key whole short (Walked.Complete q) walked =
       (walked_complete _ _ (letters_of key) walked refl).within
   ends key whole short (Walked.Stopped p) walked =
       let s = walked_stopped _ _ (letters_of key) walked refl in
       record { node = s.within; depth = stops_before key whole short s }
-  ends key whole short (Walked.Refused why) walked = never_bad (letters_of key) walked refl
 
-  end_descends : (k : List ℕ) (o : Walked) → o ≡ walked_from h.g (table_of h l) at_root k
+  end_descends : (k : List ℕ) (o : Walked) → Ok o ≡ walked_from h.g (table_of h l) at_root k
       → end_of k o ≡ descend (table_of h l) 0 k
   unfolding end_of stopped_at
   end_descends k (Walked.Complete q) walked = sym (walked_complete _ _ k walked refl).descent
   end_descends k (Walked.Stopped p) walked =
       let s = walked_stopped _ _ k walked refl in rw s.left (sym s.descent)
-  end_descends k (Walked.Refused why) walked = absurd (never_bad k walked refl)
 
-  module _ (k : List ℕ) {o : Walked} (walked : o ≡ walked_from h.g (table_of h l) at_root k) where
-    pub in_hand_lem : end_of k o ≡ descend (table_in l) 0 k
-    unfolding table_in
-    in_hand_lem = rw same at (end_descends k o walked)
+  module _ (k : List ℕ) {o : Walked} (walked : Ok o ≡ walked_from h.g (table_of h l) at_root k)
+    where
+      pub in_hand_lem : end_of k o ≡ descend (table_in l) 0 k
+      unfolding table_in
+      in_hand_lem = rw same at (end_descends k o walked)
 
-    pub stores : (value : ℕ) (r : Stored) {l' : List ℕ} → Leaves h l (end_of k o) value r l'
-        → StoresIn l k value r l'
-    stores value r e = rw (in_hand_lem, same) at e
+      pub stores : (value : ℕ) (r : Result ℤ Refusal) {l' : List ℕ}
+          → Leaves h l (end_of k o) value r l' → StoresIn l k value r l'
+      stores value r e = rw (in_hand_lem, same) at e

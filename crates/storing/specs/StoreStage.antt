@@ -2,6 +2,7 @@
 -- key has passed 9 and 10, this part answers and leaves in the image what the whole call does,
 -- whatever working numbers were lent.
 use Rattle.std.specs.Prelude.{ℕ, suc, ◌+◌, ◌^◌, ◌≤◌, ◌<◌, ◌≡◌, List, [], ◌∷◌, ◌++◌, length, drop}
+use Rattle.std.specs.Prelude.{ℤ, Result}
 use Rattle.std.proofs.Math.Option.{none}
 use Rattle.trie.specs.Table.{Descent, complete, stopped, descend, value_at, missing}
 use Rattle.trie.specs.Storing.{added, change_of}
@@ -9,7 +10,7 @@ use Rattle.head.specs.declared.Head.{Head}
 use Rattle.head.specs.Fields.{head_of, node_place}
 use Rattle.node.specs.Image.{table_of}
 use Rattle.node.specs.Writes.{carried_out, new_nodes, total_write, link_write, store_writes}
-use Rattle.paper.specs.declared.Stored.{Stored}
+use Rattle.paper.specs.declared.Refusal.{Refusal}
 use Rattle.paper.specs.Hearing.{Outcome, outcome, done_numbers, first, heard}
 use Rattle.paper.specs.Answers.{stored_of}
 use Rattle.paper.specs.Orders.{adding_rows}
@@ -29,7 +30,7 @@ store_at h l d value =
     (carried_out l (store_writes h d value) ∷ []))
 
 -- the outcome for a key, by its descent from the root
-abbrev pub StoresIn : List ℕ → List ℕ → ℕ → Stored → List ℕ → Type 0
+abbrev pub StoresIn : List ℕ → List ℕ → ℕ → Result ℤ Refusal → List ℕ → Type 0
 StoresIn l key value r l' =
     outcome (stored_of r) (l' ∷ []) ≡ store_at (head_of l) l (descend (table_in l) 0 key) value
 
@@ -46,18 +47,16 @@ unfoldable pub stopped_at : ℕ → List ℕ → Descent
 stopped_at q [] = complete q
 stopped_at q (x ∷ xs) = stopped q x xs
 
--- how a key's walk ended, as a descent; `Ends` excludes a refusal
+-- how a key's walk ended, as a descent
 unfoldable pub end_of : List ℕ → Walked → Descent
 unfolding stopped_at
 end_of k (Walked.Complete q) = complete q
 end_of k (Walked.Stopped p) = stopped_at p.node (drop p.depth k)
-end_of k (Walked.Refused why) = complete 0
 
--- how a walk may end: at a node of the image, and never refused at a bad link
+-- how a walk may end: at a node of the image
 abbrev pub Ends : Head → Key → Walked → Type 0
 Ends h key (Walked.Complete q) = q ≤ h.g
 Ends h key (Walked.Stopped p) = Stop h key p
-Ends h key (Walked.Refused why) = ⊥
 
 -- none of 11, 12 and 13 is given in an image of this length, given how the key's walk ended
 abbrev pub Unrefused : Head → ℕ → Descent → ℕ → Type 0

@@ -5,7 +5,7 @@
 
 ghost use Rattle.std.specs.Prelude.{◌≡◌, suc, ◌+◌, ◌-◌, ◌≤◌, ◌<◌, ◌^◌, true, [], ◌∷◌};
 ghost use Rattle.std.specs.Prelude.{length, drop};
-ghost use Rattle.trie.specs.Table.{missing, value_at};
+ghost use Rattle.trie.specs.Table.{missing, value_at, LettersBelow};
 ghost use Rattle.trie.specs.Storing.{added, change_of};
 ghost use Rattle.head.specs.Fields.{head_of, most_letters, permitted};
 ghost use Rattle.node.specs.Image.{Open, table_of};
@@ -20,94 +20,89 @@ ghost use Rattle.storing.specs.StoreStage.{Unrefused, Space, Builds};
 
 use head::Head;
 use key::Key;
-use paper::{Refusal, Stored, Verdict};
+use node::Nodes;
+use paper::Refusal;
 use walk::{Position, Walked};
 
 // Stores a value under a key; 0 deletes the key. Refusals: 11, 12, 13. An accepted image has no
 // bad link, so the walk is not refused.
-pub fn store(image: &mut [u8], h: Head, key: Key, value: u64) -> Stored
-    requires fact_1 { Accepted image.old }
-    requires fact_2 { h ≡ head_of image.old }
-    requires fact_3 { Ready h key }
+pub fn store(image: &mut [u8], h: Head, key: Key, value: u64) -> Result<i32, Refusal>
+    requires accepted { Accepted image.old }
+    requires own { h ≡ head_of image.old }
+    requires ready { Ready h key }
     ensures { StoresIn image.old (letters_of key) value result image.new }
 {
-    let walked = walk::walk(image, h, key);
+    let walked = walk::walk(Nodes::of(image, h), key)?;
     store_at(image, h, key, walked, value)
 }
 
 // Judges 11, 12 and 13 and carries out the writes, given how the key's walk ended. Refusals: 11,
 // 12, 13.
-pub fn store_at(image: &mut [u8], h: Head, key: Key, walked: Walked, value: u64) -> Stored
-    requires fact_1 { Open h image.old }
-    requires fact_2 { Ready h key }
-    requires fact_3 { Ends h key walked }
+pub fn store_at(
+    image: &mut [u8],
+    h: Head,
+    key: Key,
+    walked: Walked,
+    value: u64,
+) -> Result<i32, Refusal>
+    requires open { Open h image.old }
+    requires ready { Ready h key }
+    requires ends { Ends h key walked }
     ensures { outcome (stored_of result) (image.new ∷ []) ≡ store_at h image.old
         (end_of (letters_of key) walked) value }
 {
-    let verdict = judge(h, image.len(), new_count(h, key, walked, value), value);
-    match verdict {
-        Verdict::Refused(why) => Stored::Refused(why),
-        Verdict::Passed => Stored::Change(write_at(image, h, key, walked, value)),
-    }
+    judge(h, image.len(), new_count(h, key, walked, value), value)?;
+    Ok(write_at(image, h, key, walked, value))
 }
 
 // The number of nodes that a store adds: one for each letter left where the walk stopped, none
 // for the value 0.
 pub fn new_count(h: Head, key: Key, walked: Walked, value: u64) -> usize
-    requires fact_1 { Ready h key }
-    requires fact_2 { Ends h key walked }
-    ensures fact_1 { result ≡ added (missing (end_of (letters_of key) walked)) value }
-    ensures fact_2 { result ≤ most_letters }
+    requires ready { Ready h key }
+    requires ends { Ends h key walked }
+    ensures added { result ≡ added (missing (end_of (letters_of key) walked)) value }
+    ensures few { result ≤ most_letters }
 {
-    if value == 0 {
-        return 0;
-    }
     match walked {
-        Walked::Complete(_) => 0,
-        Walked::Stopped(at) => key.len - at.depth,
-        Walked::Refused(_) => 0,
+        Walked::Stopped(at) if value != 0 => key.len - at.depth,
+        _ => 0,
     }
 }
 
 // 11, 12, 13 of a store that adds `new` nodes to an image of `len` bytes. 12 and 13 judge all
 // the new nodes together, in 64 bits.
-pub fn judge(h: Head, len: usize, new: usize, value: u64) -> Verdict
-    requires fact_1 { permitted h ≡ true }
-    requires fact_2 { new ≤ most_letters }
+pub fn judge(h: Head, len: usize, new: usize, value: u64) -> Result<(), Refusal>
+    requires permitted { permitted h ≡ true }
+    requires few { new ≤ most_letters }
     ensures { row_of result ≡ first (adding_rows h value new len) }
 {
     if node::greatest(h) < value {
-        return Verdict::Refused(Refusal::ValueTooGreat);
+        return Err(Refusal::ValueTooGreat);
     }
     if new == 0 {
-        return Verdict::Passed;
+        return Ok(());
     }
     let total = (h.g as u64) + (new as u64);
     if (node::mask(h) as u64) < total {
-        return Verdict::Refused(Refusal::NoAddress);
+        return Err(Refusal::NoAddress);
     }
     let grown = Head {
         g: total as u32,
-        n: h.n,
-        a: h.a,
-        d: h.d,
-        f: h.f,
-        min: h.min,
-        max: h.max,
+        ..h
     };
     if !grown.fits(len) {
-        return Verdict::Refused(Refusal::NoRoom);
+        return Err(Refusal::NoRoom);
     }
-    Verdict::Passed
+    Ok(())
 }
 
 // Carries out the writes of a store that 11, 12 and 13 have passed, given how the key's walk
 // ended. Answers the change in the number of stored keys.
 pub fn write_at(image: &mut [u8], h: Head, key: Key, walked: Walked, value: u64) -> i32
-    requires fact_1 { Open h image.old }
-    requires fact_2 { Ready h key }
-    requires fact_3 { Ends h key walked }
-    requires fact_4 { Unrefused h (length image.old) (end_of (letters_of key) walked) value }
+    requires open { Open h image.old }
+    requires ready { Ready h key }
+    requires ends { Ends h key walked }
+    requires unrefused { Unrefused h (length image.old) (end_of (letters_of key) walked) value }
     ensures image_after { image.new ≡ carried_out image.old
         (store_writes h (end_of (letters_of key) walked) value) }
     ensures value { result ≡ change_of
@@ -116,7 +111,6 @@ pub fn write_at(image: &mut [u8], h: Head, key: Key, walked: Walked, value: u64)
     match walked {
         Walked::Complete(node) => replace(image, h, node, value),
         Walked::Stopped(at) => extend(image, h, key, at, value),
-        Walked::Refused(_) => 0,
     }
 }
 
@@ -124,14 +118,14 @@ pub fn write_at(image: &mut [u8], h: Head, key: Key, walked: Walked, value: u64)
 // value is there already, nothing is left to write; the test also keeps the read of the data
 // before the write, so that the compiler makes one load of it.
 fn replace(image: &mut [u8], h: Head, node: u32, value: u64) -> i32
-    requires fact_1 { Open h image.old }
-    requires fact_2 { node ≤ h.g }
-    requires fact_3 { value < 256 ^ h.d }
+    requires open { Open h image.old }
+    requires node { node ≤ h.g }
+    requires fits { value < 256 ^ h.d }
     ensures image_after { image.new ≡ carried_out image.old
         (data_write h node value ∷ []) }
     ensures value { result ≡ change_of ((table_of h image.old).value node) value }
 {
-    let old = node::data(image, h, node);
+    let old = Nodes::of(image, h).data(node);
     if old == value {
         return 0;
     }
@@ -143,24 +137,20 @@ fn replace(image: &mut [u8], h: Head, node: u32, value: u64) -> i32
 fn change(old: u64, new: u64) -> i32
     ensures { result ≡ change_of old new }
 {
-    if old == 0 {
-        if new == 0 {
-            return 0;
-        }
-        return 1;
+    match (old, new) {
+        (0, 0) => 0,
+        (0, _) => 1,
+        (_, 0) => -1,
+        (_, _) => 0,
     }
-    if new == 0 {
-        return -1;
-    }
-    0
 }
 
 // The path is incomplete: builds a node for each letter left, but none for the value 0.
 fn extend(image: &mut [u8], h: Head, key: Key, at: Position, value: u64) -> i32
-    requires fact_1 { Open h image.old }
-    requires fact_2 { Ready h key }
-    requires fact_3 { Stop h key at }
-    requires fact_4 { Unrefused h (length image.old)
+    requires open { Open h image.old }
+    requires ready { Ready h key }
+    requires stop { Stop h key at }
+    requires unrefused { Unrefused h (length image.old)
         (stopped_at at.node (drop at.depth (letters_of key))) value }
     ensures image_after { image.new ≡ carried_out image.old
         (store_writes h (stopped_at at.node (drop at.depth (letters_of key))) value) }
@@ -182,39 +172,35 @@ fn extend(image: &mut [u8], h: Head, key: Key, at: Position, value: u64) -> i32
 // The writes of a new path, in the order of 02, Ask 1: the new nodes, then G, then the link that
 // the walk found empty.
 fn build(image: &mut [u8], h: Head, key: Key, at: Position, total: u32, value: u64)
-    requires fact_1 { Open h image.old }
-    requires fact_2 { Ready h key }
-    requires fact_3 { Stop h key at }
-    requires fact_4 { total ≡ h.g + (key.len - at.depth) }
-    requires fact_5 { Space h image.old total }
+    requires open { Open h image.old }
+    requires ready { Ready h key }
+    requires stop { Stop h key at }
+    requires total { total ≡ h.g + (key.len - at.depth) }
+    requires space { Space h image.old total }
     ensures { Builds h image.old at.node (drop at.depth (letters_of key))
         total value image.new }
 {
     let depth = at.depth;
     let letters = key.letters;
-    new_nodes(image, h, key, depth + 1, value);
+    new_nodes(image, h, &letters[depth + 1..key.len], value);
     Head::set_total(image, total);
     node::set_link(image, h, at.node, letters[depth] as u32, h.g + 1);
 }
 
 // Writes the new nodes by rising address, from G+1 on: one for the letter that stopped the walk,
-// and one for each letter from `from` on. Each links to the next; the last holds the value.
-fn new_nodes(image: &mut [u8], h: Head, key: Key, from: usize, value: u64)
-    requires fact_1 { permitted h ≡ true }
-    requires fact_2 { Ready h key }
-    requires fact_3 { from ≤ key.len }
-    requires fact_4 { Space h image.old (h.g + suc (key.len - from)) }
+// and one for each of the letters after it. Each links to the next; the last holds the value.
+fn new_nodes(image: &mut [u8], h: Head, letters: &[u8], value: u64)
+    requires permitted { permitted h ≡ true }
+    requires below { LettersBelow h.n letters.now }
+    requires space { Space h image.old (h.g + suc (length letters.now)) }
     ensures { image.new ≡ carried_out image.old
-        (new_nodes h (suc h.g) (drop from (letters_of key)) value) }
+        (new_nodes h (suc h.g) letters.now value) }
 {
-    let letters = key.letters;
-    let mut depth = from;
     let mut node = h.g + 1;
-    while depth < key.len {
+    for letter in letters {
         let next = node + 1;
-        node::write_path(image, h, node, letters[depth] as u32, next);
+        node::write_path(image, h, node, u32::from(*letter), next);
         node = next;
-        depth += 1;
     }
     node::write_last(image, h, node, value);
 }

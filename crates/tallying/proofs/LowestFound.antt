@@ -1,24 +1,46 @@
 -- A search upwards for the lowest number that passes a test. From the number reached the lowest
--- is still the same, since no number passed over passes. At the end, the loop of `all_met`, after
--- which a search may be left out.
-use mathlib.Core.Path.{◌≡◌, refl, ap, ◌∙◌}
-use mathlib.Core.Bool.{Bool, true, false, not, ◌&&◌}
+-- is still the same, since no number passed over passes.
+use mathlib.Core.Path.{◌≡◌, refl, sym, ap, ◌∙◌}
+use mathlib.Core.Bool.{Bool, true, false}
 use Prim.Native.Nat.{ℕ, zero, suc, ◌+◌, ◌-◌, ◌≤◌, ◌<◌}
 use native.Mathlib.Numerals.{add-one}
-use native.Mathlib.Decide.{ℕ_discrete}
+use native.Mathlib.Decide.{dec_lt}
 use native.Mathlib.Omega.{arith}
-use mathlib.Core.List.{List}
 use mathlib.Core.Option.{none, some}
-use lib.Dec.{eqb}
-use lib.ListN.{get_or}
-use borrow.Author.Tests.{lt-ltb, le-ltb, eqb-false, not-true}
+use lib.Dec.{ltb}
+use borrow.Author.Tests.{lt-ltb, le-ltb, ltb-true}
+use Rattle.std.specs.Prelude.{Option, Some, None}
+use Rattle.std.proofs.lemmas.Option.{none-some, cond_some}
 use Rattle.trie.specs.Lowest.{lowest}
-use Rattle.field.proofs.Range.{both}
 use Rattle.paper.specs.Answers.{number_at}
 use Rattle.paper.specs.Rows.{row_when_lowest}
 use Rattle.paper.proofs.Hearing.{is_given, not_given}
-use Rattle.reaching.specs.Reaching.{Met}
-use Rattle.tallying.specs.Tallied.{AllMet}
+use Rattle.tallying.specs.Tallied.{lowest_in}
+
+-- ---- the answer of a search: the lowest number that passes if it is one of these, else none
+
+module _ (p : ℕ → Bool) (a k : ℕ) where
+  pub some_found : {x : ℕ} → x ≡ lowest p a k → x < a + k → Some x ≡ lowest_in p a k
+  some_found {x} e b =
+      rw (← e) (rw (lt-ltb x (a + k) b))
+
+  pub none_found : a + k ≤ lowest p a k → None ≡ lowest_in p a k
+  none_found b = rw (le-ltb (lowest p a k) (a + k) b)
+
+  pub found_some : {r : Option ℕ} {x : ℕ} → r ≡ lowest_in p a k → r ≡ Some x
+      → (x ≡ lowest p a k) × (x < a + k)
+  found_some {x = x} e s =
+      let (b, same) = cond_some (ltb (lowest p a k) (a + k)) (lowest p a k) x (sym e ∙ s) in
+      (sym same, rw same at (ltb-true (lowest p a k) (a + k) b))
+
+  pub found_none : {r : Option ℕ} → r ≡ lowest_in p a k → r ≡ None → a + k ≤ lowest p a k
+  found_none e n = go (dec_lt (lowest p a k) (a + k))
+    where
+      go : Dec (lowest p a k < a + k) → a + k ≤ lowest p a k
+      go (yes b) = absurd (none-some (lowest p a k) (sym (some_found refl b ∙ sym e ∙ n)))
+      go (no b) = omega arith
+
+-- ---- the search
 
 -- of the k numbers from a on, those below x are passed over
 pub record Seeking (p : ℕ → Bool) (a k x : ℕ) : Type 0 where
@@ -39,15 +61,16 @@ module _ {p : ℕ → Bool} {a k x : ℕ} (s : Seeking p a k x) where
             rw (add-one x) (rw e at z);
       }
 
-  pub seeking_found : x < a + k → p x ≡ true → x ≡ lowest p a k
+  pub seeking_found : x < a + k → p x ≡ true → Some x ≡ lowest_in p a k
   unfolding lowest
-  seeking_found h e = let z : lowest p x (suc (a + k - suc x)) ≡ lowest p a k =
-      s.same (suc (a + k - suc x)) (omega arith) in rw e at z
+  seeking_found h e =
+      let z : lowest p x (suc (a + k - suc x)) ≡ lowest p a k =
+      s.same (suc (a + k - suc x)) (omega arith) in
+      some_found p a k (rw e at z) h
 
-  pub seeking_all : {end : ℕ} → end ≡ a + k → end ≤ x → end ≡ lowest p a k
+  pub seeking_all : a + k ≤ x → None ≡ lowest_in p a k
   unfolding lowest
-  seeking_all {end} e h =
-      let z : end ≡ x = omega (arith, s.within) in z ∙ s.same 0 (omega (arith, s.within))
+  seeking_all h = none_found p a k (omega (arith, s.same 0 (omega (arith, s.within))))
 
 -- tests that agree on these numbers have the same lowest number
 pub lowest_same : (p r : ℕ → Bool) (a k : ℕ) → ((x : ℕ) → a ≤ x → x < a + k → p x ≡ r x)
@@ -61,37 +84,19 @@ lowest_same p r a (suc k) h =
           (λ x low high. h x (omega arith) (omega arith)),
     )
 
--- the row for the lowest number that passes, from that number
-pub given_at : (number : ℕ) (test : ℕ → Bool) (a k : ℕ) {x : ℕ} → x ≡ lowest test a k → x < a + k
-    → row_when_lowest number test a k ≡ some (number_at number x)
-unfolding row_when_lowest
-given_at number test a k e b = rw (← e) (is_given number _ (lt-ltb _ _ b))
+pub found_same : (p r : ℕ → Bool) (a k : ℕ) → ((x : ℕ) → a ≤ x → x < a + k → p x ≡ r x)
+    → lowest_in p a k ≡ lowest_in r a k
+found_same p r a k h = rw (lowest_same p r a k h)
 
-pub given_nowhere : (number : ℕ) (test : ℕ → Bool) (a k : ℕ) {x : ℕ} → x ≡ lowest test a k
-    → a + k ≤ x
-    → row_when_lowest number test a k ≡ none
-unfolding row_when_lowest
-given_nowhere number test a k e b = rw (← e) (not_given number _ (le-ltb _ _ b))
+-- the row for the lowest number that passes
+module _ (number : ℕ) (test : ℕ → Bool) (a k : ℕ) where
+  pub given_at : {x : ℕ} → Some x ≡ lowest_in test a k
+      → row_when_lowest number test a k ≡ some (number_at number x)
+  unfolding row_when_lowest
+  given_at e =
+      let (same, below) = found_some test a k e refl in
+      rw (← same) (is_given number _ (lt-ltb _ _ below))
 
--- the loop of `all_met`: if the answer is true, no working number from 1 on, below x, is 0
-pub record MetSoFar (work : List ℕ) (met : Bool) (x : ℕ) : Type 0 where
-  pub told : met ≡ true → AllMet work x
-
-pub met_none : (work : List ℕ) → MetSoFar work true 1
-met_none work = record { told = λ e x low high. absurd (omega arith) }
-
-module _ {work : List ℕ} {met : Bool} {x : ℕ} (p : MetSoFar work met x) where
-  pub met_more : MetSoFar work (met && not (eqb (get_or work x 0) 0)) (x + 1)
-  met_more = record { told = λ e y low high. go e y low high (ℕ_discrete y x) }
-    where
-      here : Bool
-      here = not (eqb (get_or work x 0) 0)
-
-      go : (met && here) ≡ true → (y : ℕ) → 1 ≤ y → y < x + 1 → Dec (y ≡ x) → Met work y
-      go e y low high (yes same) =
-          rw same
-          (eqb-false (get_or work x 0) 0 (not-true (eqb (get_or work x 0) 0) (both met here e).1))
-      go e y low high (no other) = p.told (both met here e).0 y low (omega arith)
-
-  pub met_all : {nodes : ℕ} → nodes ≤ x → met ≡ true → AllMet work nodes
-  met_all high e y low below = p.told e y low (omega arith)
+  pub given_nowhere : None ≡ lowest_in test a k → row_when_lowest number test a k ≡ none
+  unfolding row_when_lowest
+  given_nowhere e = not_given number _ (le-ltb _ _ (found_none test a k e refl))

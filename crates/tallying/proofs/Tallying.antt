@@ -16,6 +16,7 @@ use lib.ListN.{length-set}
 use lib.ListN.{get_or-append}
 use lib.Seq.{get_or-set_same, get_or-set_other}
 use borrow.Author.Tests.{eq-eqb, ne_eqb, leb-false}
+use Rattle.std.specs.Prelude.{Some, None}
 use Rattle.trie.specs.Table.{Table}
 use Rattle.trie.specs.Lowest.{any_below}
 use Rattle.head.specs.declared.Head.{Head}
@@ -76,7 +77,6 @@ not_plain z =
 
 -- the first i links of node q are counted
 pub record Counting (h : Head) (t : Table) (q : ℕ) (work work' : List ℕ) (i : ℕ) : Type 0 where
-  pub within : i ≤ h.n
   pub counted : LinksCounted h t q i work work'
   pub still : get_or work' 0 0 ≡ 1 → (x : ℕ) → x ≤ q → get_or work' x 0 ≡ get_or work x 0
   pub kept : RestKept h.g work work'
@@ -85,7 +85,6 @@ pub counting_none : (h : Head) (t : Table) (q : ℕ) (work : List ℕ) → Count
 unfolding holds_bad any_below times_in
 counting_none h t q work =
     record {
-      within = omega arith;
       counted =
           record {
             good = refl;
@@ -138,7 +137,7 @@ noted_other work room =
     }
 
 module _ {h : Head} {t : Table} {q : ℕ} {work work' : List ℕ} {i : ℕ}
-    (p : Counting h t q work work' i) (below : i < h.n) where
+    (p : Counting h t q work work' i) where
   -- one more link that is not bad, with working numbers that count it
   one_more : {c : ℕ} {work'' : List ℕ} → c ≡ t.child q i → bad_link h.g c ≡ false
       → RestKept h.g work' work''
@@ -150,7 +149,6 @@ module _ {h : Head} {t : Table} {q : ℕ} {work work' : List ℕ} {i : ℕ}
   unfolding holds_bad any_below times_in
   one_more {c} {work''} e good kept step same on =
       record {
-        within = omega arith;
         counted =
             record {
               good = rw (add-one i, ← e, p.counted.good, good);
@@ -273,9 +271,8 @@ module _ {h : Head} {t : Table} {q : ℕ} {work work' : List ℕ} {i : ℕ}
 
 module _ {h : Head} {l : List ℕ} {q : ℕ} {work work' : List ℕ} {i : ℕ}
     (p : Counting h (table_of h l) q work work' i) where
-  pub tallied_all : h.n ≤ i → Tallied h l q work true work'
-  tallied_all high =
-      let e : i ≡ h.n = omega (arith, p.within) in
+  pub tallied_all : i ≡ h.n → Tallied h l q work true work'
+  tallied_all e =
       record {
         counted = λ _. rw e at p.counted;
         bad = λ z. let y : ◌≡◌ {A = ℕ} 0 1 = cc in absurd (omega arith);
@@ -295,12 +292,11 @@ module _ {h : Head} {l : List ℕ} {q : ℕ} {work work' : List ℕ} {i : ℕ}
 pub tallied_childless : (h : Head) (l : List ℕ) (q : ℕ) (work : List ℕ)
     → ((i : ℕ) → (table_of h l).child q i ≡ 0)
     → Tallied h l q work true work
-tallied_childless h l q work e = tallied_all (upto h.n (omega arith)) (omega arith)
+tallied_childless h l q work e = tallied_all (upto h.n) refl
   where
-    upto : (i : ℕ) → i ≤ h.n → Counting h (table_of h l) q work work i
-    upto zero b = counting_none h (table_of h l) q work
-    upto (suc i) b =
-        rw (← add-one i) (counting_empty (upto i (omega arith)) (omega arith) refl (e i))
+    upto : (i : ℕ) → Counting h (table_of h l) q work work i
+    upto zero = counting_none h (table_of h l) q work
+    upto (suc i) = rw (← add-one i) (counting_empty (upto i) refl (e i))
 
 -- ---- the nodes
 
@@ -353,22 +349,21 @@ module _ {h : Head} {l work work' work'' : List ℕ} {q : ℕ}
 
   pub tallying_bad : {before : List ℕ} → RestKept h.g before work → q < h.g + 1 → {r : Bool}
       → r ≡ false → Tallied h l q work' r work''
-      → BadFrom h l before q work''
+      → BadFrom h l before (Some q) work''
   tallying_bad kept below e s =
       record {
         lowest_bad = seeking_found p.seeking (omega arith) (s.bad e);
-        tally = λ z. absurd (omega arith);
-        plain = λ z. absurd (omega arith);
+        tally = λ z. cc;
+        plain = λ z. cc;
         kept = kept_more kept (kept_more p.kept s.kept);
       }
 
 pub tallying_all : {h : Head} {l before work work' : List ℕ} {q : ℕ}
-    → Tallying h (table_of h l) work work' q → RestKept h.g before work → h.g + 1 ≤ q
-    → BadFrom h l before (h.g + 1) work'
-tallying_all {h} {l} {q = q} p kept high =
-    let e : q ≡ h.g + 1 = omega (arith, p.seeking.within) in
+    → Tallying h (table_of h l) work work' q → RestKept h.g before work → q ≡ h.g + 1
+    → BadFrom h l before None work'
+tallying_all {h} {l} {q = q} p kept e =
     record {
-      lowest_bad = seeking_all p.seeking (omega arith) high;
+      lowest_bad = seeking_all p.seeking (omega arith);
       tally = λ _. rw e at p.tally;
       plain = λ _. rw e at p.plain;
       kept = kept_more kept p.kept;

@@ -1,7 +1,7 @@
 -- The tally of the links over the working numbers: whether no link, one or more hold each address,
 -- which node holds the first link above G, and the marks of the nodes where all is plain.
 use Rattle.std.specs.Prelude.{ℕ, ◌+◌, ◌-◌, ◌≤◌, ◌<◌, ◌≡◌, ◌≢◌, Bool, true, false, not, ◌&&◌, List}
-use Rattle.std.specs.Prelude.{get_or, eqb, ltb}
+use Rattle.std.specs.Prelude.{get_or, eqb, ltb, cond, Option, Some, None}
 use Rattle.field.specs.Range.{between}
 use Rattle.trie.specs.Table.{Table}
 use Rattle.trie.specs.Lowest.{lowest}
@@ -46,11 +46,15 @@ pub record Plain (h : Head) (t : Table) (k : ℕ) (work : List ℕ) : Type 0 whe
   pub marked : get_or work 0 0 ≡ 1 → (x : ℕ) → 1 ≤ x → x ≤ h.g → get_or work x 0 ≢ 0
       → MarkedBy h t k work x
 
+-- the lowest of the k numbers from a on that passes, none if none does
+abbrev pub lowest_in : (ℕ → Bool) → ℕ → ℕ → Option ℕ
+lowest_in p a k = cond (ltb (lowest p a k) (a + k)) (Some (lowest p a k)) None
+
 -- the lowest node that holds a bad link, and the tally where there is none
-pub record BadFrom (h : Head) (l work : List ℕ) (bad : ℕ) (work' : List ℕ) : Type 0 where
-  pub lowest_bad : bad ≡ lowest (λ q. holds_bad h.g (table_of h l) q h.n) 0 (h.g + 1)
-  pub tally : h.g < bad → Tally (table_of h l) h.n h.g (h.g + 1) work'
-  pub plain : h.g < bad → Plain h (table_of h l) (h.g + 1) work'
+pub record BadFrom (h : Head) (l work : List ℕ) (bad : Option ℕ) (work' : List ℕ) : Type 0 where
+  pub lowest_bad : bad ≡ lowest_in (λ q. holds_bad h.g (table_of h l) q h.n) 0 (h.g + 1)
+  pub tally : bad ≡ None → Tally (table_of h l) h.n h.g (h.g + 1) work'
+  pub plain : bad ≡ None → Plain h (table_of h l) (h.g + 1) work'
   pub kept : RestKept h.g work work'
 
 -- the first i links of node q are counted: none is bad, the tally of each address has grown by
@@ -72,10 +76,11 @@ pub record Tallied (h : Head) (l : List ℕ) (q : ℕ) (work : List ℕ) (r : Bo
 abbrev pub AllMet : List ℕ → ℕ → Type 0
 AllMet work nodes = (x : ℕ) → 1 ≤ x → x < nodes → Met work x
 
--- the lowest address from 1 on, below `nodes`, whose working number is v
-abbrev pub FoundFrom : List ℕ → ℕ → ℕ → ℕ → Type 0
-FoundFrom work nodes v r = r ≡ lowest (λ x. eqb (get_or work x 0) v) 1 (nodes - 1)
+-- the lowest address from 1 on, below `nodes`, whose working number is v, if there is one
+abbrev pub FoundFrom : List ℕ → ℕ → ℕ → Option ℕ → Type 0
+FoundFrom work nodes v r = r ≡ lowest_in (λ x. eqb (get_or work x 0) v) 1 (nodes - 1)
 
--- the lowest node that has hidden data, by the marks in the working numbers
-abbrev pub HiddenFrom : Head → List ℕ → List ℕ → ℕ → Type 0
-HiddenFrom h l work r = r ≡ lowest (λ x. hidden_at h (table_of h l) x (mark_in work x)) 0 (h.g + 1)
+-- the lowest node that has hidden data, by the marks in the working numbers, if there is one
+abbrev pub HiddenFrom : Head → List ℕ → List ℕ → Option ℕ → Type 0
+HiddenFrom h l work r =
+    r ≡ lowest_in (λ x. hidden_at h (table_of h l) x (mark_in work x)) 0 (h.g + 1)

@@ -53,27 +53,6 @@ one_way (pos (suc zero)) = inr (refl, refl)
 one_way (pos (suc (suc n))) = inl refl
 one_way (negsuc n) = inl refl
 
-module _ {t : Table} {k : List ℕ} {c : ℤ} {list : List ℕ} where
-  pub room_more : c ≡ pos 1 → CountsFit t k (gain_of c) (loss_of c) list → CountsFit t k 1 0 list
-  unfolding gain_of loss_of
-  room_more e r = rw e at r
-
-  pub room_fewer : c ≡ negsuc 0 → CountsFit t k (gain_of c) (loss_of c) list
-      → CountsFit t k 0 1 list
-  unfolding gain_of loss_of
-  room_fewer e r = rw e at r
-
-  module _ {list' : List ℕ} where
-    pub shifted_more : c ≡ pos 1 → Shifted t k 1 0 list list'
-        → Shifted t k (gain_of c) (loss_of c) list list'
-    unfolding gain_of loss_of
-    shifted_more e s = rw e s
-
-    pub shifted_fewer : c ≡ negsuc 0 → Shifted t k 0 1 list list'
-        → Shifted t k (gain_of c) (loss_of c) list list'
-    unfolding gain_of loss_of
-    shifted_fewer e s = rw e s
-
 gain_none : (c : ℤ) → c ≢ pos 1 → gain_of c ≡ 0
 unfolding gain_of
 gain_none (pos zero) a = refl
@@ -91,16 +70,6 @@ pub shifted_none : (t : Table) (k : List ℕ) (c : ℤ) (list : List ℕ) → c 
     → Shifted t k (gain_of c) (loss_of c) list list
 shifted_none t k c list a b =
     record { long = refl; each = λ q. rw (gain_none c a, loss_none c b) refl }
-
-pub some_more : {c : ℤ} → c ≡ pos 1 → c ≢ pos 0
-some_more e z =
-    let f : ◌≡◌ {A = ℤ} (pos 1) (pos 0) = sym e ∙ z in let g : ◌≡◌ {A = ℕ} 1 0 = cc in omega arith
-
-pub some_fewer : {c : ℤ} → c ≡ negsuc 0 → c ≢ pos 0
-some_fewer e z = let f : ◌≡◌ {A = ℤ} (negsuc 0) (pos 0) = sym e ∙ z in let g : ◌≡◌ {A = ℕ} 1 0 =
-    cc in omega arith
-
--- ---- the key's node
 
 -- a key whose answer is not 0 has a node
 answering : (t : Table) (k : List ℕ) → answer t k ≢ 0 → Whole t k

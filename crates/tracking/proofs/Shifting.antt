@@ -5,7 +5,7 @@ use Prim.Native.Nat.{ℕ, suc, ◌+◌, ◌-◌, ◌^◌, ◌≤◌, ◌<◌}
 use mathlib.Core.Path.{◌≡◌, refl, sym, ◌∙◌, ap, subst}
 use mathlib.Core.Logic.{◌≢◌}
 use mathlib.Core.Bool.{Bool, true, false, cond}
-use mathlib.Core.List.{List, [], ◌∷◌, ◌++◌}
+use mathlib.Core.List.{List, [], ◌∷◌}
 use native.Mathlib.Decide.{ℕ_discrete}
 use native.Mathlib.Omega.{arith}
 use lib.ListN.{length, get_or, set, take, drop, length-set, take-append-drop}
@@ -16,35 +16,7 @@ use Rattle.trie.proofs.Walk.{descend_nil, descend_empty, descend_append, complet
 use Rattle.passing.specs.Passing.{passes}
 use Rattle.passing.proofs.Passing.{passes_here, passes_nil, passes_link, prefix_passes}
 use Rattle.passing.proofs.Passing.{child_reached, never_again}
-use Rattle.tracking.specs.Tracking.{Whole, CountsFit, Shifted, RangeCleared}
-
--- ---- numbers set to 0
-
-pub cleared_start : {from : ℕ} {list₀ : List ℕ} → RangeCleared from from list₀ list₀
-cleared_start = record {
-  long = refl;
-  within = λ q a b. absurd (omega arith);
-  before = λ q a. refl;
-  after = λ q a. refl;
-}
-
-pub cleared_on : {from i : ℕ} {list₀ list : List ℕ} → from ≤ i → i < length list
-    → RangeCleared from i list₀ list
-    → RangeCleared from (i + 1) list₀ (set list i 0)
-cleared_on {from} {i} {list₀} {list} low room c =
-    record {
-      long = length-set list i 0 ∙ c.long;
-      within = λ q a b. go q a b (ℕ_discrete q i);
-      before = λ q a. get_or-set_other list i q 0 0 (λ e. omega arith) ∙ c.before q a;
-      after = λ q a. get_or-set_other list i q 0 0 (λ e. omega arith) ∙ c.after q (omega arith);
-    }
-  where
-    go : (q : ℕ) → from ≤ q → q < i + 1 → Dec (q ≡ i) → get_or (set list i 0) q 0 ≡ 0
-    go q a b (yes e) = ap (λ (x : ℕ). get_or (set list i 0) x 0) e
-        ∙ get_or-set_same list i 0 0 room
-    go q a b (no other) = get_or-set_other list i q 0 0 other ∙ c.within q a (omega arith)
-
--- ---- the path
+use Rattle.tracking.specs.Tracking.{Whole, CountsFit, Shifted}
 
 -- The first letters lead to node p, and the counts of the nodes before p have changed.
 pub record Going (t : Table) (k : List ℕ) (gain loss : ℕ) (list₀ list : List ℕ) (depth p : ℕ)
@@ -132,8 +104,13 @@ module _ {t : Table} {k : List ℕ} {gain loss : ℕ} {list₀ : List ℕ} where
             nothing = let d : depth ≡ length k = omega (arith, w.deep) in
                 ap (λ (m : ℕ). drop m k) d ∙ drop-length k
 
-        module _ (whole : Whole t k) (x : ℕ) (below : depth < length k)
-            (left : drop depth k ≡ x ∷ drop (suc depth) k) where
+        module _ (whole : Whole t k) (below : depth < length k) where
+          abbrev x : ℕ
+          x = get_or k depth 0
+
+          left : drop depth k ≡ x ∷ drop (suc depth) k
+          left = drop-cons k depth 0 below
+
           full : t.child p x ≢ 0
           full z =
               let on : descend t p (x ∷ drop (suc depth) k) ≡ complete whole.0 =
@@ -146,21 +123,15 @@ module _ {t : Table} {k : List ℕ} {gain loss : ℕ} {list₀ : List ℕ} where
               let z : ◌≡◌ {A = ℕ} 0 1 = cc in
               omega arith
 
-          letter : get_or k depth 0 ≡ x
-          letter =
-              let both : ◌≡◌ {A = List ℕ} (get_or k depth 0 ∷ drop (suc depth) k)
-              (x ∷ drop (suc depth) k) = sym (drop-cons k depth 0 below) ∙ left in
-              cc
-
           pub going_on : {c : ℕ} → c ≡ t.child p x → Going t k gain loss list₀ list' (depth + 1) c
           going_on {c} link =
               let d : depth + 1 ≡ suc depth = omega arith in
-              let further : take (suc depth) k ≡ take depth k ++ (x ∷ []) =
-              take-suc k depth 0 below ∙ ap (λ (y : ℕ). take depth k ++ (y ∷ [])) letter in
               rw (d, link)
               (record {
                 deep = below;
-                came = ap (descend t 0) further ∙ child_reached t (take depth k) x w.came full;
+                came =
+                    ap (descend t 0) (take-suc k depth 0 below)
+                    ∙ child_reached t (take depth k) x w.came full;
                 long = same_length;
                 each = λ q.
                     rw e

@@ -12,6 +12,7 @@ use native.Mathlib.Omega.{arith}
 use borrow.Author.Tests.{lt-ltb, le-ltb}
 use lib.IntN.{ℤ, pos}
 use lib.ListN.{length}
+use Rattle.std.specs.Prelude.{Ok, Err}
 use Rattle.field.specs.Range.{between}
 use Rattle.trie.specs.Table.{Descent, missing, value_at, answer}
 use Rattle.trie.specs.Rules.{LinkRules}
@@ -24,7 +25,6 @@ use Rattle.node.specs.Image.{Open, table_of}
 use Rattle.node.specs.Writes.{carried_out, store_writes}
 use Rattle.node.proofs.Heads.{with_total}
 use Rattle.paper.specs.declared.Refusal.{Refusal}
-use Rattle.paper.specs.declared.Stored.{Stored}
 use Rattle.paper.specs.Hearing.{Row, Outcome, outcome, done_numbers, first}
 use Rattle.paper.specs.Answers.{said_of, refusal_numbers, stored_of}
 use Rattle.paper.specs.Orders.{adding_rows, new_of}
@@ -55,7 +55,7 @@ pub record Hand (l : List ℕ) (h : Head) (key : Key) (o : Walked) (value new : 
   pub same : h ≡ head_of l
   pub ready : Ready h key
   pub allowed : between (length (letters_of key)) h.min h.max ≡ true
-  pub walked : o ≡ walked_from h.g (table_of h l) at_root (letters_of key)
+  pub walked : Ok o ≡ walked_from h.g (table_of h l) at_root (letters_of key)
   pub count : new ≡ added (missing (end_of (letters_of key) o)) value
 
 module _ {l : List ℕ} {h : Head} {key : Key} {o : Walked} {value new : ℕ}
@@ -88,7 +88,7 @@ module _ {l : List ℕ} {h : Head} {key : Key} {o : Walked} {value new : ℕ}
 
   refuses : (counts : List ℕ) (why : Refusal) → first (adding_counts_rows l k value counts)
       ≡ some (said_of why)
-      → StoresCounted l k value counts (Stored.Refused why) l counts
+      → StoresCounted l k value counts (Err why) l counts
   unfolding store_counted stored_of refusal_numbers
   refuses counts why e =
       sym (heard_refused (first (adding_counts_rows l k value counts)) (l ∷ counts ∷ [])
@@ -97,7 +97,7 @@ module _ {l : List ℕ} {h : Head} {key : Key} {o : Walked} {value new : ℕ}
   -- 11, 12 and 13
   pub refused : (counts : List ℕ) (why : Refusal) → first (adding_rows h value new (length l))
       ≡ some (said_of why)
-      → StoresCounted l k value counts (Stored.Refused why) l counts
+      → StoresCounted l k value counts (Err why) l counts
   refused counts why e = refuses counts why (first_part _ (again counts ∷ []) (sym rows_same ∙ e))
 
   module _ (passes : first (adding_rows h value new (length l)) ≡ none) where
@@ -124,18 +124,18 @@ module _ {l : List ℕ} {h : Head} {key : Key} {o : Walked} {value new : ℕ}
         ≡ first (again counts ∷ [])
     left_5 counts = second_part _ (again counts ∷ []) (sym rows_same ∙ passes)
 
-    five : (counts : List ℕ) → length counts < h.g + new + 1 → first (again counts ∷ [])
+    five : (counts : List ℕ) → length counts ≤ h.g + new → first (again counts ∷ [])
         ≡ some (said_of Refusal.TooFewNumbers)
     unfolding row5again
     five counts b =
         yes_row 5 0 [] (lt-ltb (length counts) ((head_of l).g + new_of (head_of l) l k value + 1)
         (omega (arith, last_same)))
 
-    pub too_few : (counts : List ℕ) → length counts < h.g + new + 1
-        → StoresCounted l k value counts (Stored.Refused Refusal.TooFewNumbers) l counts
+    pub too_few : (counts : List ℕ) → length counts ≤ h.g + new
+        → StoresCounted l k value counts (Err Refusal.TooFewNumbers) l counts
     too_few counts b = refuses counts Refusal.TooFewNumbers (left_5 counts ∙ five counts b)
 
-    no_five : (counts : List ℕ) → h.g + new + 1 ≤ length counts → first (again counts ∷ []) ≡ none
+    no_five : (counts : List ℕ) → h.g + new < length counts → first (again counts ∷ []) ≡ none
     unfolding row5again
     no_five counts b =
         no_row 5 0 [] (le-ltb (length counts) ((head_of l).g + new_of (head_of l) l k value + 1)
@@ -164,62 +164,69 @@ module _ {l : List ℕ} {h : Head} {key : Key} {o : Walked} {value new : ℕ}
         )
 
     module _ {image : List ℕ} (wrote : image ≡ carried_out l (store_writes h (end_of k o) value))
-        {change : ℤ} (told : change ≡ change_of (value_at (table_of h l) (end_of k o)) value) where
-      image_same : image ≡ after
-      unfolding stored_image
-      image_same =
-          wrote
-          ∙ ap₂ (λ (h : Head) (d : Descent). carried_out l (store_writes h d value)) x.same
-          (in_hand_lem x.accepted x.same k x.walked)
+      where
+        image_same : image ≡ after
+        unfolding stored_image
+        image_same =
+            wrote
+            ∙ ap₂ (λ (h : Head) (d : Descent). carried_out l (store_writes h d value)) x.same
+            (in_hand_lem x.accepted x.same k x.walked)
 
-      change_same : change ≡ change_of (answer (table_in l) k) value
-      unfolding answer table_in
-      change_same =
-          told
-          ∙ ap₂ (λ (h : Head) (d : Descent). change_of (value_at (table_of h l) d) value) x.same
-          (in_hand_lem x.accepted x.same k x.walked)
+        table_same : table_of (with_total h (h.g + new)) image ≡ table_in after
+        unfolding table_in
+        table_same = ap₂ table_of head_same image_same
 
-      table_same : table_of (with_total h (h.g + new)) image ≡ table_in after
-      unfolding table_in
-      table_same = ap₂ table_of head_same image_same
+        pub grown_open : Open (with_total h (h.g + new)) image
+        grown_open =
+            subst (λ (m : List ℕ). Open (with_total h (h.g + new)) m) (sym image_same)
+            (head_open (accepted_again granted) head_same)
 
-      module _ {counts start : List ℕ} (right : RightCounts l counts)
-          (clear : RangeCleared (h.g + 1) (h.g + new + 1) counts start)
-          (long : h.g + new + 1 ≤ length counts) where
-        cleared : RangeCleared ((head_of l).g + 1)
-            ((head_of l).g + new_of (head_of l) l k value + 1)
-            counts
-            start
-        cleared = rw (x.same, new_same) at clear
+        module _ {change : ℤ}
+            (told : change ≡ change_of (value_at (table_of h l) (end_of k o)) value)
+            {counts start : List ℕ} (right : RightCounts l counts)
+            (clear : RangeCleared (h.g + 1) (h.g + new + 1) counts start)
+            (long : h.g + new < length counts) where
+          change_same : change ≡ change_of (answer (table_in l) k) value
+          unfolding answer table_in
+          change_same =
+              told
+              ∙ ap₂ (λ (h : Head) (d : Descent). change_of (value_at (table_of h l) d) value)
+              x.same
+              (in_hand_lem x.accepted x.same k x.walked)
 
-        -- what `carry` requires
-        pub carries : let grown : Head = with_total h (h.g + new) in
-            Open grown image
-            × Ready grown key
-            × LinkRules (table_of grown image) (h.g + new)
-            × (h.g + new < length start)
-            × (change ≢ pos 0 → Whole (table_of grown image) k)
-            × CountsFit (table_of grown image) k (gain_of change) (loss_of change) start
-        carries =
-            let again = accepted_again granted in (
-              subst (λ (m : List ℕ). Open (with_total h (h.g + new)) m) (sym image_same)
-                  (head_open again head_same),
-              record { short = x.ready.short; letters = x.ready.letters },
-              rw (table_same, ap (λ (h : Head). h.g) head_same) again.links,
-              omega (arith, clear.long),
-              λ z. rw table_same (whole granted (λ e. z (change_same ∙ e))),
-              rw (table_same, change_same) (room granted right cleared),
-            )
+          cleared : RangeCleared ((head_of l).g + 1)
+              ((head_of l).g + new_of (head_of l) l k value + 1)
+              counts
+              start
+          cleared = rw (x.same, new_same) at clear
 
-        pub done : {list : List ℕ} → Shifted (table_of (with_total h (h.g + new)) image) k
-            (gain_of change) (loss_of change) start list
-            → StoresCounted l k value counts (Stored.Change change) image list
-        unfolding store_counted stored_of
-        done {list} w =
-            let last : list ≡ worked after counts =
-            kept granted right cleared (omega (arith, last_same))
-            (rw (table_same, change_same) at w) in
-            rw (change_same, image_same, last)
-            (sym
-            (heard_done (first (adding_counts_rows l k value counts)) (l ∷ counts ∷ [])
-            (leaves counts) (left_5 counts ∙ no_five counts long)))
+          -- the nodes after the writes, as `carry` is given them
+          module _ {grown : Head} {bytes : List ℕ} (head : grown ≡ with_total h (h.g + new))
+              (same : bytes ≡ image) where
+            table_after : table_of grown bytes ≡ table_in after
+            table_after = ap₂ table_of head same ∙ table_same
+
+            pub carry_rules : LinkRules (table_of grown bytes) grown.g
+            carry_rules =
+                rw (table_after, ap (λ (h : Head). h.g) (head ∙ head_same))
+                (accepted_again granted).links
+
+            pub carry_whole : change ≢ pos 0 → Whole (table_of grown bytes) k
+            carry_whole z = rw table_after (whole granted (λ e. z (change_same ∙ e)))
+
+            pub carry_fit : CountsFit (table_of grown bytes) k (gain_of change) (loss_of change)
+                start
+            carry_fit = rw (table_after, change_same) (room granted right cleared)
+
+            pub done : {list : List ℕ}
+                → Shifted (table_of grown bytes) k (gain_of change) (loss_of change) start list
+                → StoresCounted l k value counts (Ok change) image list
+            unfolding store_counted stored_of
+            done {list} w =
+                let last : list ≡ worked after counts =
+                kept granted right cleared (omega (arith, last_same))
+                (rw (table_after, change_same) at w) in
+                rw (change_same, image_same, last)
+                (sym
+                (heard_done (first (adding_counts_rows l k value counts)) (l ∷ counts ∷ [])
+                (leaves counts) (left_5 counts ∙ no_five counts long)))

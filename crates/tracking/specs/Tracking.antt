@@ -2,12 +2,12 @@
 -- equals the counts worked out afresh." The part of a store with counts after 10: it answers and
 -- leaves in image and counts what the whole call does.
 use Rattle.std.specs.Prelude.{ℕ, zero, suc, ◌+◌, ◌^◌, ◌≤◌, ◌<◌, ◌≡◌, true, cond, List, [], ◌∷◌}
-use Rattle.std.specs.Prelude.{◌++◌, ℤ, pos, negsuc, length, get_or}
+use Rattle.std.specs.Prelude.{◌++◌, ℤ, pos, negsuc, length, get_or, Result}
 use Rattle.trie.specs.Table.{Table, complete, descend, answer}
 use Rattle.trie.specs.Storing.{change_of}
 use Rattle.head.specs.Fields.{head_of}
 use Rattle.passing.specs.Passing.{passes}
-use Rattle.paper.specs.declared.Stored.{Stored}
+use Rattle.paper.specs.declared.Refusal.{Refusal}
 use Rattle.paper.specs.Hearing.{Row, Outcome, outcome, done_numbers, first, heard}
 use Rattle.paper.specs.Answers.{stored_of}
 use Rattle.paper.specs.Orders.{adding_rows, new_of}
@@ -32,7 +32,8 @@ store_counted l key value counts =
     (stored_image l key value ∷ worked (stored_image l key value) counts ∷ []))
 
 -- what this part promises
-abbrev pub StoresCounted : List ℕ → List ℕ → ℕ → List ℕ → Stored → List ℕ → List ℕ → Type 0
+abbrev pub StoresCounted : List ℕ → List ℕ → ℕ → List ℕ → Result ℤ Refusal → List ℕ → List ℕ
+    → Type 0
 StoresCounted l key value counts r l' counts' =
     outcome (stored_of r) (l' ∷ counts' ∷ []) ≡ store_counted l key value counts
 

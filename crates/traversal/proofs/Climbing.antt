@@ -5,24 +5,27 @@ use Prim.Native.Nat.{ℕ, zero, suc, ◌+◌, ◌-◌, ◌<◌, ◌≤◌}
 use native.Mathlib.Numerals.{add-one}
 use native.Mathlib.Nat.{sub-zero}
 use native.Mathlib.Omega.{arith}
-use mathlib.Core.Bool.{Bool, true}
+use mathlib.Core.Bool.{Bool, true, false}
 use mathlib.Core.List.{List, [], ◌∷◌, ◌++◌, map}
 use mathlib.Core.Logic.{◌≢◌}
 use mathlib.Core.Option.{none, some, some-ne-none, some-injective}
 use mathlib.Core.Path.{◌≡◌, refl, sym, ◌∙◌, ap}
+use Rattle.std.specs.Prelude.{Option as Maybe}
+use Rattle.std.specs.Option.{is_some}
 use lib.ListN.{length, get_or, take}
 use lib.Seq.{take-suc, length-take-le}
 use Rattle.trie.specs.Beyond.{beyond, first_of}
 use Rattle.trie.proofs.Beyond.{beyond_nil, beyond_up, beyond_found}
 use Rattle.head.specs.declared.Head.{Head}
 use Rattle.node.specs.Image.{table_of}
-use Rattle.traversal.specs.declared.Search.{Search}
+use Rattle.depths.specs.declared.Spot.{Spot}
 use Rattle.depths.specs.Depths.{KeysBelow}
-use Rattle.traversal.specs.Search.{ahead, coming, PathRoom, Along, PathKept, SearchTells}
+use Rattle.traversal.specs.Search.{ahead, coming, Along, PathKept, SearchTells}
 use Rattle.depths.proofs.Links.{from}
-use Rattle.traversal.proofs.Paths.{room_kept, kept_all, kept_front, kept_letter, along_root}
+use Rattle.traversal.proofs.Paths.{kept_all, kept_front, kept_letter, along_root}
 use Rattle.traversal.proofs.Paths.{along_kept, along_less, along_last}
-use Rattle.traversal.proofs.Searching.{first_none, was_missing, was_found, told_same}
+use Rattle.traversal.proofs.Searching.{first_none, is_found, is_missing, was_missing, was_found}
+use Rattle.traversal.proofs.Searching.{told_same}
 use Rattle.traversal.proofs.Searching.{ahead_no_keys}
 
 -- ---- keys with letters before them
@@ -99,10 +102,8 @@ coming_front h l path path₁ depth x e =
 pub record Climbing (h : Head) (l path₀ nodes₀ : List ℕ) (end first : ℕ) (path nodes : List ℕ)
     (depth x : ℕ) : Type 0 where
   pub deep : depth ≤ h.max
-  pub room : PathRoom h path nodes
+  pub letters : depth ≤ length path
   pub along : Along h l depth path nodes
-  pub letters : length path ≡ length path₀
-  pub ends : length nodes ≡ length nodes₀
   pub same : first_of (coming h l path₀ end first) ≡ first_of (coming h l path depth x)
   -- a letter may follow where one was taken
   pub deeper : 0 < x → depth < h.max
@@ -112,49 +113,35 @@ pub record Nothing (h : Head) (l path nodes : List ℕ) (depth x : ℕ) (path₁
     : Type 0 where
   pub missing : first_of (ahead h l path depth (get_or nodes depth 0) x) ≡ none
   pub kept : PathKept depth path nodes path₁ nodes₁
-  pub letters : length path₁ ≡ length path
-  pub ends : length nodes₁ ≡ length nodes
 
-module _ {h : Head} {l path nodes : List ℕ} {depth x : ℕ} {path₂ nodes₂ : List ℕ} where
+module _ {h : Head} {l path nodes : List ℕ} {depth x : ℕ} where
   -- the search found nothing, or none was made because no key lies below the node
-  pub nothing_missing : {r : Search} {path₁ nodes₁ : List ℕ}
+  pub nothing_missing : {r : Maybe Spot} {path₁ nodes₁ : List ℕ}
       → SearchTells h l (first_of (ahead h l path depth (get_or nodes depth 0) x)) r path₁ nodes₁
-      → r ≡ Search.Missing
-      → PathKept depth path nodes path₁ nodes₁ → length path₁ ≡ length path → length nodes₁
-      ≡ length nodes
-      → path₂ ≡ path₁ → nodes₂ ≡ nodes₁
-      → Nothing h l path nodes depth x path₂ nodes₂
-  nothing_missing told f kept letters ends e g =
-      rw (e, g) (record {
-        missing = was_missing h l told f;
-        kept = kept;
-        letters = letters;
-        ends = ends;
-      })
+      → is_some r ≡ false
+      → PathKept depth path nodes path₁ nodes₁
+      → Nothing h l path nodes depth x path₁ nodes₁
+  nothing_missing {r} told f kept =
+      record { missing = was_missing h l told (is_missing r f); kept = kept }
 
   pub climb_no_keys : {r : Bool} → KeysBelow h (table_of h l) (get_or nodes depth 0) depth r
-      → r ≡ true → path₂ ≡ path → nodes₂ ≡ nodes
-      → Nothing h l path nodes depth x path₂ nodes₂
-  climb_no_keys b f e g =
-      rw (e, g)
-      (record {
+      → r ≡ true
+      → Nothing h l path nodes depth x path nodes
+  climb_no_keys b f =
+      record {
         missing = ahead_no_keys h l path depth (get_or nodes depth 0) x b f;
         kept = kept_all depth path nodes;
-        letters = refl;
-        ends = refl;
-      })
+      }
 
 pub climbing_start : {h : Head} {l path nodes : List ℕ} {end : ℕ} (first : ℕ) → end ≤ h.max
     → (0 < first → end < h.max)
-    → PathRoom h path nodes → Along h l end path nodes
+    → end ≤ length path → Along h l end path nodes
     → Climbing h l path nodes end first path nodes end first
-climbing_start first deep deeper room along =
+climbing_start first deep deeper letters along =
     record {
       deep = deep;
-      room = room;
+      letters = letters;
       along = along;
-      letters = refl;
-      ends = refl;
       same = refl;
       deeper = deeper;
     }
@@ -162,14 +149,14 @@ climbing_start first deep deeper room along =
 module _ {h : Head} {l path₀ nodes₀ : List ℕ} {end first : ℕ} {path nodes : List ℕ} {depth x : ℕ}
     (c : Climbing h l path₀ nodes₀ end first path nodes depth x) {path₁ nodes₁ : List ℕ} where
   -- the first key below is the one sought
-  pub climbing_found : {r : Search} {n v : ℕ}
+  pub climbing_found : {r : Maybe Spot}
       → SearchTells h l (first_of (ahead h l path depth (get_or nodes depth 0) x)) r path₁ nodes₁
-      → r ≡ Search.Found n v
+      → is_some r ≡ true
       → SearchTells h l (first_of (coming h l path₀ end first)) r path₁ nodes₁
-  climbing_found told f =
-      let (k, e, _) = was_found h l told f in
-      told_same h l (c.same ∙ coming_found h l path nodes x
-      (omega (arith, c.room.letters, c.deep)) c.along e ∙ sym e) told
+  climbing_found {r} told f =
+      let (_, found) = is_found r f in
+      let (k, e, _) = was_found h l told found in
+      told_same h l (c.same ∙ coming_found h l path nodes x c.letters c.along e ∙ sym e) told
 
   -- no key lies below the root, so there is none to come
   pub climbing_end : Nothing h l path nodes depth x path₁ nodes₁ → depth ≡ 0
@@ -186,23 +173,20 @@ pub climbing_up : {h : Head} {l path₀ nodes₀ : List ℕ} {end first : ℕ} {
     (depth : ℕ) {x : ℕ}
     → {path₁ nodes₁ : List ℕ} → Climbing h l path₀ nodes₀ end first path nodes depth x
     → Nothing h l path nodes depth x path₁ nodes₁
-    → depth ≢ 0
+    → depth ≢ 0 → depth ≤ length path₁
     → Climbing h l path₀ nodes₀ end first path₁ nodes₁ (depth - 1) (get_or path₁ (depth - 1) 0 + 1)
-climbing_up zero c n z = absurd (z refl)
-climbing_up {h} {l} {path = path} {nodes} (suc d) {x} {path₁} c n z =
+climbing_up zero c n z letters = absurd (z refl)
+climbing_up {h} {l} {path = path} {nodes} (suc d) {x} {path₁} c n z letters =
     let less : suc d - 1 ≡ d = omega arith in
     rw (less, add-one (get_or path₁ d 0))
     (record {
       deep = omega (arith, c.deep);
-      room = room_kept c.room n.letters n.ends;
+      letters = omega arith;
       along = along_less h l (along_kept h l c.along n.kept);
-      letters = n.letters ∙ c.letters;
-      ends = n.ends ∙ c.ends;
       same =
           c.same
           ∙ ap first_of
-          (coming_up h l path nodes x (omega (arith, c.room.letters, c.deep)) c.along
-          n.missing
+          (coming_up h l path nodes x c.letters c.along n.missing
           ∙ ap (λ (y : ℕ). coming h l path d (suc y)) (sym (kept_letter d n.kept (omega arith)))
           ∙ coming_front h l path path₁ d (suc (get_or path₁ d 0))
           (sym (kept_front d n.kept (omega arith))));

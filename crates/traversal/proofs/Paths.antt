@@ -16,7 +16,7 @@ use Rattle.trie.proofs.Walk.{descend_nil, descend_empty, descend_on, descend_app
 use Rattle.trie.proofs.Walk.{complete_within}
 use Rattle.head.specs.declared.Head.{Head}
 use Rattle.node.specs.Image.{table_of}
-use Rattle.traversal.specs.Search.{PathRoom, Along, PathKept}
+use Rattle.traversal.specs.Search.{Along, PathKept}
 
 letters_take : (n j : ℕ) (k : List ℕ) → LettersBelow n k → LettersBelow n (take j k)
 letters_take n j k l = letters_before n (take j k) (drop j k) (rw (take-append-drop j k) l)
@@ -33,11 +33,6 @@ fewer m n k l b e = sym (take-take m n k b) ∙ ap (take m) e ∙ take-take m n 
 alike_at : (n i : ℕ) (k l : List ℕ) → i < n → take n k ≡ take n l → get_or k i 0 ≡ get_or l i 0
 alike_at n i k l b e =
     sym (get_or-take n k i 0 b) ∙ ap (λ (m : List ℕ). get_or m i 0) e ∙ get_or-take n l i 0 b
-
-pub room_kept : {h : Head} {path₀ nodes₀ path nodes : List ℕ} → PathRoom h path₀ nodes₀
-    → length path ≡ length path₀ → length nodes ≡ length nodes₀
-    → PathRoom h path nodes
-room_kept r e f = record { letters = rw e r.letters; ends = rw f r.ends }
 
 -- ---- what is kept
 

@@ -8,6 +8,7 @@ use mathlib.Core.Bool.{Bool, true, false}
 use mathlib.Core.List.{List, ◌∷◌, ◌++◌}
 use mathlib.Core.Logic.{◌≢◌}
 use mathlib.Core.Path.{◌≡◌, sym, ◌∙◌, ap, subst}
+use Rattle.std.specs.Prelude.{Some}
 use lib.ListN.{length, get_or, take, drop}
 use lib.Seq.{take_all, split_at, length-take-le}
 use Rattle.trie.specs.Table.{LettersBelow, complete, descend}
@@ -15,19 +16,15 @@ use Rattle.trie.specs.Beyond.{beyond, first_of}
 use Rattle.trie.proofs.Beyond.{meets_after_path, meets_at_none, meets_at_own, meets_stopped}
 use Rattle.head.specs.declared.Head.{Head}
 use Rattle.node.specs.Image.{table_of}
-use Rattle.traversal.specs.declared.Search.{Search}
 use Rattle.depths.specs.Depths.{own_value}
-use Rattle.traversal.specs.Search.{coming, PathRoom, Along, Followed, next_stored}
+use Rattle.traversal.specs.Search.{coming, Along, Followed, next_stored}
 use Rattle.traversal.specs.Search.{SearchTells}
 use Rattle.depths.proofs.Links.{own_empty, own_long, own_data}
 use Rattle.traversal.proofs.Searching.{told_same, told_here}
 
 -- at the end of a path
 module _ (h : Head) (l path nodes : List ℕ) {depth : ℕ} (deep : depth ≤ h.max)
-    (room : PathRoom h path nodes) (along : Along h l depth path nodes) where
-  size : length (take depth path) ≡ depth
-  size = length-take-le depth path (omega (arith, room.letters))
-
+    (size : length (take depth path) ≡ depth) (along : Along h l depth path nodes) where
   pub after_path : next_stored h l true (take depth path) ≡ first_of (coming h l path depth 0)
   unfolding coming
   after_path =
@@ -44,12 +41,12 @@ module _ (h : Head) (l path nodes : List ℕ) {depth : ℕ} (deep : depth ≤ h.
         (rw size (own_empty h (table_of h l) (get_or nodes depth 0) depth (sym value ∙ empty)))
 
     at_own : v ≢ 0 → SearchTells h l (next_stored h l false (take depth path))
-        (Search.Found depth v) path nodes
+        (Some (record { length = depth; value = v })) path nodes
     at_own full =
         let some_value : own_value h (table_of h l) (get_or nodes depth 0) depth ≢ 0 =
         λ z. full (value ∙ z) in
         let long = own_long h (table_of h l) (get_or nodes depth 0) depth some_value in
-        told_here h l deep room along value full
+        told_here h l deep size along value full
         (meets_at_own (table_of h l) h.n h.min h.max 0 (take depth path)
         (along.ends depth (omega arith)) along.letters (omega (arith, size))
         (omega (arith, size)) (λ z. some_value
@@ -57,7 +54,7 @@ module _ (h : Head) (l path nodes : List ℕ) {depth : ℕ} (deep : depth ≤ h.
 
 -- key k was followed to this depth
 module _ {h : Head} {l k path nodes : List ℕ} {depth : ℕ} (f : Followed h l k path nodes depth)
-    (room : PathRoom h path nodes) (deep : length k ≤ h.max) where
+    (deep : length k ≤ h.max) where
   -- the next letter of the key meets an empty link
   pub stopped_key : (after : Bool) → LettersBelow h.n k → depth < length k
       → next_stored h l after k ≡ first_of (coming h l path depth (get_or k depth 0 + 1))
@@ -87,18 +84,19 @@ module _ {h : Head} {l k path nodes : List ℕ} {depth : ℕ} (f : Followed h l 
     within : depth ≤ h.max
     within = omega (arith, f.short)
 
+    size : length (take depth path) ≡ depth
+    size = ap length f.letters ∙ length-take-le depth k f.short
+
     pub after_key : next_stored h l true k ≡ first_of (coming h l path depth 0)
     after_key =
-        ap (next_stored h l true) (sym same) ∙ after_path h l path nodes within room f.along
+        ap (next_stored h l true) (sym same) ∙ after_path h l path nodes within size f.along
 
     module _ {v : ℕ} (value : v ≡ own_value h (table_of h l) (get_or nodes depth 0) depth) where
       pub at_key_none : v ≡ 0 → next_stored h l false k ≡ first_of (coming h l path depth 0)
       at_key_none empty = ap (next_stored h l false) (sym same)
-          ∙ at_none h l path nodes within room
-          f.along value empty
+          ∙ at_none h l path nodes within size f.along value empty
 
-      pub at_key_own : v ≢ 0 → SearchTells h l (next_stored h l false k) (Search.Found depth v)
-          path
-          nodes
+      pub at_key_own : v ≢ 0 → SearchTells h l (next_stored h l false k)
+          (Some (record { length = depth; value = v })) path nodes
       at_key_own full = told_same h l (ap (next_stored h l false) (sym same))
-          (at_own h l path nodes within room f.along value full)
+          (at_own h l path nodes within size f.along value full)

@@ -4,11 +4,13 @@
 use Prim.Native.Nat.{ℕ, suc, ◌+◌, ◌-◌, ◌<◌, ◌≤◌}
 use native.Mathlib.Numerals.{add-one}
 use native.Mathlib.Omega.{arith}
-use mathlib.Core.Bool.{Bool, true}
+use mathlib.Core.Bool.{Bool, true, false, true≢false}
 use mathlib.Core.List.{List, [], ◌∷◌, ◌++◌, map, map-append, map-map, append_assoc}
 use mathlib.Core.Logic.{◌≢◌}
 use mathlib.Core.Option.{Option, none, some, some-ne-none, some-injective}
 use mathlib.Core.Path.{◌≡◌, refl, sym, ◌∙◌, ap, subst}
+use Rattle.std.specs.Prelude.{Option as Maybe, Some, None}
+use Rattle.std.specs.Option.{is_some}
 use lib.ListN.{length, get_or, take, set, length-set}
 use lib.Seq.{take-suc-set, length-take-le, get_or-set_same}
 use Rattle.trie.specs.Table.{Table, answer}
@@ -17,12 +19,12 @@ use Rattle.trie.proofs.Beyond.{from_none, from_empty}
 use Rattle.trie.proofs.Walk.{answer_complete}
 use Rattle.head.specs.declared.Head.{Head}
 use Rattle.node.specs.Image.{table_of}
-use Rattle.traversal.specs.declared.Search.{Search}
 use Rattle.depths.specs.Depths.{own_value, KeysBelow}
-use Rattle.traversal.specs.Search.{ahead, PathRoom, Along, PathKept, Reached, search_of}
+use Rattle.depths.specs.declared.Spot.{Spot}
+use Rattle.traversal.specs.Search.{ahead, Along, PathKept, Reached, search_of}
 use Rattle.traversal.specs.Search.{SearchTells}
 use Rattle.depths.proofs.Links.{own_data, own_long, own_empty, own_full, from, from_link}
-use Rattle.traversal.proofs.Paths.{room_kept, kept_all, kept_set, kept_below, kept_end}
+use Rattle.traversal.proofs.Paths.{kept_all, kept_set, kept_below, kept_end}
 use Rattle.traversal.proofs.Paths.{along_kept, along_more}
 
 -- ---- the first of a list of keys
@@ -43,57 +45,65 @@ first_none a e = ap first_of e
 
 -- ---- what an answer means
 
+pub is_found : (r : Maybe Spot) → is_some r ≡ true → (p : Spot) × (r ≡ Some p)
+is_found None e = absurd (true≢false (sym e))
+is_found (Some p) e = (p, refl)
+
+pub is_missing : (r : Maybe Spot) → is_some r ≡ false → r ≡ None
+is_missing None e = refl
+is_missing (Some p) e = absurd (true≢false e)
+
 -- what an answer says of the key that was sought
-pub was_missing : (h : Head) (l : List ℕ) {s : Option (List ℕ)} {r : Search} {path nodes : List ℕ}
-    → SearchTells h l s r path nodes
-    → r ≡ Search.Missing → s ≡ none
+pub was_missing : (h : Head) (l : List ℕ) {s : Option (List ℕ)} {r : Maybe Spot}
+    {path nodes : List ℕ} → SearchTells h l s r path nodes
+    → r ≡ None → s ≡ none
 unfolding search_of
 was_missing h l {s} {r} told e = go s (sym e ∙ told.answers)
   where
-    go : (s : Option (List ℕ)) → Search.Missing ≡ search_of (table_of h l) s → s ≡ none
+    go : (s : Option (List ℕ)) → None ≡ search_of (table_of h l) s → s ≡ none
     go none f = refl
     go (some k) f = let z : ◌≡◌ {A = ℕ} 0 1 = cc in absurd (omega arith)
 
-pub was_found : (h : Head) (l : List ℕ) {s : Option (List ℕ)} {r : Search} {path nodes : List ℕ}
-    {n v : ℕ} → SearchTells h l s r path nodes
-    → r ≡ Search.Found n v → (k : List ℕ) × (s ≡ some k) × (n ≡ length k)
+pub was_found : (h : Head) (l : List ℕ) {s : Option (List ℕ)} {r : Maybe Spot}
+    {path nodes : List ℕ} {p : Spot} → SearchTells h l s r path nodes
+    → r ≡ Some p → (k : List ℕ) × (s ≡ some k) × (p.length ≡ length k)
 unfolding search_of
-was_found h l {s} {r} {n = n} {v} told e = go s (sym e ∙ told.answers)
+was_found h l {s} {r} {p = p} told e = go s (sym e ∙ told.answers)
   where
-    go : (s : Option (List ℕ)) → Search.Found n v ≡ search_of (table_of h l) s → (k : List ℕ)
-        × (s ≡ some k) × (n ≡ length k)
+    go : (s : Option (List ℕ)) → Some p ≡ search_of (table_of h l) s → (k : List ℕ)
+        × (s ≡ some k) × (p.length ≡ length k)
     go none f = let z : ◌≡◌ {A = ℕ} 0 1 = cc in absurd (omega arith)
     go (some k) f = (k, refl, cc)
 
 module _ (h : Head) (l : List ℕ) where
-  pub told_same : {s s' : Option (List ℕ)} {r : Search} {path nodes : List ℕ} → s ≡ s'
+  pub told_same : {s s' : Option (List ℕ)} {r : Maybe Spot} {path nodes : List ℕ} → s ≡ s'
       → SearchTells h l s' r path nodes → SearchTells h l s r path nodes
   told_same {r = r} {path} {nodes} e t =
       subst (λ (s : Option (List ℕ)). SearchTells h l s r path nodes) (sym e) t
 
   pub told_none : {s : Option (List ℕ)} {path nodes : List ℕ} → s ≡ none
-      → SearchTells h l s Search.Missing path nodes
+      → SearchTells h l s None path nodes
   unfolding search_of
   told_none e =
       record { answers = rw e; reached = λ k f. absurd (some-ne-none k (sym f ∙ e)) }
 
   -- the key of the path's first letters is found, if its node has data and it is long enough
   pub told_here : {s : Option (List ℕ)} {path nodes : List ℕ} {depth v : ℕ} → depth ≤ h.max
-      → PathRoom h path nodes → Along h l depth path nodes
+      → length (take depth path) ≡ depth → Along h l depth path nodes
       → v ≡ own_value h (table_of h l) (get_or nodes depth 0) depth → v ≢ 0
       → s ≡ some (take depth path)
-      → SearchTells h l s (Search.Found depth v) path nodes
+      → SearchTells h l s (Some (record { length = depth; value = v })) path nodes
   unfolding search_of
-  told_here {s} {path} {nodes} {depth} {v} deep room along e full first =
+  told_here {s} {path} {nodes} {depth} {v} deep whole along e full first =
       told_same first
       (record {
-        answers = λ j. Search.Found (size j) (value j);
+        answers = λ j. Some (record { length = size j; value = value j });
         reached = λ k f. subst (λ (k : List ℕ). Reached h l k path nodes)
             (some-injective (take depth path) k f) reached;
       })
     where
       size : depth ≡ length (take depth path)
-      size = sym (length-take-le depth path (omega (arith, room.letters)))
+      size = sym whole
 
       reached : Reached h l (take depth path) path nodes
       reached =
@@ -192,35 +202,31 @@ module _ (h : Head) (l : List ℕ) where
 pub record Passing (h : Head) (l path₀ nodes₀ : List ℕ) (depth q first : ℕ) (path nodes : List ℕ)
     (i : ℕ) : Type 0 where
   pub deep : depth < h.max
-  pub room : PathRoom h path nodes
   pub along : Along h l depth path nodes
   pub node : q ≡ get_or nodes depth 0
   pub kept : PathKept depth path₀ nodes₀ path nodes
-  pub letters : length path ≡ length path₀
-  pub ends : length nodes ≡ length nodes₀
   pub passed : first_of (ahead h l path₀ depth q first) ≡ first_of (ahead h l path depth q i)
 
--- the link for letter i leads to node c
+-- the link for letter i leads to node c, and there is room for both
 pub record Onto (h : Head) (l path₀ nodes₀ : List ℕ) (depth q first : ℕ) (path nodes : List ℕ)
     (i c : ℕ) : Type 0 where
   pub passing : Passing h l path₀ nodes₀ depth q first path nodes i
+  pub letters : depth < length path
+  pub ends : depth + 1 < length nodes
   pub low : i < h.n
   pub link : c ≡ (table_of h l).child q i
   pub full : c ≢ 0
 
 pub passing_start : {h : Head} {l path nodes : List ℕ} {depth q : ℕ} (first : ℕ) → depth < h.max
-    → PathRoom h path nodes → Along h l depth path nodes
+    → Along h l depth path nodes
     → q ≡ get_or nodes depth 0
     → Passing h l path nodes depth q first path nodes first
-passing_start {path = path} {nodes} {depth} first deep room along node =
+passing_start {path = path} {nodes} {depth} first deep along node =
     record {
       deep = deep;
-      room = room;
       along = along;
       node = node;
       kept = kept_all depth path nodes;
-      letters = refl;
-      ends = refl;
       passed = refl;
     }
 
@@ -231,12 +237,9 @@ module _ {h : Head} {l path₀ nodes₀ : List ℕ} {depth q first : ℕ} {path 
   passing_empty b e empty =
       record {
         deep = p.deep;
-        room = p.room;
         along = p.along;
         node = p.node;
         kept = p.kept;
-        letters = p.letters;
-        ends = p.ends;
         passed = p.passed ∙ ap first_of (ahead_empty h l path depth q i b e empty);
       }
 
@@ -246,35 +249,34 @@ module _ {h : Head} {l path₀ nodes₀ : List ℕ} {depth q first : ℕ} {path 
 module _ {h : Head} {l path₀ nodes₀ : List ℕ} {depth q first : ℕ} {path nodes : List ℕ} {i c : ℕ}
     (o : Onto h l path₀ nodes₀ depth q first path nodes i c) where
   longer : take (depth + 1) (set path depth i) ≡ take depth path ++ (i ∷ [])
-  longer = rw (add-one depth)
-      (take-suc-set path depth i (omega (arith, o.passing.room.letters, o.passing.deep)))
+  longer = rw (add-one depth) (take-suc-set path depth i o.letters)
+
+  size : length (take (depth + 1) (set path depth i)) ≡ depth + 1
+  size =
+      length-take-le (depth + 1) (set path depth i)
+      (omega (arith, length-set path depth i, o.letters))
 
   -- the path and its nodes, one letter further
-  pub onto_room : PathRoom h (set path depth i) (set nodes (depth + 1) c)
-  onto_room =
-      room_kept o.passing.room (length-set path depth i) (length-set nodes (depth + 1) c)
-
   pub onto_node : c ≡ get_or (set nodes (depth + 1) c) (depth + 1) 0
   onto_node =
-      sym (get_or-set_same nodes (depth + 1) c 0
-      (omega (arith, o.passing.room.ends, o.passing.deep)))
+      sym (get_or-set_same nodes (depth + 1) c 0 o.ends)
 
   pub onto_along : Along h l (depth + 1) (set path depth i) (set nodes (depth + 1) c)
   onto_along =
       let p = o.passing in
-      along_more h l p.along (omega (arith, p.room.letters, p.deep))
-      (omega (arith, p.room.ends, p.deep)) o.low (rw (← p.node) o.link) o.full
+      along_more h l p.along o.letters o.ends o.low (rw (← p.node) o.link) o.full
 
   pub onto_kept : PathKept depth path₀ nodes₀ (set path depth i) (set nodes (depth + 1) c)
   onto_kept = kept_set i c o.passing.kept
 
   -- if the child has a key of its own, it is the key sought
   pub onto_own : {v : ℕ} → v ≡ own_value h (table_of h l) c (depth + 1) → v ≢ 0
-      → SearchTells h l (first_of (ahead h l path₀ depth q first)) (Search.Found (depth + 1) v)
-      (set path depth i) (set nodes (depth + 1) c)
+      → SearchTells h l (first_of (ahead h l path₀ depth q first))
+      (Some (record { length = depth + 1; value = v })) (set path depth i)
+      (set nodes (depth + 1) c)
   onto_own {v} e full =
       let p = o.passing in
-      told_here h l (omega (arith, p.deep)) onto_room onto_along (rw (← onto_node) e) full
+      told_here h l (omega (arith, p.deep)) size onto_along (rw (← onto_node) e) full
       (p.passed ∙ ahead_own h l path depth q i p.deep o.low o.link o.full e full
       ∙ ap some (sym longer))
 
@@ -285,34 +287,28 @@ module _ {h : Head} {l path₀ nodes₀ : List ℕ} {depth q first : ℕ} {path 
         o.link o.full e empty longer
 
     -- otherwise it is the first key below the child, if there is one
-    pub onto_found : {r : Search} {path₁ nodes₁ : List ℕ} {n w : ℕ}
+    pub onto_found : {r : Maybe Spot} {path₁ nodes₁ : List ℕ}
         → SearchTells h l (first_of (ahead h l (set path depth i) (depth + 1) c 0)) r path₁ nodes₁
-        → r ≡ Search.Found n w
+        → is_some r ≡ true
         → SearchTells h l (first_of (ahead h l path₀ depth q first)) r path₁ nodes₁
-    onto_found told f =
-        let (k, g, _) = was_found h l told f in
+    onto_found {r} told f =
+        let (_, found) = is_found r f in
+        let (k, g, _) = was_found h l told found in
         told_same h l (o.passing.passed ∙ ap first_of link_split ∙ first_front _ _ g ∙ sym g) told
 
     -- otherwise the search goes on with the next letter
     onto_none : {path₁ nodes₁ : List ℕ} → first_of (ahead h l (set path depth i) (depth + 1) c 0)
         ≡ none
         → PathKept (depth + 1) (set path depth i) (set nodes (depth + 1) c) path₁ nodes₁
-        → length path₁ ≡ length (set path depth i) → length nodes₁
-        ≡ length (set nodes (depth + 1) c)
         → Passing h l path₀ nodes₀ depth q first path₁ nodes₁ (i + 1)
-    onto_none {path₁} {nodes₁} nothing kept letters ends =
+    onto_none nothing kept =
         let p = o.passing in
         let here = kept_below (kept_set i c (kept_all depth path nodes)) kept in
-        let m : length path₁ ≡ length path = letters ∙ length-set path depth i in
-        let n : length nodes₁ ≡ length nodes = ends ∙ length-set nodes (depth + 1) c in
         record {
           deep = p.deep;
-          room = room_kept p.room m n;
           along = along_kept h l p.along here;
           node = p.node ∙ sym (kept_end here);
           kept = kept_below onto_kept kept;
-          letters = m ∙ p.letters;
-          ends = n ∙ p.ends;
           passed =
               p.passed
               ∙ ap first_of link_split
@@ -320,18 +316,16 @@ module _ {h : Head} {l path₀ nodes₀ : List ℕ} {depth q first : ℕ} {path 
               ∙ ap first_of (sym (ahead_kept h l depth q (i + 1) here));
         }
 
-    pub onto_missing : {r : Search} {path₁ nodes₁ : List ℕ}
+    pub onto_missing : {r : Maybe Spot} {path₁ nodes₁ : List ℕ}
         → SearchTells h l (first_of (ahead h l (set path depth i) (depth + 1) c 0)) r path₁ nodes₁
-        → r ≡ Search.Missing
+        → is_some r ≡ false
         → PathKept (depth + 1) (set path depth i) (set nodes (depth + 1) c) path₁ nodes₁
-        → length path₁ ≡ length (set path depth i) → length nodes₁
-        ≡ length (set nodes (depth + 1) c)
         → Passing h l path₀ nodes₀ depth q first path₁ nodes₁ (i + 1)
-    onto_missing told f kept letters ends = onto_none (was_missing h l told f) kept letters ends
+    onto_missing {r} told f kept = onto_none (was_missing h l told (is_missing r f)) kept
 
     pub onto_no_keys : {r : Bool} → KeysBelow h (table_of h l) c (depth + 1) r → r ≡ true
         → Passing h l path₀ nodes₀ depth q first (set path depth i) (set nodes (depth + 1) c)
         (i + 1)
     onto_no_keys b f =
         onto_none (ahead_no_keys h l (set path depth i) (depth + 1) c 0 b f)
-        (kept_all (depth + 1) (set path depth i) (set nodes (depth + 1) c)) refl refl
+        (kept_all (depth + 1) (set path depth i) (set nodes (depth + 1) c))

@@ -2,19 +2,14 @@
 -- answers about the key that it looks for, and the path that it leaves: the letters of the key,
 -- and the nodes on its path, the root first.
 use Rattle.std.specs.Prelude.{ℕ, suc, ◌-◌, ◌≤◌, ◌<◌, ◌≡◌, Bool, List, ◌++◌, map, length, get_or}
-use Rattle.std.specs.Prelude.{take}
+use Rattle.std.specs.Prelude.{take, Option as Maybe, Some, None}
 use Rattle.std.proofs.Math.Option.{Option, none, some}
 use Rattle.trie.specs.Table.{Table, complete, descend, answer, LettersBelow}
 use Rattle.trie.specs.Keys.{listing, meets, first_meeting}
 use Rattle.trie.specs.Beyond.{keys_from, beyond}
 use Rattle.head.specs.declared.Head.{Head}
 use Rattle.node.specs.Image.{table_of}
-use Rattle.traversal.specs.declared.Search.{Search}
-
--- room for the letters of the longest key, and for the nodes on its path
-pub record PathRoom (h : Head) (path nodes : List ℕ) : Type 0 where
-  pub letters : h.max ≤ length path
-  pub ends : h.max < length nodes
+use Rattle.depths.specs.declared.Spot.{Spot}
 
 -- the first j letters of the path lead from the root to entry j of the nodes, for each j up to
 -- `depth`
@@ -35,13 +30,13 @@ next_stored h l after k =
     first_meeting (meets after k) (listing (table_of h l) h.n h.min h.max)
 
 -- the answer of a search for a key, if there is one
-unfoldable pub search_of : Table → Option (List ℕ) → Search
+unfoldable pub search_of : Table → Option (List ℕ) → Maybe Spot
 unfolding answer
-search_of t none = Search.Missing
-search_of t (some k) = Search.Found (length k) (answer t k)
+search_of t none = None
+search_of t (some k) = Some (record { length = length k; value = answer t k })
 
 -- what a search promises: its answer and, if there is a key, the key's path
-pub record SearchTells (h : Head) (l : List ℕ) (sought : Option (List ℕ)) (r : Search)
+pub record SearchTells (h : Head) (l : List ℕ) (sought : Option (List ℕ)) (r : Maybe Spot)
     (path nodes : List ℕ) : Type 0 where
   pub answers : r ≡ search_of (table_of h l) sought
   pub reached : (k : List ℕ) → sought ≡ some k → Reached h l k path nodes

@@ -3,222 +3,183 @@
 // next search starts from it, so that a whole listing is one walk through the image.
 #![tactic(auto)]
 
-ghost use Rattle.std.specs.Prelude.{◌≡◌, true, List, ℕ, ◌≤◌, ◌<◌, length, get_or, take};
+ghost use Rattle.std.specs.Prelude.{◌≡◌, true, ◌≤◌, ◌<◌, get_or, take};
 ghost use Rattle.trie.specs.Rules.{Within};
 ghost use Rattle.trie.specs.Beyond.{first_of};
-ghost use Rattle.trie.specs.Rules.{Within};
-ghost use Rattle.node.specs.Image.{Open, Masks, table_of};
+ghost use Rattle.node.specs.Read.{node_table};
 ghost use Rattle.key.specs.Hand.{Ready, letters_of};
 ghost use Rattle.depths.specs.Depths.{own_value};
-ghost use Rattle.traversal.specs.Search.{ahead, coming, PathRoom, Along, PathKept, Followed};
+ghost use Rattle.traversal.specs.Search.{ahead, coming, Along, PathKept, Followed};
 ghost use Rattle.traversal.specs.Search.{next_stored, SearchTells};
 
+use depths::Spot;
 use head::Head;
 use key::Key;
-use walk::{Position, Step};
+use node::Nodes;
+use walk::Position;
 
-// The answer of a search.
-#[derive(Drop)]
-pub enum Search {
-    // A key of `length` letters, which are the front of the path, and its value.
-    Found { length: usize, value: u64 },
-    // There is no such key.
-    Missing,
+// The path of a key through an image, with room for the longest key.
+#[derive(Clone, Copy)]
+pub struct Path {
+    // The letters.
+    pub letters: [u8; Head::MAX_MOST as usize],
+    // The nodes, the root first.
+    pub nodes: [u32; Head::PATH_MOST as usize],
 }
 
-// The first stored key at or after the key in hand or, if `after` is true, after it. Its letters
-// are then the front of `path`, and `nodes` has the nodes on its path from the root on.
-pub fn next(
-    image: &[u8],
-    h: Head,
-    key: Key,
-    after: bool,
-    path: &mut [u8],
-    nodes: &mut [u32],
-) -> Search
-    requires fact_1 { Open h image.now }
-    requires fact_2 { Within (table_of h image.now) h.g }
-    requires ready_1 { Ready h key }
-    requires ready_2 { key.len ≤ h.max }
-    requires ready_3 { PathRoom h path.old nodes.old }
-    ensures search_tells { SearchTells h image.now
-        (next_stored h image.now after (letters_of key)) result path.new
-        nodes.new }
-    ensures path_room { PathRoom h path.new nodes.new }
-{
-    let mask = node::mask(h);
-    let depth = along(image, h, mask, key, path, nodes);
-    if depth < key.len {
-        let letters = key.letters;
-        return climb(
-            image,
-            h,
-            mask,
-            depth,
-            (letters[depth] as u32) + 1,
-            path,
-            nodes,
-        );
-    }
-    if !after {
-        let value = depths::own_value(image, h, nodes[depth], depth);
-        if value != 0 {
-            return Search::Found {
-                length: depth,
-                value,
-            };
+impl Path {
+    // A path from the root.
+    pub fn new() -> Path {
+        Path {
+            letters: [0; Head::MAX_MOST as usize],
+            nodes: [0; Head::PATH_MOST as usize],
         }
     }
-    climb(image, h, mask, depth, 0, path, nodes)
 }
 
-// The first stored key after the one whose letters are the first `len` of the path, with its
-// nodes. Over a whole listing no link is followed twice.
-pub fn onward(image: &[u8], h: Head, len: usize, path: &mut [u8], nodes: &mut [u32]) -> Search
-    requires fact_1 { Open h image.now }
-    requires fact_2 { Within (table_of h image.now) h.g }
-    requires len_le_max_1 { len ≤ h.max }
-    requires len_le_max_2 { PathRoom h path.old nodes.old }
-    requires len_le_max_3 { Along h image.now len path.old nodes.old }
-    ensures search_tells { SearchTells h image.now
-        (next_stored h image.now true (take len path.old)) result
-        path.new nodes.new }
-    ensures path_room { PathRoom h path.new nodes.new }
+// The first stored key at or after the key in hand or, if `after` is true, after it, if there is
+// one. The path is then that of the key found.
+pub fn next(nodes: Nodes, key: Key, after: bool, path: &mut Path) -> Option<Spot>
+    requires within { Within (node_table nodes) nodes.head.g }
+    requires ready { Ready nodes.head key }
+    requires short { key.len ≤ nodes.head.max }
+    ensures { SearchTells nodes.entry.head nodes.entry.image.now
+        (next_stored nodes.entry.head nodes.entry.image.now after (letters_of key)) result
+        path.new.letters path.new.nodes }
 {
-    climb(image, h, node::mask(h), len, 0, path, nodes)
+    let depth = along(nodes, key, path);
+    if depth < key.len {
+        return climb(nodes, depth, u32::from(key.letters[depth]) + 1, path);
+    }
+    if !after {
+        let value = depths::own_value(nodes, path.nodes[depth], depth);
+        if value != 0 {
+            return Some(Spot {
+                length: depth,
+                value,
+            });
+        }
+    }
+    climb(nodes, depth, 0, path)
+}
+
+// The first stored key after the one whose letters are the first `len` of the path, if there is
+// one; the path is then its path. Over a whole listing no link is followed twice.
+pub fn onward(nodes: Nodes, len: usize, path: &mut Path) -> Option<Spot>
+    requires within { Within (node_table nodes) nodes.head.g }
+    requires short { len ≤ nodes.head.max }
+    requires along { Along nodes.head nodes.image.now len path.old.letters path.old.nodes }
+    ensures { SearchTells nodes.entry.head nodes.entry.image.now
+        (next_stored nodes.entry.head nodes.entry.image.now true (take len path.old.letters))
+        result path.new.letters path.new.nodes }
+{
+    climb(nodes, len, 0, path)
 }
 
 // Begins a listing: answers the value of the empty key, 0 if it is not stored. From there
 // `onward` with the length 0 goes on.
-pub fn start(image: &[u8], h: Head, nodes: &mut [u32]) -> u64
-    requires fact_1 { Open h image.now }
-    requires fact_2 { 0 < length nodes.old }
-    ensures value { result ≡ own_value h (table_of h image.now) 0 0 }
-    ensures by_index { (path : List ℕ) → Along h image.now 0 path
-        nodes.new }
+pub fn start(nodes: Nodes, path: &mut Path) -> u64
+    ensures value { result ≡ own_value nodes.entry.head (node_table nodes.entry) 0 0 }
+    ensures along { Along nodes.entry.head nodes.entry.image.now 0 path.new.letters
+        path.new.nodes }
 {
-    nodes[0] = 0;
-    depths::own_value(image, h, 0, 0)
+    path.nodes[0] = 0;
+    depths::own_value(nodes, 0, 0)
 }
 
 // Follows a key from the root, position by position, until it ends or a link is empty, and answers
 // how many letters it followed. No link is bad, so a step that leads to no position met an empty
 // link.
-fn along(image: &[u8], h: Head, mask: u32, key: Key, path: &mut [u8], nodes: &mut [u32]) -> usize
-    requires fact_1 { Open h image.now }
-    requires fact_2 { Within (table_of h image.now) h.g }
-    requires fact_3 { Masks h mask }
-    requires ready_1 { Ready h key }
-    requires ready_2 { key.len ≤ h.max }
-    requires ready_3 { PathRoom h path.old nodes.old }
-    ensures { Followed h image.now (letters_of key) path.new
-        nodes.new result }
+fn along(nodes: Nodes, key: Key, path: &mut Path) -> usize
+    requires within { Within (node_table nodes) nodes.head.g }
+    requires ready { Ready nodes.head key }
+    requires short { key.len ≤ nodes.head.max }
+    ensures { Followed nodes.entry.head nodes.entry.image.now (letters_of key) path.new.letters
+        path.new.nodes result }
 {
-    let letters = key.letters;
-    let len = key.len;
-    nodes[0] = 0;
+    path.nodes[0] = 0;
     let mut here = Position { node: 0, depth: 0 };
-    while here.depth < len {
-        let depth = here.depth;
-        let letter = letters[depth];
-        let Step::At(next) = here.step(image, h, mask, letter) else {
+    for depth in 0..key.len {
+        let letter = key.letters[depth];
+        let Some(next) = here.step(nodes, letter).ok().flatten() else {
             return depth;
         };
-        path[depth] = letter;
-        nodes[depth + 1] = next.node;
+        path.letters[depth] = letter;
+        path.nodes[depth + 1] = next.node;
         here = next;
     }
-    here.depth
+    key.len
 }
 
-// The first stored key below the path's end from a letter on. If there is none, the search goes
-// on from node to node up the path, each time after the letter that was taken there. These nodes
-// have a link, so `no_keys_below` is asked only where a search begins with the first letter.
-fn climb(
-    image: &[u8],
-    h: Head,
-    mask: u32,
-    end: usize,
-    first: u32,
-    path: &mut [u8],
-    nodes: &mut [u32],
-) -> Search
-    requires fact_1 { Open h image.now }
-    requires fact_2 { Within (table_of h image.now) h.g }
-    requires fact_3 { Masks h mask }
-    requires end_le_max_1 { end ≤ h.max }
-    requires end_le_max_2 { (0 < first → end < h.max) }
-    requires path_room_1 { PathRoom h path.old nodes.old }
-    requires path_room_2 { Along h image.now end path.old nodes.old }
-    ensures { SearchTells h image.now
-        (first_of (coming h image.now path.old end first)) result
-        path.new nodes.new }
+// The first stored key below the path's end from a letter on, if there is one. If there is none,
+// the search goes on from node to node up the path, each time after the letter that was taken
+// there. These nodes have a link, so `no_keys_below` is asked only where a search begins with the
+// first letter.
+fn climb(nodes: Nodes, end: usize, first: u32, path: &mut Path) -> Option<Spot>
+    requires within { Within (node_table nodes) nodes.head.g }
+    requires end { end ≤ nodes.head.max }
+    requires inner { (0 < first → end < nodes.head.max) }
+    requires along { Along nodes.head nodes.image.now end path.old.letters path.old.nodes }
+    ensures { SearchTells nodes.entry.head nodes.entry.image.now
+        (first_of (coming nodes.entry.head nodes.entry.image.now path.old.letters end first))
+        result path.new.letters path.new.nodes }
 {
     let mut depth = end;
     let mut from = first;
     loop {
         let no_keys = if from == 0 {
-            depths::no_keys_below(image, h, nodes[depth], depth)
+            depths::no_keys_below(nodes, path.nodes[depth], depth)
         } else {
             false
         };
         if !no_keys {
-            let found = below(image, h, mask, nodes[depth], depth, from, path, nodes);
-            if let Search::Found { .. } = found {
+            let found = below(nodes, path.nodes[depth], depth, from, path);
+            if found.is_some() {
                 return found;
             }
         }
         if depth == 0 {
-            return Search::Missing;
+            return None;
         }
         depth -= 1;
-        from = (path[depth] as u32) + 1;
+        from = u32::from(path.letters[depth]) + 1;
     }
 }
 
-// The first stored key below a node at a depth whose next letter is `from` or a later one. The
-// function calls itself on the children; the depth left to max falls.
-fn below(
-    image: &[u8],
-    h: Head,
-    mask: u32,
-    node: u32,
-    depth: usize,
-    from: u32,
-    path: &mut [u8],
-    nodes: &mut [u32],
-) -> Search
-    requires fact { (Open h image.now) × ((Within (table_of h image.now) h.g) × (Masks h mask)) }
-    requires depth_lt_max { (depth < h.max) × (PathRoom h path.old nodes.old) }
-    requires along { (Along h image.now depth path.old nodes.old)
-        × (node ≡ get_or nodes.old depth 0) }
-    ensures search_tells { SearchTells h image.now
-        (first_of (ahead h image.now path.old depth node from)) result
-        path.new nodes.new }
-    ensures path_kept { PathKept depth path.old nodes.old path.new
-        nodes.new }
+// The first stored key below a node at a depth whose next letter is `from` or a later one, if
+// there is one. The function calls itself on the children; the depth left to max falls.
+fn below(nodes: Nodes, node: u32, depth: usize, from: u32, path: &mut Path) -> Option<Spot>
+    requires within { Within (node_table nodes) nodes.head.g }
+    requires depth { depth < nodes.head.max }
+    requires along { (Along nodes.head nodes.image.now depth path.old.letters path.old.nodes)
+        × (node ≡ get_or path.old.nodes depth 0) }
+    ensures search_tells { SearchTells nodes.entry.head nodes.entry.image.now
+        (first_of (ahead nodes.entry.head nodes.entry.image.now path.old.letters depth node from))
+        result path.new.letters path.new.nodes }
+    ensures path_kept { PathKept depth path.old.letters path.old.nodes path.new.letters
+        path.new.nodes }
 {
-    for i in from..h.n {
-        let c = node::link(image, h, mask, node, i);
+    for i in from..nodes.head.n {
+        let c = nodes.link(node, i);
         if c == 0 {
             continue;
         }
-        path[depth] = i as u8;
-        nodes[depth + 1] = c;
-        let value = depths::own_value(image, h, c, depth + 1);
+        path.letters[depth] = i as u8;
+        path.nodes[depth + 1] = c;
+        let value = depths::own_value(nodes, c, depth + 1);
         if value != 0 {
-            return Search::Found {
+            return Some(Spot {
                 length: depth + 1,
                 value,
-            };
+            });
         }
-        if depths::no_keys_below(image, h, c, depth + 1) {
+        if depths::no_keys_below(nodes, c, depth + 1) {
             continue;
         }
-        let deeper = below(image, h, mask, c, depth + 1, 0, path, nodes);
-        if let Search::Found { .. } = deeper {
+        let deeper = below(nodes, c, depth + 1, 0, path);
+        if deeper.is_some() {
             return deeper;
         }
     }
-    Search::Missing
+    None
 }

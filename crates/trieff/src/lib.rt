@@ -12,6 +12,7 @@ ghost use Rattle.face.specs.Face.{numbers_of};
 
 use face::TrieffAnswer;
 use head::Head;
+use key::GivenKey;
 
 // Makes a fresh image in the slice: head, alphabet and a zero root. Refusals: 1, 2, 3 for the
 // alphabet given, 4.
@@ -28,8 +29,7 @@ pub extern "C" fn trieff_make(
     ensures { Makes image.old n a d alphabet.now min max (numbers_of result)
         image.new }
 {
-    let answer = images::make(image, n, a, d, alphabet, min, max);
-    face::done(answer)
+    images::make(image, n, a, d, alphabet, min, max).into()
 }
 
 // Checks an image: head, alphabet, links, and where data stands. Refusals: 1 to 8, 16, 19.
@@ -38,8 +38,7 @@ pub extern "C" fn trieff_check(image: &[u8], work: &mut [u32]) -> TrieffAnswer
     ensures { Checks image.now work.old (numbers_of result)
         work.new }
 {
-    let answer = checks::check(image, work);
-    face::done(answer)
+    checks::check(image, work).into()
 }
 
 // The number of stored keys, in `value`. Refusals: 1 to 8, 16, 19.
@@ -48,8 +47,7 @@ pub extern "C" fn trieff_count(image: &[u8], work: &mut [u32]) -> TrieffAnswer
     ensures { CountsKeys image.now work.old (numbers_of result)
         work.new }
 {
-    let answer = checks::count(image, work);
-    face::counted(answer)
+    checks::count(image, work).into()
 }
 
 // The value under a key given by its letters, in `value`; 0 for absent. Refusals: 1 to 4, 9, 10,
@@ -59,8 +57,7 @@ pub extern "C" fn trieff_look_up(image: &[u8], letters: &[u8]) -> TrieffAnswer
     ensures { LooksUp image.now (as_letters letters.now)
         (numbers_of result) }
 {
-    let answer = lookups::look_up(image, letters);
-    face::looked(answer)
+    lookups::look_up(image, GivenKey::Letters(letters)).into()
 }
 
 // The same for a key given as text. Refusals: 1 to 4, 10, 9, 6.
@@ -68,8 +65,7 @@ pub extern "C" fn trieff_look_up(image: &[u8], letters: &[u8]) -> TrieffAnswer
 pub extern "C" fn trieff_look_up_text(image: &[u8], text: &[u8]) -> TrieffAnswer
     ensures { LooksUp image.now (as_text text.now) (numbers_of result) }
 {
-    let answer = lookups::look_up_text(image, text);
-    face::looked(answer)
+    lookups::look_up(image, GivenKey::Text(text)).into()
 }
 
 // Stores a value under a key given by its letters; 0 deletes the key. `change` is the change in
@@ -85,8 +81,7 @@ pub extern "C" fn trieff_store(
         (as_letters letters.now) value (numbers_of result) image.new
         work.new }
 {
-    let answer = stores::store(image, work, letters, value);
-    face::stored(answer)
+    stores::store(image, work, GivenKey::Letters(letters), value).into()
 }
 
 // The same for a key given as text. Refusals: 1 to 8, 16, 19, 10, 9, 11, 12, 13.
@@ -100,8 +95,7 @@ pub extern "C" fn trieff_store_text(
     ensures { Stores image.old work.old (as_text text.now)
         value (numbers_of result) image.new work.new }
 {
-    let answer = stores::store_text(image, work, text, value);
-    face::stored(answer)
+    stores::store(image, work, GivenKey::Text(text), value).into()
 }
 
 // As `trieff_store`, and notes its writes in the lent list. `length` is the number of writes.
@@ -118,8 +112,7 @@ pub extern "C" fn trieff_store_writes(
         (as_letters letters.now) value writes.old (numbers_of result)
         image.new work.new writes.new }
 {
-    let answer = stores::store_writes(image, work, letters, value, writes);
-    face::noted(answer)
+    stores::store_writes(image, work, GivenKey::Letters(letters), value, writes).into()
 }
 
 // The same for a key given as text. Refusals: 1 to 8, 16, 19, 10, 9, 11, 12, 13.
@@ -135,8 +128,7 @@ pub extern "C" fn trieff_store_text_writes(
         (as_text text.now) value writes.old (numbers_of result) image.new
         work.new writes.new }
 {
-    let answer = stores::store_text_writes(image, work, text, value, writes);
-    face::noted(answer)
+    stores::store_writes(image, work, GivenKey::Text(text), value, writes).into()
 }
 
 // Mends an image after a cut: if the check answers 8 at p, and the image with G set to p-1 is
@@ -146,8 +138,7 @@ pub extern "C" fn trieff_mend(image: &mut [u8], work: &mut [u32]) -> TrieffAnswe
     ensures { Mends image.old work.old (numbers_of result)
         image.new work.new }
 {
-    let answer = images::mend(image, work);
-    face::done(answer)
+    images::mend(image, work).into()
 }
 
 // The first stored key at or after the key given or, if `after` is true, after it, in the key
@@ -163,8 +154,7 @@ pub extern "C" fn trieff_next_key(
     ensures { Nexts image.now work.old letters.now after
         key.old (numbers_of result) work.new key.new }
 {
-    let answer = checks::next_key(image, work, letters, after, key);
-    face::found(answer)
+    checks::next_key(image, work, letters, after, key).into()
 }
 
 // Works the counts out afresh. Refusals: 1 to 8 (5 for either list), 16.
@@ -173,8 +163,7 @@ pub extern "C" fn trieff_counts(image: &[u8], work: &mut [u32], list: &mut [u32]
     ensures { WorksOut image.now work.old list.old
         (numbers_of result) work.new list.new }
 {
-    let answer = counts::counts(image, work, list);
-    face::done(answer)
+    counts::counts(image, work, list).into()
 }
 
 // Checks an image and compares its counts with fresh ones. Refusals: 1 to 8 (5 for either list),
@@ -184,8 +173,7 @@ pub extern "C" fn trieff_check_counts(image: &[u8], work: &mut [u32], list: &[u3
     ensures { ChecksCounts image.now work.old list.now
         (numbers_of result) work.new }
 {
-    let answer = counts::check_counts(image, work, list);
-    face::done(answer)
+    counts::check_counts(image, work, list).into()
 }
 
 // As `trieff_store`, and keeps the counts right. Refusals: 1 to 8 (5 for either list), 16, 25, 9,
@@ -202,8 +190,7 @@ pub extern "C" fn trieff_store_counts(
         (as_letters letters.now) value list.old (numbers_of result)
         image.new work.new list.new }
 {
-    let answer = counts::store_counts(image, work, letters, value, list);
-    face::stored(answer)
+    counts::store_counts(image, work, GivenKey::Letters(letters), value, list).into()
 }
 
 // The same for a key given as text. Refusals: 1 to 8 (5 for either list), 16, 25, 10, 9, 11, 12,
@@ -220,8 +207,7 @@ pub extern "C" fn trieff_store_text_counts(
         (as_text text.now) value list.old (numbers_of result) image.new
         work.new list.new }
 {
-    let answer = counts::store_text_counts(image, work, text, value, list);
-    face::stored(answer)
+    counts::store_counts(image, work, GivenKey::Text(text), value, list).into()
 }
 
 // The stored key at a position, from 0: its letters in the key buffer, its `length` and its
@@ -237,8 +223,7 @@ pub extern "C" fn trieff_key_at(
     ensures { GivesKey image.now work.old list.now position
         key.old (numbers_of result) work.new key.new }
 {
-    let answer = jumps::key_at(image, work, list, position, key);
-    face::found(answer)
+    jumps::key_at(image, work, list, position, key).into()
 }
 
 // The position of a stored key given by its letters, in `value`. Refusals: 1 to 8 (5 for either
@@ -253,8 +238,7 @@ pub extern "C" fn trieff_position(
     ensures { GivesPosition image.now work.old list.now
         (as_letters letters.now) (numbers_of result) work.new }
 {
-    let answer = jumps::position(image, work, list, letters);
-    face::placed(answer)
+    jumps::position(image, work, list, GivenKey::Letters(letters)).into()
 }
 
 // The same for a key given as text. Refusals: 1 to 8 (5 for either list), 16, 25, 10, 9, 15.
@@ -268,6 +252,5 @@ pub extern "C" fn trieff_position_text(
     ensures { GivesPosition image.now work.old list.now
         (as_text text.now) (numbers_of result) work.new }
 {
-    let answer = jumps::position_text(image, work, list, text);
-    face::placed(answer)
+    jumps::position(image, work, list, GivenKey::Text(text)).into()
 }

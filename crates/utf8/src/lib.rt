@@ -3,7 +3,7 @@
 #![tactic(auto)]
 
 ghost use Rattle.std.specs.Prelude.{◌≡◌};
-ghost use Rattle.utf8.specs.Table37.{in_range, fits_row, char_len};
+ghost use Rattle.utf8.specs.Table37.{in_range, fits_row, char_len, len_at};
 ghost use Rattle.utf8.specs.Text.{char_at};
 
 // A row: the lowest and the highest first byte, the lowest and the highest second byte, and how
@@ -20,32 +20,26 @@ const ROWS: [[u8; 5]; 9] = [
     [0xF4, 0xF4, 0x80, 0x8F, 4],
 ];
 
-// How many bytes the well-formed character at `at` has, 0 if there is none. The table is bound
-// before the loop, so that the compiler makes nine tests against constants of it.
-pub fn char_len(s: &[u8], at: usize) -> usize
-    ensures { result ≡ char_len s.now at }
+// How many bytes the well-formed character at `at` has, if there is one.
+pub fn char_len(s: &[u8], at: usize) -> Option<usize>
+    ensures { result ≡ len_at s.now at }
 {
-    let rows = ROWS;
-    let mut i: usize = 0;
-    while i < 9 {
-        let row = rows[i];
+    for row in ROWS {
         if fits(row, s, at) {
-            return row[4] as usize;
+            return Some(row[4] as usize);
         }
-        i += 1;
     }
-    0
+    None
 }
 
 // The same, but the first row is tried before the table: in a loop over characters that mostly
 // have one byte, one test is then enough for each of these.
-pub fn quick_len(s: &[u8], at: usize) -> usize
-    ensures { result ≡ char_len s.now at }
+pub fn quick_len(s: &[u8], at: usize) -> Option<usize>
+    ensures { result ≡ len_at s.now at }
 {
-    let rows = ROWS;
-    let first = rows[0];
+    let first = ROWS[0];
     if fits(first, s, at) {
-        return first[4] as usize;
+        return Some(first[4] as usize);
     }
     char_len(s, at)
 }
@@ -72,13 +66,10 @@ fn fits(row: [u8; 5], s: &[u8], at: usize) -> bool
     if s.len() - at < n {
         return false;
     }
-    let mut i: usize = 0;
-    while i < n {
-        let b = s[at + i];
-        if !in_range(row, i, b) {
+    for i in 0..n {
+        if !in_range(row, i, s[at + i]) {
             return false;
         }
-        i += 1;
     }
     true
 }

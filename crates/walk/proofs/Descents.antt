@@ -11,49 +11,52 @@ use native.Mathlib.Decide.{ℕ_discrete}
 use native.Mathlib.Omega.{arith}
 use lib.ListN.{length, drop, length-drop}
 use lib.Seq.{drop-length, drop-drop}
+use Rattle.std.specs.Prelude.{Result, Ok, Err, Option as Maybe, Some, None}
 use Rattle.trie.specs.Table.{Table, complete, stopped, descend, fault}
 use Rattle.trie.specs.Rules.{Within}
 use Rattle.trie.proofs.Faults.{fault_nil, fault_empty, fault_bad, fault_on}
 use Rattle.trie.proofs.Walk.{follow_empty, follow_on, descend_nil, descend_empty, descend_on}
 use Rattle.trie.proofs.Walk.{answer_complete, answer_stopped}
-use Rattle.paper.specs.declared.Looked.{Looked}
 use Rattle.paper.specs.declared.Refusal.{Refusal}
 use Rattle.paper.specs.declared.Refusal.TheVariants.{Link}
 use Rattle.paper.specs.Rows.{bad_link}
 use Rattle.paper.proofs.Linking.{not_bad}
 use Rattle.walk.specs.declared.Position.{Position}
-use Rattle.walk.specs.declared.Step.{Step}
 use Rattle.walk.specs.declared.Walked.{Walked}
 use Rattle.walk.specs.Descent.{at_root, on_to, step_of, step_taken, walked_from}
 use Rattle.walk.specs.Descent.{looked_by, looked_in}
 
 -- ---- one letter
 
+-- what a step answers: the next position, none at an empty link, or the refusal of a bad one
+abbrev pub Step : Type 0
+Step = Result (Maybe Position) Refusal
+
 -- the step by a link that is not empty
 abbrev step_by : ℕ → Position → ℕ → Step
-step_by g p c = cond (bad_link g c) (Step.Bad p.node) (Step.At (on_to p c))
+step_by g p c = cond (bad_link g c) (Err (Link p.node)) (Ok (Some (on_to p c)))
 
 -- c is the link that was met
 module _ (g : ℕ) (t : Table) (p : Position) (x : ℕ) {c : ℕ} (e : c ≡ t.child p.node x) where
-  pub step_empty : c ≡ 0 → step_of g t p x ≡ Step.Empty
+  pub step_empty : c ≡ 0 → step_of g t p x ≡ Ok None
   unfolding step_of
-  step_empty z = follow_empty (t.child p.node x) Step.Empty (step_by g p) (sym e ∙ z)
+  step_empty z = follow_empty (t.child p.node x) (Ok None) (step_by g p) (sym e ∙ z)
 
   judged : c ≢ 0 → step_of g t p x ≡ step_by g p c
   unfolding step_of
-  judged h = rw (← e) (follow_on c Step.Empty (step_by g p) h)
+  judged h = rw (← e) (follow_on c (Ok None) (step_by g p) h)
 
-  pub step_bad : c ≢ 0 → bad_link g c ≡ true → step_of g t p x ≡ Step.Bad p.node
+  pub step_bad : c ≢ 0 → bad_link g c ≡ true → step_of g t p x ≡ Err (Link p.node)
   step_bad h b = judged h ∙ rw b
 
-  pub step_on_lem : c ≢ 0 → bad_link g c ≡ false → step_of g t p x ≡ Step.At (on_to p c)
+  pub step_on_lem : c ≢ 0 → bad_link g c ≡ false → step_of g t p x ≡ Ok (Some (on_to p c))
   step_on_lem h b = judged h ∙ rw b
 
 -- what is known of the link c, given where one letter led
 data Met (g : ℕ) (p : Position) (c : ℕ) : Step → Type 0 where
-  empty : c ≡ 0 → Met g p c Step.Empty
-  bad : c ≢ 0 → bad_link g c ≡ true → Met g p c (Step.Bad p.node)
-  on : c ≢ 0 → bad_link g c ≡ false → Met g p c (Step.At (on_to p c))
+  empty : c ≡ 0 → Met g p c (Ok None)
+  bad : c ≢ 0 → bad_link g c ≡ true → Met g p c (Err (Link p.node))
+  on : c ≢ 0 → bad_link g c ≡ false → Met g p c (Ok (Some (on_to p c)))
 
 met : (g : ℕ) (t : Table) (p : Position) (x : ℕ) {s : Step} → step_of g t p x ≡ s
     → Met g p (t.child p.node x) s
@@ -70,28 +73,36 @@ met g t p x e =
 
 -- s is where one letter led
 module _ (g : ℕ) (t : Table) (p : Position) (x : ℕ) {s : Step} (is : s ≡ step_of g t p x) where
+  -- to a refusal: it is 6 at this node
+  pub step_refused : {why : Refusal} → s ≡ Err why → step_of g t p x ≡ Err (Link p.node)
+  step_refused e = go (met g t p x (sym is ∙ e))
+    where
+      go : {why : Refusal} → Met g p (t.child p.node x) (Err why)
+          → step_of g t p x ≡ Err (Link p.node)
+      go (bad h b) = step_bad g t p x refl h b
+
   -- to a position: the link is followed
-  pub step_led : {next : Position} → s ≡ Step.At next
+  pub step_led : {next : Position} → s ≡ Ok (Some next)
       → (t.child p.node x ≢ 0) × (next ≡ on_to p (t.child p.node x))
   step_led e = go (met g t p x (sym is ∙ e))
     where
-      go : {next : Position} → Met g p (t.child p.node x) (Step.At next)
+      go : {next : Position} → Met g p (t.child p.node x) (Ok (Some next))
           → (t.child p.node x ≢ 0) × (next ≡ on_to p (t.child p.node x))
       go (on h b) = (h, refl)
 
   -- to no position, in a table without a link above G: the link is empty
-  pub step_stayed : Within t g → ((next : Position) → s ≢ Step.At next)
+  pub step_stayed : Within t g → ((next : Position) → s ≢ Ok (Some next))
       → t.child p.node x ≡ 0
   step_stayed within stays = go (met g t p x (sym is)) stays
     where
-      go : {s : Step} → Met g p (t.child p.node x) s → ((next : Position) → s ≢ Step.At next)
+      go : {s : Step} → Met g p (t.child p.node x) s → ((next : Position) → s ≢ Ok (Some next))
           → t.child p.node x ≡ 0
       go (empty z) stays = z
       go (bad h b) stays = absurd (true≢false (sym b ∙ (not_bad g _).1 (within p.node x)))
       go (on h b) stays = absurd (stays _ refl)
 
-pub walked_nil : (g : ℕ) (t : Table) (p : Position) → walked_from g t p [] ≡ Walked.Complete
-    p.node
+pub walked_nil : (g : ℕ) (t : Table) (p : Position) → walked_from g t p [] ≡ Ok
+    (Walked.Complete p.node)
 unfolding walked_from
 walked_nil g t p = refl
 
@@ -150,7 +161,7 @@ module _ {g : ℕ} {t : Table} {k : List ℕ} {here : Position} (w : Walking g t
   none_left = let e : here.depth ≡ length k = omega (arith, w.deep) in
       ap (λ (d : ℕ). drop d k) e ∙ drop-length k
 
-  pub walking_end : walked_from g t at_root k ≡ Walked.Complete here.node
+  pub walking_end : walked_from g t at_root k ≡ Ok (Walked.Complete here.node)
   walking_end = w.same ∙ ap (walked_from g t here) none_left ∙ walked_nil g t here
 
   arrived : Arrived g t k here.node
@@ -184,10 +195,10 @@ module _ {g : ℕ} {t : Table} {k : List ℕ} {here : Position} (w : Walking g t
   descent_left = w.descents ∙ ap (descend t here.node) l
 
   -- an empty link
-  pub walking_stopped : {s : Step} → s ≡ step_of g t here x → s ≡ Step.Empty
-      → walked_from g t at_root k ≡ Walked.Stopped here
+  pub walking_stopped : step_of g t here x ≡ Ok None → walked_from g t at_root k
+      ≡ Ok (Walked.Stopped here)
   unfolding step_taken
-  walking_stopped o e = walk_left (sym o ∙ e)
+  walking_stopped e = walk_left e
 
   halted : t.child here.node x ≡ 0 → Halted g t k here
   halted e =
@@ -201,10 +212,10 @@ module _ {g : ℕ} {t : Table} {k : List ℕ} {here : Position} (w : Walking g t
       }
 
   -- a bad one
-  pub walking_bad : {s : Step} {q : ℕ} → s ≡ step_of g t here x → s ≡ Step.Bad q
-      → walked_from g t at_root k ≡ Walked.Refused (Link q)
+  pub walking_bad : {why : Refusal} → step_of g t here x ≡ Err why → walked_from g t at_root k
+      ≡ Err why
   unfolding step_taken
-  walking_bad o e = walk_left (sym o ∙ e)
+  walking_bad e = walk_left e
 
   faulted : t.child here.node x ≢ 0
       → bad_link g (t.child here.node x) ≡ true
@@ -217,8 +228,8 @@ module _ {g : ℕ} {t : Table} {k : List ℕ} {here : Position} (w : Walking g t
       }
 
   -- one to follow
-  onward : {next : Position} → step_of g t here x ≡ Step.At next
-      → Met g here (t.child here.node x) (Step.At next) → Walking g t k next
+  onward : {next : Position} → step_of g t here x ≡ Ok (Some next)
+      → Met g here (t.child here.node x) (Ok (Some next)) → Walking g t k next
       × (next.depth ≡ here.depth + 1)
   unfolding step_taken
   onward e (on c b) = (
@@ -236,16 +247,16 @@ module _ {g : ℕ} {t : Table} {k : List ℕ} {here : Position} (w : Walking g t
     refl,
   )
 
-  pub walking_on : {s : Step} {next : Position} → s ≡ step_of g t here x → s ≡ Step.At next
-      → Walking g t k next × (next.depth ≡ here.depth + 1)
-  walking_on o e = onward (sym o ∙ e) (met g t here x (sym o ∙ e))
+  pub walking_on : {next : Position} → step_of g t here x ≡ Ok (Some next) → Walking g t k next
+      × (next.depth ≡ here.depth + 1)
+  walking_on e = onward e (met g t here x e)
 
 -- ---- what is known of the end of a walk
 
-abbrev Told : ℕ → Table → List ℕ → Walked → Type 0
-Told g t k (Walked.Complete q) = Arrived g t k q
-Told g t k (Walked.Stopped p) = Halted g t k p
-Told g t k (Walked.Refused why) = Faulted g t k why
+abbrev Told : ℕ → Table → List ℕ → Result Walked Refusal → Type 0
+Told g t k (Ok (Walked.Complete q)) = Arrived g t k q
+Told g t k (Ok (Walked.Stopped p)) = Halted g t k p
+Told g t k (Err why) = Faulted g t k why
 
 module _ (g : ℕ) (t : Table) (k : List ℕ) where
   -- where letters are left, by what the next one meets
@@ -255,9 +266,9 @@ module _ (g : ℕ) (t : Table) (k : List ℕ) where
       → Told g t k (walked_from g t at_root k))
       → {s : Step} → step_of g t here x ≡ s → Met g here (t.child here.node x) s
       → Told g t k (walked_from g t at_root k)
-  told_more w l go e (empty z) = rw (walking_stopped w l refl e) (halted w l z)
-  told_more w l go e (bad h b) = rw (walking_bad w l refl e) (faulted w l h b)
-  told_more w l go e (on h b) = go _ (walking_on w l refl e).0 (rest w l)
+  told_more w l go e (empty z) = rw (walking_stopped w l e) (halted w l z)
+  told_more w l go e (bad h b) = rw (walking_bad w l e) (faulted w l h b)
+  told_more w l go e (on h b) = go _ (walking_on w l e).0 (rest w l)
 
   told_from : (xs : List ℕ) (here : Position) → Walking g t k here → drop here.depth k ≡ xs
       → Told g t k (walked_from g t at_root k)
@@ -266,33 +277,32 @@ module _ (g : ℕ) (t : Table) (k : List ℕ) where
       rw (walking_end w h) (arrived w h)
   told_from (x ∷ xs) here w l = told_more w l (told_from xs) refl (met g t here x refl)
 
-  -- for each result of the walk
-  module _ {o : Walked} (is : o ≡ walked_from g t at_root k) where
-    told : Told g t k o
-    told = subst (Told g t k) (sym is) (told_from k at_root (walking_start g t k) refl)
+  told : {r : Result Walked Refusal} → r ≡ walked_from g t at_root k → Told g t k r
+  told is = subst (Told g t k) (sym is) (told_from k at_root (walking_start g t k) refl)
 
+  -- the walk passed
+  module _ {o : Walked} (is : Ok o ≡ walked_from g t at_root k) where
     pub walked_complete : {q : ℕ} → o ≡ Walked.Complete q → Arrived g t k q
-    walked_complete e = subst (Told g t k) e told
+    walked_complete e = told (sym (ap Ok e) ∙ is)
 
     pub walked_stopped : {p : Position} → o ≡ Walked.Stopped p → Halted g t k p
-    walked_stopped e = subst (Told g t k) e told
-
-    pub walked_bad : {why : Refusal} → o ≡ Walked.Refused why → Faulted g t k why
-    walked_bad e = subst (Told g t k) e told
+    walked_stopped e = told (sym (ap Ok e) ∙ is)
 
     -- what a lookup answers there
-    pub looked_complete : {q : ℕ} → o ≡ Walked.Complete q → looked_in g t k ≡ Looked.Value
-        (t.value q)
+    pub looked_complete : {q : ℕ} → o ≡ Walked.Complete q → looked_in g t k ≡ Ok (t.value q)
     unfolding looked_in looked_by
     looked_complete e =
         let a = walked_complete e in rw (a.sound, answer_complete t k a.descent)
 
-    pub looked_stopped : {p : Position} → o ≡ Walked.Stopped p → looked_in g t k ≡ Looked.Value 0
+    pub looked_stopped : {p : Position} → o ≡ Walked.Stopped p → looked_in g t k ≡ Ok 0
     unfolding looked_in looked_by
     looked_stopped e = let a = walked_stopped e in rw (a.sound, answer_stopped t k a.descent)
 
-    pub looked_bad : {why : Refusal} → o ≡ Walked.Refused why → looked_in g t k ≡ Looked.Refused
-        why
+  -- it was refused, and so is a lookup
+  module _ {why : Refusal} (is : Err why ≡ walked_from g t at_root k) where
+    pub walked_bad : Faulted g t k why
+    walked_bad = told is
+
+    pub looked_bad : looked_in g t k ≡ Err why
     unfolding looked_in looked_by
-    looked_bad e =
-        let a = walked_bad e in rw a.faulty (ap Looked.Refused (sym a.given))
+    looked_bad = rw walked_bad.faulty (ap Err (sym walked_bad.given))

@@ -2,14 +2,14 @@
 -- the next position. An empty link means absent [..] At the end the node's data is the value";
 -- "the first refusal met on the way down is the answer, and its place is the node that holds that
 -- link".
-use Rattle.std.specs.Prelude.{ℕ, ◌+◌, cond, List, [], ◌∷◌}
+use Rattle.std.specs.Prelude.{ℕ, ◌+◌, cond, List, [], ◌∷◌, Result, Ok, Err}
+use Rattle.std.specs.Prelude.{Option as Maybe, Some, None}
 use Rattle.std.proofs.Math.Option.{Option, none, some}
 use Rattle.trie.specs.Table.{Table, follow, answer, fault}
-use Rattle.paper.specs.declared.Looked.{Looked}
+use Rattle.paper.specs.declared.Refusal.{Refusal}
 use Rattle.paper.specs.declared.Refusal.TheVariants.{Link}
 use Rattle.paper.specs.Rows.{bad_link}
 use Rattle.walk.specs.declared.Position.{Position}
-use Rattle.walk.specs.declared.Step.{Step}
 use Rattle.walk.specs.declared.Walked.{Walked}
 
 -- the position at the root
@@ -20,32 +20,34 @@ at_root = record { node = 0; depth = 0 }
 abbrev pub on_to : Position → ℕ → Position
 on_to p c = record { node = c; depth = p.depth + 1 }
 
--- where one letter leads, in a table whose greatest address is g
-unfoldable pub step_of : ℕ → Table → Position → ℕ → Step
+-- where one letter leads, in a table whose greatest address is g: to the next position, to an
+-- empty link, or to a bad link, which this node holds
+unfoldable pub step_of : ℕ → Table → Position → ℕ → Result (Maybe Position) Refusal
 unfolding follow bad_link
 step_of g t p x =
-    follow (t.child p.node x) Step.Empty
-    (λ c. cond (bad_link g c) (Step.Bad p.node) (Step.At (on_to p c)))
+    follow (t.child p.node x) (Ok None)
+    (λ c. cond (bad_link g c) (Err (Link p.node)) (Ok (Some (on_to p c))))
 
 -- the walk after a step: it goes on from the next position, it stops at this one, or it is
--- refused: 6, with the node that holds the bad link
-unfoldable pub step_taken : Position → Step → (Position → Walked) → Walked
-step_taken p (Step.At q) on = on q
-step_taken p Step.Empty on = Walked.Stopped p
-step_taken p (Step.Bad q) on = Walked.Refused (Link q)
+-- refused
+unfoldable pub step_taken : Position → Result (Maybe Position) Refusal
+    → (Position → Result Walked Refusal) → Result Walked Refusal
+step_taken p (Ok (Some q)) on = on q
+step_taken p (Ok None) on = Ok (Walked.Stopped p)
+step_taken p (Err why) on = Err why
 
 -- where the letters of a key lead, one after the other
-unfoldable pub walked_from : ℕ → Table → Position → List ℕ → Walked
+unfoldable pub walked_from : ℕ → Table → Position → List ℕ → Result Walked Refusal
 unfolding step_of step_taken
-walked_from g t p [] = Walked.Complete p.node
+walked_from g t p [] = Ok (Walked.Complete p.node)
 walked_from g t p (x ∷ xs) = step_taken p (step_of g t p x) (λ q. walked_from g t q xs)
 
 -- a bad link on the path is 6 at its node, else the value is answered
-unfoldable pub looked_by : Option ℕ → ℕ → Looked
-looked_by none v = Looked.Value v
-looked_by (some q) v = Looked.Refused (Link q)
+unfoldable pub looked_by : Option ℕ → ℕ → Result ℕ Refusal
+looked_by none v = Ok v
+looked_by (some q) v = Err (Link q)
 
 -- what a lookup answers, by the first bad link on the path (`fault`) and the value (`answer`)
-unfoldable pub looked_in : ℕ → Table → List ℕ → Looked
+unfoldable pub looked_in : ℕ → Table → List ℕ → Result ℕ Refusal
 unfolding looked_by fault answer bad_link
 looked_in g t k = looked_by (fault (bad_link g) t 0 k) (answer t k)

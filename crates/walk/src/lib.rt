@@ -5,30 +5,19 @@
 
 ghost use Rattle.std.specs.Prelude.{◌≡◌, ◌≤◌, ◌<◌};
 ghost use Rattle.head.specs.Fields.{most_letters};
-ghost use Rattle.node.specs.Image.{Open, Masks, table_of};
+ghost use Rattle.node.specs.Read.{node_table};
 ghost use Rattle.key.specs.Hand.{Ready, letters_of};
 ghost use Rattle.walk.specs.Descent.{step_of, walked_from, at_root, looked_in};
 
-use head::Head;
 use key::Key;
-use paper::{Looked, Refusal};
+use node::Nodes;
+use paper::Refusal;
 
 // Where the descent stands: a node, and how many letters led to it.
 #[derive(Clone, Copy)]
 pub struct Position {
     pub node: u32,
     pub depth: usize,
-}
-
-// Where one letter leads.
-#[derive(Drop)]
-pub enum Step {
-    // To the next position.
-    At(Position),
-    // To an empty link.
-    Empty,
-    // To a bad link, which this node holds.
-    Bad(u32),
 }
 
 // Where the letters of a key lead.
@@ -38,70 +27,59 @@ pub enum Walked {
     Complete(u32),
     // To this position, whose link for the next letter is empty.
     Stopped(Position),
-    // To a bad link: the refusal that is given for it.
-    Refused(Refusal),
 }
 
 impl Position {
-    // Follows the link for one letter.
-    pub fn step(self, image: &[u8], h: Head, mask: u32, letter: u8) -> Step
-        requires fact_1 { Open h image.now }
-        requires fact_2 { Masks h mask }
-        requires fact_3 { self.node ≤ h.g }
-        requires fact_4 { letter < h.n }
-        requires fact_5 { self.depth < most_letters }
-        ensures { result ≡ step_of h.g (table_of h image.now) self letter }
+    // Follows the link for one letter, and answers the next position, none if the link is empty.
+    // Refusals: 6, at this node.
+    pub fn step(self, nodes: Nodes, letter: u8) -> Result<Option<Position>, Refusal>
+        requires node { self.node ≤ nodes.head.g }
+        requires letter { letter < nodes.head.n }
+        requires depth { self.depth < most_letters }
+        ensures { result ≡ step_of nodes.entry.head.g (node_table nodes.entry) self letter }
     {
-        let node = self.node;
-        let c = node::link(image, h, mask, node, letter as u32);
+        let c = nodes.link(self.node, letter as u32);
         if c == 0 {
-            return Step::Empty;
+            return Ok(None);
         }
-        if paper::bad_link(h.g, c) {
-            return Step::Bad(node);
+        if paper::bad_link(nodes.head.g, c) {
+            return Err(Refusal::Link(self.node));
         }
-        Step::At(Position {
+        Ok(Some(Position {
             node: c,
             depth: self.depth + 1,
-        })
+        }))
     }
 }
 
 // Walks from the root along a key that has passed 9 and 10. Refusals: 6, at the node that holds
 // the first bad link on the key's path.
-pub fn walk(image: &[u8], h: Head, key: Key) -> Walked
-    requires fact_1 { Open h image.now }
-    requires fact_2 { Ready h key }
-    ensures { result ≡ walked_from h.g (table_of h image.now) at_root
+pub fn walk(nodes: Nodes, key: Key) -> Result<Walked, Refusal>
+    requires { Ready nodes.head key }
+    ensures { result ≡ walked_from nodes.entry.head.g (node_table nodes.entry) at_root
         (letters_of key) }
 {
-    let mask = node::mask(h);
     let letters = key.letters;
     let mut here = Position { node: 0, depth: 0 };
-    while here.depth < key.len {
-        let depth = here.depth;
-        let next = here.step(image, h, mask, letters[depth]);
-        let Step::At(position) = next else {
-            let Step::Bad(node) = next else {
-                return Walked::Stopped(here);
-            };
-            return Walked::Refused(Refusal::Link(node));
+    for letter in &letters[..key.len] {
+        let Ok(step) = here.step(nodes, *letter) else {
+            return Err(Refusal::Link(here.node));
         };
-        here = position;
+        let Some(next) = step else {
+            return Ok(Walked::Stopped(here));
+        };
+        here = next;
     }
-    Walked::Complete(here.node)
+    Ok(Walked::Complete(here.node))
 }
 
 // The value of a key, 0 for absent. Refusals: 6, the walk's.
-pub fn look(image: &[u8], h: Head, key: Key) -> Looked
-    requires fact_1 { Open h image.now }
-    requires fact_2 { Ready h key }
-    ensures { result ≡ looked_in h.g (table_of h image.now) (letters_of key) }
+pub fn look(nodes: Nodes, key: Key) -> Result<u64, Refusal>
+    requires { Ready nodes.head key }
+    ensures { result ≡ looked_in nodes.entry.head.g (node_table nodes.entry) (letters_of key) }
 {
-    let walked = walk(image, h, key);
-    match walked {
-        Walked::Complete(node) => Looked::Value(node::data(image, h, node)),
-        Walked::Stopped(_) => Looked::Value(0),
-        Walked::Refused(why) => Looked::Refused(why),
-    }
+    Ok(match walk(nodes, key)? {
+        Walked::Complete(node) => nodes.data(node),
+        Walked::Stopped(_) => 0,
+    })
 }

@@ -2,11 +2,15 @@
 -- come make up the whole. A link that is not empty adds the child's own key, if there is one,
 -- and the keys below the child.
 use Prim.Native.Nat.{ℕ, ◌+◌, ◌-◌, ◌<◌, ◌≤◌}
+use native.Mathlib.Decide.{ℕ_discrete}
 use native.Mathlib.Numerals.{add-one}
-use mathlib.Core.Bool.{Bool, true}
+use mathlib.Core.Bool.{Bool, true, not}
 use mathlib.Core.Logic.{◌≢◌}
 use mathlib.Core.Path.{◌≡◌, sym, ◌∙◌, ap}
+use mir.Val.{bool_byte}
+use lib.Dec.{eqb}
 use lib.ListN.{length, length-append, length-map}
+use borrow.Author.Tests.{eq-eqb, ne_eqb}
 use Rattle.trie.specs.Table.{Table}
 use Rattle.trie.specs.Keys.{own_key}
 use Rattle.trie.proofs.Beyond.{from_none, from_empty}
@@ -24,11 +28,14 @@ module _ (h : Head) (t : Table) where
   owned q depth = length (own_key t (h.min - depth) q)
 
   -- by the value that was read
-  pub owned_none : (q depth : ℕ) {v : ℕ} → v ≡ own_value h t q depth → v ≡ 0 → owned q depth ≡ 0
-  owned_none q depth e empty = ap length (own_empty h t q depth (sym e ∙ empty))
-
-  pub owned_one : (q depth : ℕ) {v : ℕ} → v ≡ own_value h t q depth → v ≢ 0 → owned q depth ≡ 1
-  owned_one q depth e full = ap length (own_full h t q depth (λ z. full (e ∙ z)))
+  pub owned_by : (q depth : ℕ) {v : ℕ} → v ≡ own_value h t q depth
+      → bool_byte (not (eqb v 0)) ≡ owned q depth
+  owned_by q depth {v} e = go (ℕ_discrete v 0)
+    where
+      go : Dec (v ≡ 0) → bool_byte (not (eqb v 0)) ≡ owned q depth
+      go (yes none) = rw (eq-eqb v 0 none) (sym (ap length (own_empty h t q depth (sym e ∙ none))))
+      go (no some) =
+          rw (ne_eqb v 0 some) (sym (ap length (own_full h t q depth (λ z. some (e ∙ z)))))
 
   -- no key is left below a node without keys below it, nor past the last letter
   pub left_no_keys : (q depth i : ℕ) {r : Bool} → KeysBelow h t q depth r → r ≡ true

@@ -1,11 +1,27 @@
 -- `asking::ask` meets its contract: the check judges its rows, then the key is judged by 9 and 10.
 -- Assumes nothing.
-use Rattle.asking.proofs.Asking.{checked_front, front_judgeable}
+use Rattle.std.proofs.lemmas.Result.{err_from_is_err_and}
+use Rattle.asking.proofs.Asking.{checked_front, front_permitted, front_opens}
+use Rattle.asking.proofs.Asking.{before_refused, key_refused, key_passed}
 use Rattle.asking.proofs.ask.Goals as goal
 
-pub by_letters-requires : goal.by_letters-requires
-by_letters-requires c = front_judgeable (checked_front c.check-front.ensures)
+pub judge-requires : goal.judge-requires
+judge-requires c = front_permitted (checked_front c.in_ok-head.ensures)
+
+pub returns-in_err-head : goal.returns-in_err-head
+returns-in_err-head c =
+    let f = c.from_residual in
+    let e = err_from_is_err_and f.result f.ensures.1 in
+    rw (e.1, e.2) (before_refused (checked_front c.in_err-head.ensures))
+
+pub returns-in_err-key : goal.returns-in_err-key
+returns-in_err-key c =
+    let f = c.from_residual-in_err-key in
+    let e = err_from_is_err_and f.result f.ensures.1 in
+    let o = checked_front c.in_ok-head.ensures in
+    rw (e.1, e.2) (key_refused o (c.in_err-key.ensures _ (front_opens o)))
 
 pub returns : goal.returns
 returns c =
-    c.by_letters.ensures _ _ _ _ _ (checked_front c.check-front.ensures)
+    let o = checked_front c.in_ok-head.ensures in
+    key_passed o (c.in_ok-key.ensures _ (front_opens o))

@@ -1,19 +1,29 @@
 -- `checks::count` meets its contract: the audit judges the check's rows, and an image that has
 -- passed them is accepted, as the count requires. Assumes nothing.
-use Rattle.audit.proofs.Verdicts.{checked_accepted, checked_head}
-use Rattle.checks.proofs.CheckReturns.{counts_refused, counts_done}
+use Rattle.std.proofs.lemmas.Result.{err_from_is_err_and}
+use Rattle.paper.proofs.CheckCall.{head_open}
+use Rattle.checks.proofs.CheckReturns.{checked_accepts, counts_refused, counts_done}
 use Rattle.checks.proofs.count.Goals as goal
+
+pub of-requires : goal.of-requires
+of-requires c = let o = c.in_ok-h.ensures in head_open (checked_accepts o) o.head
 
 pub count-requires : goal.count-requires
 count-requires c =
-    let o = c.check-checked.ensures in
-    record { fact_1 = checked_accepted o c.in-Passed.is; fact_2 = checked_head o c.in-Passed.is }
+    let o = c.in_ok-h.ensures in
+    let same = c.of.ensures in
+    record {
+      accepted = rw same.bytes (checked_accepts o);
+      own = rw (same.head, same.bytes) o.head;
+    }
 
-pub returns-in-Refused : goal.returns-in-Refused
-returns-in-Refused c = counts_refused c.check-checked.ensures
-    c.in-Refused.is
+pub returns-in_err-h : goal.returns-in_err-h
+returns-in_err-h c =
+    let f = c.from_residual in
+    let e = err_from_is_err_and f.result f.ensures.1 in
+    rw (e.1, e.2) (counts_refused c.in_err-h.ensures)
 
-pub returns-in-Passed : goal.returns-in-Passed
-returns-in-Passed c =
-    counts_done c.check-checked.ensures c.in-Passed.is
-    c.count.ensures
+pub returns : goal.returns
+returns c =
+    let same = c.of.ensures in
+    counts_done c.in_ok-h.ensures (rw (same.head, same.bytes) at c.count.ensures)

@@ -1,22 +1,27 @@
 -- `checks::next_key` meets its contract: the audit judges the check's rows, and `seeking` does the
 -- rest. Assumes nothing.
-use Rattle.audit.proofs.Verdicts.{checked_accepted, checked_head}
-use Rattle.checks.proofs.CheckReturns.{nexts_refused, nexts_seek}
+use Rattle.std.proofs.lemmas.Result.{err_from_is_err_and}
+use Rattle.paper.proofs.CheckCall.{head_open}
+use Rattle.checks.proofs.CheckReturns.{checked_accepts, nexts_refused, nexts_seek}
 use Rattle.checks.proofs.next_key.Goals as goal
+
+pub of-requires : goal.of-requires
+of-requires c = let o = c.in_ok-h.ensures in head_open (checked_accepts o) o.head
 
 pub seek-requires : goal.seek-requires
 seek-requires c =
-    let o = c.check-checked.ensures in
+    let o = c.in_ok-h.ensures in
+    let same = c.of.ensures in
     record {
-      accepted = checked_accepted o c.in-Passed.is;
-      h_value = checked_head o c.in-Passed.is;
+      accepted = rw same.bytes (checked_accepts o);
+      own = rw (same.head, same.bytes) o.head;
     }
 
-pub returns-in-Refused : goal.returns-in-Refused
-returns-in-Refused c = nexts_refused c.check-checked.ensures _ _ _
-    c.in-Refused.is
+pub returns-in_err-h : goal.returns-in_err-h
+returns-in_err-h c =
+    let f = c.from_residual in
+    let e = err_from_is_err_and f.result f.ensures.1 in
+    rw (e.1, e.2) (nexts_refused c.in_err-h.ensures _ _ _)
 
-pub returns-in-Passed : goal.returns-in-Passed
-returns-in-Passed c =
-    nexts_seek c.check-checked.ensures _ _ _ _
-    c.in-Passed.is c.seek.ensures
+pub returns : goal.returns
+returns c = nexts_seek c.in_ok-h.ensures _ _ _ _ (rw c.of.ensures.bytes at c.seek.ensures)

@@ -1,13 +1,9 @@
-use Prim.Native.Nat.{◌-◌}
 use mathlib.Core.Bool.{not}
 use lib.Dec.{eqb}
-use lib.ListN.{get_or}
+use lib.ListN.{length, get_or}
 use Rattle.tallying.proofs.LowestFound.{Seeking}
 use Rattle.comparing.proofs.first_different.Given as goal
 
 abbrev pub invariant-loop-q : goal.invariant-loop-q
 invariant-loop-q l =
-    Seeking (λ y. not (eqb (get_or l.counts y 0) (get_or l.fresh y 0))) 0 l.nodes l.q
-
-abbrev pub decreases-loop-q : goal.decreases-loop-q
-decreases-loop-q l = l.nodes - l.q
+    Seeking (λ y. not (eqb (get_or l.counts y 0) (get_or l.fresh y 0))) 0 (length l.counts) l.q

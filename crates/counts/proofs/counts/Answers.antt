@@ -1,24 +1,31 @@
 -- `counts::counts` meets its contract: the check judges its rows, with 5 for either list; if it
 -- has passed, `weighing` works the counts out. Assumes nothing.
+use mathlib.Core.Path.{refl}
+use Rattle.std.proofs.lemmas.Result.{err_from_is_err_and}
+use Rattle.paper.proofs.CheckCall.{head_open}
 use Rattle.counts.proofs.CountsReturns.{counts_refused, weigh_asks, counts_done}
 use Rattle.counts.proofs.counts.Goals as goal
 
+pub of-requires : goal.of-requires
+of-requires c =
+    let asks = weigh_asks _ _ _ c.in_ok-h.ensures refl in
+    head_open asks.0 asks.1.0
+
 pub weigh-requires : goal.weigh-requires
 weigh-requires c =
-    let a = c.args in
-    let asks = weigh_asks a.image.now a.work.now a.list.now c.check_both-checked.ensures
-    c.in-Passed.is in
-    record { fact_1 = asks.0; fact_2 = asks.1.0; fact_3 = asks.1.1 }
+    let asks = weigh_asks _ _ _ c.in_ok-h.ensures refl in
+    let same = c.of.ensures in
+    record {
+      accepted = rw same.bytes asks.0;
+      own = rw (same.head, same.bytes) asks.1.0;
+      room = rw same.head asks.1.1;
+    }
 
-pub returns-in-Refused : goal.returns-in-Refused
-returns-in-Refused c =
-    let a = c.args in
-    counts_refused a.image.now a.work.now a.list.now c.check_both-checked.ensures
-    c.in-Refused.is
+pub returns-in_err-h : goal.returns-in_err-h
+returns-in_err-h c =
+    let f = c.from_residual in
+    let e = err_from_is_err_and f.result f.ensures.1 in
+    rw (e.1, e.2) (counts_refused _ _ _ c.in_err-h.ensures refl)
 
-pub returns-in-Passed : goal.returns-in-Passed
-returns-in-Passed c =
-    let a = c.args in
-    let o = c.check_both-checked.ensures in
-    counts_done a.image.now a.work.now a.list.now o c.in-Passed.is
-    c.weigh.ensures
+pub returns : goal.returns
+returns c = counts_done _ _ _ c.in_ok-h.ensures refl (rw c.of.ensures.bytes at c.weigh.ensures)

@@ -1,27 +1,28 @@
 -- `counts::store_counts` meets its contract: `asking_counts` judges the check's rows, 25, 9 and
 -- 10, and `tracking` does the rest. Assumes nothing.
-use Rattle.counts.proofs.StoreCountsReturns.{store_counts_refused, store_counted_asks}
-use Rattle.counts.proofs.StoreCountsReturns.{store_counts_passed}
+use mathlib.Core.Path.{refl}
+use Rattle.std.proofs.lemmas.Result.{err_from_is_err_and}
+use Rattle.asking_counts.proofs.AskingCounts.{asked_right, asked_length}
+use Rattle.counts.proofs.StoreCountsReturns.{store_counts_refused, store_counts_passed}
 use Rattle.counts.proofs.store_counts.Goals as goal
 
 pub store_counted-requires : goal.store_counted-requires
 store_counted-requires c =
-    let a = c.args in
-    let asks = store_counted_asks a.work.now a.list.now c.ask-asked.ensures c.in-Passed.is in
+    let p = c.in_ok-asked.ensures in
+    let a = p.allowed in
     record {
-      accepted_1 = asks.0;
-      accepted_2 = asks.1.0;
-      accepted_3 = asks.1.1.0;
-      max_value_1 = asks.1.1.1.0;
-      max_value_2 = asks.1.1.1.1;
+      accepted = a.accepted;
+      own = a.head;
+      ready = a.ready;
+      allowed = asked_length _ _ p refl;
+      right = asked_right _ _ p refl;
     }
 
-pub returns-in-Refused : goal.returns-in-Refused
-returns-in-Refused c =
-    store_counts_refused _ _ c.ask-asked.ensures _
-    c.in-Refused.is
+pub returns-in_err-asked : goal.returns-in_err-asked
+returns-in_err-asked c =
+    let f = c.from_residual in
+    let e = err_from_is_err_and f.result f.ensures.1 in
+    rw (e.1, e.2) (store_counts_refused _ _ c.in_err-asked.ensures _)
 
-pub returns-in-Passed : goal.returns-in-Passed
-returns-in-Passed c =
-    store_counts_passed _ _ c.ask-asked.ensures c.in-Passed.is _ _
-    c.store_counted.ensures
+pub returns : goal.returns
+returns c = store_counts_passed _ _ c.in_ok-asked.ensures _ _ c.store_counted.ensures

@@ -1,6 +1,5 @@
 -- `field::write` meets its contract. A turn stores the last byte of the number and goes on with
--- the rest of it, in a field that is one byte shorter. The measure is the width that is left.
--- Assumes nothing.
+-- the rest of it, in a field that is one byte shorter. Assumes nothing.
 use native.Mathlib.Omega.{arith}
 use Rattle.field.proofs.FieldLoops.{writing_none, writing_more, writing_all}
 use Rattle.field.proofs.write.Goals as goal

@@ -3,11 +3,12 @@
 -- of 1 to 4. Assumes nothing.
 use mathlib.Core.Path.{◌≡◌, refl, sym, ◌∙◌}
 use mathlib.Core.Option.{none}
+use Rattle.std.proofs.lemmas.Result.{err_from_is_err_and}
 use Rattle.paper.proofs.Hearing.{told_refused, told_passed}
 use Rattle.paper.proofs.Opening.{heard_1, passed}
 use Rattle.images.proofs.MakeReturns.{heard_of, makes_refused, makes_done, too_many}
 use Rattle.images.proofs.make.Goals as goal
-use Rattle.images.proofs.make.Goals.{In-Passed}
+use Rattle.images.proofs.make.Goals.{In_ok-judge}
 
 pub returns-then-not-length_allowed : goal.returns-then-not-length_allowed
 returns-then-not-length_allowed c =
@@ -21,22 +22,26 @@ returns-then-f c =
     (too_many s.image.now s.n s.a s.d s.alphabet.now s.min s.max
     (sym c.length_allowed.ensures ∙ c.if-not-length_allowed.false) c.if-f.true)
 
+pub returns-in_err-judge : goal.returns-in_err-judge
+returns-in_err-judge c =
+    let f = c.from_residual in
+    let e = err_from_is_err_and f.result f.ensures.1 in
+    rw (e.1, e.2)
+    (makes_refused _ _ _ _ _ _ _ _ (told_refused c.in_err-judge.ensures.verdict refl))
+
 -- where nothing is refused
-unheard : (c : In-Passed)
-    → let s = c.args in
+unheard : (c : In_ok-judge) → let s = c.args in
     heard_of s.image.now s.n s.a s.d s.alphabet.now s.min s.max ≡ none
-unheard c = told_passed c.judge-opened.ensures.verdict c.in-Passed.is
+unheard c = told_passed c.in_ok-judge.ensures.verdict refl
 
-pub fresh-requires : goal.fresh-requires
-fresh-requires c =
-    let p = passed _ _ _ (unheard (goal.at.fresh-requires c).In-Passed) in
-    record { h_value = p.head_permitted; g_value = refl; f_value = refl; h_in_bounds = p.room }
+pub fresh-requires-clause-h_value : goal.fresh-requires-clause-h_value
+fresh-requires-clause-h_value c =
+    (passed _ _ _ (unheard (goal.at.fresh-requires-clause-h_value c).In_ok-judge)).head_permitted
 
-pub returns-in-Refused : goal.returns-in-Refused
-returns-in-Refused c =
-    makes_refused _ _ _ _ _ _ _ _
-    (told_refused c.judge-opened.ensures.verdict c.in-Refused.is)
+pub fresh-requires-clause-h_in_bounds : goal.fresh-requires-clause-h_in_bounds
+fresh-requires-clause-h_in_bounds c =
+    (passed _ _ _ (unheard (goal.at.fresh-requires-clause-h_in_bounds c).In_ok-judge)).room
 
-pub returns-in-Passed : goal.returns-in-Passed
-returns-in-Passed c =
-    makes_done _ _ _ _ _ _ _ (unheard (goal.at.returns-in-Passed c).In-Passed) c.fresh.ensures
+pub returns : goal.returns
+returns c =
+    makes_done _ _ _ _ _ _ _ (unheard (goal.at.returns c).In_ok-judge) c.fresh.ensures

@@ -1,35 +1,25 @@
 -- `images::mend` meets its contract: the answer is the check's, except for an 8 whose trial
 -- passed. Assumes nothing.
-use mathlib.Core.Path.{◌∙◌, ap}
 use native.Mathlib.Omega.{arith}
-use Rattle.paper.specs.declared.Verdict.{Verdict}
 use Rattle.images.proofs.MendReturns.{is_not_linked, lower_asks, mends_passed, mends_other}
-use Rattle.images.proofs.MendReturns.{mends_lowered, mends_kept}
+use Rattle.images.proofs.MendReturns.{mends_tried}
 use Rattle.images.proofs.mend.Goals as goal
 
 pub returns-in_default : goal.returns-in_default
-returns-in_default c =
-    mends_other c.check-checked.ensures c.in-Refused.is
-    (λ k. c.in_default.not-NotLinked _ (is_not_linked c.in-Refused.why k))
+returns-in_default c = mends_passed c.in_default.ensures
 
-pub lower-trial-requires : goal.lower-trial-requires
-lower-trial-requires c =
-    let asks = lower_asks c.check-checked.ensures
-    (c.in-Refused.is ∙ ap Verdict.Refused c.in-NotLinked.is) in
-    record { fact_1 = asks.0; fact_2 = asks.1 }
+pub returns-in_default-why : goal.returns-in_default-why
+returns-in_default-why c =
+    mends_other c.in-Err.ensures
+    (λ k. c.in_default-why.not-NotLinked _ (is_not_linked c.in-Err.why k))
 
-pub returns-in-Passed : goal.returns-in-Passed
-returns-in-Passed c =
-    mends_passed c.check-checked.ensures c.in-Passed.is
+pub lower-trial-requires-clause-some : goal.lower-trial-requires-clause-some
+lower-trial-requires-clause-some c = (lower_asks (rw c.in-NotLinked.is at c.in-Err.ensures)).0
 
-pub returns-in-Passed-trial : goal.returns-in-Passed-trial
-returns-in-Passed-trial c =
-    mends_lowered c.check-checked.ensures
-    (c.in-Refused.is ∙ ap Verdict.Refused c.in-NotLinked.is) (omega arith)
-    c.lower-trial.ensures c.in-Passed-trial.is
+pub lower-trial-requires-clause-room : goal.lower-trial-requires-clause-room
+lower-trial-requires-clause-room c = (lower_asks (rw c.in-NotLinked.is at c.in-Err.ensures)).1
 
-pub returns-in-Refused-trial : goal.returns-in-Refused-trial
-returns-in-Refused-trial c =
-    mends_kept c.check-checked.ensures
-    (c.in-Refused.is ∙ ap Verdict.Refused c.in-NotLinked.is) (omega arith)
-    c.lower-trial.ensures c.in-Refused-trial.is
+pub returns : goal.returns
+returns c =
+    mends_tried (rw c.in-NotLinked.is at c.in-Err.ensures) (omega arith) c.lower-trial.result
+    c.lower-trial.ensures c.or.ensures

@@ -1,18 +1,31 @@
 -- `jumps::key_at` meets its contract: the comparison judges the check's rows and 25, and
 -- `tell_key` does the rest. Assumes nothing.
+use Rattle.std.proofs.lemmas.Result.{err_from_is_err_and}
+use Rattle.paper.proofs.CheckCall.{head_open}
 use Rattle.jumps.proofs.KeyAtReturns.{spot_asks, gives_key_refused, gives_key_spotted}
 use Rattle.jumps.proofs.key_at.Goals as goal
 
+pub of-requires : goal.of-requires
+of-requires c =
+    let asks = spot_asks c.in_ok-h.ensures in
+    head_open asks.0 asks.1.0
+
 pub tell_key-requires : goal.tell_key-requires
 tell_key-requires c =
-    let asks = spot_asks c.compare-compared.ensures c.in-Passed.is in
-    record { fact_1 = asks.0; fact_2 = asks.1.0; fact_3 = asks.1.1 }
+    let asks = spot_asks c.in_ok-h.ensures in
+    let same = c.of.ensures in
+    record {
+      accepted = rw same.bytes asks.0;
+      own = rw (same.head, same.bytes) asks.1.0;
+      right = rw same.bytes asks.1.1;
+    }
 
-pub returns-in-Refused : goal.returns-in-Refused
-returns-in-Refused c = gives_key_refused c.compare-compared.ensures _ _
-    c.in-Refused.is
+pub returns-in_err-h : goal.returns-in_err-h
+returns-in_err-h c =
+    let f = c.from_residual in
+    let e = err_from_is_err_and f.result f.ensures.1 in
+    rw (e.1, e.2) (gives_key_refused _ _ c.in_err-h.ensures)
 
-pub returns-in-Passed : goal.returns-in-Passed
-returns-in-Passed c =
-    gives_key_spotted c.compare-compared.ensures _ _ _
-    c.in-Passed.is c.tell_key.ensures
+pub returns : goal.returns
+returns c =
+    gives_key_spotted _ _ _ c.in_ok-h.ensures (rw c.of.ensures.bytes at c.tell_key.ensures)

@@ -1,26 +1,37 @@
 -- `jumps::position` meets its contract: `asking_counts` judges the check's rows, 25, 9 and 10, and
 -- `tell_position` gives 15 or the position. Assumes nothing.
-use Rattle.jumps.proofs.PositionReturns.{place_asks, gives_position_refused}
-use Rattle.jumps.proofs.PositionReturns.{gives_position_placed}
+use Rattle.std.proofs.lemmas.Result.{err_from_is_err_and}
+use mathlib.Core.Path.{refl}
+use Rattle.paper.proofs.CheckCall.{head_open}
+use Rattle.asking_counts.proofs.AskingCounts.{asked_right, asked_length}
+use Rattle.jumps.proofs.PositionReturns.{gives_position_refused, gives_position_placed}
 use Rattle.jumps.proofs.position.Goals as goal
+
+pub of-requires : goal.of-requires
+of-requires c =
+    let b = c.in_ok-asked.ensures.allowed in
+    head_open b.accepted b.head
 
 pub tell_position-requires : goal.tell_position-requires
 tell_position-requires c =
-    let asks = place_asks _ _ c.ask-asked.ensures c.in-Passed.is in
+    let o = c.in_ok-asked.ensures in
+    let b = o.allowed in
+    let same = c.of.ensures in
     record {
-      accepted_1 = asks.0;
-      accepted_2 = asks.1.0;
-      accepted_3 = asks.1.1.0;
-      ready_1 = asks.1.1.1.0;
-      ready_2 = asks.1.1.1.1;
+      accepted = rw same.bytes b.accepted;
+      own = rw (same.head, same.bytes) b.head;
+      right = rw same.bytes (asked_right _ _ o refl);
+      ready = rw same.head b.ready;
+      allowed = rw same.head (asked_length _ _ o refl);
     }
 
-pub returns-in-Refused : goal.returns-in-Refused
-returns-in-Refused c =
-    gives_position_refused _ _ c.ask-asked.ensures
-    c.in-Refused.is
+pub returns-in_err-asked : goal.returns-in_err-asked
+returns-in_err-asked c =
+    let f = c.from_residual in
+    let e = err_from_is_err_and f.result f.ensures.1 in
+    rw (e.1, e.2) (gives_position_refused _ _ c.in_err-asked.ensures)
 
-pub returns-in-Passed : goal.returns-in-Passed
-returns-in-Passed c =
-    gives_position_placed _ _ c.ask-asked.ensures
-    c.in-Passed.is c.tell_position.ensures
+pub returns : goal.returns
+returns c =
+    gives_position_placed _ _ c.in_ok-asked.ensures
+    (rw c.of.ensures.bytes at c.tell_position.ensures)

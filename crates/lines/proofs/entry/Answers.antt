@@ -3,18 +3,17 @@
 use mathlib.Core.Path.{◌≡◌, refl, ◌∙◌}
 use Prim.Native.Nat.{◌+◌, ◌≤◌}
 use native.Mathlib.Omega.{arith}
-use lib.ListN.{length, take, length-set}
+use lib.ListN.{length, length-set}
 use Rattle.lines.specs.Lines.{TextAt, key_text, entry_line}
 use Rattle.lines.proofs.TextsAt.{laid_long, laid_one, laid_join}
-use Rattle.lines.proofs.LineTexts.{decimal_end, letters_long, entry_long}
+use Rattle.lines.proofs.LineTexts.{decimal_end, key_long, entry_long}
 use Rattle.lines.proofs.entry.Goals as goal
 use Rattle.lines.proofs.entry.Goals.{After-letters-end, After-number-end}
 
 key : (c : After-letters-end)
     → TextAt c.args.out.now
     c.args.at
-    (key_text (take c.args.len
-    c.args.path.now))
+    (key_text c.args.key.now)
     c.letters-end.result c.letters-end.new.out
 key c = c.letters-end.ensures
 
@@ -25,8 +24,7 @@ room c =
       arith,
       (key c).ends,
       laid_long (key c),
-      letters_long a.path.now a.len
-          (λ k. (c.type_inv.path k).fits),
+      key_long a.key.now (λ k. (c.type_inv.key k).fits),
     )
 
 long : (c : After-number-end) → length c.number-end.new.out
@@ -78,7 +76,6 @@ returns c =
       upper_bound = omega (
         arith,
         line.ends,
-        entry_long a.path.now a.len a.value
-            (λ k. (c.type_inv.path k).fits),
+        entry_long a.key.now a.value (λ k. (c.type_inv.key k).fits),
       );
     }

@@ -1,62 +1,55 @@
 -- `lines::letters` meets its contract. After the first letter each turn writes a dot and the
--- next letter, for which there are four bytes of room. The measure is how many letters are left.
--- Assumes nothing.
+-- next letter, for which there are four bytes of room. Assumes nothing.
 use mathlib.Core.Path.{refl}
 use Prim.Native.Nat.{◌+◌, ◌≤◌}
 use native.Mathlib.Omega.{arith}
-use lib.ListN.{length, get_or, length-set}
-use Rattle.lines.specs.Lines.{TextAt, decimal}
+use borrow.Author.Rules.{rules}
+use lib.ListN.{length, length-set}
+use Rattle.lines.specs.Lines.{dotted}
 use Rattle.lines.proofs.LineTexts.{key_none}
 use Rattle.lines.proofs.TextsAt.{laid_long, laid_as, laid_one}
-use Rattle.lines.proofs.LineLoops.{spelling_none, spelling_more, spelling_room}
-use Rattle.lines.proofs.LineLoops.{spelling_all}
+use Rattle.lines.proofs.LineLoops.{spelling_more, spelling_room, spelling_all}
 use Rattle.lines.proofs.letters.Goals as goal
-use Rattle.lines.proofs.letters.Goals.{At-loop-i, In-loop-i}
+use Rattle.lines.proofs.letters.Goals.{In-loop-x}
 
-first : (c : At-loop-i)
-    → TextAt c.args.out.now
-    c.args.at
-    (decimal (get_or
-    c.args.path.now 0 0))
-    c.letter-end.result
-    c.letter-end.new.out
-first c = c.letter-end.ensures
-
-room : (c : In-loop-i) → c.loop-i.end + 4 ≤ length c.loop-i.out
+room : (c : In-loop-x) → c.loop-x.end + 4 ≤ length c.loop-x.out
 room c =
-    spelling_room c.letter-end.ensures c.loop-i.invariant
-    (λ k. (c.type_inv.path k).fits)
-    (omega arith) (omega arith)
+    spelling_room c.args.key.now c.letter-end.ensures c.loop-x.invariant
+    (λ k. (c.type_inv.key k).fits) c.loop-x-test.true c.requires
 
-pub returns-then-len-eq0 : goal.returns-then-len-eq0
-returns-then-len-eq0 c = laid_as (key_none _ c.if-len-eq0.true) (laid_one _ _ _ refl)
+pub returns-then-is_empty : goal.returns-then-is_empty
+returns-then-is_empty c =
+    laid_as (key_none c.args.key.now (search rules)) (laid_one _ _ _ refl)
 
-pub loop-i-init : goal.loop-i-init
-loop-i-init c = spelling_none _ _ _ (omega arith) (omega arith)
+pub loop-x-init : goal.loop-x-init
+unfolding dotted
+loop-x-init c = record { bytes = refl; ends = omega arith }
 
 pub bounds-out-end : goal.bounds-out-end
-bounds-out-end c = omega (arith, room (goal.at.bounds-out-end c).In-loop-i)
+bounds-out-end c = omega (arith, room (goal.at.bounds-out-end c).In-loop-x)
 
 pub overflow_add-end : goal.overflow_add-end
-overflow_add-end c = omega (
-  arith,
-  room (goal.at.overflow_add-end c).In-loop-i,
-  laid_long
-      c.loop-i.invariant.laid,
-)
-
-pub letter-end-requires-in-loop-i : goal.letter-end-requires-in-loop-i
-letter-end-requires-in-loop-i c =
+overflow_add-end c =
     omega (
       arith,
-      room (goal.at.letter-end-requires-in-loop-i c).In-loop-i,
-      length-set c.loop-i.out c.loop-i.end 46,
+      room (goal.at.overflow_add-end c).In-loop-x,
+      laid_long
+          c.loop-x.invariant,
     )
 
-pub loop-i-preserved : goal.loop-i-preserved
-loop-i-preserved c =
-    spelling_more c.loop-i.invariant (omega arith)
-    c.letter-end-in-loop-i.ensures
+pub letter-end-requires-in-loop-x : goal.letter-end-requires-in-loop-x
+letter-end-requires-in-loop-x c =
+    omega (
+      arith,
+      room (goal.at.letter-end-requires-in-loop-x c).In-loop-x,
+      length-set c.loop-x.out c.loop-x.end 46,
+    )
+
+pub loop-x-preserved : goal.loop-x-preserved
+loop-x-preserved c =
+    spelling_more _ c.loop-x.invariant c.loop-x-test.true c.letter-end-in-loop-x.ensures
 
 pub returns : goal.returns
-returns c = spelling_all (first (goal.at.returns c).At-loop-i) c.loop-i.invariant (omega arith)
+returns c =
+    spelling_all c.args.key.now c.letter-end.ensures c.loop-x.invariant (search rules)
+    (omega arith)

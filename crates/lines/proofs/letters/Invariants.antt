@@ -1,9 +1,7 @@
-use Prim.Native.Nat.{◌-◌}
-use Rattle.lines.proofs.LineLoops.{Spelling}
+use lib.ListN.{take}
+use Rattle.lines.specs.Lines.{TextAt, dotted}
 use Rattle.lines.proofs.letters.Given as goal
 
-abbrev pub invariant-loop-i : goal.invariant-loop-i
-invariant-loop-i l = Spelling l.initial.out l.initial.end l.path l.len l.out l.end l.i
-
-abbrev pub decreases-loop-i : goal.decreases-loop-i
-decreases-loop-i l = l.len - l.i
+abbrev pub invariant-loop-x : goal.invariant-loop-x
+invariant-loop-x l =
+    TextAt l.initial.out l.initial.end (dotted (take l.x-index l.x-items)) l.end l.out

@@ -1,6 +1,5 @@
 -- `lines::number` meets its contract. A turn stores the last digit of the number and goes on
--- with the rest of it, in a width that is one digit shorter. The measure is the width that is
--- left. Assumes nothing.
+-- with the rest of it, in a width that is one digit shorter. Assumes nothing.
 use native.Mathlib.Omega.{arith}
 use Rattle.lines.proofs.Digits.{decimal_long}
 use Rattle.lines.proofs.LineLoops.{filling_none, filling_more, filling_all}

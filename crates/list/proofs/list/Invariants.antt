@@ -6,14 +6,17 @@ use Rattle.list.specs.Output.{output_of}
 use Rattle.list.proofs.Telling.{Telling}
 use Rattle.list.proofs.list.Given as goal
 
-abbrev pub invariant-loop-length : goal.invariant-loop-length
-invariant-loop-length g l =
+abbrev pub invariant-loop-spot : goal.invariant-loop-spot
+invariant-loop-spot g l =
     record {
-      telling : Telling l.h l.input l.out l.path l.nodes l.done l.end l.len;
+      telling :
+          Telling l.nodes.head l.nodes.image.now l.out l.path.letters l.path.nodes l.done l.end
+          l.len;
       written : OnOk l.sent
           (Appends (g.W.Write.contents l.initial.to) (g.W.Write.contents l.to)
-          (take l.done (output_of l.input)));
+          (take l.done (output_of l.nodes.image.now)));
     }
 
-abbrev pub decreases-loop-length : goal.decreases-loop-length
-decreases-loop-length g l = length (keys_after l.h l.input (take l.len l.path))
+abbrev pub decreases-loop-spot : goal.decreases-loop-spot
+decreases-loop-spot g l =
+    length (keys_after l.nodes.head l.nodes.image.now (take l.len l.path.letters))

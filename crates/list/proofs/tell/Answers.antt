@@ -3,6 +3,7 @@
 use mathlib.Core.Path.{sym, ◌∙◌, ap₂}
 use native.Mathlib.Omega.{arith}
 use Rattle.paper.proofs.Hearing.{told_refused, told_passed}
+use Rattle.depths.proofs.Walkable.{walkable}
 use Rattle.audit.proofs.Verdicts.{checked_accepted, checked_head}
 use Rattle.lines.specs.Lines.{refused_line}
 use Rattle.list.proofs.Outputs.{output_longer, output_refused, output_listing}
@@ -16,23 +17,23 @@ refuse-requires g c =
       done_value = c.requires;
     }
 
-pub refuse-requires-in-Refused : goal.refuse-requires-in-Refused
-refuse-requires-in-Refused g c =
-    record {
-      input_value = output_refused c.args.input.now (omega (arith, c.if-input-gt-IMAGE.false))
-          (told_refused c.check-checked.ensures.verdict c.in-Refused.is)
-          ∙ ap₂ refused_line (sym c.number.ensures) (sym c.place.ensures);
-      done_value = c.requires;
-    }
+pub of-requires : goal.of-requires
+of-requires g c =
+    let o = c.check.ensures in
+    (walkable (checked_accepted o c.in-Ok.is) (checked_head o c.in-Ok.is)).opened
 
-pub list-requires : goal.list-requires
-list-requires g c =
-    let passed = c.in-Passed.is in
-    let o = c.check-checked.ensures in
-    record {
-      accepted = checked_accepted o passed;
-      h_value = checked_head o passed;
-      input_value = output_listing c.args.input.now (omega (arith, c.if-input-gt-IMAGE.false))
-          (told_passed o.verdict passed);
-      done_value = c.requires;
-    }
+pub list-requires-clause-accepted : goal.list-requires-clause-accepted
+list-requires-clause-accepted g c =
+    rw c.of.ensures.bytes (checked_accepted c.check.ensures c.in-Ok.is)
+
+pub list-requires-clause-input_value : goal.list-requires-clause-input_value
+list-requires-clause-input_value g c =
+    rw c.of.ensures.bytes
+    (output_listing c.args.input.now (omega (arith, c.if-input-gt-IMAGE.false))
+    (told_passed c.check.ensures.verdict c.in-Ok.is))
+
+pub refuse-requires-in-Err-clause-input_value : goal.refuse-requires-in-Err-clause-input_value
+refuse-requires-in-Err-clause-input_value g c =
+    output_refused c.args.input.now (omega (arith, c.if-input-gt-IMAGE.false))
+    (told_refused c.check.ensures.verdict c.in-Err.is)
+    ∙ ap₂ refused_line (sym c.number.ensures) (sym c.place.ensures)

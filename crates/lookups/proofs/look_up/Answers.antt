@@ -1,36 +1,39 @@
 -- `lookups::look_up` meets its contract: the opening gives 1 to 4, the key in hand 9 and 10, and
 -- the walk 6 or the value. Assumes nothing.
-use Rattle.key.proofs.Keyed.{by_letters}
+use mathlib.Core.Path.{refl}
+use Rattle.std.proofs.lemmas.Result.{err_from_is_err_and}
+use Rattle.paper.proofs.Known.{Known}
 use Rattle.opening.proofs.Passed.{known_opened}
 use Rattle.lookups.proofs.LookUpReturns.{looks_up_unopened, looks_up_unkeyed}
-use Rattle.lookups.proofs.LookUpReturns.{looks_up_found}
+use Rattle.lookups.proofs.LookUpReturns.{look_asks, looks_up_found}
 use Rattle.lookups.proofs.look_up.Goals as goal
 
-pub judge-judged-requires : goal.judge-judged-requires
-judge-judged-requires c =
-    (known_opened c.open-opened.ensures
-    c.in-Passed.is).image.head_permitted
+pub judge-requires : goal.judge-requires
+judge-requires c = (known_opened c.in_ok-h.ensures refl).image.head_permitted
+
+pub of-requires : goal.of-requires
+of-requires c = (known_opened c.in_ok-h.ensures refl).image
 
 pub look-requires : goal.look-requires
 look-requires c =
-    let b = known_opened c.open-opened.ensures c.in-Passed.is in record {
-      fact_1 = b.image;
-      fact_2 = (by_letters b _ _ c.of-key.ensures c.judge-judged.ensures).ready
-          c.in-Passed-judged.is;
-    }
+    let o = c.in_ok-h.ensures in
+    rw c.of.ensures.head (look_asks o (c.in_ok-key.ensures _ o))
 
-pub returns-in-Refused : goal.returns-in-Refused
-returns-in-Refused c =
-    looks_up_unopened c.open-opened.ensures _ c.in-Refused.is
+pub returns-in_err-h : goal.returns-in_err-h
+returns-in_err-h c =
+    let f = c.from_residual in
+    let e = err_from_is_err_and f.result f.ensures.1 in
+    rw (e.1, e.2) (looks_up_unopened _ c.in_err-h.ensures)
 
-pub returns-in-Refused-judged : goal.returns-in-Refused-judged
-returns-in-Refused-judged c =
-    let b = known_opened c.open-opened.ensures c.in-Passed.is in
-    looks_up_unkeyed b (by_letters b _ _ c.of-key.ensures c.judge-judged.ensures)
-    c.in-Refused-judged.is
+pub returns-in_err-key : goal.returns-in_err-key
+returns-in_err-key c =
+    let f = c.from_residual-in_err-key in
+    let e = err_from_is_err_and f.result f.ensures.1 in
+    let o = c.in_ok-h.ensures in
+    rw (e.1, e.2) (looks_up_unkeyed o (c.in_err-key.ensures _ o))
 
-pub returns-in-Passed-judged : goal.returns-in-Passed-judged
-returns-in-Passed-judged c =
-    let b = known_opened c.open-opened.ensures c.in-Passed.is in
-    looks_up_found b (by_letters b _ _ c.of-key.ensures c.judge-judged.ensures)
-    c.in-Passed-judged.is c.look.ensures
+pub returns : goal.returns
+returns c =
+    let o = c.in_ok-h.ensures in
+    let same = c.of.ensures in
+    looks_up_found o (c.in_ok-key.ensures _ o) (rw (same.head, same.bytes) at c.look.ensures)

@@ -2,8 +2,9 @@ use lib.ListN.{take}
 use Rattle.measure.proofs.Meeting.{to_come, Meeting}
 use Rattle.measure.proofs.count_met.Given as goal
 
-abbrev pub invariant-loop-length : goal.invariant-loop-length
-invariant-loop-length l = Meeting l.h l.image l.path l.nodes l.len l.met
+abbrev pub invariant-loop-spot : goal.invariant-loop-spot
+invariant-loop-spot l =
+    Meeting l.nodes.head l.nodes.image.now l.path.letters l.path.nodes l.len l.met
 
-abbrev pub decreases-loop-length : goal.decreases-loop-length
-decreases-loop-length l = to_come l.h l.image (take l.len l.path)
+abbrev pub decreases-loop-spot : goal.decreases-loop-spot
+decreases-loop-spot l = to_come l.nodes.head l.nodes.image.now (take l.len l.path.letters)

@@ -14,13 +14,13 @@ overflow_mul-result c =
     omega (
       arith,
       links_most {i = c.args.i}
-          (bounds c.args.h c.requires.fact_1) (omega arith),
+          (bounds c.args.h c.requires.permitted) (omega arith),
     )
 
 pub overflow_add-result : goal.overflow_add-result
 overflow_add-result c =
     let a = c.args in
-    let s = bounds a.h c.requires.fact_1 in
+    let s = bounds a.h c.requires.permitted in
     omega (
       arith,
       c.node_place.ensures,

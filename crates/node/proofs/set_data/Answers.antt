@@ -17,8 +17,8 @@ write-requires c =
     omega (
       arith,
       c.data_place.ensures,
-      inside_room (data_inside a.h a.q) c.requires.fact_1
-          c.requires.fact_2,
+      inside_room (data_inside a.h a.q) c.requires.open
+          c.requires.node,
     )
 
 written : (c : After-write) → let a = c.args in
@@ -33,8 +33,8 @@ unfolding carried_out data_write
 returns c =
     let a = c.args in
     let e = written (goal.at.returns c).After-write in record {
-      image_after = e;
-      image_after_2 = ap (table_of a.h) e
-          ∙ table_data a.h a.image.now c.requires.fact_1.room a.q a.v
-          c.requires.fact_2 c.requires.fact_3;
+      bytes = e;
+      table = ap (table_of a.h) e
+          ∙ table_data a.h a.image.now c.requires.open.room a.q a.v
+          c.requires.node c.requires.fits;
     }

@@ -17,7 +17,7 @@ write-requires c =
     omega (
       arith,
       c.link_place.ensures,
-      inside_room (link_inside a.h a.q c.requires.fact_3) c.requires.fact_1 c.requires.fact_2,
+      inside_room (link_inside a.h a.q c.requires.letter) c.requires.open c.requires.node,
     )
 
 written : (c : After-write) → let a = c.args in
@@ -32,8 +32,8 @@ unfolding carried_out link_write
 returns c =
     let a = c.args in
     let e = written (goal.at.returns c).After-write in record {
-      image_after = e;
-      image_after_2 = ap (table_of a.h) e
-          ∙ table_link a.h a.image.now c.requires.fact_1.room a.q a.i a.c
-          c.requires.fact_2 c.requires.fact_3 c.requires.fact_4;
+      bytes = e;
+      table = ap (table_of a.h) e
+          ∙ table_link a.h a.image.now c.requires.open.room a.q a.i a.c
+          c.requires.node c.requires.letter c.requires.fits;
     }

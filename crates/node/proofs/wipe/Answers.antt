@@ -12,7 +12,7 @@ clear-requires c =
       c.node_width.ensures,
       place_add a.h
           a.q 1,
-      c.requires.fact_2,
+      c.requires.room,
     )
 
 pub returns : goal.returns

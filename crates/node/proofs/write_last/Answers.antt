@@ -4,13 +4,13 @@ use native.Mathlib.Omega.{arith}
 use mathlib.Core.Path.{sym, ◌∙◌}
 use Rattle.node.specs.Writes.{carried_out}
 use Rattle.node.proofs.FieldPlaces.{data_inside}
-use Rattle.node.proofs.Nodes.{last_node_lem}
+use Rattle.node.proofs.WholeNodes.{last_node_lem}
 use Rattle.node.proofs.write_last.Goals as goal
 
 pub write-requires : goal.write-requires
 write-requires c =
     let a = c.args in
-    omega (arith, c.data_place.ensures, data_inside a.h a.q, c.requires.fact_2)
+    omega (arith, c.data_place.ensures, data_inside a.h a.q, c.requires.room)
 
 pub returns : goal.returns
 unfolding carried_out

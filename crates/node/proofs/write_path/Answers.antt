@@ -4,13 +4,13 @@ use native.Mathlib.Omega.{arith}
 use mathlib.Core.Path.{sym, ◌∙◌}
 use Rattle.node.specs.Writes.{carried_out}
 use Rattle.node.proofs.FieldPlaces.{link_inside}
-use Rattle.node.proofs.Nodes.{path_node_lem}
+use Rattle.node.proofs.WholeNodes.{path_node_lem}
 use Rattle.node.proofs.write_path.Goals as goal
 
 pub write-requires : goal.write-requires
 write-requires c =
     let a = c.args in
-    omega (arith, c.link_place.ensures, link_inside a.h a.q c.requires.fact_3, c.requires.fact_2)
+    omega (arith, c.link_place.ensures, link_inside a.h a.q c.requires.letter, c.requires.room)
 
 pub returns : goal.returns
 unfolding carried_out
@@ -21,4 +21,4 @@ returns c =
       c.link_place.ensures,
       c.wipe.ensures,
     )
-    (sym (path_node_lem a.h a.image.now a.q a.i a.c c.requires.fact_3))
+    (sym (path_node_lem a.h a.image.now a.q a.i a.c c.requires.letter))

@@ -20,41 +20,24 @@ whole c = search rules
 pub overflow_cast-data_place : goal.overflow_cast-data_place
 overflow_cast-data_place c =
     let a = c.args in
-    let within = subst (Ends a.h a.key) c.in-Complete.is c.requires.fact_3 in
+    let within = subst (Ends a.h a.key) c.in-Complete.is c.requires.ends in
     omega (
       arith,
       c.data_place.ensures,
       inside_used (data_inside a.h c.in-Complete.node) within,
-      c.requires.fact_4,
+      c.requires.short,
     )
 
-pub returns-then-value-eq0 : goal.returns-then-value-eq0
-returns-then-value-eq0 c =
+pub note_path-requires-clause-short : goal.note_path-requires-clause-short
+note_path-requires-clause-short c =
     let a = c.args in
-    let stop = subst (Ends a.h a.key) c.in-Stopped.is c.requires.fact_3 in
-    notes_none a.h (letters_of a.key) _ c.in-Stopped.is _ _ _ c.if-value-eq0.true
-    (letters_from a.key (whole (goal.at.returns-then-value-eq0 c).Start) c.requires.fact_2.short _
-    stop.depth)
-
-pub note_path-requires : goal.note_path-requires
-note_path-requires c =
-    let a = c.args in
-    let stop = subst (Ends a.h a.key) c.in-Stopped.is c.requires.fact_3 in
-    let count : length (drop c.in-Stopped.at.depth (letters_of a.key))
-    ≡ a.key.len - c.in-Stopped.at.depth
-    = length-drop c.in-Stopped.at.depth (letters_of a.key)
-    ∙ ap (λ n. n - c.in-Stopped.at.depth)
-    (letters_count a.key (whole (goal.at.note_path-requires c).Start) c.requires.fact_2.short) in
-    record {
-      fact_1 = c.requires.fact_1;
-      fact_2 = c.requires.fact_2;
-      fact_3 = stop;
-      fact_4 = rw (
-        missing_left (letters_of a.key) a.value c.in-Stopped.is
-            c.if-value-eq0.false,
-        count,
-      ) at c.requires.fact_4;
-    }
+    let k = letters_of a.key in
+    let depth = c.in-Stopped.at.depth in
+    let array = whole (goal.at.note_path-requires-clause-short c).Start in
+    let count : length (drop depth k) ≡ a.key.len - depth =
+    length-drop depth k
+    ∙ ap (λ n. n - depth) (letters_count a.key array c.requires.ready.short) in
+    rw (missing_left k a.value c.in-Stopped.is c.if-value-ne0.true, count) at c.requires.short
 
 pub returns-in-Complete : goal.returns-in-Complete
 returns-in-Complete c =
@@ -62,13 +45,16 @@ returns-in-Complete c =
     notes_data a.h (letters_of a.key) _ _ c.in-Complete.is
     c.data_place.ensures c.note.ensures
 
-pub returns-else-value-eq0 : goal.returns-else-value-eq0
-returns-else-value-eq0 c =
+pub returns-in-Stopped : goal.returns-in-Stopped
+returns-in-Stopped c =
     let a = c.args in
-    notes_value a.h (letters_of a.key) _ c.in-Stopped.is _ c.if-value-eq0.false
+    notes_value a.h (letters_of a.key) _ c.in-Stopped.is _ c.if-value-ne0.true
     c.note_path.ensures
 
-pub returns-in-Refused : goal.returns-in-Refused
-returns-in-Refused c =
-    absurd (subst (Ends c.args.h c.args.key) c.in-Refused.is
-    c.requires.fact_3)
+pub returns-in-Stopped-2 : goal.returns-in-Stopped-2
+returns-in-Stopped-2 c =
+    let a = c.args in
+    let array = whole (goal.at.returns-in-Stopped-2 c).Start in
+    let stop = subst (Ends a.h a.key) c.in-Stopped.is c.requires.ends in
+    notes_none a.h (letters_of a.key) _ c.in-Stopped.is _ _ _ c.if-value-ne0.false
+    (letters_from a.key array c.requires.ready.short _ stop.depth)

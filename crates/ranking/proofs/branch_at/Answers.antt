@@ -5,54 +5,47 @@ use native.Mathlib.Omega.{arith}
 use mathlib.Core.Path.{◌≡◌}
 use lib.ListN.{length, get_or}
 use Rattle.head.proofs.Permitted.{bounds}
-use Rattle.ranking.proofs.ByLetter.{sizes, below_link, turning_start}
+use Rattle.ranking.proofs.ByLetter.{sizes, below_link}
 use Rattle.ranking.proofs.ByLetter.{turning_empty, turning_past, turning_here, turning_none}
 use Rattle.ranking.proofs.branch_at.Goals as goal
 use Rattle.ranking.proofs.branch_at.Goals.{Else-c-eq0}
 
-pub loop-i-init : goal.loop-i-init
-loop-i-init c = turning_start _ _ _ _ c.requires.fact_4 _
-
 pub loop-i-preserved-then-c-eq0 : goal.loop-i-preserved-then-c-eq0
 loop-i-preserved-then-c-eq0 c =
-    turning_empty _ _ _ _ c.requires.fact_4 c.loop-i.invariant
+    turning_empty _ _ _ _ c.requires.depth c.loop-i.invariant
     c.loop-i-test.true c.link-c.ensures c.if-c-eq0.true
 
 -- the link is not empty: the list has the child's count
 counted : (c : Else-c-eq0)
     → (let a = c.args in
     (c.link-c.result < length a.counts.now)
-    × (get_or a.counts.now c.link-c.result 0 ≡ sizes a.h a.image.now a.node
-    a.depth c.loop-i.i))
+    × (get_or a.counts.now c.link-c.result 0
+    ≡ sizes a.nodes.head a.nodes.image.now a.node a.depth c.loop-i.i))
 counted c =
     let a = c.args in
-    below_link a.h a.image.now a.node a.depth a.counts.now c.loop-i.i
-    c.requires.child_counts
-    c.link-c.ensures c.if-c-eq0.false
-
-pub bounds-counts-c : goal.bounds-counts-c
-bounds-counts-c c = (counted (goal.at.bounds-counts-c c).Else-c-eq0).0
+    below_link a.nodes.head a.nodes.image.now a.node a.depth a.counts.now c.loop-i.i
+    c.requires.child_counts c.link-c.ensures c.if-c-eq0.false
 
 pub overflow_cast-result : goal.overflow_cast-result
 overflow_cast-result c =
     omega (
       arith,
-      bounds c.args.h c.requires.fact_1.head_permitted,
+      bounds c.args.nodes.head c.args.nodes.open.head_permitted,
       c.loop-i-test.true,
     )
 
 pub returns-then-left-under : goal.returns-then-left-under
 returns-then-left-under c =
-    turning_here _ _ _ _ c.requires.fact_4 c.loop-i.invariant _
+    turning_here _ _ _ _ c.requires.depth c.loop-i.invariant _
     c.loop-i-test.true (counted (goal.at.returns-then-left-under c).Else-c-eq0).1
     c.if-left-under.true
     c.link-c.ensures c.if-c-eq0.false
 
 pub loop-i-preserved : goal.loop-i-preserved
 loop-i-preserved c =
-    turning_past _ _ _ _ c.requires.fact_4 c.loop-i.invariant _
+    turning_past _ _ _ _ c.requires.depth c.loop-i.invariant _
     c.loop-i-test.true (counted (goal.at.loop-i-preserved c).Else-c-eq0).1 c.if-left-under.false
 
 pub returns : goal.returns
 returns c =
-    turning_none _ _ _ _ c.requires.fact_4 c.loop-i.invariant _ c.loop-i-test.false
+    turning_none _ _ _ _ c.requires.depth c.loop-i.invariant _ c.loop-i-test.false

@@ -2,77 +2,65 @@
 -- and the search 15 or the key. The buffer is written only if a key was found. Assumes nothing.
 use mathlib.Core.Path.{refl}
 use native.Mathlib.Omega.{arith}
-use Rattle.depths.proofs.Walkable.{short}
-use Rattle.traversal.proofs.Walking.{accepted_within, has_room, met}
-use Rattle.seeking.proofs.Seeking.{head_permitted, AfterCheck, after_check, found_within}
-use Rattle.seeking.proofs.Seeking.{found_front, found_room}
+use Rattle.std.proofs.lemmas.Result.{err_from_is_err_and}
+use Rattle.head.proofs.Permitted.{bounds}
+use Rattle.traversal.proofs.Walking.{met}
+use Rattle.seeking.proofs.Seeking.{AfterCheck, after_check, found_room}
 use Rattle.seeking.proofs.Seeking.{seek_unkeyed, seek_short, seek_missing, seek_found}
 use Rattle.seeking.proofs.seek.Goals as goal
-use Rattle.seeking.proofs.seek.Goals.{In-Passed}
+use Rattle.seeking.proofs.seek.Goals.{In_ok-judge_next}
 
-pub judge_next-judged-requires : goal.judge_next-judged-requires
-judge_next-judged-requires c =
-    head_permitted c.requires.accepted c.requires.h_value
+pub returns-in_err-judge_next : goal.returns-in_err-judge_next
+returns-in_err-judge_next c =
+    let f = c.from_residual in
+    let e = err_from_is_err_and f.result f.ensures.1 in
+    rw (e.1, e.2)
+    (seek_unkeyed c.requires.accepted c.requires.own _ _ c.of-key.ensures
+    c.in_err-judge_next.ensures _ _ refl)
 
 -- once 9 and 10 have passed
-known : (c : In-Passed)
-    → let args = c.args in
-    AfterCheck args.image.now args.h args.letters.now c.of-key.result
+known : (c : In_ok-judge_next)
+    → (let n = c.args.nodes in
+    AfterCheck n.image.now n.head c.args.letters.now c.of-key.result)
 known c =
-    after_check c.requires.accepted c.requires.h_value _ _ c.of-key.ensures
-    c.judge_next-judged.ensures
-    c.in-Passed.is
+    after_check c.requires.accepted c.requires.own _ _ c.of-key.ensures
+    c.in_ok-judge_next.ensures refl
 
-pub returns-then-buffer-h : goal.returns-then-buffer-h
-returns-then-buffer-h c = seek_short (known (goal.at.returns-then-buffer-h c).In-Passed) _ _
-    c.if-buffer-h.true
+pub returns-then-buffer-nodes : goal.returns-then-buffer-nodes
+returns-then-buffer-nodes c =
+    seek_short (known (goal.at.returns-then-buffer-nodes c).In_ok-judge_next) _ _
+    c.if-buffer-nodes.true
 
-pub next-found-requires : goal.next-found-requires
-next-found-requires c =
-    let k = known (goal.at.next-found-requires c).In-Passed in
-    let within = accepted_within k.accepted k.same in
-    record {
-      fact_1 = k.walk.opened;
-      fact_2 = within;
-      ready_1 = k.ready;
-      ready_2 = k.short;
-      ready_3 = has_room k.walk refl refl;
-    }
+pub next-requires : goal.next-requires
+next-requires c =
+    let k = known (goal.at.next-requires c).In_ok-judge_next in
+    record { within = k.walk.within; ready = k.ready; short = k.short }
 
-pub slice_bounds-path-end : goal.slice_bounds-path-end
-slice_bounds-path-end c =
-    let told = c.next-found.ensures in
-    found_within told.search_tells c.in-Found.is told.path_room
-
-pub slice_bounds-copy-end : goal.slice_bounds-copy-end
-slice_bounds-copy-end c =
-    let told = c.next-found.ensures in
-    found_front told.search_tells c.in-Found.is told.path_room
+pub shared_ref_as_front-copy : goal.shared_ref_as_front-copy
+shared_ref_as_front-copy c =
+    omega (
+      arith,
+      (met c.next.ensures c.in-Some.is).deep,
+      bounds c.args.nodes.head c.args.nodes.open.head_permitted,
+    )
 
 pub copy-requires : goal.copy-requires
-copy-requires c =
-    found_room c.next-found.ensures.search_tells c.in-Found.is c.next-found.ensures.path_room
-    c.if-buffer-h.false
+copy-requires c = found_room c.next.ensures c.in-Some.is c.if-buffer-nodes.false
 
-pub overflow_cast-count : goal.overflow_cast-count
-overflow_cast-count c =
-    let k = known (goal.at.overflow_cast-count c).In-Passed in
-    omega (arith, (met c.next-found.ensures.search_tells c.in-Found.is).deep, short k.walk)
+pub overflow_cast-result : goal.overflow_cast-result
+overflow_cast-result c =
+    omega (
+      arith,
+      (met c.next.ensures c.in-Some.is).deep,
+      bounds c.args.nodes.head c.args.nodes.open.head_permitted,
+    )
 
-pub returns-in-Refused : goal.returns-in-Refused
-returns-in-Refused c =
-    seek_unkeyed c.requires.accepted c.requires.h_value _ _ c.of-key.ensures
-    c.judge_next-judged.ensures _ _
-    c.in-Refused.is
+pub returns-in_default : goal.returns-in_default
+returns-in_default c =
+    seek_missing (known (goal.at.returns-in_default c).In_ok-judge_next) _ _
+    c.if-buffer-nodes.false c.next.ensures c.in_default.is
 
-pub returns-in-Missing : goal.returns-in-Missing
-returns-in-Missing c =
-    seek_missing (known (goal.at.returns-in-Missing c).In-Passed) _ _ c.if-buffer-h.false
-    c.next-found.ensures.search_tells
-    c.in-Missing.is
-
-pub returns-in-Found : goal.returns-in-Found
-returns-in-Found c =
-    seek_found (known (goal.at.returns-in-Found c).In-Passed) _ _ c.if-buffer-h.false
-    c.next-found.ensures.search_tells
-    c.in-Found.is c.copy.ensures
+pub returns : goal.returns
+returns c =
+    seek_found (known (goal.at.returns c).In_ok-judge_next) _ _ c.if-buffer-nodes.false
+    c.next.ensures c.in-Some.is c.copy.ensures

@@ -1,20 +1,19 @@
 -- `stores::store_writes` meets its contract: `asking` judges the check's rows, 9 and 10, and
 -- `noting` does the rest. Assumes nothing.
-use Rattle.asking.proofs.Asking.{store_asks}
+use Rattle.std.proofs.lemmas.Result.{err_from_is_err_and}
 use Rattle.stores.proofs.StoreReturns.{stores_writes_refused, stores_writes_passed}
 use Rattle.stores.proofs.store_writes.Goals as goal
 
 pub store_noted-requires : goal.store_noted-requires
 store_noted-requires c =
-    let asks = store_asks c.ask-asked.ensures c.in-Passed.is in
-    record { fact_1 = asks.0; fact_2 = asks.1.0; fact_3 = asks.1.1 }
+    let a = c.in_ok-asked.ensures.allowed in
+    record { accepted = a.accepted; own = a.head; ready = a.ready }
 
-pub returns-in-Refused : goal.returns-in-Refused
-returns-in-Refused c =
-    stores_writes_refused _ c.ask-asked.ensures _
-    c.in-Refused.is _
+pub returns-in_err-asked : goal.returns-in_err-asked
+returns-in_err-asked c =
+    let f = c.from_residual in
+    let e = err_from_is_err_and f.result f.ensures.1 in
+    rw (e.1, e.2) (stores_writes_refused _ _ c.in_err-asked.ensures _)
 
-pub returns-in-Passed : goal.returns-in-Passed
-returns-in-Passed c =
-    stores_writes_passed _ c.ask-asked.ensures _
-    c.in-Passed.is _ _ c.store_noted.ensures
+pub returns : goal.returns
+returns c = stores_writes_passed _ _ c.in_ok-asked.ensures _ _ c.store_noted.ensures

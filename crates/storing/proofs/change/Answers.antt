@@ -2,14 +2,14 @@
 use Rattle.storing.proofs.Adding.{change_none, change_new, change_gone, change_over}
 use Rattle.storing.proofs.change.Goals as goal
 
-pub returns-then-new-eq0 : goal.returns-then-new-eq0
-returns-then-new-eq0 c = change_none c.if-old-eq0.true c.if-new-eq0.true
+pub returns-in-0-eq0 : goal.returns-in-0-eq0
+returns-in-0-eq0 c = change_none c.in-0-eq0.is-0 c.in-0-eq0.is-1
 
-pub returns-then-old-eq0 : goal.returns-then-old-eq0
-returns-then-old-eq0 c = change_new _ _ c.if-old-eq0.true c.if-new-eq0.false
+pub returns-in-0-default : goal.returns-in-0-default
+returns-in-0-default c = change_new _ _ c.in-0-default.is-0 c.in-0-default.is-1.1
 
-pub returns-then-new-eq0-2 : goal.returns-then-new-eq0-2
-returns-then-new-eq0-2 c = change_gone _ _ c.if-old-eq0.false c.if-new-eq0-2.true
+pub returns-in_default-eq0 : goal.returns-in_default-eq0
+returns-in_default-eq0 c = change_gone _ _ c.in_default-eq0.is-0.1 c.in_default-eq0.is-1
 
-pub returns : goal.returns
-returns c = change_over _ _ c.if-old-eq0.false c.if-new-eq0-2.false
+pub returns-in_default : goal.returns-in_default
+returns-in_default c = change_over _ _ c.in_default.is-0.1 c.in_default.is-1.1

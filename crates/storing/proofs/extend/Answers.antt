@@ -1,13 +1,11 @@
 -- `storing::extend` meets its contract: 12 and 13 were judged for all missing nodes, so the path
 -- can be built. Assumes nothing.
 use Prim.Native.Nat.{suc, ◌+◌, ◌-◌}
-use mathlib.Core.Path.{◌≡◌, refl, sym, ap, ◌∙◌}
+use mathlib.Core.Path.{◌≡◌, sym, ap, ◌∙◌}
 use mathlib.Core.List.{◌∷◌}
 use mathlib.Core.Logic.{◌≢◌}
 use native.Mathlib.Omega.{arith}
-use mir.Syntax.{w32}
-use mir.Facts.{to_z-of_z}
-use borrow.Author.Rules.{rules, sfits_of}
+use borrow.Author.Rules.{rules}
 use lib.ListN.{length, get_or, drop, length-drop}
 use Rattle.head.specs.Fields.{most_letters}
 use Rattle.head.proofs.Permitted.{bounds, addresses_fit}
@@ -28,8 +26,8 @@ left : (c : Start) →
     let a = c.args in
     drop a.at.depth (letters_of a.key) ≡ get_or a.key.letters a.at.depth 0
     ∷ drop (suc a.at.depth) (letters_of a.key)
-left c = letters_from c.args.key (whole c) c.requires.fact_2.short c.args.at.depth
-    c.requires.fact_3.depth
+left c = letters_from c.args.key (whole c) c.requires.ready.short c.args.at.depth
+    c.requires.stop.depth
 
 -- as many nodes are missing as letters are left
 total : (c : Start) →
@@ -37,7 +35,7 @@ total : (c : Start) →
     + length (drop a.at.depth (letters_of a.key))
 total c =
     let a = c.args in
-    let count = letters_count a.key (whole c) c.requires.fact_2.short in
+    let count = letters_count a.key (whole c) c.requires.ready.short in
     ap (λ n. a.h.g + n) (sym (length-drop a.at.depth (letters_of a.key)
     ∙ ap (λ n. n - a.at.depth) count))
 
@@ -46,7 +44,7 @@ room : (c : Start) →
     let a = c.args in
     a.value ≢ 0 → Space a.h a.image.now (a.h.g + (a.key.len - a.at.depth))
 room c some =
-    rw (total c) (path_space _ _ _ _ _ (left c) _ some c.requires.fact_4)
+    rw (total c) (path_space _ _ _ _ _ (left c) _ some c.requires.unrefused)
 
 -- the image after the writes
 wrote : (c : Joined-value-ne0) → let a = c.args in
@@ -68,23 +66,14 @@ overflow_add-h c =
     omega (
       arith,
       (room (goal.at.overflow_add-h c).Start c.if-value-ne0.true).addresses,
-      addresses_fit
-          (bounds c.args.h c.requires.fact_1.head_permitted),
+      addresses_fit (bounds c.args.h c.requires.open.head_permitted),
     )
 
-pub build-requires : goal.build-requires
-build-requires c =
-    record {
-      fact_1 = c.requires.fact_1;
-      fact_2 = c.requires.fact_2;
-      fact_3 = c.requires.fact_3;
-      fact_4 = refl;
-      fact_5 = room (goal.at.build-requires c).Start c.if-value-ne0.true;
-    }
+pub build-requires-clause-space : goal.build-requires-clause-space
+build-requires-clause-space c =
+    room (goal.at.build-requires-clause-space c).Start c.if-value-ne0.true
 
-pub returns : goal.returns
-returns c = record {
-  image_after = wrote (goal.at.returns c).Joined-value-ne0 (left (goal.at.returns c).Start)
-      (total (goal.at.returns c).Start);
-  value = to_z-of_z {w = w32} (sfits_of c.change.type_inv) ∙ c.change.ensures;
-}
+pub returns-clause-image_after : goal.returns-clause-image_after
+returns-clause-image_after c =
+    let s = (goal.at.returns-clause-image_after c).Start in
+    wrote (goal.at.returns-clause-image_after c).Joined-value-ne0 (left s) (total s)

@@ -34,7 +34,7 @@ returns-then-mask-total c =
 
 pub fits-requires : goal.fits-requires
 unfolding permitted
-fits-requires c = c.requires.fact_1
+fits-requires c = c.requires.permitted
 
 pub returns-then-not-fits : goal.returns-then-not-fits
 returns-then-not-fits c =

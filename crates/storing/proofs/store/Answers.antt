@@ -1,36 +1,37 @@
--- `storing::store` meets its contract: in an accepted image the walk ends as the key's descent
--- does. Assumes nothing.
+-- `storing::store` meets its contract: in an accepted image the walk is not refused, and it ends
+-- as the key's descent does. Assumes nothing.
 use mathlib.Core.Path.{◌≡◌}
 use borrow.Author.Rules.{rules}
 use lib.ListN.{length}
+use Rattle.std.specs.Prelude.{Ok}
 use Rattle.head.specs.Fields.{most_letters}
-use Rattle.paper.proofs.CheckCall.{head_open}
+use Rattle.node.specs.Image.{table_of}
 use Rattle.key.specs.Hand.{letters_of}
-use Rattle.storing.proofs.StoreStage.{ends, stores}
+use Rattle.walk.specs.Descent.{at_root, walked_from}
+use Rattle.storing.proofs.StoreStage.{never_bad, ends, stores}
 use Rattle.storing.proofs.store.Goals as goal
-use Rattle.storing.proofs.store.Goals.{Start}
+use Rattle.storing.proofs.store.Goals.{In_ok-walked}
 
--- the array's length
-whole : (c : Start) → length c.args.key.letters ≡ most_letters
-whole c = search rules
+-- how the walk ended
+walked : (c : In_ok-walked) →
+    let a = c.args in
+    Ok c.in_ok-walked.walked ≡ walked_from a.h.g (table_of a.h a.image.now) at_root
+    (letters_of a.key)
+walked c = rw (c.of.ensures.head, c.of.ensures.bytes) at c.in_ok-walked.ensures
 
-pub walk-walked-requires : goal.walk-walked-requires
-walk-walked-requires c = record {
-  fact_1 = head_open c.requires.fact_1 c.requires.fact_2;
-  fact_2 = c.requires.fact_3;
-}
+pub returns-in_err-walked : goal.returns-in_err-walked
+returns-in_err-walked c =
+    absurd (never_bad c.requires.accepted c.requires.own (letters_of c.args.key)
+    (rw (c.of.ensures.head, c.of.ensures.bytes) at c.in_err-walked.ensures))
 
-pub store_at-requires : goal.store_at-requires
-store_at-requires c =
-    record {
-      fact_1 = head_open c.requires.fact_1 c.requires.fact_2;
-      fact_2 = c.requires.fact_3;
-      fact_3 = ends c.requires.fact_1 c.requires.fact_2 c.args.key
-          (whole (goal.at.store_at-requires c).Start) c.requires.fact_3.short _
-          c.walk-walked.ensures;
-    }
+pub store_at-requires-clause-ends : goal.store_at-requires-clause-ends
+store_at-requires-clause-ends c =
+    let key = c.args.key in
+    let whole : length key.letters ≡ most_letters = search rules in
+    ends c.requires.accepted c.requires.own key whole c.requires.ready.short _
+    (walked (goal.at.store_at-requires-clause-ends c).In_ok-walked)
 
 pub returns : goal.returns
 returns c =
-    stores c.requires.fact_1 c.requires.fact_2 (letters_of c.args.key)
-    c.walk-walked.ensures _ _ c.store_at.ensures
+    stores c.requires.accepted c.requires.own (letters_of c.args.key)
+    (walked (goal.at.returns c).In_ok-walked) _ _ c.store_at.ensures

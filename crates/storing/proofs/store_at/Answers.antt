@@ -6,51 +6,45 @@ use mir.Syntax.{w32}
 use mir.Facts.{to_z-of_z}
 use borrow.Author.Rules.{sfits_of}
 use lib.ListN.{length}
+use Rattle.std.proofs.lemmas.Result.{err_from_is_err_and}
 use Rattle.trie.specs.Table.{missing}
 use Rattle.trie.specs.Storing.{added}
 use Rattle.paper.specs.Hearing.{first}
+use Rattle.paper.specs.Answers.{row_of}
 use Rattle.paper.specs.Orders.{adding_rows}
 use Rattle.paper.proofs.Hearing.{told_refused, told_passed}
 use Rattle.key.specs.Hand.{letters_of}
 use Rattle.storing.specs.StoreStage.{end_of}
 use Rattle.storing.proofs.Adding.{refuses, done}
 use Rattle.storing.proofs.store_at.Goals as goal
-use Rattle.storing.proofs.store_at.Goals.{After-new_count}
+use Rattle.storing.proofs.store_at.Goals.{After-judge}
 
 -- what is judged is the number of nodes that the store adds
-same : (c : After-new_count) →
+judged : (c : After-judge) →
     let a = c.args in
-    first (adding_rows a.h a.value c.new_count.result (length a.image.now))
+    row_of c.judge.result
     ≡ first (adding_rows a.h a.value
     (added (missing (end_of (letters_of a.key) a.walked)) a.value)
     (length a.image.now))
-same c = let a = c.args in
-    ap (λ (k : ℕ). first (adding_rows a.h a.value k (length a.image.now)))
-    c.new_count.ensures.fact_1
+judged c = let a = c.args in
+    c.judge.ensures
+    ∙ ap (λ (k : ℕ). first (adding_rows a.h a.value k (length a.image.now)))
+    c.new_count.ensures.added
 
-pub write_at-requires : goal.write_at-requires
-write_at-requires c =
-    record {
-      fact_1 = c.requires.fact_1;
-      fact_2 = c.requires.fact_2;
-      fact_3 = c.requires.fact_3;
-      fact_4 = told_passed (c.judge-verdict.ensures
-          ∙ same (goal.at.write_at-requires c).After-new_count)
-          c.in-Passed.is;
-    }
+pub returns-in_err-judge : goal.returns-in_err-judge
+returns-in_err-judge c =
+    let p = err_from_is_err_and c.from_residual.result c.from_residual.ensures.1 in
+    rw (p.1, p.2)
+    (refuses c.args.h _ _ _ _ (told_refused (judged (goal.at.returns-in_err-judge c).After-judge)
+    c.in_err-judge.was))
 
-pub returns-in-Refused : goal.returns-in-Refused
-returns-in-Refused c =
-    let a = c.args in
-    refuses a.h _ _ _ _ (told_refused (c.judge-verdict.ensures
-    ∙ same (goal.at.returns-in-Refused c).After-new_count)
-    c.in-Refused.is)
+pub write_at-requires-clause-unrefused : goal.write_at-requires-clause-unrefused
+write_at-requires-clause-unrefused c =
+    told_passed (judged (goal.at.write_at-requires-clause-unrefused c).After-judge)
+    c.in_ok-judge.was
 
-pub returns-in-Passed : goal.returns-in-Passed
-returns-in-Passed c =
-    let a = c.args in
-    done a.h _ _ _ (told_passed (c.judge-verdict.ensures
-    ∙ same (goal.at.returns-in-Passed c).After-new_count)
-    c.in-Passed.is)
+pub returns : goal.returns
+returns c =
+    done c.args.h _ _ _ (told_passed (judged (goal.at.returns c).After-judge) c.in_ok-judge.was)
     (to_z-of_z {w = w32} (sfits_of c.write_at.type_inv) ∙ c.write_at.ensures.value)
     c.write_at.ensures.image_after

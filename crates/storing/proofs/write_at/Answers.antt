@@ -12,32 +12,13 @@ use Rattle.storing.specs.StoreStage.{Ends}
 use Rattle.storing.proofs.Adding.{passed}
 use Rattle.storing.proofs.StoreStage.{writes_over, writes_path, allowed_path}
 use Rattle.storing.proofs.write_at.Goals as goal
-use Rattle.storing.proofs.write_at.Goals.{Start}
 
--- the array's length
-whole : (c : Start) → length c.args.key.letters ≡ most_letters
-whole c = search rules
+pub replace-requires-clause-fits : goal.replace-requires-clause-fits
+replace-requires-clause-fits c = (passed _ _ _ _ c.requires.unrefused).fits
 
-pub replace-requires : goal.replace-requires
-replace-requires c =
-    let a = c.args in
-    record {
-      fact_1 = c.requires.fact_1;
-      fact_2 = subst (Ends a.h a.key) c.in-Complete.is c.requires.fact_3;
-      fact_3 = (passed _ _ _ _
-          c.requires.fact_4).fits;
-    }
-
-pub extend-requires : goal.extend-requires
-extend-requires c =
-    let a = c.args in
-    let stop = subst (Ends a.h a.key) c.in-Stopped.is c.requires.fact_3 in record {
-      fact_1 = c.requires.fact_1;
-      fact_2 = c.requires.fact_2;
-      fact_3 = stop;
-      fact_4 = allowed_path a.h _ (letters_of a.key) _ c.in-Stopped.is
-          c.requires.fact_4;
-    }
+pub extend-requires-clause-unrefused : goal.extend-requires-clause-unrefused
+extend-requires-clause-unrefused c =
+    allowed_path c.args.h _ (letters_of c.args.key) _ c.in-Stopped.is c.requires.unrefused
 
 pub returns-in-Complete : goal.returns-in-Complete
 returns-in-Complete c =
@@ -50,15 +31,10 @@ returns-in-Complete c =
 pub returns-in-Stopped : goal.returns-in-Stopped
 returns-in-Stopped c =
     let a = c.args in
-    let stop = subst (Ends a.h a.key) c.in-Stopped.is c.requires.fact_3 in
+    let whole : length a.key.letters ≡ most_letters = search rules in
+    let stop = subst (Ends a.h a.key) c.in-Stopped.is c.requires.ends in
     let r = writes_path a.h _ (letters_of a.key) _ c.in-Stopped.is _ _
-    (letters_from a.key (whole (goal.at.returns-in-Stopped c).Start) c.requires.fact_2.short _
-    stop.depth)
+    (letters_from a.key whole c.requires.ready.short _ stop.depth)
     c.extend.ensures.image_after
     (to_z-of_z {w = w32} (sfits_of c.extend.type_inv) ∙ c.extend.ensures.value) in
     record { image_after = r.0; value = r.1 }
-
-pub returns-in-Refused : goal.returns-in-Refused
-returns-in-Refused c =
-    absurd (subst (Ends c.args.h c.args.key) c.in-Refused.is
-    c.requires.fact_3)

@@ -1,8 +1,7 @@
 -- `tallying::first_bad_node` meets its contract: number 0 tells whether the root hides data. Then
 -- each turn counts the links of one more node, or stops at a node with a bad link, which is then
--- the lowest. The measure is how many nodes are left. Assumes nothing.
+-- the lowest. Assumes nothing.
 use native.Mathlib.Omega.{arith}
-use lib.ListN.{length-set}
 use Rattle.reaching.proofs.Kept.{kept_set}
 use Rattle.tallying.proofs.Tallying.{tallying_none, tallying_more, tallying_bad}
 use Rattle.tallying.proofs.Tallying.{tallying_all}
@@ -11,21 +10,11 @@ use Rattle.tallying.proofs.first_bad_node.Goals.{then-hides, else-hides}
 
 pub loop-q-init : goal.loop-q-init
 loop-q-init c =
-    tallying_none _ _ _ _ c.requires.g_in_bounds c.requires.work_value c.hides.ensures
+    tallying_none _ _ _ _ c.requires.room c.requires.zeros c.hides.ensures
     (λ e. elim c.if-hides.branch [
       | then-hides w ↦ absurd (omega arith)
       | else-hides w ↦ w.if-hides.false
     ])
-
-pub tally-requires : goal.tally-requires
-tally-requires c =
-    let long = length-set c.args.work.now 0 c.if-hides.work in record {
-      fact = c.requires.fact;
-      masks_1 = c.mask-mask.ensures;
-      masks_2 = c.greatest-data_mask.ensures;
-      q_le_g = omega arith;
-      g_in_bounds = omega (arith, c.loop-q.invariant.kept.long, long, c.requires.g_in_bounds);
-    }
 
 pub returns-then-not-tally : goal.returns-then-not-tally
 returns-then-not-tally c =
@@ -39,4 +28,4 @@ loop-q-preserved c =
 
 pub returns : goal.returns
 returns c =
-    tallying_all c.loop-q.invariant (kept_set _ _ (omega arith)) c.loop-q-test.false
+    tallying_all c.loop-q.invariant (kept_set _ _ (omega arith)) (omega arith)

@@ -1,13 +1,8 @@
--- `tallying::first_hidden` meets its contract: a search upwards from the root. The measure is how
--- many nodes are left. Assumes nothing.
+-- `tallying::first_hidden` meets its contract: a search upwards from the root. Assumes nothing.
 use mathlib.Core.Path.{sym, ◌∙◌}
 use native.Mathlib.Omega.{arith}
-use Rattle.tallying.proofs.LowestFound.{seeking_none, seeking_more, seeking_found}
-use Rattle.tallying.proofs.LowestFound.{seeking_all}
+use Rattle.tallying.proofs.LowestFound.{seeking_more, seeking_found, seeking_all}
 use Rattle.tallying.proofs.first_hidden.Goals as goal
-
-pub loop-x-init : goal.loop-x-init
-loop-x-init c = seeking_none _ _ _
 
 pub returns-then-hides : goal.returns-then-hides
 returns-then-hides c =
@@ -20,4 +15,4 @@ loop-x-preserved c =
     (sym c.hides.ensures ∙ c.if-hides.false)
 
 pub returns : goal.returns
-returns c = seeking_all c.loop-x.invariant (omega arith) (omega arith)
+returns c = seeking_all c.loop-x.invariant (omega arith)

@@ -6,12 +6,12 @@ use Rattle.head.proofs.Permitted.{bounds}
 use Rattle.tallying.proofs.Hiding.{hides_none, hides_data}
 use Rattle.tallying.proofs.hides.Goals as goal
 
-pub overflow_add-h : goal.overflow_add-h
-overflow_add-h c =
-    omega (arith, (bounds c.args.h c.requires.fact_1.head_permitted).max_most)
+pub overflow_add-nodes : goal.overflow_add-nodes
+overflow_add-nodes c =
+    omega (arith, (bounds c.args.nodes.head c.args.nodes.open.head_permitted).max_most)
 
-pub returns-then-h-mark : goal.returns-then-h-mark
-returns-then-h-mark c = sym (hides_none _ _ _ _ c.if-h-mark.true)
+pub returns-then-nodes-mark : goal.returns-then-nodes-mark
+returns-then-nodes-mark c = sym (hides_none _ _ _ _ c.if-nodes-mark.true)
 
 pub returns : goal.returns
-returns c = sym (hides_data _ _ _ _ c.if-h-mark.false c.data_by.ensures)
+returns c = sym (hides_data _ _ _ _ c.if-nodes-mark.false c.data.ensures)

@@ -1,6 +1,6 @@
 -- `utf8::fits` meets its contract. The bytes tested so far are in their ranges, so the row's
 -- test is that of the later bytes. The length is tested first, so all of them are inside the
--- slice. The measure is how many bytes are left. Assumes nothing.
+-- slice. Assumes nothing.
 use mathlib.Core.Path.{sym, ◌∙◌}
 use native.Mathlib.Omega.{arith}
 use Rattle.utf8.proofs.Utf8Loops.{testing_none, testing_more, testing_fails}
@@ -15,9 +15,6 @@ returns-then-s-at-2 c = sym (fits_not _ _ _ (omega arith))
 
 pub loop-i-init : goal.loop-i-init
 loop-i-init c = testing_none _ _ _ _
-
-pub in_range-requires : goal.in_range-requires
-in_range-requires c = tt
 
 pub returns-then-not-in_range : goal.returns-then-not-in_range
 returns-then-not-in_range c =

@@ -1,98 +1,51 @@
 -- `walk::walk` meets its contract: from the position reached, the walk along the letters left
 -- ends as the whole walk does. Assumes nothing.
-use Prim.Native.Nat.{ℕ, suc, ◌+◌}
-use mathlib.Core.Path.{◌≡◌, refl, sym}
+use Prim.Native.Nat.{suc}
+use mathlib.Core.Path.{◌≡◌, sym, ap, ◌∙◌}
 use mathlib.Core.List.{◌∷◌}
 use native.Mathlib.Omega.{arith}
-use borrow.Author.Rules.{rules}
-use lib.ListN.{length, get_or, drop}
-use Rattle.head.specs.Fields.{most_letters}
-use Rattle.node.specs.Image.{table_of}
+use lib.ListN.{get_or, drop}
+use lib.Seq.{drop-cons}
+use Rattle.std.specs.Prelude.{Ok}
+use Rattle.trie.proofs.LettersBelow.{letters_at}
 use Rattle.key.specs.Hand.{letters_of}
-use Rattle.key.proofs.Hand.{letters_count, letters_from, letter_below}
-use Rattle.walk.specs.declared.Position.{Position}
-use Rattle.walk.specs.declared.Step.{Step}
-use Rattle.walk.proofs.Descents.{Walking, walking_start, walking_on, walking_stopped}
-use Rattle.walk.proofs.Descents.{walking_bad, walking_end}
+use Rattle.walk.proofs.Descents.{walking_on, walking_stopped, walking_bad, walking_end}
+use Rattle.walk.proofs.Descents.{step_refused}
 use Rattle.walk.proofs.walk.Goals as goal
-use Rattle.walk.proofs.walk.Goals.{In-At, In-loop-here, Start}
-
--- a step that is neither `At` nor `Bad` is `Empty`
-is-empty : (s : Step) → ((p : Position) → s ≡ Step.At p → ⊥) → ((q : ℕ) → s ≡ Step.Bad q → ⊥)
-    → s ≡ Step.Empty
-is-empty (Step.At p) a b = absurd (a p refl)
-is-empty Step.Empty a b = refl
-is-empty (Step.Bad q) a b = absurd (b q refl)
-
--- the array holds as many letters as a key may have
-whole : (c : Start) → length c.args.key.letters ≡ most_letters
-whole c = search rules
+use Rattle.walk.proofs.walk.Goals.{In-loop-letter}
 
 -- the letters that are left
-left : (c : In-loop-here) →
-    let here = c.loop-here.here in
-    let key = c.args.key in
-    drop here.depth (letters_of key) ≡ get_or key.letters here.depth 0
-    ∷ drop (suc here.depth) (letters_of key)
+left : (c : In-loop-letter) →
+    let k = letters_of c.args.key in
+    drop c.loop-letter.here.depth k ≡ get_or k c.loop-letter.letter-index 0
+    ∷ drop (suc c.loop-letter.letter-index) k
 left c =
-    letters_from c.args.key (search rules) c.requires.fact_2.short c.loop-here.here.depth
-    c.loop-here-test.true
+    let k = letters_of c.args.key in
+    rw c.loop-letter.invariant.deep
+    (drop-cons k c.loop-letter.letter-index 0 c.loop-letter-test.true)
 
--- the position after a link to follow
-onward : (c : In-At) →
-    let here = c.loop-here.here in
-    let key = c.args.key in
-    drop here.depth (letters_of key) ≡ get_or key.letters here.depth 0
-    ∷ drop (suc here.depth) (letters_of key) →
-    let next = c.in-At.position in
-    Walking c.args.h.g (table_of c.args.h c.args.image.now)
-    (letters_of c.args.key) next
-    × (next.depth ≡ c.loop-here.here.depth + 1)
-onward c l =
-    walking_on c.loop-here.invariant l
-    c.step-next.ensures c.in-At.is
-
-pub loop-here-init : goal.loop-here-init
-loop-here-init c = walking_start _ _ _
-
-pub step-next-requires : goal.step-next-requires
-step-next-requires c =
-    record {
-      fact_1 = c.requires.fact_1;
-      fact_2 = c.mask-mask.ensures;
-      fact_3 = c.loop-here.invariant.within;
-      fact_4 = letter_below c.args.key (whole (goal.at.step-next-requires c).Start)
-          c.requires.fact_2.short _ _
-          c.requires.fact_2.letters c.loop-here-test.true;
-      fact_5 = omega arith;
-    }
-
-pub returns-in_default-next : goal.returns-in_default-next
-returns-in_default-next c =
-    let inv = c.loop-here.invariant in
-    sym (walking_stopped inv (left (goal.at.returns-in_default-next c).In-loop-here)
-    c.step-next.ensures
-    (is-empty _ c.in_default.not-At c.in_default-next.not-Bad))
+pub step-requires-clause-letter : goal.step-requires-clause-letter
+step-requires-clause-letter c =
+    letters_at _ (letters_of c.args.key) c.requires.letters _ c.loop-letter-test.true
 
 pub returns-in_default : goal.returns-in_default
 returns-in_default c =
-    let inv = c.loop-here.invariant in
-    sym (walking_bad inv (left (goal.at.returns-in_default c).In-loop-here) c.step-next.ensures
-    c.in-Bad.is)
+    sym (walking_bad c.loop-letter.invariant.walking
+    (left (goal.at.returns-in_default c).In-loop-letter)
+    (step_refused _ _ c.loop-letter.here _ c.step.ensures c.in_default.is))
 
-pub loop-here-smaller : goal.loop-here-smaller
-loop-here-smaller c = let on = onward (goal.at.loop-here-smaller c).In-At
-    (left (goal.at.loop-here-smaller c).In-loop-here) in omega (arith, on.1)
+pub returns-in_default-step : goal.returns-in_default-step
+returns-in_default-step c =
+    sym (walking_stopped c.loop-letter.invariant.walking
+    (left (goal.at.returns-in_default-step c).In-loop-letter)
+    (sym c.step.ensures ∙ (c.in-Ok.is ∙ ap Ok c.in_default-step.is)))
 
-pub loop-here-preserved : goal.loop-here-preserved
-loop-here-preserved c = (onward (goal.at.loop-here-preserved c).In-At
-    (left (goal.at.loop-here-preserved c).In-loop-here)).0
+pub loop-letter-preserved : goal.loop-letter-preserved
+loop-letter-preserved c =
+    let w = walking_on c.loop-letter.invariant.walking
+    (left (goal.at.loop-letter-preserved c).In-loop-letter)
+    (sym c.step.ensures ∙ (c.in-Ok.is ∙ ap Ok c.in-Some.is)) in
+    record { walking = w.0; deep = omega (arith, w.1) }
 
 pub returns : goal.returns
-returns c =
-    sym (walking_end c.loop-here.invariant
-    (omega (
-      arith,
-      letters_count c.args.key (whole (goal.at.returns c).Start)
-          c.requires.fact_2.short,
-    )))
+returns c = sym (walking_end c.loop-letter.invariant.walking (omega arith))

@@ -1,11 +1,11 @@
-use Prim.Native.Nat.{◌-◌}
-use Rattle.node.specs.Image.{table_of}
-use Rattle.key.specs.Hand.{letters_of}
+use mathlib.Core.Path.{◌≡◌}
+use Rattle.node.specs.Read.{node_table}
 use Rattle.walk.proofs.Descents.{Walking}
 use Rattle.walk.proofs.walk.Given as goal
 
-abbrev pub invariant-loop-here : goal.invariant-loop-here
-invariant-loop-here l = Walking l.h.g (table_of l.h l.image) (letters_of l.key) l.here
-
-abbrev pub decreases-loop-here : goal.decreases-loop-here
-decreases-loop-here l = l.key.len - l.here.depth
+abbrev pub invariant-loop-letter : goal.invariant-loop-letter
+invariant-loop-letter l =
+    record {
+      walking : Walking l.nodes.head.g (node_table l.nodes) l.letter-items l.here;
+      deep : l.here.depth ≡ l.letter-index;
+    }

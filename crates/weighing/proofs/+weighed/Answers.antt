@@ -1,128 +1,102 @@
 -- `weighing::weighed`, which calls itself, meets its contract. From letter to letter each count
--- and
--- the sum have what the links so far add. At each call of itself the depth left to max falls.
+-- and the sum have what the links so far add. At each call of itself the depth left to max falls.
 -- Assumes nothing.
 use Prim.Native.Nat.{ℕ, ◌+◌, ◌≤◌}
-use mathlib.Core.Path.{◌≡◌}
+use mathlib.Core.Path.{◌≡◌, ◌∙◌}
 use native.Mathlib.Omega.{arith}
-use lib.ListN.{length}
-use Rattle.node.specs.Image.{table_of}
-use Rattle.weighing.proofs.KeysLeft.{owned, owned_none, owned_one}
+use Rattle.node.specs.Read.{node_table}
+use Rattle.weighing.proofs.KeysLeft.{owned, owned_by}
 use Rattle.weighing.proofs.Weighing.{weighing_start, weighing_empty, weighing_sum}
 use Rattle.weighing.proofs.Weighing.{weighing_end, fits_end}
 use Rattle.weighing.proofs.Weighing.{Onto, weighing_leaf, weighing_child, fits_one}
 use Rattle.weighing.proofs.Weighing.{fits_sum_one, fits_child, fits_sum}
 use Rattle.weighing.proofs.+weighed.Goals as goal
-use Rattle.weighing.proofs.+weighed.Goals.{Joined-own_value_by-eq0, then-own_value_by-eq0}
-use Rattle.weighing.proofs.+weighed.Goals.{else-own_value_by-eq0}
+use Rattle.weighing.proofs.+weighed.Goals.{After-from-one}
 
 pub loop-i-init : goal.loop-i-init
 loop-i-init t c =
     let a = c.args in
-    weighing_start a.h a.image.now a.node a.depth a.list.now c.requires.own_value.0
+    weighing_start a.nodes.head a.nodes.image.now a.node a.depth a.list.now c.requires.own
 
 pub loop-i-preserved-then-c-eq0 : goal.loop-i-preserved-then-c-eq0
 loop-i-preserved-then-c-eq0 t c =
     weighing_empty c.loop-i.invariant c.loop-i-test.true c.link-c.ensures c.if-c-eq0.true
 
 -- the child's own key
-own-counted : (t : ℕ) (c : Joined-own_value_by-eq0 t)
+own_counted : (t : ℕ) (c : After-from-one t)
     → (let a = c.args in
-    c.if-own_value_by-eq0.one ≡ owned a.h (table_of a.h a.image.now) c.link-c.result
-    (a.depth + 1))
-own-counted t c =
+    c.from-one.result ≡ owned a.nodes.head (node_table a.nodes) c.link-c.result (a.depth + 1))
+own_counted t c =
     let a = c.args in
-    let table = table_of a.h a.image.now in
-    elim c.if-own_value_by-eq0.branch [
-      | then-own_value_by-eq0 w ↦
-          omega (
-            arith,
-            w.one-is,
-            owned_none a.h table c.link-c.result (a.depth + 1)
-                c.own_value_by.ensures w.if-own_value_by-eq0.true,
-          )
-      | else-own_value_by-eq0 w ↦
-          omega (
-            arith,
-            w.one-is,
-            owned_one a.h table c.link-c.result (a.depth + 1)
-                c.own_value_by.ensures w.if-own_value_by-eq0.false,
-          )
-    ]
+    c.from-one.ensures
+    ∙ owned_by a.nodes.head (node_table a.nodes) c.link-c.result (a.depth + 1) c.own_value.ensures
 
 -- the child's address is at most G
-inside : (t : ℕ) (c : Joined-own_value_by-eq0 t) → c.link-c.result ≤ c.args.h.g
-inside t c =
-    omega (arith, c.link-c.ensures, c.requires.fact.1.0 c.args.node c.loop-i.i)
+inside : (t : ℕ) (c : After-from-one t) → c.link-c.result ≤ c.args.nodes.head.g
+inside t c = omega (arith, c.link-c.ensures, c.requires.within c.args.node c.loop-i.i)
 
 -- the link is not empty
-onto : (t : ℕ) (c : Joined-own_value_by-eq0 t)
+onto : (t : ℕ) (c : After-from-one t)
     → (let a = c.args in
-    Onto a.h a.image.now a.node a.depth a.list.now c.loop-i.list
+    Onto a.nodes.head a.nodes.image.now a.node a.depth a.list.now c.loop-i.list
     c.loop-i.sum c.loop-i.i c.link-c.result)
 onto t c =
     record {
       so_far = c.loop-i.invariant;
-      fits = c.requires.own_value.1;
-      deep = c.requires.node_le_g.1.0;
+      fits = c.requires.fits;
+      deep = c.requires.deep;
       low = c.loop-i-test.true;
       link = c.link-c.ensures;
       full = c.if-c-eq0.false;
-      room = omega (
-        arith,
-        c.link-c.ensures,
-        c.requires.fact.1.0 c.args.node c.loop-i.i,
-        c.requires.node_le_g.1.1,
-        c.loop-i.invariant.long,
-      );
+      room = omega (arith, inside t c, c.requires.room, c.loop-i.invariant.long);
     }
 
 pub overflow_add-list : goal.overflow_add-list
 overflow_add-list t c =
-    let j = (goal.at.overflow_add-list t c).Joined-own_value_by-eq0 in omega
-    (arith, fits_one (onto t j) (own-counted t j))
+    let j = (goal.at.overflow_add-list t c).After-from-one in
+    omega (arith, fits_one (onto t j) (own_counted t j))
 
 pub overflow_add-sum : goal.overflow_add-sum
 overflow_add-sum t c =
-    let j = (goal.at.overflow_add-sum t c).Joined-own_value_by-eq0 in omega
-    (arith, fits_sum_one (onto t j) (own-counted t j))
+    let j = (goal.at.overflow_add-sum t c).After-from-one in
+    omega (arith, fits_sum_one (onto t j) (own_counted t j))
 
 pub loop-i-preserved-then-no_keys_below : goal.loop-i-preserved-then-no_keys_below
 loop-i-preserved-then-no_keys_below t c =
-    let j = (goal.at.loop-i-preserved-then-no_keys_below t c).Joined-own_value_by-eq0 in
-    weighing_leaf (onto t j) (own-counted t j) c.no_keys_below.ensures c.if-no_keys_below.true
+    let j = (goal.at.loop-i-preserved-then-no_keys_below t c).After-from-one in
+    weighing_leaf (onto t j) (own_counted t j) c.no_keys_below.ensures c.if-no_keys_below.true
 
 pub weighed-sum-requires : goal.weighed-sum-requires
 weighed-sum-requires t c =
-    let j = (goal.at.weighed-sum-requires t c).Joined-own_value_by-eq0 in
-    let o = onto t j in
-    let deep = c.no_keys_below.ensures.deep c.if-no_keys_below.false in
-    let long : c.args.h.g + 1 ≤ length c.loop-i.list =
-    omega (arith, c.requires.node_le_g.1.1, o.so_far.long) in (
+    let j = (goal.at.weighed-sum-requires t c).After-from-one in
+    let o = onto t j in (
       omega (arith, c.decreases, o.deep),
       (
-        c.requires.fact,
-        ((inside t j, (deep, long)), (own-counted t j, fits_child o)),
+        c.requires.within,
+        (
+          inside t j,
+          (
+            c.no_keys_below.ensures.deep c.if-no_keys_below.false,
+            (omega (arith, c.requires.room, o.so_far.long), (own_counted t j, fits_child o)),
+          ),
+        ),
       ),
     )
 
 pub overflow_add-sum-in-loop-i : goal.overflow_add-sum-in-loop-i
 overflow_add-sum-in-loop-i t c =
-    omega (
-      arith,
-      fits_sum (onto t (goal.at.overflow_add-sum-in-loop-i t c).Joined-own_value_by-eq0)
-          c.weighed-sum.ensures.value,
-    )
+    let j = (goal.at.overflow_add-sum-in-loop-i t c).After-from-one in
+    omega (arith, fits_sum (onto t j) c.weighed-sum.ensures.value)
 
 pub loop-i-preserved : goal.loop-i-preserved
 loop-i-preserved t c =
-    weighing_child (onto t (goal.at.loop-i-preserved t c).Joined-own_value_by-eq0)
+    weighing_child (onto t (goal.at.loop-i-preserved t c).After-from-one)
     c.weighed-sum.ensures.value
     c.weighed-sum.ensures.weighed
 
 pub overflow_add-list-2 : goal.overflow_add-list-2
 overflow_add-list-2 t c =
-    omega (arith, fits_end c.loop-i.invariant c.requires.own_value.1 c.loop-i-test.false)
+    omega (arith, fits_end c.loop-i.invariant c.requires.fits c.loop-i-test.false)
 
 pub returns : goal.returns
 returns t c =
@@ -130,9 +104,5 @@ returns t c =
     let high = c.loop-i-test.false in
     record {
       value = weighing_sum w high;
-      weighed = weighing_end w high (omega (
-        arith,
-        c.requires.node_le_g.0,
-        c.requires.node_le_g.1.1,
-      ));
+      weighed = weighing_end w high (omega (arith, c.requires.inside, c.requires.room));
     }

@@ -6,16 +6,18 @@ use Rattle.weighing.proofs.weigh.Goals as goal
 
 pub add_up-requires : goal.add_up-requires
 add_up-requires c =
+    let r = c.requires in
     let list = c.args.list.now in
-    let clear = c.clear.ensures in record {
-      accepted_1 = c.requires.fact_1;
-      accepted_2 = c.requires.fact_2;
-      accepted_3 = cleared_room c.requires.fact_1 c.requires.fact_2 list clear c.requires.fact_3;
-      list_value = cleared_start c.requires.fact_1
-          c.requires.fact_2 list clear c.requires.fact_3;
+    let clear = rw c.count.ensures at c.clear.ensures in
+    record {
+      accepted = r.accepted;
+      own = r.own;
+      room = cleared_room r.accepted r.own list clear r.room;
+      zeros = cleared_start r.accepted r.own list clear r.room;
     }
 
 pub returns : goal.returns
 returns c =
-    c.add_up.ensures ∙ cleared_worked c.requires.fact_1 c.requires.fact_2 c.args.list.now
-    c.clear.ensures c.requires.fact_3
+    let r = c.requires in
+    let clear = rw c.count.ensures at c.clear.ensures in
+    c.add_up.ensures ∙ cleared_worked r.accepted r.own c.args.list.now clear r.room

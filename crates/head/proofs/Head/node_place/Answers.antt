@@ -14,8 +14,8 @@ small : (c : After-node_width) → fields_len + c.args.self.f
 unfolding node_place
 small c =
     rw c.node_width.ensures
-    (place_most c.args.q (bounds _ c.requires.fact_1)
-    c.requires.fact_2)
+    (place_most c.args.q (bounds _ c.requires.head_permitted)
+    c.requires.address)
 
 pub overflow_mul-result : goal.overflow_mul-result
 overflow_mul-result c = omega (arith, small (goal.at.overflow_mul-result c).After-node_width)

@@ -1,9 +1,0 @@
--- The place stays within the forms.
-use Prim.Native.Nat.{◌-◌, ◌≤◌}
-use Rattle.cases.proofs.same.Given as goal
-
-abbrev pub invariant-loop-i : goal.invariant-loop-i
-invariant-loop-i l = l.i ≤ 24
-
-abbrev pub decreases-loop-i : goal.decreases-loop-i
-decreases-loop-i l = 24 - l.i
