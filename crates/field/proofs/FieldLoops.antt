@@ -1,19 +1,21 @@
--- What a part of a slice holds once all of it is written, and what the loops keep. In a write from
--- the last byte, the rest of the number is still to be written, in the width that is left
+-- What a part of a slice holds once all of it is written, and what the loops keep. In a copy from
+-- the front, each turn stores one more element of the list (`sets_append`). In a write from the
+-- last byte, the rest of the number is still to be written, in the width that is left
 -- (`put_last`).
-use mathlib.Core.Path.{◌≡◌, refl, sym, ◌∙◌, subst}
+use mathlib.Core.Path.{◌≡◌, refl, sym, ap, ap₂, ◌∙◌, subst}
 use Prim.Native.Nat.{ℕ, zero, suc, ◌+◌, ◌-◌, ◌/◌, ◌%◌, ◌≤◌, ◌<◌}
 use native.Mathlib.Nat.{not-suc-le-zero}
-use native.Mathlib.Numerals.{sub-one}
+use native.Mathlib.Numerals.{add-one, sub-one}
 use native.Mathlib.Omega.{arith}
 use native.Mathlib.Decide.{dec_lt}
-use mathlib.Core.List.{List, append_assoc}
+use mathlib.Core.List.{List, [], ◌∷◌, append_assoc}
 use lib.ListN.{length, get_or, set, take, drop, length-set}
-use lib.Seq.{sets}
+use lib.Seq.{sets, take_all, take-suc, length-take-le}
 use borrow.Rule.Slice.PartMut.{put_mid}
 use Rattle.std.proofs.lemmas.Slice.{put_mid-paste}
 use Rattle.std.proofs.lemmas.List.Edits.{paste_all, sets-eq}
 use Rattle.field.specs.Field.{Zeros, field_at, digits, put_field}
+use Rattle.field.proofs.Sets.{sets_append}
 use Rattle.field.proofs.Field.{field_zero, put_last}
 
 -- what a part of k elements from `at` on holds after they were all written
@@ -24,6 +26,35 @@ part_written l vs part at k e f h =
     ∙ paste_all l at vs (length vs) refl
     ∙ sym (append_assoc (take at l) vs (drop (at + length vs) l))
     ∙ sym (sets-eq vs l at h)
+
+-- s is l with the first i elements of vs written from `at` on
+pub record Laying (l : List ℕ) (at : ℕ) (vs s : List ℕ) (i : ℕ) : Type 0 where
+  pub within : i ≤ length vs
+  pub long : length s ≡ length l
+  pub laid : s ≡ sets l at (take i vs)
+
+pub laying_none : (l : List ℕ) (at : ℕ) (vs : List ℕ) → Laying l at vs l 0
+laying_none l at vs = record { within = omega arith; long = refl; laid = refl }
+
+pub laying_more : {l : List ℕ} {at : ℕ} {vs s : List ℕ} {i x : ℕ} → Laying l at vs s i
+    → i < length vs → x ≡ get_or vs i 0 → Laying l at vs (set s (at + i) x) (i + 1)
+laying_more {l} {at} {vs} {s} {i} {x} p h e =
+    record {
+      within = omega arith;
+      long = length-set s (at + i) x ∙ p.long;
+      laid =
+          rw (
+            add-one i,
+            take-suc vs i 0 h,
+            sets_append l at (take i vs) (get_or vs i 0 ∷ []),
+            length-take-le i vs p.within,
+          )
+          (ap₂ (λ (r : List ℕ) (y : ℕ). set r (at + i) y) p.laid e);
+    }
+
+pub laying_all : {l : List ℕ} {at : ℕ} {vs s : List ℕ} {i : ℕ} → Laying l at vs s i → length vs ≤ i
+    → s ≡ sets l at vs
+laying_all {l} {at} {vs} {i} p h = p.laid ∙ ap (λ (r : List ℕ). sets l at r) (take_all i vs h)
 
 -- x is what is left of the number and i what is left of the width: writing x into s gives what
 -- writing v into l gives

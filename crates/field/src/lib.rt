@@ -134,10 +134,14 @@ pub fn clear(s: &mut [u8], at: usize, n: usize)
     s[at..at + n].fill(0);
 }
 
-// Copies all of `from` into s, from `at` on.
+// Copies all of `from` into s, from `at` on. A loop of its own: the library's `copy_from_slice`
+// calls memmove where the compiler can't tell that the two don't overlap, and a bench is promised
+// that it needs memcpy and memset alone.
 pub fn copy(s: &mut [u8], at: usize, from: &[u8])
     requires { at + length from.now ≤ length s.old }
     ensures { s.new ≡ sets s.old at from.now }
 {
-    s[at..at + from.len()].copy_from_slice(from);
+    for (i, &byte) in from.iter().enumerate() {
+        s[at + i] = byte;
+    }
 }
