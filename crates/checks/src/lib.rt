@@ -7,8 +7,8 @@ ghost use Rattle.paper.specs.Answers.{done_of, value_of, found_of};
 ghost use Rattle.paper.specs.Promises.{Checks, CountsKeys, Nexts};
 
 use alphabet::Codes;
-use node::Nodes;
 use paper::{Found, Refusal};
+use sound::Sound;
 
 // Checks an image with lent working numbers. Refusals: 1 to 8, 16, 19.
 pub fn check(image: &[u8], work: &mut [u32]) -> Result<(), Refusal>
@@ -25,7 +25,7 @@ pub fn count(image: &[u8], work: &mut [u32]) -> Result<u32, Refusal>
 {
     let mut codes = Codes::none();
     let h = audit::check(image, work, &mut codes)?;
-    Ok(counting::count(Nodes::of(image, h)))
+    Ok(counting::count(Sound::of(image, h)))
 }
 
 // The first stored key at or after the key given or, if `after` is true, after it, in the key
@@ -42,5 +42,5 @@ pub fn next_key(
 {
     let mut codes = Codes::none();
     let h = audit::check(image, work, &mut codes)?;
-    seeking::seek(Nodes::of(image, h), letters, after, buffer)
+    seeking::seek(Sound::of(image, h), letters, after, buffer)
 }

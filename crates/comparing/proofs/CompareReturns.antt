@@ -15,7 +15,6 @@ use Rattle.std.proofs.lemmas.List.{get_or-take, length-take-le}
 use Rattle.std.proofs.lemmas.Result.{IfOk-at_ok}
 use Rattle.head.specs.declared.Head.{Head}
 use Rattle.head.specs.Fields.{head_of}
-use Rattle.node.specs.Image.{Open}
 use Rattle.alphabet.specs.declared.codes.Codes.{Codes}
 use Rattle.paper.specs.declared.Refusal.{Refusal}
 use Rattle.paper.specs.Hearing.{Row, first}
@@ -24,7 +23,7 @@ use Rattle.paper.specs.Given.{alphabet_in}
 use Rattle.paper.specs.Orders.{check_order}
 use Rattle.paper.specs.Accepted.{Accepted}
 use Rattle.paper.proofs.Hearing.{first_part, second_part, told_refused, told_passed}
-use Rattle.paper.proofs.CheckCall.{check_accepts, checked, head_open}
+use Rattle.paper.proofs.CheckCall.{check_accepts, checked}
 use Rattle.position.specs.Counts.{count_in, counts_in, row25}
 use Rattle.position.specs.Orders.{usable, counts_order, check_counts_order}
 use Rattle.position.specs.Calls.{work_left, worked}
@@ -88,9 +87,6 @@ module _ (l work counts : List ℕ) {r : Result Head Refusal} {work₁ : List �
 
     pub compared_head : h ≡ head_of l
     compared_head = IfOk-at_ok (λ (k : Head). k ≡ head_of l) e o.head
-
-    pub compared_open : Open h l
-    compared_open = head_open compared_accepted compared_head
 
     -- both lists are long enough
     pub long_counts : h.g + 1 ≤ length counts

@@ -8,8 +8,8 @@ ghost use Rattle.comparing.specs.Comparing.{CheckedBoth, Compared};
 
 use alphabet::Codes;
 use head::Head;
-use node::Nodes;
 use paper::Refusal;
+use sound::Sound;
 
 // Judges the check's rows of an image with `lent` counts beside it. The check is lent no more
 // working numbers than there are counts, so that 5 is given for either list.
@@ -36,9 +36,9 @@ pub fn compare(
     ensures { Compared image.now work.old counts.now result work.new codes.new }
 {
     let h = check_both(image, work, counts.len(), codes)?;
-    let nodes = Nodes::of(image, h);
-    let count = nodes.count();
-    weighing::add_up(nodes, work);
+    let sound = Sound::of(image, h);
+    let count = sound.nodes.count();
+    weighing::add_up(sound, work);
     let differs = first_different(&work[..count], &counts[..count]);
     tallying::clear(work, count);
     match differs {

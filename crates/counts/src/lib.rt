@@ -9,8 +9,8 @@ ghost use Rattle.key.specs.Hand.{given_of};
 
 use alphabet::Codes;
 use key::GivenKey;
-use node::Nodes;
 use paper::Refusal;
+use sound::Sound;
 
 // Works the counts out afresh, at the front of the list. Refusals: 1 to 8 (5 for either list), 16,
 // 19.
@@ -19,7 +19,7 @@ pub fn counts(image: &[u8], work: &mut [u32], list: &mut [u32]) -> Result<(), Re
 {
     let mut codes = Codes::none();
     let h = comparing::check_both(image, work, list.len(), &mut codes)?;
-    weighing::weigh(Nodes::of(image, h), list);
+    weighing::weigh(Sound::of(image, h), list);
     Ok(())
 }
 

@@ -2,23 +2,19 @@
 // stored key that meets the request.
 #![tactic(auto)]
 
-ghost use Rattle.std.specs.Prelude.{◌≡◌};
-ghost use Rattle.head.specs.Fields.{head_of};
-ghost use Rattle.paper.specs.Accepted.{Accepted};
 ghost use Rattle.seeking.specs.Seeking.{Seeks};
 
 use key::Key;
-use node::Nodes;
 use paper::{Found, Refusal};
+use sound::Sound;
 use traversal::Path;
 
 // Finds the first stored key at or after the key given or, if `after` is true, after it.
 // Refusals: 9 for a key longer than max, 10, 14, 15.
-pub fn seek(nodes: Nodes, letters: &[u8], after: bool, buffer: &mut [u8]) -> Result<Found, Refusal>
-    requires accepted { Accepted nodes.image.now }
-    requires own { nodes.head ≡ head_of nodes.image.now }
-    ensures { Seeks nodes.entry.image.now letters.now after buffer.old result buffer.new }
+pub fn seek(sound: Sound, letters: &[u8], after: bool, buffer: &mut [u8]) -> Result<Found, Refusal>
+    ensures { Seeks sound.entry.nodes.image.now letters.now after buffer.old result buffer.new }
 {
+    let nodes = sound.nodes;
     let key = Key::of(letters);
     key.judge_next(nodes.head)?;
     if buffer.len() < (nodes.head.max as usize) {

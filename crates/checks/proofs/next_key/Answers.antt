@@ -1,21 +1,13 @@
 -- `checks::next_key` meets its contract: the audit judges the check's rows, and `seeking` does the
 -- rest. Assumes nothing.
 use Rattle.std.proofs.lemmas.Result.{err_from_is_err_and}
-use Rattle.paper.proofs.CheckCall.{head_open}
 use Rattle.checks.proofs.CheckReturns.{checked_accepts, nexts_refused, nexts_seek}
 use Rattle.checks.proofs.next_key.Goals as goal
 
 pub of-requires : goal.of-requires
-of-requires c = let o = c.in_ok-h.ensures in head_open (checked_accepts o) o.head
-
-pub seek-requires : goal.seek-requires
-seek-requires c =
+of-requires c =
     let o = c.in_ok-h.ensures in
-    let same = c.of.ensures in
-    record {
-      accepted = rw same.bytes (checked_accepts o);
-      own = rw (same.head, same.bytes) o.head;
-    }
+    record { accepted = checked_accepts o; own = o.head }
 
 pub returns-in_err-h : goal.returns-in_err-h
 returns-in_err-h c =

@@ -9,7 +9,7 @@ use Rattle.std.proofs.lemmas.Result.{err_from_is_err_and}
 use Rattle.head.specs.declared.Head.{Head}
 use Rattle.position.specs.Calls.{worked}
 use Rattle.comparing.proofs.CompareReturns.{compared_refused, compared_accepted}
-use Rattle.comparing.proofs.CompareReturns.{compared_head, compared_open, long_counts, long_work}
+use Rattle.comparing.proofs.CompareReturns.{compared_head, long_counts, long_work}
 use Rattle.comparing.proofs.CompareReturns.{zeros_work, fresh_long, compared_25, compared_none}
 use Rattle.comparing.proofs.compare.Goals as goal
 use Rattle.comparing.proofs.compare.Goals.{After-add_up}
@@ -21,33 +21,35 @@ returns-in_err-h c =
     rw (p.1, p.2)
     (compared_refused a.image.now a.work.now a.counts.now c.check_both.ensures c.in_err-h.was)
 
-pub of-nodes-requires : goal.of-nodes-requires
-of-nodes-requires c =
+pub of-sound-requires : goal.of-sound-requires
+of-sound-requires c =
     let a = c.args in
-    compared_open a.image.now a.work.now a.counts.now c.check_both.ensures c.in_ok-h.was
+    let o = c.check_both.ensures in
+    let e = c.in_ok-h.was in
+    record {
+      accepted = compared_accepted a.image.now a.work.now a.counts.now o e;
+      own = compared_head a.image.now a.work.now a.counts.now o e;
+    }
 
 pub add_up-requires : goal.add_up-requires
 add_up-requires c =
     let a = c.args in
     let o = c.check_both.ensures in
     let e = c.in_ok-h.was in
-    let nodes = c.of-nodes.ensures in
+    let same = c.of-sound.ensures in
     record {
-      accepted = rw nodes.bytes (compared_accepted a.image.now a.work.now a.counts.now o e);
-      own = rw (nodes.bytes, nodes.head)
-          (compared_head a.image.now a.work.now a.counts.now o e);
-      room = rw nodes.head (long_work a.image.now a.work.now a.counts.now o e);
-      zeros = rw nodes.head (zeros_work a.image.now a.work.now a.counts.now o e);
+      room = rw same.head (long_work a.image.now a.work.now a.counts.now o e);
+      zeros = rw same.head (zeros_work a.image.now a.work.now a.counts.now o e);
     }
 
 -- the fresh counts are worked out for the image checked
 weighed : (c : After-add_up)
     → c.add_up.new.list ≡ worked c.args.image.now c.check_both.new.work
-weighed c = rw c.of-nodes.ensures.bytes at c.add_up.ensures
+weighed c = rw c.of-sound.ensures.bytes at c.add_up.ensures
 
 -- both lists have a number for each node
 size : (c : After-add_up) → c.count-count.result ≡ c.in_ok-h.h.g + 1
-size c = c.count-count.ensures ∙ ap (λ (h : Head). h.g + 1) c.of-nodes.ensures.head
+size c = c.count-count.ensures ∙ ap (λ (h : Head). h.g + 1) c.of-sound.ensures.head
 
 fresh_room : (c : After-add_up) → c.count-count.result ≤ length c.add_up.new.list
 fresh_room c =

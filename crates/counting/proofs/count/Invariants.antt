@@ -4,4 +4,4 @@ use Rattle.node.specs.Read.{node_table}
 use Rattle.counting.proofs.count.Given as goal
 
 abbrev pub invariant-loop-q : goal.invariant-loop-q
-invariant-loop-q l = l.sum ≡ holding (node_table l.nodes) l.q
+invariant-loop-q l = l.sum ≡ holding (node_table l.sound.nodes) l.q

@@ -2,24 +2,18 @@
 -- has passed, `weighing` works the counts out. Assumes nothing.
 use mathlib.Core.Path.{refl}
 use Rattle.std.proofs.lemmas.Result.{err_from_is_err_and}
-use Rattle.paper.proofs.CheckCall.{head_open}
 use Rattle.counts.proofs.CountsReturns.{counts_refused, weigh_asks, counts_done}
 use Rattle.counts.proofs.counts.Goals as goal
 
 pub of-requires : goal.of-requires
 of-requires c =
     let asks = weigh_asks _ _ _ c.in_ok-h.ensures refl in
-    head_open asks.0 asks.1.0
+    record { accepted = asks.0; own = asks.1.0 }
 
 pub weigh-requires : goal.weigh-requires
 weigh-requires c =
     let asks = weigh_asks _ _ _ c.in_ok-h.ensures refl in
-    let same = c.of.ensures in
-    record {
-      accepted = rw same.bytes asks.0;
-      own = rw (same.head, same.bytes) asks.1.0;
-      room = rw same.head asks.1.1;
-    }
+    rw c.of.ensures.head asks.1.1
 
 pub returns-in_err-h : goal.returns-in_err-h
 returns-in_err-h c =

@@ -4,6 +4,7 @@ use mathlib.Core.Path.{refl}
 use native.Mathlib.Omega.{arith}
 use Rattle.std.proofs.lemmas.Result.{err_from_is_err_and}
 use Rattle.head.proofs.Permitted.{bounds}
+use Rattle.sound.proofs.Sounds.{sound_accepted}
 use Rattle.traversal.proofs.Walking.{met}
 use Rattle.seeking.proofs.Seeking.{AfterCheck, after_check, found_room}
 use Rattle.seeking.proofs.Seeking.{seek_unkeyed, seek_short, seek_missing, seek_found}
@@ -15,15 +16,15 @@ returns-in_err-judge_next c =
     let f = c.from_residual in
     let e = err_from_is_err_and f.result f.ensures.1 in
     rw (e.1, e.2)
-    (seek_unkeyed c.requires.accepted c.requires.own _ _ c.of-key.ensures
+    (seek_unkeyed (sound_accepted c.args.sound) c.args.sound.own _ _ c.of-key.ensures
     c.in_err-judge_next.ensures _ _ refl)
 
 -- once 9 and 10 have passed
 known : (c : In_ok-judge_next)
-    → (let n = c.args.nodes in
+    → (let n = c.args.sound.nodes in
     AfterCheck n.image.now n.head c.args.letters.now c.of-key.result)
 known c =
-    after_check c.requires.accepted c.requires.own _ _ c.of-key.ensures
+    after_check (sound_accepted c.args.sound) c.args.sound.own _ _ c.of-key.ensures
     c.in_ok-judge_next.ensures refl
 
 pub returns-then-buffer-nodes : goal.returns-then-buffer-nodes
@@ -41,7 +42,7 @@ shared_ref_as_front-copy c =
     omega (
       arith,
       (met c.next.ensures c.in-Some.is).deep,
-      bounds c.args.nodes.head c.args.nodes.open.head_permitted,
+      bounds c.args.sound.nodes.head c.args.sound.nodes.open.head_permitted,
     )
 
 pub copy-requires : goal.copy-requires
@@ -52,7 +53,7 @@ overflow_cast-result c =
     omega (
       arith,
       (met c.next.ensures c.in-Some.is).deep,
-      bounds c.args.nodes.head c.args.nodes.open.head_permitted,
+      bounds c.args.sound.nodes.head c.args.sound.nodes.open.head_permitted,
     )
 
 pub returns-in_default : goal.returns-in_default

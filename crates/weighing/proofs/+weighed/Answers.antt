@@ -1,10 +1,12 @@
 -- `weighing::weighed`, which calls itself, meets its contract. From letter to letter each count
 -- and the sum have what the links so far add. At each call of itself the depth left to max falls.
 -- Assumes nothing.
-use Prim.Native.Nat.{ℕ, ◌+◌, ◌≤◌}
+use Prim.Native.Nat.{ℕ, ◌+◌, ◌≤◌, ◌<◌}
+use lib.ListN.{length}
 use mathlib.Core.Path.{◌≡◌, ◌∙◌}
 use native.Mathlib.Omega.{arith}
 use Rattle.node.specs.Read.{node_table}
+use Rattle.sound.proofs.Sounds.{sound_link}
 use Rattle.weighing.proofs.KeysLeft.{owned, owned_by}
 use Rattle.weighing.proofs.Weighing.{weighing_start, weighing_empty, weighing_sum}
 use Rattle.weighing.proofs.Weighing.{weighing_end, fits_end}
@@ -16,29 +18,39 @@ use Rattle.weighing.proofs.+weighed.Goals.{After-from-one}
 pub loop-i-init : goal.loop-i-init
 loop-i-init t c =
     let a = c.args in
-    weighing_start a.nodes.head a.nodes.image.now a.node a.depth a.list.now c.requires.own
+    weighing_start a.sound.nodes.head a.sound.nodes.image.now a.node a.depth a.list.now c.requires.own
 
 pub loop-i-preserved-then-c-eq0 : goal.loop-i-preserved-then-c-eq0
 loop-i-preserved-then-c-eq0 t c =
     weighing_empty c.loop-i.invariant c.loop-i-test.true c.link-c.ensures c.if-c-eq0.true
 
+pub own_value-requires : goal.own_value-requires
+own_value-requires t c = sound_link c.args.sound c.args.node c.loop-i.i c.link-c.ensures
+
+pub no_keys_below-requires : goal.no_keys_below-requires
+no_keys_below-requires t c = sound_link c.args.sound c.args.node c.loop-i.i c.link-c.ensures
+
 -- the child's own key
 own_counted : (t : ℕ) (c : After-from-one t)
     → (let a = c.args in
-    c.from-one.result ≡ owned a.nodes.head (node_table a.nodes) c.link-c.result (a.depth + 1))
+    c.from-one.result ≡ owned a.sound.nodes.head (node_table a.sound.nodes) c.link-c.result (a.depth + 1))
 own_counted t c =
     let a = c.args in
     c.from-one.ensures
-    ∙ owned_by a.nodes.head (node_table a.nodes) c.link-c.result (a.depth + 1) c.own_value.ensures
+    ∙ owned_by a.sound.nodes.head (node_table a.sound.nodes) c.link-c.result (a.depth + 1) c.own_value.ensures
 
 -- the child's address is at most G
-inside : (t : ℕ) (c : After-from-one t) → c.link-c.result ≤ c.args.nodes.head.g
-inside t c = omega (arith, c.link-c.ensures, c.requires.within c.args.node c.loop-i.i)
+inside : (t : ℕ) (c : After-from-one t) → c.link-c.result ≤ c.args.sound.nodes.head.g
+inside t c = sound_link c.args.sound c.args.node c.loop-i.i c.link-c.ensures
+
+-- the child's count is in the list
+listed : (t : ℕ) (c : After-from-one t) → c.link-c.result < length c.loop-i.list
+listed t c = omega (arith, inside t c, c.requires.room, c.loop-i.invariant.long)
 
 -- the link is not empty
 onto : (t : ℕ) (c : After-from-one t)
     → (let a = c.args in
-    Onto a.nodes.head a.nodes.image.now a.node a.depth a.list.now c.loop-i.list
+    Onto a.sound.nodes.head a.sound.nodes.image.now a.node a.depth a.list.now c.loop-i.list
     c.loop-i.sum c.loop-i.i c.link-c.result)
 onto t c =
     record {
@@ -48,8 +60,15 @@ onto t c =
       low = c.loop-i-test.true;
       link = c.link-c.ensures;
       full = c.if-c-eq0.false;
-      room = omega (arith, inside t c, c.requires.room, c.loop-i.invariant.long);
+      room = listed t c;
     }
+
+pub bounds-list-c : goal.bounds-list-c
+bounds-list-c t c = listed t (goal.at.bounds-list-c t c).After-from-one
+
+pub bounds-list-c-then-no_keys_below : goal.bounds-list-c-then-no_keys_below
+bounds-list-c-then-no_keys_below t c =
+    listed t (goal.at.bounds-list-c-then-no_keys_below t c).After-from-one
 
 pub overflow_add-list : goal.overflow_add-list
 overflow_add-list t c =
@@ -72,13 +91,10 @@ weighed-sum-requires t c =
     let o = onto t j in (
       omega (arith, c.decreases, o.deep),
       (
-        c.requires.within,
+        inside t j,
         (
-          inside t j,
-          (
-            c.no_keys_below.ensures.deep c.if-no_keys_below.false,
-            (omega (arith, c.requires.room, o.so_far.long), (own_counted t j, fits_child o)),
-          ),
+          c.no_keys_below.ensures.deep c.if-no_keys_below.false,
+          (omega (arith, c.requires.room, o.so_far.long), (own_counted t j, fits_child o)),
         ),
       ),
     )

@@ -1,0 +1,2 @@
+-- What a stage knows of the nodes of an accepted image.
+pub mod Sounds
