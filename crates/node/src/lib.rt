@@ -17,7 +17,7 @@ ghost use Rattle.node.specs.Writes.{carried_out, path_write, last_write, link_wr
 use head::Head;
 pub use read::Nodes;
 
-// The mask of a link's bytes. A caller who reads many links makes it once and passes it to `link`.
+// The mask of a link's bytes. `Nodes::of` makes it once for all that reads these nodes.
 pub fn mask(h: Head) -> u32
     requires { permitted h ≡ true }
     ensures { Masks h result }

@@ -157,7 +157,8 @@ pub extern "C" fn trieff_next_key(
     checks::next_key(image, work, letters, after, key).into()
 }
 
-// Works the counts out afresh. Refusals: 1 to 8 (5 for either list), 16.
+// Works the counts out afresh. Refusals: 1 to 8 (5 for either list), 16,
+// 19.
 #[unsafe(no_mangle)]
 pub extern "C" fn trieff_counts(image: &[u8], work: &mut [u32], list: &mut [u32]) -> TrieffAnswer
     ensures { WorksOut image.now work.old list.old
@@ -167,7 +168,7 @@ pub extern "C" fn trieff_counts(image: &[u8], work: &mut [u32], list: &mut [u32]
 }
 
 // Checks an image and compares its counts with fresh ones. Refusals: 1 to 8 (5 for either list),
-// 16, 25.
+// 16, 19, 25.
 #[unsafe(no_mangle)]
 pub extern "C" fn trieff_check_counts(image: &[u8], work: &mut [u32], list: &[u32]) -> TrieffAnswer
     ensures { ChecksCounts image.now work.old list.now
@@ -176,8 +177,8 @@ pub extern "C" fn trieff_check_counts(image: &[u8], work: &mut [u32], list: &[u3
     counts::check_counts(image, work, list).into()
 }
 
-// As `trieff_store`, and keeps the counts right. Refusals: 1 to 8 (5 for either list), 16, 25, 9,
-// 10, 11, 12, 13, then 5 again if the list has no number for a new node.
+// As `trieff_store`, and keeps the counts right. Refusals: 1 to 8 (5 for either list), 16, 19, 25,
+// 9, 10, 11, 12, 13, then 5 again if the list has no number for a new node.
 #[unsafe(no_mangle)]
 pub extern "C" fn trieff_store_counts(
     image: &mut [u8],
@@ -193,8 +194,8 @@ pub extern "C" fn trieff_store_counts(
     counts::store_counts(image, work, GivenKey::Letters(letters), value, list).into()
 }
 
-// The same for a key given as text. Refusals: 1 to 8 (5 for either list), 16, 25, 10, 9, 11, 12,
-// 13, then 5 again.
+// The same for a key given as text. Refusals: 1 to 8 (5 for either list), 16, 19, 25, 10, 9, 11,
+// 12, 13, then 5 again.
 #[unsafe(no_mangle)]
 pub extern "C" fn trieff_store_text_counts(
     image: &mut [u8],
@@ -211,7 +212,7 @@ pub extern "C" fn trieff_store_text_counts(
 }
 
 // The stored key at a position, from 0: its letters in the key buffer, its `length` and its
-// `value`. Refusals: 1 to 8 (5 for either list), 16, 25, 14, 15 for a position past the end.
+// `value`. Refusals: 1 to 8 (5 for either list), 16, 19, 25, 14, 15 for a position past the end.
 #[unsafe(no_mangle)]
 pub extern "C" fn trieff_key_at(
     image: &[u8],
@@ -227,7 +228,7 @@ pub extern "C" fn trieff_key_at(
 }
 
 // The position of a stored key given by its letters, in `value`. Refusals: 1 to 8 (5 for either
-// list), 16, 25, 9, 10, 15 for a key that is not stored.
+// list), 16, 19, 25, 9, 10, 15 for a key that is not stored.
 #[unsafe(no_mangle)]
 pub extern "C" fn trieff_position(
     image: &[u8],
@@ -241,7 +242,7 @@ pub extern "C" fn trieff_position(
     jumps::position(image, work, list, GivenKey::Letters(letters)).into()
 }
 
-// The same for a key given as text. Refusals: 1 to 8 (5 for either list), 16, 25, 10, 9, 15.
+// The same for a key given as text. Refusals: 1 to 8 (5 for either list), 16, 19, 25, 10, 9, 15.
 #[unsafe(no_mangle)]
 pub extern "C" fn trieff_position_text(
     image: &[u8],
