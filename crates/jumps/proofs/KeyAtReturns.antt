@@ -17,7 +17,7 @@ use Rattle.passing.specs.Passing.{passes, count_at, key_at}
 use Rattle.passing.proofs.Passing.{passes_here}
 use Rattle.passing.proofs.Ranks.{at_none, at_held}
 use Rattle.head.specs.declared.Head.{Head}
-use Rattle.head.specs.Fields.{most_letters, head_of}
+use Rattle.head.specs.Fields.{head_of}
 use Rattle.alphabet.specs.declared.codes.Codes.{Codes}
 use Rattle.alphabet.specs.Letters.{or_empty}
 use Rattle.node.specs.Image.{table_of}
@@ -40,7 +40,7 @@ use Rattle.depths.specs.declared.Spot.{Spot}
 use Rattle.comparing.specs.Comparing.{Compared}
 use Rattle.asking_counts.proofs.AskingCounts.{compared_right}
 use Rattle.ranking.specs.Ranking.{Spotted}
-use Rattle.ranking.proofs.Below.{Counted}
+use Rattle.ranking.proofs.Below.{Known}
 use Rattle.jumps.specs.Jumps.{TellsKey}
 
 -- ---- over the rows
@@ -105,7 +105,7 @@ module _ (l work counts : List ℕ) (position : ℕ) (buffer : List ℕ) where
 
 -- ---- the root's count
 
-module _ {h : Head} {l counts : List ℕ} (w : Counted h l counts) where
+module _ {h : Head} {l counts : List ℕ} (w : Known h l counts) where
   pub root_count : get_or counts 0 0 ≡ length (stored_keys l)
   unfolding count_at
   root_count =
@@ -177,7 +177,7 @@ module _ {l work counts work' : List ℕ} {codes : Codes} (position : ℕ) (buff
       → GivesKey l work counts position buffer (found_of f) work' buffer'
   gives_key_spotted f o s = rw o.numbers (s work counts (told_passed o.verdict refl))
 
--- what the part after 25 requires
+-- what is known once 25 has passed
 pub spot_asks : {l work counts work' : List ℕ} {codes : Codes} {h : Head}
     → Compared l work counts (Ok h) work' codes
     → Accepted l × ((h ≡ head_of l) × RightCounts l counts)

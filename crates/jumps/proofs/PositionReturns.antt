@@ -6,16 +6,12 @@ use mathlib.Core.Path.{◌≡◌, refl, sym, ◌∙◌, ap}
 use mathlib.Core.Bool.{Bool, true, false, cond}
 use mathlib.Core.Option.{none, some}
 use mathlib.Core.List.{List, [], ◌∷◌, ◌++◌, append_assoc}
-use native.Mathlib.Omega.{arith}
 use lib.Dec.{eqb}
 use lib.IntN.{pos}
 use Rattle.std.specs.Prelude.{Result, Ok, Err, Option as Maybe, Some, None}
 use Rattle.std.specs.Option.{ok_or}
-use lib.ListN.{length}
-use Rattle.field.specs.Range.{between}
 use Rattle.trie.specs.Table.{answer}
 use Rattle.passing.specs.Passing.{rank_in}
-use Rattle.head.specs.Fields.{head_of}
 use Rattle.paper.specs.declared.Refusal.{Refusal}
 use Rattle.paper.specs.Hearing.{Row, Outcome, first, heard, outcome, done_numbers}
 use Rattle.paper.specs.Answers.{said_of, refusal_numbers, value_of}
@@ -23,17 +19,14 @@ use Rattle.paper.specs.Rows.{row15, is_none}
 use Rattle.paper.specs.Given.{Given, key_in}
 use Rattle.paper.specs.Orders.{key_rows}
 use Rattle.paper.specs.Calls.{table_in, stored_keys}
-use Rattle.paper.specs.Accepted.{Accepted}
 use Rattle.paper.proofs.Hearing.{first_part, second_part, yes_row, no_row, first_nil}
 use Rattle.paper.proofs.Hearing.{heard_refused, heard_done, told_refused, told_passed}
-use Rattle.position.specs.Counts.{RightCounts}
 use Rattle.position.specs.Orders.{check_counts_order, if_stored, position_order}
 use Rattle.position.specs.Calls.{work_left, position_of}
 use Rattle.position.specs.Promises.{GivesPosition}
-use Rattle.key.specs.Hand.{Ready, letters_of}
+use Rattle.key.specs.Hand.{letters_of}
 use Rattle.asking.specs.declared.Asked.{Asked}
 use Rattle.asking_counts.specs.AskedCounts.{AsksCounts}
-use Rattle.asking_counts.proofs.AskingCounts.{asked_right, asked_length}
 use Rattle.ranking.specs.Ranking.{ranked_of}
 use Rattle.jumps.specs.Jumps.{ranks_as}
 

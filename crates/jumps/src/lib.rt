@@ -5,10 +5,7 @@
 
 ghost use Rattle.std.specs.Prelude.{◌≡◌, true, length};
 ghost use Rattle.field.specs.Range.{between};
-ghost use Rattle.head.specs.Fields.{head_of};
 ghost use Rattle.paper.specs.Answers.{found_of, value_of};
-ghost use Rattle.paper.specs.Accepted.{Accepted};
-ghost use Rattle.position.specs.Counts.{RightCounts};
 ghost use Rattle.position.specs.Promises.{GivesKey, GivesPosition};
 ghost use Rattle.key.specs.Hand.{Ready, letters_of, given_of};
 ghost use Rattle.jumps.specs.Jumps.{TellsKey, ranks_as};
@@ -16,8 +13,8 @@ ghost use Rattle.jumps.specs.Jumps.{TellsKey, ranks_as};
 use alphabet::Codes;
 use head::Head;
 use key::{GivenKey, Key};
-use node::Nodes;
 use paper::{Found, Refusal};
+use ranking::Counted;
 
 // The stored key at a position, from 0: its letters at the front of the key buffer, its length and
 // its value. Refusals: 1 to 8 (5 for either list), 16, 19, 25, 14, 15 for a position past the end.
@@ -33,7 +30,7 @@ pub fn key_at(
 {
     let mut codes = Codes::none();
     let h = comparing::compare(image, work, counts, &mut codes)?;
-    tell_key(Nodes::of(image, h), counts, position, buffer)
+    tell_key(Counted::of(image, h, counts), position, buffer)
 }
 
 // The position of a stored key given by its letters or by its text. Refusals: 1 to 8 (5 for either
@@ -48,30 +45,22 @@ pub fn position(
         work.new }
 {
     let asked = asking_counts::ask(image, work, counts, given)?;
-    tell_position(Nodes::of(image, asked.head), counts, asked.key)
+    tell_position(Counted::of(image, asked.head, counts), asked.key)
 }
 
 // The part of `key_at` after 25: 14, 15 and the key. The key is found on a path of its own,
 // since `ranking::key_at` does not promise to keep what follows the key's letters.
-fn tell_key(
-    nodes: Nodes,
-    counts: &[u32],
-    position: u64,
-    buffer: &mut [u8],
-) -> Result<Found, Refusal>
-    requires accepted { Accepted nodes.image.now }
-    requires own { nodes.head ≡ head_of nodes.image.now }
-    requires right { RightCounts nodes.image.now counts.now }
-    ensures { TellsKey nodes.entry.image.now position buffer.old result buffer.new }
+fn tell_key(counted: Counted, position: u64, buffer: &mut [u8]) -> Result<Found, Refusal>
+    ensures { TellsKey counted.entry.sound.nodes.image.now position buffer.old result buffer.new }
 {
-    if buffer.len() < (nodes.head.max as usize) {
+    if buffer.len() < (counted.sound.nodes.head.max as usize) {
         return Err(Refusal::ShortBuffer);
     }
-    if (counts[0] as u64) <= position {
+    if (counted.counts[0] as u64) <= position {
         return Err(Refusal::NoKey);
     }
     let mut path = [0u8; Head::MAX_MOST as usize];
-    let spot = ranking::key_at(nodes, counts, position as u32, &mut path);
+    let spot = ranking::key_at(counted, position as u32, &mut path);
     field::copy(buffer, 0, &path[..spot.length]);
     Ok(Found {
         length: spot.length as u32,
@@ -80,13 +69,11 @@ fn tell_key(
 }
 
 // The part of `position` after 10: 15, or the number of stored keys before the key.
-fn tell_position(nodes: Nodes, counts: &[u32], key: Key) -> Result<u32, Refusal>
-    requires accepted { Accepted nodes.image.now }
-    requires own { nodes.head ≡ head_of nodes.image.now }
-    requires right { RightCounts nodes.image.now counts.now }
-    requires ready { Ready nodes.head key }
-    requires allowed { between (length (letters_of key)) nodes.head.min nodes.head.max ≡ true }
-    ensures { result ≡ ranks_as nodes.entry.image.now (letters_of key) }
+fn tell_position(counted: Counted, key: Key) -> Result<u32, Refusal>
+    requires ready { Ready counted.sound.nodes.head key }
+    requires allowed { between (length (letters_of key)) counted.sound.nodes.head.min
+        counted.sound.nodes.head.max ≡ true }
+    ensures { result ≡ ranks_as counted.entry.sound.nodes.image.now (letters_of key) }
 {
-    ranking::rank(nodes, counts, key).ok_or(Refusal::NoKey)
+    ranking::rank(counted, key).ok_or(Refusal::NoKey)
 }

@@ -12,15 +12,15 @@ use Rattle.trie.specs.Keys.{keys_under, listing}
 use Rattle.trie.specs.Rules.{Linked}
 use Rattle.trie.proofs.Walk.{descend_nil, descend_on, descend_append, complete_within}
 use Rattle.head.specs.declared.Head.{Head}
-use Rattle.head.specs.Fields.{head_of}
 use Rattle.node.specs.Image.{table_of}
 use Rattle.passing.specs.Passing.{count_at}
 use Rattle.passing.proofs.Reached.{count_reached}
 use Rattle.paper.specs.Calls.{table_in, stored_keys}
-use Rattle.paper.specs.Accepted.{Accepted}
 use Rattle.paper.proofs.CheckCall.{accepted_linked}
 use Rattle.paper.proofs.NextKeyCall.{counted_fits}
-use Rattle.position.specs.Counts.{RightCounts, count_in}
+use Rattle.position.specs.Counts.{count_in}
+use Rattle.sound.proofs.Sounds.{sound_accepted}
+use Rattle.ranking.specs.declared.Counted.{Counted}
 use Rattle.ranking.specs.Ranking.{ChildCounts}
 use Rattle.ranking.proofs.ByLetter.{by_child}
 
@@ -29,7 +29,7 @@ abbrev pub held : Head → List ℕ → ℕ → ℕ → List (List ℕ)
 held h l p depth = keys_under (table_of h l) h.n (h.min - depth) (h.max - depth) p
 
 -- what the way needs to know: an accepted image, right counts, and the image's own head in hand
-pub record Counted (h : Head) (l counts : List ℕ) : Type 0 where
+pub record Known (h : Head) (l counts : List ℕ) : Type 0 where
   pub linked : Linked (table_of h l) h.g h.n
   pub stored : stored_keys l ≡ listing (table_of h l) h.n h.min h.max
   pub table : table_in l ≡ table_of h l
@@ -38,23 +38,23 @@ pub record Counted (h : Head) (l counts : List ℕ) : Type 0 where
   pub each : (q : ℕ) → q ≤ h.g → get_or counts q 0 ≡ count_at (table_of h l) h.n h.min
       h.max q
 
-pub counted : {h : Head} {l counts : List ℕ} → Accepted l → h ≡ head_of l → RightCounts l counts
-    → Counted h l counts
+pub known : (c : Counted) → Known c.sound.nodes.head c.sound.nodes.image.now c.counts.now
 unfolding table_in stored_keys count_in
-counted {h} {l} {counts} a e right =
+known c =
+    let a = sound_accepted c.sound in
     subst
-    (λ (k : Head). Counted k l counts)
-    (sym e)
+    (λ (k : Head). Known k c.sound.nodes.image.now c.counts.now)
+    (sym c.sound.own)
     (record {
       linked = accepted_linked a;
       stored = refl;
       table = refl;
       few = counted_fits a;
-      long = right.long;
-      each = right.each;
+      long = c.right.long;
+      each = c.right.each;
     })
 
-module _ {h : Head} {l counts : List ℕ} (w : Counted h l counts) where
+module _ {h : Head} {l counts : List ℕ} (w : Known h l counts) where
   -- one letter more
   pub one_more : (k : List ℕ) {p : ℕ} (i : ℕ) {c : ℕ} → descend (table_of h l) 0 k ≡ complete p
       → c ≡ (table_of h l).child p i → c ≢ 0

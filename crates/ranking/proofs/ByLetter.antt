@@ -19,8 +19,7 @@ use Rattle.passing.specs.Passing.{key_at, rank_in}
 use Rattle.passing.specs.Weights.{sum_from}
 use Rattle.passing.proofs.Ranks.{at_left, at_right, at_map, rank_few, rank_append, rank_lower}
 use Rattle.passing.proofs.Ranks.{rank_same, rank_higher}
-use Rattle.ranking.specs.declared.Branch.{Branch}
-use Rattle.ranking.specs.Ranking.{under_letter, ChildCounts, under_lower, Branches}
+use Rattle.ranking.specs.Ranking.{under_letter, ChildCounts, under_lower, Under}
 
 module _ (h : Head) (l : List ℕ) (p depth : ℕ) where
   -- the keys from letter i on
@@ -51,8 +50,8 @@ module _ (h : Head) (l : List ℕ) (p depth : ℕ) where
   -- Letter i is reached: the key at a position below the node is at `left` among the keys from
   -- letter i on.
   pub record Turning (position left i : ℕ) : Type 0 where
-    pub inside : position < length (onward 0) → left < length (onward i)
-    pub same : position < length (onward 0) → key_at (onward 0) position ≡ key_at (onward i) left
+    pub inside : left < length (onward i)
+    pub same : key_at (onward 0) position ≡ key_at (onward i) left
 
   module _ (deep : depth < h.max) where
     pub by_letter_lem : (i : ℕ) → i < h.n → onward i ≡ map (i ∷◌) (under_letter h l p depth i)
@@ -78,9 +77,6 @@ module _ (h : Head) (l : List ℕ) (p depth : ℕ) where
 
     -- ---- the letter of the key at a position
 
-    pub turning_start : (position : ℕ) → Turning position position 0
-    turning_start position = record { inside = λ b. b; same = λ b. refl }
-
     sized : (i under : ℕ) → under ≡ length (under_letter h l p depth i)
         → length (map (i ∷◌) (under_letter h l p depth i)) ≡ under
     sized i under e = length-map (under_letter h l p depth i) (i ∷◌) ∙ sym e
@@ -94,8 +90,8 @@ module _ (h : Head) (l : List ℕ) (p depth : ℕ) where
           rw (add-one i) (from_empty (table_of h l) h.n (h.min - depth) (h.max - depth) p i low
           (sym e ∙ empty)) in
           record {
-            inside = λ b. omega (arith, t.inside b, ap length over);
-            same = λ b. t.same b ∙ ap (λ (keys : List (List ℕ)). key_at keys left) over;
+            inside = omega (arith, t.inside, ap length over);
+            same = t.same ∙ ap (λ (keys : List (List ℕ)). key_at keys left) over;
           }
 
       -- the position is after all keys of this letter
@@ -107,16 +103,16 @@ module _ (h : Head) (l : List ℕ) (p depth : ℕ) where
           let so = sized i under e in
           let by : onward i ≡ here ++ onward (i + 1) = rw (add-one i) (by_letter_lem i low) in
           record {
-            inside = λ b. omega (
+            inside = omega (
               arith,
-              t.inside b,
+              t.inside,
               ap length by,
               length-append here
                   (onward (i + 1)),
               so,
             );
-            same = λ b.
-                t.same b
+            same =
+                t.same
                 ∙ ap (λ (keys : List (List ℕ)). key_at keys left) by
                 ∙ at_right here (onward (i + 1)) left (omega (arith, so))
                 ∙ ap (λ (m : ℕ). key_at (onward (i + 1)) (left - m)) so;
@@ -126,8 +122,8 @@ module _ (h : Head) (l : List ℕ) (p depth : ℕ) where
       pub turning_here : (under : ℕ) {c : ℕ} → i < h.n
           → under ≡ length (under_letter h l p depth i) → left < under
           → c ≡ (table_of h l).child p i → c ≢ 0
-          → Branches h l p depth position (record { letter = i; child = c; left = left })
-      turning_here under low e before link full b =
+          → Under h l p depth position (record { letter = i; child = c; left = left })
+      turning_here under low e before link full =
           let here = map (i ∷◌) (under_letter h l p depth i) in
           record {
             letter = low;
@@ -135,15 +131,15 @@ module _ (h : Head) (l : List ℕ) (p depth : ℕ) where
             linked = full;
             inside = omega (arith, e);
             there = λ k f.
-                t.same b
+                t.same
                 ∙ ap (λ (keys : List (List ℕ)). key_at keys left) (by_letter_lem i low)
                 ∙ at_left here (onward (suc i)) left (omega (arith, sized i under e))
                 ∙ at_map i (under_letter h l p depth i) left f;
           }
 
-      -- after the last letter no key is left
-      pub turning_none : (r : Branch) → h.n ≤ i → Branches h l p depth position r
-      turning_none r out b = absurd (omega (arith, t.inside b, ap length (past_letters i out)))
+      -- after the last letter no key is left, so it is not reached
+      pub turning_none : h.n ≤ i → ⊥
+      turning_none out = omega (arith, t.inside, ap length (past_letters i out))
 
     -- ---- the keys before a key, by its first letter
 

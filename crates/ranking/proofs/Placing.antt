@@ -25,7 +25,7 @@ use Rattle.passing.proofs.Ranks.{rank_nil, rank_few, rank_append, rank_own}
 use Rattle.paper.specs.Calls.{table_in, stored_keys}
 use Rattle.ranking.specs.Ranking.{ranked_of, under_letter, ChildCounts, under_lower, RankFits}
 use Rattle.ranking.proofs.ByLetter.{onward, by_child, rank_letters}
-use Rattle.ranking.proofs.Below.{Counted, held, within, one_more, below}
+use Rattle.ranking.proofs.Below.{Known, held, within, one_more, below}
 
 pub record Placing (h : Head) (l k : List ℕ) (node depth passed : ℕ) : Type 0 where
   pub reaches : descend (table_of h l) 0 (take depth k) ≡ complete node
@@ -50,7 +50,7 @@ stored_at : (l k : List ℕ) → answer (table_in l) k ≢ 0 → Some (rank_in (
 unfolding ranked_of
 stored_at l k full = rw (ne_eqb (answer (table_in l) k) 0 full)
 
-module _ {h : Head} {l counts : List ℕ} (w : Counted h l counts) (k : List ℕ) where
+module _ {h : Head} {l counts : List ℕ} (w : Known h l counts) (k : List ℕ) where
   -- a key that is not stored, and one that is
   missing : answer (table_of h l) k ≡ 0 → None ≡ ranked_of l k
   unfolding ranked_of

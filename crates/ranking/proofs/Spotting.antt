@@ -23,9 +23,9 @@ use Rattle.passing.specs.Passing.{key_at}
 use Rattle.passing.proofs.Ranks.{at_right}
 use Rattle.paper.specs.Calls.{stored_keys}
 use Rattle.ranking.specs.declared.Branch.{Branch}
-use Rattle.ranking.specs.Ranking.{Spotted, under_letter, ChildCounts, Branches}
+use Rattle.ranking.specs.Ranking.{Spotted, under_letter, ChildCounts, Under}
 use Rattle.ranking.proofs.ByLetter.{onward, by_child}
-use Rattle.ranking.proofs.Below.{Counted, held, within, one_more, below}
+use Rattle.ranking.proofs.Below.{Known, held, within, one_more, below}
 
 pub record Spotting (h : Head) (l : List ℕ) (position : ℕ) (path₀ path : List ℕ)
     (node depth left : ℕ) : Type 0 where
@@ -42,7 +42,7 @@ pub record Beneath (h : Head) (l : List ℕ) (node depth left behind : ℕ) : Ty
   pub inside : behind < length (onward h l node depth 0)
   pub same : key_at (held h l node depth) left ≡ key_at (onward h l node depth 0) behind
 
-module _ {h : Head} {l counts : List ℕ} (w : Counted h l counts) {position : ℕ} {path₀ : List ℕ}
+module _ {h : Head} {l counts : List ℕ} (w : Known h l counts) {position : ℕ} {path₀ : List ℕ}
     (room : h.max ≤ length path₀) where
   pub spotting_start : position < length (stored_keys l)
       → Spotting h l position path₀ path₀ 0 0 position
@@ -137,11 +137,10 @@ module _ {h : Head} {l counts : List ℕ} (w : Counted h l counts) {position : �
       spotting_room = omega (arith, spotting_deep, s.kept)
 
       -- and is at or under the child that was found for it
-      pub spotting_on : {r : Branch} → Branches h l node depth behind r
+      pub spotting_on : {r : Branch} → Under h l node depth behind r
           → Spotting h l position path₀ (set path depth r.letter) r.child (depth + 1)
           r.left
-      spotting_on {r} branches =
-          let u = branches b.inside in
+      spotting_on {r} u =
           let longer : take (suc depth) (set path depth r.letter) ≡ take depth path
           ++ (r.letter ∷ []) =
           take-suc-set path depth r.letter spotting_room in

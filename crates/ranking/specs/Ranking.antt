@@ -50,18 +50,15 @@ under_lower h l p depth x = sum_from (λ i. length (under_letter h l p depth i))
 abbrev pub RankFits : Head → List ℕ → ℕ → ℕ → ℕ → ℕ → Type 0
 RankFits h l p depth x before = before + under_lower h l p depth x < 2 ^ 32
 
--- the child at or under which the key at a position is
+-- the keys below node p at a depth, without the node's own key
+abbrev pub keys_below : Head → List ℕ → ℕ → ℕ → List (List ℕ)
+keys_below h l p depth = keys_from (table_of h l) h.n (h.min - depth) (h.max - depth) p 0
+
+-- the child at or under which the key at a position below node p is
 pub record Under (h : Head) (l : List ℕ) (p depth position : ℕ) (r : Branch) : Type 0 where
   pub letter : r.letter < h.n
   pub child : r.child ≡ (table_of h l).child p r.letter
   pub linked : r.child ≢ 0
   pub inside : r.left < length (under_letter h l p depth r.letter)
   pub there : (k : List ℕ) → key_at (under_letter h l p depth r.letter) r.left ≡ some k
-      → key_at (keys_from (table_of h l) h.n (h.min - depth) (h.max - depth) p 0) position
-      ≡ some (r.letter ∷ k)
-
--- what `branch_at` promises, if there is a key at the position below the node
-abbrev pub Branches : Head → List ℕ → ℕ → ℕ → ℕ → Branch → Type 0
-Branches h l p depth position r =
-    position < length (keys_from (table_of h l) h.n (h.min - depth) (h.max - depth) p 0)
-    → Under h l p depth position r
+      → key_at (keys_below h l p depth) position ≡ some (r.letter ∷ k)

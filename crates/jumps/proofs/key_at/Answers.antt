@@ -1,24 +1,13 @@
 -- `jumps::key_at` meets its contract: the comparison judges the check's rows and 25, and
 -- `tell_key` does the rest. Assumes nothing.
 use Rattle.std.proofs.lemmas.Result.{err_from_is_err_and}
-use Rattle.paper.proofs.CheckCall.{head_open}
 use Rattle.jumps.proofs.KeyAtReturns.{spot_asks, gives_key_refused, gives_key_spotted}
 use Rattle.jumps.proofs.key_at.Goals as goal
 
 pub of-requires : goal.of-requires
 of-requires c =
     let asks = spot_asks c.in_ok-h.ensures in
-    head_open asks.0 asks.1.0
-
-pub tell_key-requires : goal.tell_key-requires
-tell_key-requires c =
-    let asks = spot_asks c.in_ok-h.ensures in
-    let same = c.of.ensures in
-    record {
-      accepted = rw same.bytes asks.0;
-      own = rw (same.head, same.bytes) asks.1.0;
-      right = rw same.bytes asks.1.1;
-    }
+    record { accepted = asks.0; own = asks.1.0; right = asks.1.1 }
 
 pub returns-in_err-h : goal.returns-in_err-h
 returns-in_err-h c =

@@ -2,26 +2,25 @@
 -- `tell_position` gives 15 or the position. Assumes nothing.
 use Rattle.std.proofs.lemmas.Result.{err_from_is_err_and}
 use mathlib.Core.Path.{refl}
-use Rattle.paper.proofs.CheckCall.{head_open}
 use Rattle.asking_counts.proofs.AskingCounts.{asked_right, asked_length}
 use Rattle.jumps.proofs.PositionReturns.{gives_position_refused, gives_position_placed}
 use Rattle.jumps.proofs.position.Goals as goal
 
 pub of-requires : goal.of-requires
 of-requires c =
-    let b = c.in_ok-asked.ensures.allowed in
-    head_open b.accepted b.head
+    let o = c.in_ok-asked.ensures in
+    record {
+      accepted = o.allowed.accepted;
+      own = o.allowed.head;
+      right = asked_right _ _ o refl;
+    }
 
 pub tell_position-requires : goal.tell_position-requires
 tell_position-requires c =
     let o = c.in_ok-asked.ensures in
-    let b = o.allowed in
     let same = c.of.ensures in
     record {
-      accepted = rw same.bytes b.accepted;
-      own = rw (same.head, same.bytes) b.head;
-      right = rw same.bytes (asked_right _ _ o refl);
-      ready = rw same.head b.ready;
+      ready = rw same.head o.allowed.ready;
       allowed = rw same.head (asked_length _ _ o refl);
     }
 

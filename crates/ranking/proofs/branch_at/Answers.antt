@@ -16,36 +16,38 @@ loop-i-preserved-then-c-eq0 c =
     c.loop-i-test.true c.link-c.ensures c.if-c-eq0.true
 
 -- the link is not empty: the list has the child's count
-counted : (c : Else-c-eq0)
+listed : (c : Else-c-eq0)
     → (let a = c.args in
-    (c.link-c.result < length a.counts.now)
-    × (get_or a.counts.now c.link-c.result 0
-    ≡ sizes a.nodes.head a.nodes.image.now a.node a.depth c.loop-i.i))
-counted c =
+    let n = a.counted.sound.nodes in
+    (c.link-c.result < length a.counted.counts.now)
+    × (get_or a.counted.counts.now c.link-c.result 0
+    ≡ sizes n.head n.image.now a.node a.depth c.loop-i.i))
+listed c =
     let a = c.args in
-    below_link a.nodes.head a.nodes.image.now a.node a.depth a.counts.now c.loop-i.i
+    let n = a.counted.sound.nodes in
+    below_link n.head n.image.now a.node a.depth a.counted.counts.now c.loop-i.i
     c.requires.child_counts c.link-c.ensures c.if-c-eq0.false
 
 pub overflow_cast-result : goal.overflow_cast-result
 overflow_cast-result c =
     omega (
       arith,
-      bounds c.args.nodes.head c.args.nodes.open.head_permitted,
+      bounds c.args.counted.sound.nodes.head c.args.counted.sound.nodes.open.head_permitted,
       c.loop-i-test.true,
     )
 
 pub returns-then-left-under : goal.returns-then-left-under
 returns-then-left-under c =
     turning_here _ _ _ _ c.requires.depth c.loop-i.invariant _
-    c.loop-i-test.true (counted (goal.at.returns-then-left-under c).Else-c-eq0).1
+    c.loop-i-test.true (listed (goal.at.returns-then-left-under c).Else-c-eq0).1
     c.if-left-under.true
     c.link-c.ensures c.if-c-eq0.false
 
 pub loop-i-preserved : goal.loop-i-preserved
 loop-i-preserved c =
     turning_past _ _ _ _ c.requires.depth c.loop-i.invariant _
-    c.loop-i-test.true (counted (goal.at.loop-i-preserved c).Else-c-eq0).1 c.if-left-under.false
+    c.loop-i-test.true (listed (goal.at.loop-i-preserved c).Else-c-eq0).1 c.if-left-under.false
 
-pub returns : goal.returns
-returns c =
-    turning_none _ _ _ _ c.requires.depth c.loop-i.invariant _ c.loop-i-test.false
+pub unreachable-requires : goal.unreachable-requires
+unreachable-requires c =
+    turning_none _ _ _ _ c.requires.depth c.loop-i.invariant c.loop-i-test.false

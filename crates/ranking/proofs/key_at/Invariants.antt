@@ -4,7 +4,8 @@ use Rattle.ranking.proofs.key_at.Given as goal
 
 abbrev pub invariant-loop-position : goal.invariant-loop-position
 invariant-loop-position l =
-    Spotting l.nodes.head l.nodes.image.now l.position l.initial.path l.path l.node l.depth l.left
+    (let n = l.counted.sound.nodes in
+    Spotting n.head n.image.now l.position l.initial.path l.path l.node l.depth l.left)
 
 abbrev pub decreases-loop-position : goal.decreases-loop-position
-decreases-loop-position l = l.nodes.head.max - l.depth
+decreases-loop-position l = l.counted.sound.nodes.head.max - l.depth

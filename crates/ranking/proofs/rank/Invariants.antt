@@ -4,4 +4,5 @@ use Rattle.ranking.proofs.rank.Given as goal
 
 abbrev pub invariant-loop-depth : goal.invariant-loop-depth
 invariant-loop-depth l =
-    Placing l.nodes.head l.nodes.image.now (letters_of l.key) l.node l.depth l.before
+    (let n = l.counted.sound.nodes in
+    Placing n.head n.image.now (letters_of l.fn.key) l.node l.depth l.before)
