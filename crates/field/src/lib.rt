@@ -16,17 +16,25 @@ pub fn read4(s: &[u8], at: usize) -> u32
     u32::from_be_bytes([s[at], s[at + 1], s[at + 2], s[at + 3]])
 }
 
-// The number in 1 to 4 bytes, such as those of a character. It has no loop.
+// The number in 1 to 4 bytes, such as those of a character. It has no loop, and no `match` on w
+// with `from_be_bytes`: for one byte, as most characters have, that took five instructions more.
 pub fn read_few(s: &[u8], at: usize, w: usize) -> u32
     requires { (1 ≤ w) × (w ≤ 4) × (at + w ≤ length s.now) }
     ensures { result ≡ field_at s.now at w }
 {
-    match w {
-        1 => u32::from(s[at]),
-        2 => u32::from_be_bytes([0, 0, s[at], s[at + 1]]),
-        3 => u32::from_be_bytes([0, s[at], s[at + 1], s[at + 2]]),
-        _ => read4(s, at),
+    let one = u32::from(s[at]);
+    if w == 1 {
+        return one;
     }
+    let two = one * 256 + u32::from(s[at + 1]);
+    if w == 2 {
+        return two;
+    }
+    let three = two * 256 + u32::from(s[at + 2]);
+    if w == 3 {
+        return three;
+    }
+    three * 256 + u32::from(s[at + 3])
 }
 
 // The number in the w bytes that end at `end`, where the mask is 256^w - 1. It loads eight bytes
@@ -126,12 +134,15 @@ pub fn write(s: &mut [u8], at: usize, w: usize, v: u64)
     }
 }
 
-// Sets n bytes from `at` on to 0.
+// Sets n bytes from `at` on to 0. A loop of its own, of which the compiler makes one memset: the
+// library's `fill` writes the last byte apart, which costs seven instructions for each new node.
 pub fn clear(s: &mut [u8], at: usize, n: usize)
     requires { at + n ≤ length s.old }
     ensures { s.new ≡ cleared s.old at n }
 {
-    s[at..at + n].fill(0);
+    for i in 0..n {
+        s[at + i] = 0;
+    }
 }
 
 // Copies all of `from` into s, from `at` on. A loop of its own: the library's `copy_from_slice`

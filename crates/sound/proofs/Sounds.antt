@@ -14,7 +14,7 @@ use Rattle.node.specs.Read.{node_table}
 use Rattle.paper.specs.Accepted.{Accepted}
 use Rattle.paper.specs.Calls.{table_in}
 use Rattle.paper.proofs.CheckCall.{accepted_checks, check_accepts}
-use Rattle.sound.specs.Passed.{Passed}
+use Rattle.sound.specs.CheckPassed.{Passed}
 use Rattle.sound.specs.declared.Sound.{Sound}
 
 pub accepted_passes : {l : List ℕ} {h : Head} → Accepted l → h ≡ head_of l → Passed h l

@@ -6,7 +6,7 @@ ghost use Rattle.std.specs.Prelude.{◌≡◌};
 ghost use Rattle.std.proofs.Props.{props};
 ghost use Rattle.head.specs.Fields.{head_of};
 ghost use Rattle.paper.specs.Accepted.{Accepted};
-ghost use Rattle.sound.specs.Passed.{Passed};
+ghost use Rattle.sound.specs.CheckPassed.{Passed};
 
 use head::Head;
 use node::Nodes;

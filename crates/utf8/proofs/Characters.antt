@@ -13,9 +13,7 @@ use lib.ListN.{length, get_or, take, drop}
 use mir.Facts.{and_yes, or_yes}
 use Rattle.field.specs.Field.{Bytes, field_at}
 use Rattle.field.proofs.Field.{field_bound, same_part}
-use Rattle.std.proofs.Common.{Some, None}
 use Rattle.utf8.specs.Table37.{rows, in_range, in_ranges, fits_row, length_by, char_len}
-use Rattle.utf8.specs.Table37.{some_length, len_at}
 use Rattle.utf8.specs.Text.{char_at}
 
 pub length_fits : (row : List ℕ) (more : List (List ℕ)) (l : List ℕ) (at : ℕ) → fits_row row l at
@@ -105,30 +103,6 @@ char_len_few l at = go (char_len l at) refl
     go : (n : ℕ) → char_len l at ≡ n → char_len l at ≤ 4
     go zero e = omega arith
     go (suc n) e = (character l at (omega arith)).few
-
--- the length as the code answers it: some length is that of the character, and none means that
--- there is no character
-pub len_some : (l : List ℕ) (at n : ℕ) → char_len l at ≡ n → 0 < n → Some n ≡ len_at l at
-len_some l at zero e h = absurd (omega arith)
-len_some l at (suc n) e h = rw e refl
-
-pub len_none : (l : List ℕ) (at : ℕ) → char_len l at ≡ 0 → None ≡ len_at l at
-len_none l at e = rw e refl
-
-pub some_len : (l : List ℕ) (at n : ℕ) → Some n ≡ len_at l at
-    → (n ≡ char_len l at) × (char_len l at ≢ 0)
-some_len l at n e = go (char_len l at) e
-  where
-    go : (m : ℕ) → Some n ≡ some_length m → (n ≡ m) × (m ≢ 0)
-    go zero e = cc
-    go (suc m) e = (cc, λ z. omega arith)
-
-pub no_len : (l : List ℕ) (at : ℕ) → None ≡ len_at l at → char_len l at ≡ 0
-no_len l at e = go (char_len l at) e
-  where
-    go : (m : ℕ) → None ≡ some_length m → m ≡ 0
-    go zero e = refl
-    go (suc m) e = cc
 
 pub char_at_lem : (l : List ℕ) (at n : ℕ) → n ≡ char_len l at → char_at l at ≡ field_at l at n
 unfolding char_at

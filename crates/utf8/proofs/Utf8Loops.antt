@@ -2,20 +2,17 @@
 -- decide. In the table, once the first rows do not fit, only the later rows decide. Each loop
 -- ends when nothing is left.
 use mathlib.Core.Path.{◌≡◌, refl, ◌∙◌}
-use mathlib.Core.Bool.{Bool, true, false, ◌&&◌}
+use mathlib.Core.Bool.{true, false, ◌&&◌}
 use Prim.Native.Nat.{ℕ, zero, suc, ◌+◌, ◌-◌, ◌≤◌, ◌<◌}
 use native.Mathlib.Nat.{sub-zero}
 use native.Mathlib.Numerals.{add-one}
 use native.Mathlib.Omega.{arith}
-use mathlib.Core.List.{List, [], ◌∷◌}
-use lib.Dec.{T, ltb, ltb→lt}
+use mathlib.Core.List.{List, []}
 use lib.ListN.{length, get_or, drop, drop_of_length-le}
 use lib.Seq.{drop-cons}
 use borrow.Author.Tests.{le-leb, lt-leb}
-use mir.Facts.{and_yes}
-use Rattle.std.proofs.Common.{Some, None}
-use Rattle.utf8.specs.Table37.{in_range, in_ranges, fits_row, length_by, rows, char_len, len_at}
-use Rattle.utf8.proofs.Characters.{length_fits, length_passes, len_some, len_none}
+use Rattle.utf8.specs.Table37.{in_range, in_ranges, fits_row, length_by}
+use Rattle.utf8.proofs.Characters.{length_fits, length_passes}
 
 -- ---- a row
 
@@ -90,27 +87,3 @@ module _ {rs : List (List ℕ)} {l : List ℕ} {at i : ℕ} (p : Consulting rs l
   pub consulting_all : length rs ≤ i → length_by rs l at ≡ 0
   unfolding length_by
   consulting_all h = p.rest ∙ rw (drop_of_length-le rs h)
-
--- ---- the table of the code, which is the whole one: each of its lengths is at least 1
-
-abbrev all_some : List (List ℕ) → Bool
-all_some [] = true
-all_some (row ∷ more) = ltb 0 (get_or row 4 0) && all_some more
-
-some_row : (rs : List (List ℕ)) (i : ℕ) → T (all_some rs) → i < length rs
-    → 0 < get_or (get_or rs i []) 4 0
-some_row [] i t h = absurd (omega arith)
-some_row (row ∷ more) zero t h =
-    ltb→lt 0 (get_or row 4 0) (and_yes (ltb 0 (get_or row 4 0)) (all_some more) t).0
-some_row (row ∷ more) (suc i) t h =
-    some_row more i (and_yes (ltb 0 (get_or row 4 0)) (all_some more) t).1 (omega arith)
-
-module _ {l : List ℕ} {at i : ℕ} (p : Consulting rows l at i) where
-  pub row_fits : i < 9 → fits_row (get_or rows i []) l at ≡ true
-      → Some (get_or (get_or rows i []) 4 0) ≡ len_at l at
-  unfolding char_len
-  row_fits h e = len_some l at _ (consulting_fits p h e) (some_row rows i tt h)
-
-  pub no_row_fits : 9 ≤ i → None ≡ len_at l at
-  unfolding char_len
-  no_row_fits h = len_none l at (consulting_all p h)

@@ -3,7 +3,7 @@
 -- and the highest first byte, the lowest and the highest second byte (0 if the character has
 -- none), and how many bytes the character has.
 use Rattle.std.specs.Prelude.{ℕ, zero, suc, ◌+◌, Bool, true, ◌&&◌, cond, List, [], ◌∷◌, length}
-use Rattle.std.specs.Prelude.{get_or, leb, Option, Some, None}
+use Rattle.std.specs.Prelude.{get_or, leb}
 use Rattle.field.specs.Range.{between}
 
 abbrev pub rows : List (List ℕ)
@@ -48,12 +48,3 @@ length_by (row ∷ more) l at = cond (fits_row row l at) (get_or row 4 0) (lengt
 unfoldable pub char_len : List ℕ → ℕ → ℕ
 unfolding length_by
 char_len l at = length_by rows l at
-
--- a length, none if it is 0
-abbrev pub some_length : ℕ → Option ℕ
-some_length zero = None
-some_length (suc n) = Some (suc n)
-
--- the length of the well-formed character at `at`, if there is one
-abbrev pub len_at : List ℕ → ℕ → Option ℕ
-len_at l at = some_length (char_len l at)

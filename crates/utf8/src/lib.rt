@@ -3,7 +3,7 @@
 #![tactic(auto)]
 
 ghost use Rattle.std.specs.Prelude.{◌≡◌};
-ghost use Rattle.utf8.specs.Table37.{in_range, fits_row, char_len, len_at};
+ghost use Rattle.utf8.specs.Table37.{in_range, fits_row, char_len};
 ghost use Rattle.utf8.specs.Text.{char_at};
 
 // A row: the lowest and the highest first byte, the lowest and the highest second byte, and how
@@ -20,26 +20,27 @@ const ROWS: [[u8; 5]; 9] = [
     [0xF4, 0xF4, 0x80, 0x8F, 4],
 ];
 
-// How many bytes the well-formed character at `at` has, if there is one.
-pub fn char_len(s: &[u8], at: usize) -> Option<usize>
-    ensures { result ≡ len_at s.now at }
+// How many bytes the well-formed character at `at` has; 0 if there is none, and no `Option`: with
+// one a look up took four instructions more for each letter of the alphabet, and missed its goal.
+pub fn char_len(s: &[u8], at: usize) -> usize
+    ensures { result ≡ char_len s.now at }
 {
     for row in ROWS {
         if fits(row, s, at) {
-            return Some(row[4] as usize);
+            return row[4] as usize;
         }
     }
-    None
+    0
 }
 
 // The same, but the first row is tried before the table: in a loop over characters that mostly
 // have one byte, one test is then enough for each of these.
-pub fn quick_len(s: &[u8], at: usize) -> Option<usize>
-    ensures { result ≡ len_at s.now at }
+pub fn quick_len(s: &[u8], at: usize) -> usize
+    ensures { result ≡ char_len s.now at }
 {
     let first = ROWS[0];
     if fits(first, s, at) {
-        return Some(first[4] as usize);
+        return first[4] as usize;
     }
     char_len(s, at)
 }

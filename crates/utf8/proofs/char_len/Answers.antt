@@ -3,16 +3,19 @@
 -- nothing.
 use mathlib.Core.Path.{sym, ◌∙◌}
 use native.Mathlib.Omega.{arith}
-use Rattle.utf8.proofs.Utf8Loops.{consulting_more, row_fits, no_row_fits}
+use Rattle.utf8.specs.Table37.{char_len}
+use Rattle.utf8.proofs.Utf8Loops.{consulting_more, consulting_fits, consulting_all}
 use Rattle.utf8.proofs.char_len.Goals as goal
 
 pub returns-then-fits : goal.returns-then-fits
+unfolding char_len
 returns-then-fits c =
-    row_fits c.loop-row.invariant (omega arith) (sym c.fits.ensures ∙ c.if-fits.true)
+    sym (consulting_fits c.loop-row.invariant (omega arith) (sym c.fits.ensures ∙ c.if-fits.true))
 
 pub loop-row-preserved : goal.loop-row-preserved
 loop-row-preserved c = consulting_more c.loop-row.invariant (omega arith)
     (sym c.fits.ensures ∙ c.if-fits.false)
 
 pub returns : goal.returns
-returns c = no_row_fits c.loop-row.invariant (omega arith)
+unfolding char_len
+returns c = sym (consulting_all c.loop-row.invariant (omega arith))

@@ -2,11 +2,12 @@
 -- nothing.
 use mathlib.Core.Path.{sym, ◌∙◌}
 use native.Mathlib.Omega.{arith}
-use Rattle.utf8.specs.Table37.{rows}
-use Rattle.utf8.proofs.Utf8Loops.{consulting_none, row_fits}
+use Rattle.utf8.specs.Table37.{rows, char_len}
+use Rattle.utf8.proofs.Utf8Loops.{consulting_none, consulting_fits}
 use Rattle.utf8.proofs.quick_len.Goals as goal
 
 pub returns-then-fits : goal.returns-then-fits
+unfolding char_len
 returns-then-fits c =
-    row_fits (consulting_none rows c.args.s.now c.args.at) (omega arith)
-    (sym c.fits.ensures ∙ c.if-fits.true)
+    sym (consulting_fits (consulting_none rows c.args.s.now c.args.at) (omega arith)
+    (sym c.fits.ensures ∙ c.if-fits.true))
