@@ -31,8 +31,7 @@ impl Codes {
     }
 
     // Whether these bytes are exactly n well-formed characters, all different. If they are, the
-    // codes are the characters in order; otherwise the contract does not say what they are. A turn
-    // takes a character of 1 to 4 bytes, so the place is moved by hand.
+    // codes are the characters in order; otherwise the contract does not say what they are.
     pub fn judge(&mut self, bytes: &[u8], n: usize) -> bool
         requires { n ≤ most_links }
         ensures { Judged n bytes.now result self.new }
@@ -40,6 +39,7 @@ impl Codes {
         let mut count: usize = 0;
         let mut top: u32 = 0;
         let mut at: usize = 0;
+        // Steps of 1 to 4 bytes: an iterator would be a type with laws, longer than the two loops.
         while at < bytes.len() {
             let Some(len) = utf8::char_len(bytes, at) else {
                 return false;
@@ -67,7 +67,7 @@ impl Codes {
     pub fn letter(&self, code: u32) -> Option<usize>
         ensures { result ≡ letter_in (letters_in self.now) code }
     {
-        self.list[..self.count].iter().position(|c| *c == code)
+        crate::letter(&self.list[..self.count], code)
     }
 }
 

@@ -18,18 +18,15 @@ use Rattle.head.specs.declared.Head.{Head}
 use Rattle.head.specs.Fields.{permitted, most_letters}
 use Rattle.head.proofs.Permitted.{bounds}
 use Rattle.trie.specs.Table.{LettersBelow}
-use Rattle.trie.proofs.LettersBelow.{letters_at, letters_of_lem}
-use Rattle.alphabet.specs.Letters.{or_empty, key_of_text}
+use Rattle.alphabet.specs.Letters.{or_empty}
 use Rattle.paper.specs.Hearing.{Row, row_when, first}
 use Rattle.paper.specs.Answers.{number_at}
 use Rattle.paper.specs.Rows.{row9, row9next, row10, row10text, all_below, is_none}
-use Rattle.paper.specs.Orders.{letters_rows, next_rows, text_rows}
+use Rattle.paper.specs.Orders.{next_rows, text_rows}
 use Rattle.paper.proofs.Hearing.{was_false, yes_row, no_row, passed_row}
 use Rattle.paper.proofs.Keying.{below_letters}
-use Rattle.paper.proofs.Named.{named_letters}
 use Rattle.key.specs.declared.Key.{Key}
 use Rattle.key.specs.Hand.{in_hand, Holds, hand_of, letters_of, Ready}
-use Rattle.key.proofs.Hand.{hand_holds}
 
 -- the letters of a key that is held whole are those of the array
 pub held : {hand : Key} {k : List ℕ} → Holds hand k → hand.len ≤ most_letters → letters_of hand ≡ k
@@ -102,7 +99,7 @@ below_is n (x ∷ k) = ap (λ (t : Bool). ltb x n && t) (below_is n k)
 
 -- ---- what is known of a key that has passed 9 and 10
 
-ready : (h : Head) {hand : Key} {k : List ℕ} → Holds hand k → length k ≤ most_letters
+pub ready : (h : Head) {hand : Key} {k : List ℕ} → Holds hand k → length k ≤ most_letters
     → LettersBelow h.n k
     → Ready h hand × (letters_of hand ≡ k)
 ready h {hand} {k} o s l =
@@ -119,35 +116,12 @@ neither h k {test} e =
     let v = passed_row _ _ u.1 in
     (was_false 9 0 test u.0, (below_letters h.n k).0 (not-false _ (was_false 10 0 _ v.0)))
 
-module _ (h : Head) {hand : Key} {k : List ℕ} (p : permitted h ≡ true) (o : Holds hand k) where
-  pub letters_ready : first (letters_rows h k) ≡ none → Ready h hand × (letters_of hand ≡ k)
-  unfolding letters_rows row9
-  letters_ready e = let u = neither h k e in ready h o (short h p (not-false _ u.0)) u.1
-
-  pub next_ready : first (next_rows h k) ≡ none → Ready h hand × (letters_of hand ≡ k)
-      × (hand.len ≤ h.max)
-  unfolding next_rows row9next
-  next_ready e =
-      let u = neither h k e in
-      let most : length k ≤ h.max = ltb-false _ _ u.0 in
-      let r = ready h o (omega (arith, bounds h p)) u.1 in
-      (r.0, r.1, rw o.len most)
-
--- the same for a text whose key has a length that is allowed, and whose letters are those of an
--- alphabet of at most N letters
-pub text_ready : (h : Head) (alphabet text : List ℕ) {hand : Key} → permitted h ≡ true
-    → length alphabet ≤ h.n → hand_of (key_of_text alphabet text) ≡ Some hand
-    → between hand.len h.min h.max ≡ true
-    → Ready h hand × (letters_of hand ≡ or_empty (key_of_text alphabet text))
-unfolding hand_of or_empty
-text_ready h alphabet text {hand} p few e allowed = go (key_of_text alphabet text) refl e
-  where
-    go : (named : Option (List ℕ)) → key_of_text alphabet text ≡ named → hand_of named ≡ Some hand
-        → Ready h hand × (letters_of hand ≡ or_empty named)
-    go none spelt e = cc
-    go (some k) spelt e =
-        let same : in_hand k ≡ hand = cc in
-        let o : Holds hand k = rw (← same) (hand_holds k) in
-        let among = named_letters alphabet text spelt in
-        ready h o (rw o.len at (short h p allowed))
-        (letters_of_lem h.n k (λ i b. omega (arith, letters_at (length alphabet) k among i b)))
+pub next_ready : (h : Head) {hand : Key} {k : List ℕ} → permitted h ≡ true → Holds hand k
+    → first (next_rows h k) ≡ none
+    → Ready h hand × (letters_of hand ≡ k) × (hand.len ≤ h.max)
+unfolding next_rows row9next
+next_ready h {hand} {k} p o e =
+    let u = neither h k e in
+    let most : length k ≤ h.max = ltb-false _ _ u.0 in
+    let r = ready h o (omega (arith, bounds h p)) u.1 in
+    (r.0, r.1, rw o.len most)

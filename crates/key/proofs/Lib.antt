@@ -1,4 +1,4 @@
 pub mod Hand
 pub mod Judging
-mod Keyed
+pub mod Keyed
 mod Typing

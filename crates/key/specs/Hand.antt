@@ -6,11 +6,12 @@ use Rattle.std.proofs.Math.Option.{Option, none, some}
 use Rattle.trie.specs.Table.{LettersBelow}
 use Rattle.head.specs.declared.Head.{Head}
 use Rattle.head.specs.Fields.{most_letters, head_of}
+use Rattle.alphabet.specs.Letters.{key_of_text}
 use Rattle.paper.specs.declared.Refusal.{Refusal}
-use Rattle.paper.specs.Hearing.{first}
+use Rattle.paper.specs.Hearing.{Row, first}
 use Rattle.paper.specs.Answers.{row_of}
 use Rattle.paper.specs.Given.{Given, as_letters, as_text, key_in}
-use Rattle.paper.specs.Orders.{key_rows}
+use Rattle.paper.specs.Orders.{letters_rows, text_rows, key_rows}
 use Rattle.key.specs.declared.Key.{Key}
 use Rattle.key.specs.declared.GivenKey.{GivenKey}
 use Rattle.key.specs.declared.GivenKey.TheVariants.{Letters, Text}
@@ -43,6 +44,25 @@ abbrev pub given_of : GivenKey → Given
 given_of (Letters letters) = as_letters letters.now
 given_of (Text text) = as_text text.now
 
+-- the key that is meant, with the letters of an alphabet; `meant_by` has the alphabet's bytes
+unfoldable pub meant_with : List ℕ → Given → Option (List ℕ)
+unfolding key_of_text
+meant_with alphabet (as_letters key) = some key
+meant_with alphabet (as_text text) = key_of_text alphabet text
+
+-- 9 and 10 of a key as it is given, with a head and the letters of an alphabet; `key_rows_by` has
+-- the alphabet's bytes
+unfoldable pub key_rows_with : Head → List ℕ → Given → List Row
+unfolding letters_rows text_rows meant_with
+key_rows_with h alphabet (as_letters key) = letters_rows h key
+key_rows_with h alphabet (as_text text) = text_rows h (meant_with alphabet (as_text text))
+
+-- the answer: the first of them that is given or, where none is, the key in hand that is meant
+pub record JudgedBy (h : Head) (alphabet : List ℕ) (given : Given) (r : Result Key Refusal)
+    : Type 0 where
+  pub verdict : row_of r ≡ first (key_rows_with h alphabet given)
+  pub key : IfOk r (λ k. Some k ≡ hand_of (meant_with alphabet given))
+
 -- the letters of a key in hand
 abbrev pub letters_of : Key → List ℕ
 letters_of hand = take hand.len hand.letters
@@ -52,8 +72,8 @@ pub record Ready (h : Head) (hand : Key) : Type 0 where
   pub short : hand.len ≤ most_letters
   pub letters : LettersBelow h.n (letters_of hand)
 
--- 9 and 10 of a key as it is given, in an image that has been opened: the first of them that is
--- given or, where none is, the key in hand that is meant
+-- the same in an image that has been opened, with its own head and alphabet, where a key that
+-- passes is ready
 pub record Keyed (l : List ℕ) (given : Given) (r : Result Key Refusal) : Type 0 where
   pub verdict : row_of r ≡ first (key_rows l given)
   pub key : IfOk r (λ k. Ready (head_of l) k × (letters_of k ≡ key_in l given))

@@ -12,8 +12,7 @@ ghost use Rattle.paper.specs.Hearing.{first};
 ghost use Rattle.paper.specs.Answers.{row_of};
 ghost use Rattle.paper.specs.Rows.{all_below, row10};
 ghost use Rattle.paper.specs.Orders.{letters_rows, next_rows};
-ghost use Rattle.opening.specs.Opened.{Opens};
-ghost use Rattle.key.specs.Hand.{in_hand, Holds, hand_of, given_of, Keyed};
+ghost use Rattle.key.specs.Hand.{in_hand, Holds, hand_of, given_of, JudgedBy};
 
 use alphabet::Codes;
 use head::Head;
@@ -59,7 +58,7 @@ impl Key {
         let mut kept = [0u8; HELD];
         let mut len: usize = 0;
         let mut at: usize = 0;
-        // A `for` does not step by the length of a character.
+        // Steps of 1 to 4 bytes: an iterator would be a type with laws, longer than the two loops.
         while at < text.len() {
             let size = utf8::quick_len(text, at)?;
             let x = codes.letter(utf8::char_at(text, at, size))?;
@@ -83,7 +82,8 @@ impl Key {
         self.spelled(h)
     }
 
-    // Judges the key given to next key. Refusals: 9 only for a key longer than max, 10.
+    // Judges the key given to next key: another order than `judge`, since "For next key, 9 means
+    // only a key longer than max." Refusals: 9, 10.
     pub fn judge_next(self, h: Head) -> Result<(), Refusal>
         requires { permitted h ≡ true }
         ensures { (k : List ℕ) → Holds self k → row_of result ≡ first (next_rows h k) }
@@ -107,12 +107,11 @@ impl Key {
 }
 
 impl GivenKey<'_> {
-    // The key in hand that is meant, judged by 9 and 10, for an image that has been opened.
-    // Refusals: by letters 9, 10; by text 10, 9.
+    // The key in hand that is meant, judged by 9 and 10, with any head that is permitted and any
+    // letters. Refusals: by letters 9, 10; by text 10, 9.
     pub fn judge(self, h: Head, codes: &Codes) -> Result<Key, Refusal>
         requires { permitted h ≡ true }
-        ensures { (l : List ℕ) → Opens l (Ok h) codes.now
-            → Keyed l (given_of self.entry) result }
+        ensures { JudgedBy h (letters_in codes.now) (given_of self.entry) result }
     {
         match self {
             GivenKey::Letters(letters) => {

@@ -13,7 +13,7 @@ use Rattle.alphabet.specs.declared.codes.Codes.{Codes}
 use Rattle.node.specs.Image.{table_of}
 use Rattle.paper.specs.declared.Refusal.{Refusal}
 use Rattle.paper.specs.Hearing.{Row, first, heard, outcome}
-use Rattle.paper.specs.Answers.{row_of, refusal_numbers, value_of}
+use Rattle.paper.specs.Answers.{refusal_numbers, value_of}
 use Rattle.paper.specs.Rows.{bad_link, row6_at, row6path}
 use Rattle.paper.specs.Given.{Given, key_in}
 use Rattle.paper.specs.Orders.{opening_rows_of, key_rows, look_up_order}

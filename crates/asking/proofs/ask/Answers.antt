@@ -1,6 +1,7 @@
 -- `asking::ask` meets its contract: the check judges its rows, then the key is judged by 9 and 10.
 -- Assumes nothing.
 use Rattle.std.proofs.lemmas.Result.{err_from_is_err_and}
+use Rattle.key.proofs.Keyed.{keyed}
 use Rattle.asking.proofs.Asking.{checked_front, front_permitted, front_opens}
 use Rattle.asking.proofs.Asking.{before_refused, key_refused, key_passed}
 use Rattle.asking.proofs.ask.Goals as goal
@@ -19,9 +20,9 @@ returns-in_err-key c =
     let f = c.from_residual-in_err-key in
     let e = err_from_is_err_and f.result f.ensures.1 in
     let o = checked_front c.in_ok-head.ensures in
-    rw (e.1, e.2) (key_refused o (c.in_err-key.ensures _ (front_opens o)))
+    rw (e.1, e.2) (key_refused o (keyed (front_opens o) c.in_err-key.ensures))
 
 pub returns : goal.returns
 returns c =
     let o = checked_front c.in_ok-head.ensures in
-    key_passed o (c.in_ok-key.ensures _ (front_opens o))
+    key_passed o (keyed (front_opens o) c.in_ok-key.ensures)

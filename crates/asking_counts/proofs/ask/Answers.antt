@@ -1,6 +1,7 @@
 -- `asking_counts::ask` meets its contract: the comparison judges the check's rows and 25, then the
 -- key is judged by 9 and 10. Assumes nothing.
 use Rattle.std.proofs.lemmas.Result.{err_from_is_err_and}
+use Rattle.key.proofs.Keyed.{keyed}
 use Rattle.asking.proofs.Asking.{front_permitted, front_opens}
 use Rattle.asking.proofs.Asking.{before_refused, key_refused, key_passed}
 use Rattle.asking_counts.proofs.AskingCounts.{compared_front}
@@ -20,9 +21,9 @@ returns-in_err-key c =
     let f = c.from_residual-in_err-key in
     let e = err_from_is_err_and f.result f.ensures.1 in
     let o = compared_front c.in_ok-head.ensures in
-    rw (e.1, e.2) (key_refused o (c.in_err-key.ensures _ (front_opens o)))
+    rw (e.1, e.2) (key_refused o (keyed (front_opens o) c.in_err-key.ensures))
 
 pub returns : goal.returns
 returns c =
     let o = compared_front c.in_ok-head.ensures in
-    key_passed o (c.in_ok-key.ensures _ (front_opens o))
+    key_passed o (keyed (front_opens o) c.in_ok-key.ensures)

@@ -23,37 +23,37 @@ spelt c =
     sym c.of_text.ensures ∙ f
 
 pub returns-in_err-judge-in-Letters : goal.returns-in_err-judge-in-Letters
-returns-in_err-judge-in-Letters c = λ l o.
+returns-in_err-judge-in-Letters c =
     let e = err_from_is_err_and c.from_residual.result c.from_residual.ensures.1 in
     rw (c.in-Letters.is, e.1)
-    (rw e.2 (letters_refused o c.in-Letters.letters.now c.of-key.ensures
+    (rw e.2 (letters_refused c.in-Letters.letters.now c.of-key.ensures
     c.in_err-judge-in-Letters.ensures))
 
 pub returns-in_err-key-in-Text : goal.returns-in_err-key-in-Text
-returns-in_err-key-in-Text c = λ l o.
+returns-in_err-key-in-Text c =
     let e = err_from_is_err_and c.from_residual-in_err-key-in-Text.result
     c.from_residual-in_err-key-in-Text.ensures.1 in
     let v = c.in_err-key-in-Text.ensures in
     let f : c.of_text.result ≡ None = grind arith in
     let g : c.in_err-key-in-Text.field-0.0 ≡ Refusal.Letter = grind arith in
     rw (c.in-Text.is, e.1)
-    (rw (e.2, g) (text_nameless o c.in-Text.text.now (sym c.of_text.ensures ∙ f)))
+    (rw (e.2, g) (text_nameless c.in-Text.text.now (sym c.of_text.ensures ∙ f)))
 
 pub returns-then-not-length_allowed : goal.returns-then-not-length_allowed
-returns-then-not-length_allowed c = λ l o.
+returns-then-not-length_allowed c =
     rw c.in-Text.is
-    (text_length o c.in-Text.text.now
+    (text_length c.in-Text.text.now
     (spelt (goal.at.returns-then-not-length_allowed c).In_ok-key-in-Text)
     (sym c.length_allowed.ensures ∙ c.if-not-length_allowed.true))
 
 pub returns-in_ok-judge-in-Letters : goal.returns-in_ok-judge-in-Letters
-returns-in_ok-judge-in-Letters c = λ l o.
+returns-in_ok-judge-in-Letters c =
     rw c.in-Letters.is
-    (letters_passed o c.in-Letters.letters.now c.of-key.ensures c.in_ok-judge-in-Letters.ensures)
+    (letters_passed c.in-Letters.letters.now c.of-key.ensures c.in_ok-judge-in-Letters.ensures)
 
 pub returns-else-not-length_allowed : goal.returns-else-not-length_allowed
-returns-else-not-length_allowed c = λ l o.
+returns-else-not-length_allowed c =
     rw c.in-Text.is
-    (text_passed o c.in-Text.text.now
+    (text_passed c.in-Text.text.now
     (spelt (goal.at.returns-else-not-length_allowed c).In_ok-key-in-Text)
     (sym c.length_allowed.ensures ∙ c.if-not-length_allowed.false))
