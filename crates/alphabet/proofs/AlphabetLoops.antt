@@ -1,27 +1,28 @@
 -- What the loops keep. In a search, `hit` is true exactly if the code is among those passed. In
 -- the pass that judges, the codes so far are the characters so far, all different, and none is
 -- above `top`. So a code above `top` is new, and any other is new exactly if it is not among them.
-use mathlib.Core.Path.{◌≡◌, refl, sym, ◌∙◌}
+use mathlib.Core.Path.{◌≡◌, refl, sym, ap, ◌∙◌, subst}
 use mathlib.Core.Logic.{◌≢◌}
-use mathlib.Core.Bool.{Bool, true, false, ◌||◌, and-true, and-false}
+use mathlib.Core.Bool.{Bool, true, false, ◌||◌, and-true, and-false, true≢false}
 use mathlib.Core.Option.{Option, none, some}
-use Prim.Native.Nat.{ℕ, ◌+◌, ◌≤◌, ◌<◌}
+use Prim.Native.Nat.{ℕ, suc, ◌+◌, ◌≤◌, ◌<◌}
 use native.Mathlib.Numerals.{add-one}
 use native.Mathlib.Omega.{arith}
 use mathlib.Core.List.{List, [], ◌∷◌, ◌++◌}
 use lib.Dec.{eqb}
-use lib.ListN.{length, get_or, set, take, length-set, length-append}
-use lib.Seq.{take_all, take-suc, take-suc-set, length-take-le}
-use borrow.Author.Tests.{ne_eqb}
+use lib.ListN.{length, get_or, set, take, drop, length-set, length-append}
+use lib.Seq.{split_at, take_all, take-suc, take-suc-set, length-take-le}
+use borrow.Author.Tests.{eqb-false, ne_eqb, ltb-false}
 use Rattle.utf8.specs.Table37.{char_len}
 use Rattle.utf8.specs.Text.{char_at}
 use Rattle.utf8.proofs.Texts.{prepend, chars_at, Passed, passed_none, passed_more, passed_all}
 use Rattle.utf8.proofs.Texts.{passed_ill}
 use Rattle.alphabet.specs.Letters.{among, all_different, is_alphabet, good_alphabet, or_empty}
-use Rattle.alphabet.specs.Letters.{letters}
+use Rattle.alphabet.specs.Letters.{letters, letter_of}
 use Rattle.alphabet.specs.declared.codes.Codes.{Codes}
 use Rattle.alphabet.specs.Judged.{Judged, letters_in}
 use Rattle.alphabet.proofs.Alphabets.{eqb_sym, among_snoc, different_snoc, repeated_append}
+use Rattle.alphabet.proofs.Alphabets.{letter_below, letter_after, letter_here}
 
 -- ---- searching
 
@@ -50,6 +51,52 @@ module _ {codes : List ℕ} {code : ℕ} {hit : Bool} {i : ℕ} (p : Searching c
 
   pub searching_all : length codes ≤ i → hit ≡ among code codes
   searching_all h = p.told ∙ rw (take_all i codes h)
+
+-- a search that stops at the code
+module _ {codes : List ℕ} {code i : ℕ} (p : Searching codes code false i) where
+  pub searching_on : i < length codes → (get_or codes i 0 ≡ code → ⊥)
+      → Searching codes code false (i + 1)
+  searching_on h d = subst (λ (t : Bool). Searching codes code t (i + 1))
+      (ne_eqb (get_or codes i 0) code d) (searching_more p h)
+
+  pub searching_found : i < length codes → get_or codes i 0 ≡ code → i ≡ letter_of codes code
+  searching_found h e =
+      let rest : List ℕ = drop (suc i) codes in
+      let split : codes ≡ take i codes ++ (code ∷ rest) =
+      split_at codes i 0 h ∙ ap (λ (c : ℕ). take i codes ++ (c ∷ rest)) e in
+      let after : letter_of codes code ≡ length (take i codes) + letter_of (code ∷ rest) code =
+      ap (λ (l : List ℕ). letter_of l code) split
+      ∙ letter_after (take i codes) (code ∷ rest) code (sym p.told) in
+      omega (arith, after, letter_here code rest, length-take-le i codes (omega arith))
+
+  pub searching_missed : length codes ≤ i → length codes ≤ letter_of codes code
+  searching_missed h =
+      ltb-false (letter_of codes code) (length codes)
+      (letter_below codes code ∙ sym (searching_all p h))
+
+neither : (a b : Bool) → (a || b) ≡ false → (a ≡ false) × (b ≡ false)
+neither true b e = absurd (true≢false e)
+neither false b e = (refl, e)
+
+-- four codes at once, none of which is the one sought
+pub searching_four : {codes : List ℕ} {code i : ℕ} → Searching codes code false i
+    → i + 4 ≤ length codes
+    → (((eqb (get_or codes i 0) code || eqb (get_or codes (i + 1) 0) code)
+    || eqb (get_or codes (i + 2) 0) code) || eqb (get_or codes (i + 3) 0) code) ≡ false
+    → Searching codes code false (i + 4)
+searching_four {codes} {code} {i} p room e =
+    let two : (i + 1) + 1 ≡ i + 2 = omega arith in
+    let three : (i + 2) + 1 ≡ i + 3 = omega arith in
+    let four : (i + 3) + 1 ≡ i + 4 = omega arith in
+    let (abc, d) = neither _ _ e in
+    let (ab, c) = neither _ _ abc in
+    let (a, b) = neither _ _ ab in
+    let p1 = searching_on p (omega arith) (eqb-false _ _ a) in
+    let p2 = subst (Searching codes code false) two
+    (searching_on p1 (omega arith) (eqb-false _ _ b)) in
+    let p3 = subst (Searching codes code false) three
+    (searching_on p2 (omega arith) (eqb-false _ _ c)) in
+    subst (Searching codes code false) four (searching_on p3 (omega arith) (eqb-false _ _ d))
 
 -- ---- judging
 

@@ -1,18 +1,18 @@
--- The characters of an alphabet: when one more of them keeps all different, and how many a good
--- alphabet has.
+-- The characters of an alphabet, and the letter number of each. The number is the first position
+-- of the character. It is below the alphabet's length exactly if the character is in the alphabet.
 use mathlib.Core.Path.{◌≡◌, refl, sym, ◌∙◌}
 use mathlib.Core.Bool.{Bool, true, false, not, ◌&&◌, ◌||◌, and-false, or_assoc, or-false}
-use Prim.Native.Nat.{ℕ}
+use Prim.Native.Nat.{ℕ, suc, ◌+◌, ◌≤◌}
 use native.Mathlib.Omega.{arith}
 use mathlib.Core.List.{List, [], ◌∷◌, ◌++◌}
 use mathlib.Core.Option.{Option, none, some}
 use Rattle.field.proofs.Range.{both}
 use Rattle.utf8.specs.Text.{chars, chars_from}
-use lib.Dec.{eqb}
+use lib.Dec.{eqb, ltb, leb-suc-suc}
 use lib.ListN.{length}
-use borrow.Author.Tests.{eq-eqb, ne_eqb, eqb-true, eqb-false}
+use borrow.Author.Tests.{eq-eqb, ne_eqb, eqb-true, eqb-false, lt-ltb}
 use Rattle.alphabet.specs.Letters.{among, all_different, is_alphabet, good_alphabet, or_empty}
-use Rattle.alphabet.specs.Letters.{letters}
+use Rattle.alphabet.specs.Letters.{letters, letter_of}
 
 -- ---- among
 
@@ -59,6 +59,46 @@ repeated_append (x ∷ cs) ds e = go (among x cs) refl (repeated_append cs ds)
         → all_different (x ∷ (cs ++ ds)) ≡ false
     go true h next = rw (among_append x cs ds, h)
     go false h next = rw (next (rw h at e)) (and-false (not (among x (cs ++ ds))))
+
+-- ---- the letter number
+
+pub letter_most : (cs : List ℕ) (c : ℕ) → letter_of cs c ≤ length cs
+unfolding letter_of
+letter_most [] c = omega arith
+letter_most (d ∷ cs) c = go (eqb c d) refl (letter_most cs c)
+  where
+    go : (t : Bool) → eqb c d ≡ t → letter_of cs c ≤ length cs → letter_of (d ∷ cs) c
+        ≤ suc (length cs)
+    go true e h = rw e (omega arith)
+    go false e h = rw e (omega arith)
+
+pub letter_below : (cs : List ℕ) (c : ℕ) → ltb (letter_of cs c) (length cs) ≡ among c cs
+unfolding letter_of among
+letter_below [] c = refl
+letter_below (d ∷ cs) c = go (eqb c d) refl (letter_below cs c)
+  where
+    go : (t : Bool) → eqb c d ≡ t → ltb (letter_of cs c) (length cs) ≡ among c cs
+        → ltb (letter_of (d ∷ cs) c) (suc (length cs)) ≡ among c (d ∷ cs)
+    go true e h = rw e (lt-ltb 0 (suc (length cs)) (omega arith))
+    go false e h = rw e (leb-suc-suc (suc (letter_of cs c)) (length cs) ∙ h)
+
+pub letter_here : (c : ℕ) (cs : List ℕ) → letter_of (c ∷ cs) c ≡ 0
+unfolding letter_of
+letter_here c cs = rw (eq-eqb c c refl)
+
+-- if a character is not among the first ones, its number counts on after them
+pub letter_after : (cs ds : List ℕ) (c : ℕ) → among c cs ≡ false → letter_of (cs ++ ds) c
+    ≡ length cs + letter_of ds c
+unfolding letter_of among
+letter_after [] ds c e = omega arith
+letter_after (d ∷ cs) ds c e = go (eqb c d) refl (letter_after cs ds c)
+  where
+    go : (t : Bool) → eqb c d ≡ t
+        → (among c cs ≡ false → letter_of (cs ++ ds) c ≡ length cs + letter_of ds c)
+        → letter_of (d ∷ (cs ++ ds)) c ≡ suc (length cs) + letter_of ds c
+    go true q next =
+        let f : true ≡ false = rw q at e in let z : ◌≡◌ {A = ℕ} 0 1 = cc in omega arith
+    go false q next = rw q (omega (arith, next (rw q at e)))
 
 -- ---- a good alphabet
 

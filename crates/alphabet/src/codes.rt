@@ -41,9 +41,10 @@ impl Codes {
         let mut at: usize = 0;
         // Steps of 1 to 4 bytes: an iterator would be a type with laws, longer than the two loops.
         while at < bytes.len() {
-            let Some(len) = utf8::char_len(bytes, at) else {
+            let len = utf8::char_len(bytes, at);
+            if len == 0 {
                 return false;
-            };
+            }
             if n <= count {
                 return false;
             }

@@ -60,7 +60,10 @@ impl Key {
         let mut at: usize = 0;
         // Steps of 1 to 4 bytes: an iterator would be a type with laws, longer than the two loops.
         while at < text.len() {
-            let size = utf8::quick_len(text, at)?;
+            let size = utf8::quick_len(text, at);
+            if size == 0 {
+                return None;
+            }
             let x = codes.letter(utf8::char_at(text, at, size))?;
             if len < HELD {
                 kept[len] = x as u8;

@@ -11,9 +11,9 @@ use mathlib.Core.List.Memᴰ
 use mathlib.Core.List.{List, [], ◌∷◌, Memᴰ}
 use native.Mathlib.Decide.{ℕ_discrete, dec_lt}
 use native.Mathlib.Omega.{arith}
-use lib.Dec.{ltb, eqb, leb-suc-suc}
+use lib.Dec.{ltb, eqb}
 use lib.ListN.{length, drop, length-take}
-use borrow.Author.Tests.{ltb-false, eqb-true, eq-eqb, lt-ltb, le-ltb, not-true}
+use borrow.Author.Tests.{ltb-false, eqb-true, eq-eqb, le-ltb, not-true}
 use Rattle.field.specs.Range.{between}
 use Rattle.field.proofs.Range.{between_true, true_between}
 use Rattle.utf8.specs.Table37.{char_len}
@@ -24,7 +24,7 @@ use Rattle.head.specs.Fields.{fields_len, head_of}
 use Rattle.alphabet.specs.Letters.{among, letters, letter_of, with_letter, letters_of_chars}
 use Rattle.alphabet.specs.Letters.{or_empty}
 use Rattle.alphabet.specs.Letters.{key_of_chars, key_of_text}
-use Rattle.alphabet.proofs.Alphabets.{no_letters}
+use Rattle.alphabet.proofs.Alphabets.{letter_below, no_letters}
 use Rattle.paper.specs.Rows.{row9, all_below, row10, is_none, row10text}
 use Rattle.paper.specs.Given.{Given, as_letters, as_text, alphabet_in, meant_by, meant_in, key_in}
 use Rattle.paper.specs.Orders.{letters_rows, text_rows, key_rows_by, key_rows}
@@ -119,17 +119,6 @@ with_none n x (some xs) = go (ltb x n) refl
     go : (b : Bool) → ltb x n ≡ b → is_none (cond (ltb x n) (some (x ∷ xs)) none) ≡ not (ltb x n)
     go true e = rw e
     go false e = rw e
-
--- a letter number is below the alphabet's length exactly if the character is in the alphabet
-letter_below : (cs : List ℕ) (c : ℕ) → ltb (letter_of cs c) (length cs) ≡ among c cs
-unfolding letter_of among
-letter_below [] c = refl
-letter_below (d ∷ cs) c = go (eqb c d) refl (letter_below cs c)
-  where
-    go : (t : Bool) → eqb c d ≡ t → ltb (letter_of cs c) (length cs) ≡ among c cs
-        → ltb (letter_of (d ∷ cs) c) (suc (length cs)) ≡ among c (d ∷ cs)
-    go true e h = rw e (lt-ltb 0 (suc (length cs)) (omega arith))
-    go false e h = rw e (leb-suc-suc (suc (letter_of cs c)) (length cs) ∙ h)
 
 module _ (alphabet : List ℕ) where
   one_none : (c : ℕ) (cs : List ℕ) → is_none (letters_of_chars alphabet (c ∷ cs))

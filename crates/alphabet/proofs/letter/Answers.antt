@@ -1,17 +1,21 @@
--- `alphabet::letter` meets its contract: the letter number is the first position of the
--- code. Assumes nothing.
-use mathlib.Core.Path.{◌≡◌}
-use mathlib.Core.Logic.{◌≢◌}
-use Rattle.std.proofs.Common.{rules}
-use borrow.Author.Tests.{tests}
-use Rattle.std.proofs.lemmas.Iterator.{IsFirst-from_position, YieldsList-from_slice}
-use Rattle.alphabet.proofs.Positions.{letter_found}
+-- `alphabet::letter` meets its contract. None of the codes passed is the one sought. So if it is
+-- met, this is its first position; if it is not, it is no letter. Assumes nothing.
+use mathlib.Core.Path.{sym}
+use native.Mathlib.Omega.{arith}
+use Rattle.alphabet.proofs.AlphabetLoops.{searching_on, searching_found, searching_missed}
+use Rattle.alphabet.proofs.Positions.{letter_found, letter_missed}
 use Rattle.alphabet.proofs.letter.Goals as goal
 
+pub loop-i-init : goal.loop-i-init
+loop-i-init c = record { told = sym c.near-i.ensures.before }
+
+pub returns-then-codes-i : goal.returns-then-codes-i
+returns-then-codes-i c =
+    letter_found _ _ _ (omega arith)
+    (searching_found c.loop-i.invariant (omega arith) c.if-codes-i.true)
+
+pub loop-i-preserved : goal.loop-i-preserved
+loop-i-preserved c = searching_on c.loop-i.invariant (omega arith) c.if-codes-i.false
+
 pub returns : goal.returns
-returns c =
-    letter_found _ _ _
-    (IsFirst-from_position _ _ _ (λ d. d ≡ c.args.code) (λ d. d ≢ c.args.code)
-    c.position.ensures.ran
-    (YieldsList-from_slice c.args.codes.now cc)
-    (λ x q k. search (rules, tests)) (λ x q k. search (rules, tests)))
+returns c = letter_missed _ _ (searching_missed c.loop-i.invariant (omega arith))

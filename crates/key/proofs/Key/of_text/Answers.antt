@@ -8,7 +8,7 @@ use native.Mathlib.Omega.{arith}
 use lib.ListN.{length}
 use Rattle.utf8.specs.Table37.{char_len}
 use Rattle.utf8.specs.Text.{char_at}
-use Rattle.utf8.proofs.Characters.{Character, character, some_len, no_len}
+use Rattle.utf8.proofs.Characters.{Character, character}
 use Rattle.alphabet.specs.Letters.{letter_of}
 use Rattle.alphabet.specs.Judged.{letters_in}
 use Rattle.alphabet.proofs.Positions.{some_letter, no_letter_there}
@@ -16,15 +16,19 @@ use Rattle.key.proofs.Typing.{typing_none, typing_more, typing_past, typing_all}
 use Rattle.key.proofs.Typing.{typing_ill, typing_outside}
 use Rattle.key.proofs.Key.of_text.Goals as goal
 use Rattle.key.proofs.Key.of_text.Goals.{then-len-lt-HELD, else-len-lt-HELD}
-use Rattle.key.proofs.Key.of_text.Goals.{In_ok-size, In_ok-x}
+use Rattle.key.proofs.Key.of_text.Goals.{Else-size-eq0, In_ok-x}
 
 -- there is a character here, of this many bytes
-sized : (c : In_ok-size) → (c.in_ok-size.size ≡ char_len c.args.text.now c.loop-at.at)
+sized : (c : Else-size-eq0) → (c.quick_len-size.result ≡ char_len c.args.text.now c.loop-at.at)
     × (char_len c.args.text.now c.loop-at.at ≢ 0)
-sized c = some_len _ _ _ c.in_ok-size.ensures
+sized c = (
+  c.quick_len-size.ensures,
+  λ z. c.if-size-eq0.false (c.quick_len-size.ensures ∙ z),
+)
 
 -- they are all in the text
-character-here : (c : In_ok-size) → Character c.args.text.now c.loop-at.at c.in_ok-size.size
+character-here : (c : Else-size-eq0)
+    → Character c.args.text.now c.loop-at.at c.quick_len-size.result
 character-here c =
     let s = sized c in rw s.0 (character c.args.text.now c.loop-at.at s.1)
 
@@ -40,27 +44,27 @@ lettered c =
 pub loop-at-init : goal.loop-at-init
 loop-at-init c = (omega arith, typing_none _ _)
 
-pub returns-in_err-size : goal.returns-in_err-size
-returns-in_err-size c =
-    c.from_residual.ensures
-    ∙ typing_ill c.loop-at.invariant.1 (omega arith) (no_len _ _ c.in_err-size.ensures)
+pub returns-then-size-eq0 : goal.returns-then-size-eq0
+returns-then-size-eq0 c =
+    typing_ill c.loop-at.invariant.1 (omega arith)
+    (sym c.quick_len-size.ensures ∙ c.if-size-eq0.true)
 
 pub returns-in_err-x : goal.returns-in_err-x
 returns-in_err-x c =
-    c.from_residual-in_err-x.ensures
-    ∙ typing_outside c.loop-at.invariant.1 (sized (goal.at.returns-in_err-x c).In_ok-size).1
+    c.from_residual.ensures
+    ∙ typing_outside c.loop-at.invariant.1 (sized (goal.at.returns-in_err-x c).Else-size-eq0).1
     (rw c.char_at.ensures at (no_letter_there _ _ c.in_err-x.ensures))
 
 pub overflow_add-at : goal.overflow_add-at
-overflow_add-at c = omega (arith, (character-here (goal.at.overflow_add-at c).In_ok-size).whole)
+overflow_add-at c = omega (arith, (character-here (goal.at.overflow_add-at c).Else-size-eq0).whole)
 
 pub loop-at-preserved : goal.loop-at-preserved
 loop-at-preserved c =
-    let s = sized (goal.at.loop-at-preserved c).In_ok-size in
+    let s = sized (goal.at.loop-at-preserved c).Else-size-eq0 in
     let l = lettered (goal.at.loop-at-preserved c).In_ok-x in (
       omega (
         arith,
-        (character-here (goal.at.loop-at-preserved c).In_ok-size).some,
+        (character-here (goal.at.loop-at-preserved c).Else-size-eq0).some,
         c.loop-at.invariant.0,
       ),
       elim c.if-len-lt-HELD.branch [
