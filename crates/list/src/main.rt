@@ -9,17 +9,16 @@
 ghost use Rattle.std.specs.Prelude.{◌≡◌, ◌+◌, ◌<◌, ◌≤◌, length, take};
 ghost use Rattle.std.specs.Prelude.{IfOk, IfSome, IsOk, OnErr, OnOk};
 ghost use Rattle.std.specs.Io.KnownBytes.{Appends, Consumes, IsAtEnd};
-ghost use Rattle.head.specs.Fields.{head_of};
-ghost use Rattle.paper.specs.Accepted.{Accepted};
+ghost use Rattle.paper.specs.Answers.{said_of};
 ghost use Rattle.lines.specs.Lines.{TextAt, refused_line, entry_room};
 ghost use Rattle.list.specs.Output.{output_of, listing_text, NextPart, root_line};
 
 use alphabet::Codes;
 use head::Head;
-use node::Nodes;
+use paper::Refusal;
+use sound::Sound;
 use std::io;
 use std::io::{Read, Write};
-use traversal::Path;
 
 // The longest image that is read.
 const IMAGE: usize = 65536;
@@ -77,67 +76,62 @@ fn tell<W: Write>(to: &mut W, input: &[u8], done: &mut usize) -> io::Result<()>
         (Appends (W.contents to.old) (W.contents to.new) (output_of input.now)) }
 {
     if IMAGE < input.len() {
-        return refuse(to, input, 1, 0, done);
+        return refuse(to, input, Refusal::ImageLength, done);
     }
     let mut work = [0u32; WORK];
     let mut codes = Codes::none();
     match audit::check(input, &mut work, &mut codes) {
-        Ok(h) => list(to, Nodes::of(input, h), done),
-        Err(why) => refuse(to, input, why.number(), why.place(), done),
+        Ok(h) => list(to, Sound::of(input, h), done),
+        Err(why) => refuse(to, input, why, done),
     }
 }
 
 // Hands over the one line of a refusal.
-fn refuse<W: Write>(
-    to: &mut W,
-    input: &[u8],
-    number: u32,
-    place: u32,
-    done: &mut usize,
-) -> io::Result<()>
-    requires input_value { output_of input.now ≡ refused_line number place }
+fn refuse<W: Write>(to: &mut W, input: &[u8], why: Refusal, done: &mut usize) -> io::Result<()>
+    requires input_value { output_of input.now
+        ≡ refused_line (said_of why).number (said_of why).place }
     requires done_value { done.old ≡ 0 }
     ensures done_value { done.new ≡ length (output_of input.now) }
     ensures written { OnOk result
         (Appends (W.contents to.old) (W.contents to.new) (output_of input.now)) }
 {
     let mut out = [0u8; lines::REFUSED_ROOM];
-    let end = lines::refused(&mut out, 0, number, place);
+    let end = lines::refused(&mut out, 0, why.number(), why.place());
     hand_over(to, Ok(()), input, &out[..end], done)
 }
 
 // Hands over the number of stored keys, then a line for each: first the root's own key, if it is
 // stored. The lines so far are handed over once the longest line may not fit after them.
-fn list<W: Write>(to: &mut W, nodes: Nodes, done: &mut usize) -> io::Result<()>
-    requires accepted { Accepted nodes.image.now }
-    requires own { nodes.head ≡ head_of nodes.image.now }
-    requires input_value { output_of nodes.image.now ≡ listing_text nodes.image.now }
+fn list<W: Write>(to: &mut W, sound: Sound, done: &mut usize) -> io::Result<()>
+    requires input_value { output_of sound.nodes.image.now ≡ listing_text sound.nodes.image.now }
     requires done_value { done.old ≡ 0 }
-    ensures done_value { done.new ≡ length (output_of nodes.entry.image.now) }
-    ensures written { OnOk result
-        (Appends (W.contents to.old) (W.contents to.new) (output_of nodes.entry.image.now)) }
+    ensures done_value { done.new ≡ length (output_of sound.entry.nodes.image.now) }
+    ensures written { OnOk result (Appends (W.contents to.old) (W.contents to.new)
+        (output_of sound.entry.nodes.image.now)) }
 {
+    let nodes = sound.nodes;
     let input = nodes.image;
     let mut out = [0u8; OUT];
-    let mut path = Path::new();
-    let head = lines::entries(&mut out, 0, counting::count(nodes));
-    let root = traversal::start(nodes, &mut path);
+    let mut path = [0u8; Head::MAX_MOST as usize];
+    let mut addresses = [0u32; Head::PATH_MOST as usize];
+    let head = lines::entries(&mut out, 0, counting::count(sound));
+    let root = traversal::start(nodes, &mut addresses);
     let mut end = root_line(&mut out, head, root);
     let mut len: usize = 0;
     let mut sent = Ok(());
-    while let Some(spot) = traversal::onward(nodes, len, &mut path) {
+    while let Some(spot) = traversal::onward(nodes, len, &mut path, &mut addresses) {
         if LAST < end {
             sent = hand_over(to, sent, input, &out[..end], done);
             end = 0;
         }
         len = spot.length;
-        end = lines::entry(&mut out, end, &path.letters[..len], spot.value);
+        end = lines::entry(&mut out, end, &path[..len], spot.value);
     }
     hand_over(to, sent, input, &out[..end], done)
 }
 
 // Writes the line of the root's own key into the buffer, if it is stored. Answers where the line
-// ends.
+// ends. The value 0 is absent, as the format has it.
 fn root_line(out: &mut [u8], at: usize, value: u64) -> usize
     requires { at + entry_room 0 ≤ length out.old }
     ensures text_at { TextAt out.old at (root_line value) result out.new }

@@ -3,14 +3,12 @@
 #![tactic(auto)]
 
 ghost use Rattle.std.specs.Prelude.{◌≡◌};
-ghost use Rattle.head.specs.Fields.{head_of};
-ghost use Rattle.paper.specs.Accepted.{Accepted};
 ghost use Rattle.paper.specs.Calls.{work_after};
 ghost use Rattle.measure.specs.KeysMet.{keys_met, checked_keys_met};
 
 use alphabet::Codes;
-use node::Nodes;
-use traversal::Path;
+use head::Head;
+use sound::Sound;
 
 // Checks the image, then walks as a listing does, without its lines. Answers how many stored
 // keys the walk meets after the empty key, 0 for an image that is refused. The working numbers
@@ -22,23 +20,22 @@ pub extern "C" fn measure_walk(image: &[u8], work: &mut [u32]) -> u64
 {
     let mut codes = Codes::none();
     match audit::check(image, work, &mut codes) {
-        Ok(h) => count_met(Nodes::of(image, h)),
+        Ok(h) => count_met(Sound::of(image, h)),
         Err(_) => 0,
     }
 }
 
 // Counts the keys of the walk. Each key that is met leaves its path, and the search for the next
 // key starts from there.
-fn count_met(nodes: Nodes) -> u64
-    requires accepted { Accepted nodes.image.now }
-    requires own { nodes.head ≡ head_of nodes.image.now }
-    ensures { result ≡ keys_met nodes.entry.image.now }
+fn count_met(sound: Sound) -> u64
+    ensures { result ≡ keys_met sound.entry.nodes.image.now }
 {
-    let mut path = Path::new();
-    traversal::start(nodes, &mut path);
+    let mut path = [0u8; Head::MAX_MOST as usize];
+    let mut addresses = [0u32; Head::PATH_MOST as usize];
+    traversal::start(sound.nodes, &mut addresses);
     let mut met: u64 = 0;
     let mut len: usize = 0;
-    while let Some(spot) = traversal::onward(nodes, len, &mut path) {
+    while let Some(spot) = traversal::onward(sound.nodes, len, &mut path, &mut addresses) {
         met += 1;
         len = spot.length;
     }

@@ -4,10 +4,10 @@
 
 ghost use Rattle.seeking.specs.Seeking.{Seeks};
 
+use head::Head;
 use key::Key;
 use paper::{Found, Refusal};
 use sound::Sound;
-use traversal::Path;
 
 // Finds the first stored key at or after the key given or, if `after` is true, after it.
 // Refusals: 9 for a key longer than max, 10, 14, 15.
@@ -21,11 +21,12 @@ pub fn seek(sound: Sound, letters: &[u8], after: bool, buffer: &mut [u8]) -> Res
         return Err(Refusal::ShortBuffer);
     }
     // 15 leaves the buffer as it was, so the search writes to a path of its own.
-    let mut path = Path::new();
-    let Some(spot) = traversal::next(nodes, key, after, &mut path) else {
+    let mut path = [0u8; Head::MAX_MOST as usize];
+    let mut addresses = [0u32; Head::PATH_MOST as usize];
+    let Some(spot) = traversal::next(nodes, key, after, &mut path, &mut addresses) else {
         return Err(Refusal::NoKey);
     };
-    field::copy(buffer, 0, &path.letters[..spot.length]);
+    field::copy(buffer, 0, &path[..spot.length]);
     Ok(Found {
         length: spot.length as u32,
         value: spot.value,

@@ -7,7 +7,6 @@ use native.Mathlib.Nat.{sub-zero}
 use native.Mathlib.Omega.{arith}
 use mathlib.Core.Bool.{Bool, true, false}
 use mathlib.Core.List.{List, [], ◌∷◌, ◌++◌, map}
-use mathlib.Core.Logic.{◌≢◌}
 use mathlib.Core.Option.{none, some, some-ne-none, some-injective}
 use mathlib.Core.Path.{◌≡◌, refl, sym, ◌∙◌, ap}
 use Rattle.std.specs.Prelude.{Option as Maybe}
@@ -98,15 +97,19 @@ coming_front h l path path₁ depth x e =
 
 -- ---- from node to node up the path
 
--- The first key still to come is the same from here as from where the climb began.
-pub record Climbing (h : Head) (l path₀ nodes₀ : List ℕ) (end first : ℕ) (path nodes : List ℕ)
-    (depth x : ℕ) : Type 0 where
+-- The keys still to come from the nodes before this depth, each time after the letter that was
+-- taken there.
+pub to_climb : Head → List ℕ → List ℕ → ℕ → List (List ℕ)
+to_climb h l path zero = []
+to_climb h l path (suc d) = coming h l path d (suc (get_or path d 0))
+
+-- What lies below the nodes from this depth on is done: the first key still to come is one that
+-- comes from a node before it.
+pub record Climbing (h : Head) (l path₀ : List ℕ) (end first : ℕ) (path nodes : List ℕ)
+    (depth : ℕ) : Type 0 where
   pub deep : depth ≤ h.max
-  pub letters : depth ≤ length path
   pub along : Along h l depth path nodes
-  pub same : first_of (coming h l path₀ end first) ≡ first_of (coming h l path depth x)
-  -- a letter may follow where one was taken
-  pub deeper : 0 < x → depth < h.max
+  pub same : first_of (coming h l path₀ end first) ≡ first_of (to_climb h l path depth)
 
 -- No key lies below the path's end, and the path up to there is kept.
 pub record Nothing (h : Head) (l path nodes : List ℕ) (depth x : ℕ) (path₁ nodes₁ : List ℕ)
@@ -133,62 +136,86 @@ module _ {h : Head} {l path nodes : List ℕ} {depth x : ℕ} where
         kept = kept_all depth path nodes;
       }
 
-pub climbing_start : {h : Head} {l path nodes : List ℕ} {end : ℕ} (first : ℕ) → end ≤ h.max
-    → (0 < first → end < h.max)
-    → end ≤ length path → Along h l end path nodes
-    → Climbing h l path nodes end first path nodes end first
-climbing_start first deep deeper letters along =
+-- no key lies below a node: the first one still to come comes from a node before it
+climb_past : {h : Head} {l path nodes : List ℕ} (depth : ℕ) {x : ℕ} {path₁ nodes₁ : List ℕ}
+    → depth ≤ length path → Along h l depth path nodes
+    → Nothing h l path nodes depth x path₁ nodes₁
+    → first_of (coming h l path depth x) ≡ first_of (to_climb h l path₁ depth)
+unfolding first_of to_climb
+climb_past {h} {l} {path} {nodes} zero {x} letters along n =
+    coming_none h l path nodes (get_or nodes 0 0) x (along_root h l along) n.missing
+climb_past {h} {l} {path} {nodes} (suc d) {x} {path₁} letters along n =
+    ap first_of
+    (coming_up h l path nodes x letters along n.missing
+    ∙ ap (λ (y : ℕ). coming h l path d (suc y)) (sym (kept_letter d n.kept (omega arith)))
+    ∙ coming_front h l path path₁ d (suc (get_or path₁ d 0))
+    (sym (kept_front d n.kept (omega arith))))
+
+pub climbing_start : {h : Head} {l path nodes path₁ nodes₁ : List ℕ} {end first : ℕ}
+    → end ≤ h.max → end ≤ length path → Along h l end path nodes
+    → Nothing h l path nodes end first path₁ nodes₁
+    → Climbing h l path end first path₁ nodes₁ end
+climbing_start {h} {l} {end = end} deep letters along n =
     record {
       deep = deep;
-      letters = letters;
-      along = along;
-      same = refl;
-      deeper = deeper;
+      along = along_kept h l along n.kept;
+      same = climb_past end letters along n;
     }
 
-module _ {h : Head} {l path₀ nodes₀ : List ℕ} {end first : ℕ} {path nodes : List ℕ} {depth x : ℕ}
-    (c : Climbing h l path₀ nodes₀ end first path nodes depth x) {path₁ nodes₁ : List ℕ} where
-  -- the first key below is the one sought
-  pub climbing_found : {r : Maybe Spot}
-      → SearchTells h l (first_of (ahead h l path depth (get_or nodes depth 0) x)) r path₁ nodes₁
-      → is_some r ≡ true
-      → SearchTells h l (first_of (coming h l path₀ end first)) r path₁ nodes₁
-  climbing_found {r} told f =
-      let (_, found) = is_found r f in
-      let (k, e, _) = was_found h l told found in
-      told_same h l (c.same ∙ coming_found h l path nodes x c.letters c.along e ∙ sym e) told
+-- the key found below a node is the first one still to come
+pub climb_found : {h : Head} {l path nodes path₁ nodes₁ : List ℕ} {depth : ℕ} (x : ℕ)
+    {r : Maybe Spot} → depth ≤ length path → Along h l depth path nodes
+    → SearchTells h l (first_of (ahead h l path depth (get_or nodes depth 0) x)) r path₁ nodes₁
+    → is_some r ≡ true
+    → SearchTells h l (first_of (coming h l path depth x)) r path₁ nodes₁
+climb_found {h} {l} {path} {nodes} x {r} letters along told f =
+    let (_, found) = is_found r f in
+    let (k, e, _) = was_found h l told found in
+    told_same h l (coming_found h l path nodes x letters along e ∙ sym e) told
 
-  -- no key lies below the root, so there is none to come
-  pub climbing_end : Nothing h l path nodes depth x path₁ nodes₁ → depth ≡ 0
-      → first_of (coming h l path₀ end first) ≡ none
-  climbing_end nothing z =
-      let none_here = nothing.missing in
-      let root : get_or nodes depth 0 ≡ 0 =
-      ap (λ (d : ℕ). get_or nodes d 0) z ∙ along_root h l c.along in
-      c.same ∙ rw z (coming_none h l path nodes (get_or nodes 0 0) x (rw z at root)
-      (rw z at none_here))
+-- a node is left
+pub climbing_more : {h : Head} {l path₀ : List ℕ} {end first : ℕ} {path nodes : List ℕ} {depth : ℕ}
+    → Climbing h l path₀ end first path nodes depth → 0 < depth
+    → Climbing h l path₀ end first path nodes (suc (depth - 1))
+climbing_more {depth = depth} c above =
+    let e : suc (depth - 1) ≡ depth = omega arith in
+    rw e c
 
--- no key lies below: the climb goes on at the node before
-pub climbing_up : {h : Head} {l path₀ nodes₀ : List ℕ} {end first : ℕ} {path nodes : List ℕ}
-    (depth : ℕ) {x : ℕ}
-    → {path₁ nodes₁ : List ℕ} → Climbing h l path₀ nodes₀ end first path nodes depth x
-    → Nothing h l path nodes depth x path₁ nodes₁
-    → depth ≢ 0 → depth ≤ length path₁
-    → Climbing h l path₀ nodes₀ end first path₁ nodes₁ (depth - 1) (get_or path₁ (depth - 1) 0 + 1)
-climbing_up zero c n z letters = absurd (z refl)
-climbing_up {h} {l} {path = path} {nodes} (suc d) {x} {path₁} c n z letters =
-    let less : suc d - 1 ≡ d = omega arith in
-    rw (less, add-one (get_or path₁ d 0))
-    (record {
-      deep = omega (arith, c.deep);
-      letters = omega arith;
-      along = along_less h l (along_kept h l c.along n.kept);
-      same =
-          c.same
-          ∙ ap first_of
-          (coming_up h l path nodes x c.letters c.along n.missing
-          ∙ ap (λ (y : ℕ). coming h l path d (suc y)) (sym (kept_letter d n.kept (omega arith)))
-          ∙ coming_front h l path path₁ d (suc (get_or path₁ d 0))
-          (sym (kept_front d n.kept (omega arith))));
-      deeper = λ b. omega (arith, c.deep);
-    })
+-- the next node up the path, after the letter that was taken there
+module _ {h : Head} {l path₀ : List ℕ} {end first : ℕ} {path nodes : List ℕ} {depth : ℕ}
+    (c : Climbing h l path₀ end first path nodes (suc depth)) where
+  pub climbing_along : Along h l depth path nodes
+  climbing_along = along_less h l c.along
+
+  rest : first_of (to_climb h l path (suc depth))
+      ≡ first_of (coming h l path depth (get_or path depth 0 + 1))
+  unfolding to_climb
+  rest = rw (add-one (get_or path depth 0)) refl
+
+  module _ (letters : depth ≤ length path) {path₁ nodes₁ : List ℕ} where
+    pub climbing_found : {r : Maybe Spot}
+        → SearchTells h l
+        (first_of (ahead h l path depth (get_or nodes depth 0) (get_or path depth 0 + 1))) r path₁
+        nodes₁
+        → is_some r ≡ true
+        → SearchTells h l (first_of (coming h l path₀ end first)) r path₁ nodes₁
+    climbing_found told f =
+        told_same h l (c.same ∙ rest)
+        (climb_found (get_or path depth 0 + 1) letters climbing_along told f)
+
+    pub climbing_up : Nothing h l path nodes depth (get_or path depth 0 + 1) path₁ nodes₁
+        → Climbing h l path₀ end first path₁ nodes₁ depth
+    climbing_up n =
+        record {
+          deep = omega (arith, c.deep);
+          along = along_kept h l climbing_along n.kept;
+          same = c.same ∙ rest ∙ climb_past depth letters climbing_along n;
+        }
+
+-- no node is left
+pub climbing_end : {h : Head} {l path₀ : List ℕ} {end first : ℕ} {path nodes : List ℕ}
+    (depth : ℕ) → Climbing h l path₀ end first path nodes depth → depth ≡ 0
+    → first_of (coming h l path₀ end first) ≡ none
+unfolding first_of to_climb
+climbing_end zero c z = c.same
+climbing_end (suc d) c z = absurd (omega arith)

@@ -16,7 +16,7 @@ use Rattle.trie.proofs.Walk.{descend_nil, descend_empty, descend_on, descend_app
 use Rattle.trie.proofs.Walk.{complete_within}
 use Rattle.head.specs.declared.Head.{Head}
 use Rattle.node.specs.Image.{table_of}
-use Rattle.traversal.specs.Search.{Along, PathKept}
+use Rattle.traversal.specs.Search.{PathRoom, Along, PathKept}
 
 letters_take : (n j : ℕ) (k : List ℕ) → LettersBelow n k → LettersBelow n (take j k)
 letters_take n j k l = letters_before n (take j k) (drop j k) (rw (take-append-drop j k) l)
@@ -35,6 +35,11 @@ alike_at n i k l b e =
     sym (get_or-take n k i 0 b) ∙ ap (λ (m : List ℕ). get_or m i 0) e ∙ get_or-take n l i 0 b
 
 -- ---- what is kept
+
+pub room_kept : {h : Head} {path₀ nodes₀ path nodes : List ℕ} → PathRoom h path₀ nodes₀
+    → length path ≡ length path₀ → length nodes ≡ length nodes₀
+    → PathRoom h path nodes
+room_kept r e f = record { letters = rw e r.letters; ends = rw f r.ends }
 
 pub kept_all : (depth : ℕ) (path nodes : List ℕ) → PathKept depth path nodes path nodes
 kept_all depth path nodes = record { letters = refl; ends = refl }

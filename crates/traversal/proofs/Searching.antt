@@ -21,10 +21,10 @@ use Rattle.head.specs.declared.Head.{Head}
 use Rattle.node.specs.Image.{table_of}
 use Rattle.depths.specs.Depths.{own_value, KeysBelow}
 use Rattle.depths.specs.declared.Spot.{Spot}
-use Rattle.traversal.specs.Search.{ahead, Along, PathKept, Reached, search_of}
+use Rattle.traversal.specs.Search.{ahead, PathRoom, Along, PathKept, Reached, search_of}
 use Rattle.traversal.specs.Search.{SearchTells}
 use Rattle.depths.proofs.Links.{own_data, own_long, own_empty, own_full, from, from_link}
-use Rattle.traversal.proofs.Paths.{kept_all, kept_set, kept_below, kept_end}
+use Rattle.traversal.proofs.Paths.{room_kept, kept_all, kept_set, kept_below, kept_end}
 use Rattle.traversal.proofs.Paths.{along_kept, along_more}
 
 -- ---- the first of a list of keys
@@ -257,6 +257,12 @@ module _ {h : Head} {l path₀ nodes₀ : List ℕ} {depth q first : ℕ} {path 
       (omega (arith, length-set path depth i, o.letters))
 
   -- the path and its nodes, one letter further
+  pub onto_room : PathRoom h path₀ nodes₀ → length path ≡ length path₀
+      → length nodes ≡ length nodes₀
+      → PathRoom h (set path depth i) (set nodes (depth + 1) c)
+  onto_room room letters ends =
+      room_kept room (length-set path depth i ∙ letters) (length-set nodes (depth + 1) c ∙ ends)
+
   pub onto_node : c ≡ get_or (set nodes (depth + 1) c) (depth + 1) 0
   onto_node =
       sym (get_or-set_same nodes (depth + 1) c 0 o.ends)

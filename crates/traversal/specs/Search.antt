@@ -11,6 +11,11 @@ use Rattle.head.specs.declared.Head.{Head}
 use Rattle.node.specs.Image.{table_of}
 use Rattle.depths.specs.declared.Spot.{Spot}
 
+-- room for the letters of the longest key, and for the nodes on its path
+pub record PathRoom (h : Head) (path nodes : List ℕ) : Type 0 where
+  pub letters : h.max ≤ length path
+  pub ends : h.max < length nodes
+
 -- the first j letters of the path lead from the root to entry j of the nodes, for each j up to
 -- `depth`
 pub record Along (h : Head) (l : List ℕ) (depth : ℕ) (path nodes : List ℕ) : Type 0 where

@@ -10,13 +10,13 @@ abbrev pub invariant-loop-spot : goal.invariant-loop-spot
 invariant-loop-spot g l =
     record {
       telling :
-          Telling l.nodes.head l.nodes.image.now l.out l.path.letters l.path.nodes l.done l.end
+          Telling l.sound.nodes.head l.sound.nodes.image.now l.out l.path l.addresses l.done l.end
           l.len;
       written : OnOk l.sent
           (Appends (g.W.Write.contents l.initial.to) (g.W.Write.contents l.to)
-          (take l.done (output_of l.nodes.image.now)));
+          (take l.done (output_of l.sound.nodes.image.now)));
     }
 
 abbrev pub decreases-loop-spot : goal.decreases-loop-spot
 decreases-loop-spot g l =
-    length (keys_after l.nodes.head l.nodes.image.now (take l.len l.path.letters))
+    length (keys_after l.sound.nodes.head l.sound.nodes.image.now (take l.len l.path))

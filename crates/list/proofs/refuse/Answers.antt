@@ -1,6 +1,6 @@
 -- `list::refuse` meets its contract: the line of the refusal is the whole output, in one piece.
 -- Assumes nothing.
-use mathlib.Core.Path.{refl, sym, ◌∙◌}
+use mathlib.Core.Path.{refl, sym, ◌∙◌, ap₂}
 use mathlib.Core.List.{[], append-nil}
 use native.Mathlib.Omega.{arith}
 use Rattle.lines.specs.Lines.{refused_line}
@@ -19,11 +19,12 @@ waits : (g : Over) (c : After-refused-end g)
     → Waiting (output_of c.args.input.now)
     c.args.done.now c.refused-end.new.out c.refused-end.result []
 waits g c =
-    let line = refused_line c.args.number c.args.place in
+    let line = refused_line c.number.result c.place.result in
     waiting_more (waiting_none (output_of c.args.input.now) _ c.requires.done_value)
-    (c.requires.input_value ∙ sym (append-nil line))
+    (c.requires.input_value ∙ ap₂ refused_line (sym c.number.ensures) (sym c.place.ensures)
+    ∙ sym (append-nil line))
     c.refused-end.ensures
-    (omega (arith, c.refused-end.ensures.ends, refused_long c.args.number c.args.place))
+    (omega (arith, c.refused-end.ensures.ends, refused_long c.number.result c.place.result))
 
 pub slice_bounds-out-end : goal.slice_bounds-out-end
 slice_bounds-out-end g c = (waits g (goal.at.slice_bounds-out-end g c).After-refused-end).inside

@@ -1,11 +1,8 @@
 -- `list::tell` meets its contract: what the check gives decides the output, and the function that
 -- is called hands all of it over. Assumes nothing.
-use mathlib.Core.Path.{sym, ◌∙◌, ap₂}
 use native.Mathlib.Omega.{arith}
 use Rattle.paper.proofs.Hearing.{told_refused, told_passed}
-use Rattle.depths.proofs.Walkable.{walkable}
 use Rattle.audit.proofs.Verdicts.{checked_accepted, checked_head}
-use Rattle.lines.specs.Lines.{refused_line}
 use Rattle.list.proofs.Outputs.{output_longer, output_refused, output_listing}
 use Rattle.list.proofs.tell.Goals as goal
 
@@ -20,11 +17,7 @@ refuse-requires g c =
 pub of-requires : goal.of-requires
 of-requires g c =
     let o = c.check.ensures in
-    (walkable (checked_accepted o c.in-Ok.is) (checked_head o c.in-Ok.is)).opened
-
-pub list-requires-clause-accepted : goal.list-requires-clause-accepted
-list-requires-clause-accepted g c =
-    rw c.of.ensures.bytes (checked_accepted c.check.ensures c.in-Ok.is)
+    record { accepted = checked_accepted o c.in-Ok.is; own = checked_head o c.in-Ok.is }
 
 pub list-requires-clause-input_value : goal.list-requires-clause-input_value
 list-requires-clause-input_value g c =
@@ -36,4 +29,3 @@ pub refuse-requires-in-Err-clause-input_value : goal.refuse-requires-in-Err-clau
 refuse-requires-in-Err-clause-input_value g c =
     output_refused c.args.input.now (omega (arith, c.if-input-gt-IMAGE.false))
     (told_refused c.check.ensures.verdict c.in-Err.is)
-    ∙ ap₂ refused_line (sym c.number.ensures) (sym c.place.ensures)

@@ -4,7 +4,7 @@ use Rattle.measure.proofs.count_met.Given as goal
 
 abbrev pub invariant-loop-spot : goal.invariant-loop-spot
 invariant-loop-spot l =
-    Meeting l.nodes.head l.nodes.image.now l.path.letters l.path.nodes l.len l.met
+    Meeting l.sound.nodes.head l.sound.nodes.image.now l.path l.addresses l.len l.met
 
 abbrev pub decreases-loop-spot : goal.decreases-loop-spot
-decreases-loop-spot l = to_come l.nodes.head l.nodes.image.now (take l.len l.path.letters)
+decreases-loop-spot l = to_come l.sound.nodes.head l.sound.nodes.image.now (take l.len l.path)

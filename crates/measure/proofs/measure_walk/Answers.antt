@@ -1,7 +1,6 @@
 -- `measure::measure_walk` meets its contract. An image that passes the check is accepted, and
 -- its head is the one that the check read; then the walk answers. For an image that is refused
 -- the answer is 0. Assumes nothing.
-use Rattle.paper.proofs.CheckCall.{head_open}
 use Rattle.audit.proofs.Verdicts.{checked_accepted, checked_head}
 use Rattle.measure.proofs.Meeting.{walk_refused, walk_passed}
 use Rattle.measure.proofs.measure_walk.Goals as goal
@@ -9,16 +8,7 @@ use Rattle.measure.proofs.measure_walk.Goals as goal
 pub of-requires : goal.of-requires
 of-requires c =
     let o = c.check.ensures in
-    head_open (checked_accepted o c.in-Ok.is) (checked_head o c.in-Ok.is)
-
-pub count_met-requires : goal.count_met-requires
-count_met-requires c =
-    let o = c.check.ensures in
-    let same = c.of.ensures in
-    record {
-      accepted = rw same.bytes (checked_accepted o c.in-Ok.is);
-      own = rw (same.head, same.bytes) (checked_head o c.in-Ok.is);
-    }
+    record { accepted = checked_accepted o c.in-Ok.is; own = checked_head o c.in-Ok.is }
 
 pub returns-in-Err : goal.returns-in-Err
 returns-in-Err c =

@@ -8,7 +8,7 @@ use Rattle.head.proofs.Permitted.{bounds}
 use Rattle.traversal.proofs.Paths.{kept_below, along_within}
 use Rattle.traversal.proofs.Searching.{told_none, Onto, passing_start}
 use Rattle.traversal.proofs.Searching.{passing_empty, passing_end}
-use Rattle.traversal.proofs.Searching.{onto_node, onto_along, onto_kept}
+use Rattle.traversal.proofs.Searching.{onto_room, onto_node, onto_along, onto_kept}
 use Rattle.traversal.proofs.Searching.{onto_own, onto_found, onto_missing, onto_no_keys}
 use Rattle.traversal.proofs.+below.Goals as goal
 use Rattle.traversal.proofs.+below.Goals.{After-own_value-value}
@@ -16,14 +16,6 @@ use Rattle.traversal.proofs.+below.Goals.{After-own_value-value}
 pub loop-i-init : goal.loop-i-init
 loop-i-init t c =
     passing_start c.args.from c.requires.depth c.requires.along.0 c.requires.along.1
-
-pub bounds-path-depth : goal.bounds-path-depth
-bounds-path-depth t c =
-    omega (arith, bounds c.args.nodes.head c.args.nodes.open.head_permitted, c.requires.depth)
-
-pub bounds-path-depth-in-loop-i : goal.bounds-path-depth-in-loop-i
-bounds-path-depth-in-loop-i t c =
-    omega (arith, bounds c.args.nodes.head c.args.nodes.open.head_permitted, c.requires.depth)
 
 pub link-c-requires-clause-node : goal.link-c-requires-clause-node
 link-c-requires-clause-node t c =
@@ -34,21 +26,21 @@ pub loop-i-preserved-then-c-eq0 : goal.loop-i-preserved-then-c-eq0
 loop-i-preserved-then-c-eq0 t c =
     passing_empty c.loop-i.invariant c.loop-i-test.true c.link-c.ensures c.if-c-eq0.true
 
-pub overflow_cast-path : goal.overflow_cast-path
-overflow_cast-path t c =
+pub overflow_cast-letters : goal.overflow_cast-letters
+overflow_cast-letters t c =
     omega (arith, bounds c.args.nodes.head c.args.nodes.open.head_permitted)
 
 -- the link is not empty
 onto : (t : ℕ) (c : After-own_value-value t)
     → (let a = c.args in
-    Onto a.nodes.head a.nodes.image.now a.path.now.letters a.path.now.nodes a.depth a.node a.from
-    c.loop-i.path.letters c.loop-i.path.nodes c.loop-i.i c.link-c.result)
+    Onto a.nodes.head a.nodes.image.now a.letters.now a.addresses.now a.depth a.node a.from
+    c.loop-i.letters c.loop-i.addresses c.loop-i.i c.link-c.result)
 onto t c =
-    let b = bounds c.args.nodes.head c.args.nodes.open.head_permitted in
+    let room = c.requires.room in
     record {
       passing = c.loop-i.invariant;
-      letters = omega (arith, b, c.requires.depth);
-      ends = omega (arith, b, c.requires.depth);
+      letters = omega (arith, room.letters, c.loop-i.auto.letters, c.requires.depth);
+      ends = omega (arith, room.ends, c.loop-i.auto.addresses, c.requires.depth);
       low = c.loop-i-test.true;
       link = c.link-c.ensures;
       full = c.if-c-eq0.false;
@@ -72,9 +64,11 @@ loop-i-preserved-then-no_keys_below t c =
 pub below-deeper-requires : goal.below-deeper-requires
 below-deeper-requires t c =
     let o = onto t (goal.at.below-deeper-requires t c).After-own_value-value in
-    let deep = c.no_keys_below.ensures.deep c.if-no_keys_below.false in (
+    let deep = c.no_keys_below.ensures.deep c.if-no_keys_below.false in
+    let long = c.loop-i.auto in
+    let room = onto_room o c.requires.room long.letters long.addresses in (
       omega (arith, c.decreases, o.passing.deep),
-      (c.requires.within, (deep, (onto_along o, onto_node o))),
+      (c.requires.within, (deep, (room, (onto_along o, onto_node o)))),
     )
 
 pub returns-then-is_some : goal.returns-then-is_some

@@ -7,5 +7,5 @@ decreases-below l = l.nodes.head.max - l.depth
 
 abbrev pub invariant-loop-i : goal.invariant-loop-i
 invariant-loop-i l =
-    Passing l.nodes.head l.nodes.image.now l.initial.path.letters l.initial.path.nodes l.depth
-    l.node l.from l.path.letters l.path.nodes l.i
+    Passing l.nodes.head l.nodes.image.now l.initial.letters l.initial.addresses l.depth l.node
+    l.from l.letters l.addresses l.i

@@ -1,14 +1,14 @@
 -- `traversal::along` meets its contract: letter by letter the path is the beginning of the key,
 -- down to the key's end or to an empty link. Assumes nothing.
-use mathlib.Core.Path.{◌≡◌, sym, ◌∙◌, ap}
+use Prim.Native.Nat.{◌<◌}
+use mathlib.Core.Path.{◌≡◌, refl, sym, ◌∙◌, ap}
 use native.Mathlib.Omega.{arith}
 use borrow.Author.Rules.{rules}
 use Rattle.std.specs.Option.{option_flatten}
-use lib.ListN.{length, get_or}
-use lib.Seq.{get_or-take}
-use Rattle.head.proofs.Permitted.{bounds}
+use lib.ListN.{length, length-set}
+use Rattle.trie.proofs.LettersBelow.{letters_at}
 use Rattle.key.specs.Hand.{letters_of}
-use Rattle.key.proofs.Hand.{letters_count, letter_below}
+use Rattle.key.proofs.Hand.{letters_count}
 use Rattle.traversal.proofs.Paths.{along_within}
 use Rattle.traversal.proofs.Following.{led, following_start, following_stop, following_on}
 use Rattle.traversal.proofs.along.Goals as goal
@@ -18,14 +18,9 @@ use Rattle.traversal.proofs.along.Goals.{After-flatten, In-loop-depth, Start}
 count : (c : Start) → length (letters_of c.args.key) ≡ c.args.key.len
 count c = letters_count c.args.key (search rules) c.requires.ready.short
 
--- the next letter
-letter : (c : In-loop-depth)
-    → (let key = c.args.key in
-    let depth = c.loop-depth.depth in
-    get_or (letters_of key) depth 0 ≡ get_or key.letters depth 0)
-letter c =
-    let key = c.args.key in
-    get_or-take key.len key.letters c.loop-depth.depth 0 c.loop-depth-test.true
+-- the loop goes over these letters
+low : (c : In-loop-depth) → c.loop-depth.depth < length (letters_of c.args.key)
+low c = c.loop-depth-test.true
 
 -- where it led
 step : (c : After-flatten) → c.flatten.result ≡ led c.step.result
@@ -34,9 +29,8 @@ step c = c.flatten.ensures ∙ ap option_flatten c.ok.ensures.value
 pub loop-depth-init : goal.loop-depth-init
 loop-depth-init c =
     let n = c.args.nodes in
-    let p = c.args.path.now in
-    let room : length p.nodes ≡ 65 = search rules in
-    following_start n.head n.image.now (letters_of c.args.key) p.letters p.nodes (omega arith)
+    following_start n.head n.image.now (letters_of c.args.key) c.args.letters.now
+    c.args.addresses.now (omega (arith, c.requires.room.ends))
 
 pub step-requires-clause-node : goal.step-requires-clause-node
 step-requires-clause-node c =
@@ -46,24 +40,28 @@ step-requires-clause-node c =
 
 pub step-requires-clause-letter : goal.step-requires-clause-letter
 step-requires-clause-letter c =
-    let r = c.requires.ready in
-    letter_below c.args.key (search rules) r.short c.args.nodes.head.n
-    c.loop-depth.depth r.letters c.loop-depth-test.true
+    letters_at c.args.nodes.head.n (letters_of c.args.key) c.requires.ready.letters
+    c.loop-depth.depth (low (goal.at.step-requires-clause-letter c).In-loop-depth)
 
 pub returns-in_default : goal.returns-in_default
 returns-in_default c =
-    following_stop c.loop-depth.invariant (letter (goal.at.returns-in_default c).In-loop-depth)
-    c.step.ensures c.requires.within
+    following_stop c.loop-depth.invariant refl c.step.ensures c.requires.within
     (sym (step (goal.at.returns-in_default c).After-flatten) ∙ c.in_default.is)
 
 pub loop-depth-preserved : goal.loop-depth-preserved
 loop-depth-preserved c =
     let at = goal.at.loop-depth-preserved c in
-    let all = count at.Start in
-    let b = bounds c.args.nodes.head c.args.nodes.open.head_permitted in
-    let short = c.requires.short in
-    following_on c.loop-depth.invariant (letter at.In-loop-depth) c.step.ensures
-    (omega (arith, all, c.loop-depth-test.true)) c.requires.ready.letters
-    (omega (arith, b, short, c.loop-depth-test.true))
-    (omega (arith, b, short, c.loop-depth-test.true))
+    let room = c.requires.room in
+    let in_key = low at.In-loop-depth in
+    let in_max : c.loop-depth.depth < c.args.nodes.head.max =
+    omega (arith, count at.Start, in_key, c.requires.short) in
+    following_on c.loop-depth.invariant refl c.step.ensures in_key c.requires.ready.letters
+    (omega (arith, room.letters, c.loop-depth.auto.letters, in_max))
+    (omega (
+      arith,
+      room.ends,
+      c.loop-depth.auto.addresses,
+      length-set c.args.addresses.now 0 0,
+      in_max,
+    ))
     (sym (step at.After-flatten) ∙ c.in-Some.is)

@@ -4,5 +4,5 @@ use Rattle.traversal.proofs.along.Given as goal
 
 abbrev pub invariant-loop-depth : goal.invariant-loop-depth
 invariant-loop-depth l =
-    Following l.nodes.head l.nodes.image.now (letters_of l.key) l.path.letters l.path.nodes
-    l.here l.depth
+    Following l.nodes.head l.nodes.image.now (letters_of l.fn.key) l.letters l.addresses l.here
+    l.depth

@@ -1,89 +1,96 @@
--- `traversal::climb` meets its contract: from node to node up the path the first key still to
--- come stays the same, until it is found below a node or the root is done. A search is made only
--- at a depth below max. Assumes nothing.
-use mathlib.Core.Bool.{true≢false}
+-- `traversal::climb` meets its contract. Below the path's end, then from node to node up the path,
+-- either the first key still to come is found, or none lies there and it comes from a node before.
+-- A search is made only at a depth below max. Assumes nothing.
+use Prim.Native.Nat.{suc, ◌-◌, ◌≤◌}
 use mathlib.Core.Path.{sym, refl, ◌∙◌}
 use native.Mathlib.Omega.{arith}
-use Rattle.head.proofs.Permitted.{bounds}
+use lib.ListN.{length}
 use Rattle.traversal.proofs.Paths.{along_within}
 use Rattle.traversal.proofs.Searching.{told_none}
-use Rattle.traversal.proofs.Climbing.{climbing_start, climbing_found}
-use Rattle.traversal.proofs.Climbing.{climbing_end, climbing_up}
+use Rattle.traversal.proofs.Climbing.{climbing_start, climb_found, climbing_more, climbing_along}
+use Rattle.traversal.proofs.Climbing.{climbing_found, climbing_end, climbing_up, Climbing}
 use Rattle.traversal.proofs.Climbing.{Nothing, nothing_missing, climb_no_keys}
 use Rattle.traversal.proofs.climb.Goals as goal
-use Rattle.traversal.proofs.climb.Goals.{Joined-not-no_keys}
-use Rattle.traversal.proofs.climb.Goals.{then-from-eq0, else-from-eq0}
-use Rattle.traversal.proofs.climb.Goals.{then-not-no_keys+else-is_some, else-not-no_keys}
+use Rattle.traversal.proofs.climb.Goals.{Start, Joined-first-ne0, In-loop-depth}
+use Rattle.traversal.proofs.climb.Goals.{then-first-ne0+else-is_some}
+use Rattle.traversal.proofs.climb.Goals.{else-first-ne0+else-not-no_keys_below}
 
-pub loop-from-init : goal.loop-from-init
-loop-from-init c =
-    let r = c.requires in
-    climbing_start c.args.first r.end r.inner
-    (omega (arith, bounds c.args.nodes.head c.args.nodes.open.head_permitted, r.end)) r.along
+-- the path is long enough
+long : (c : Start) → c.args.end ≤ length c.args.letters.now
+long c = omega (arith, c.requires.end, c.requires.room.letters)
 
-pub no_keys_below-no_keys-requires : goal.no_keys_below-no_keys-requires
-no_keys_below-no_keys-requires c =
+pub no_keys_below-requires : goal.no_keys_below-requires
+no_keys_below-requires c =
     let n = c.args.nodes in
-    along_within n.head n.image.now c.requires.within c.loop-from.invariant.along
-
--- a search is made only at a depth below max
-pub below-found-requires-clause-depth : goal.below-found-requires-clause-depth
-below-found-requires-clause-depth c =
-    elim c.if-from-eq0.branch [
-      | then-from-eq0 w ↦ w.no_keys_below-no_keys.ensures.deep
-          (sym w.no_keys-is ∙ c.if-not-no_keys.true)
-      | else-from-eq0 w ↦ c.loop-from.invariant.deeper (omega (arith, w.if-from-eq0.false))
-    ]
-
-pub below-found-requires-clause-along : goal.below-found-requires-clause-along
-below-found-requires-clause-along c = (c.loop-from.invariant.along, refl)
+    along_within n.head n.image.now c.requires.within c.requires.along
 
 pub returns-then-is_some : goal.returns-then-is_some
 returns-then-is_some c =
-    climbing_found c.loop-from.invariant
+    climb_found c.args.first (long (goal.at.returns-then-is_some c).Start) c.requires.along
     c.below-found.ensures.search_tells (sym c.is_some.ensures ∙ c.if-is_some.true)
 
--- no key was found, or no search was made
-nothing : (c : Joined-not-no_keys)
+-- no key was found below the path's end, or no search was made there
+nothing : (c : Joined-first-ne0)
     → (let n = c.args.nodes in
-    let at = c.loop-from in
-    Nothing n.head n.image.now at.path.letters at.path.nodes at.depth at.from
-    c.if-not-no_keys.path.letters c.if-not-no_keys.path.nodes)
+    Nothing n.head n.image.now c.args.letters.now c.args.addresses.now c.args.end c.args.first
+    c.if-first-ne0.letters c.if-first-ne0.addresses)
 nothing c =
-    elim c.if-not-no_keys.branch [
-      | then-not-no_keys+else-is_some w ↦
-          rw w.path-is
+    elim c.if-first-ne0.branch [
+      | then-first-ne0+else-is_some w ↦
+          rw (w.letters-is, w.addresses-is)
           (nothing_missing w.below-found.ensures.search_tells
           (sym w.is_some.ensures ∙ w.if-is_some.false) w.below-found.ensures.path_kept)
-      | else-not-no_keys w ↦
-          elim c.if-from-eq0.branch [
-            | then-from-eq0 v ↦
-                rw w.path-is
-                (climb_no_keys v.no_keys_below-no_keys.ensures
-                (sym v.no_keys-is ∙ w.if-not-no_keys.false))
-            | else-from-eq0 v ↦ absurd (true≢false (sym w.if-not-no_keys.false ∙ v.no_keys-is))
-          ]
+      | else-first-ne0+else-not-no_keys_below w ↦
+          rw (w.letters-is, w.addresses-is)
+          (climb_no_keys w.no_keys_below.ensures w.if-not-no_keys_below.false)
     ]
 
-pub returns-then-depth-eq0 : goal.returns-then-depth-eq0
-returns-then-depth-eq0 c =
-    told_none c.args.nodes.head c.args.nodes.image.now
-    (climbing_end c.loop-from.invariant (nothing
-    (goal.at.returns-then-depth-eq0 c).Joined-not-no_keys) c.if-depth-eq0.true)
+pub loop-depth-init : goal.loop-depth-init
+loop-depth-init c =
+    let at = goal.at.loop-depth-init c in
+    climbing_start c.requires.end (long at.Start) c.requires.along (nothing at.Joined-first-ne0)
 
-pub bounds-path-depth-in-loop-from : goal.bounds-path-depth-in-loop-from
-bounds-path-depth-in-loop-from c =
+-- a node is left above
+left : (c : In-loop-depth)
+    → (let n = c.args.nodes in
+    let at = c.loop-depth in
+    Climbing n.head n.image.now c.args.letters.now c.args.end c.args.first at.letters at.addresses
+    (suc (at.depth - 1)))
+left c = climbing_more c.loop-depth.invariant c.loop-depth-test.true
+
+reach : (c : In-loop-depth) → c.loop-depth.depth - 1 ≤ length c.loop-depth.letters
+reach c =
     omega (
       arith,
-      c.if-depth-eq0.false,
-      c.loop-from.invariant.deep,
-      bounds c.args.nodes.head c.args.nodes.open.head_permitted,
+      c.loop-depth.invariant.deep,
+      c.requires.room.letters,
+      c.loop-depth.auto.letters,
+      c.if-first-ne0.auto.letters,
     )
 
-pub loop-from-preserved : goal.loop-from-preserved
-loop-from-preserved c =
-    let at = c.loop-from in
-    rw c.from-from.ensures
-    (climbing_up at.depth at.invariant
-    (nothing (goal.at.loop-from-preserved c).Joined-not-no_keys) c.if-depth-eq0.false
-    (omega (arith, at.invariant.deep, bounds c.args.nodes.head c.args.nodes.open.head_permitted)))
+pub below-found-requires-in-loop-depth-clause-along
+    : goal.below-found-requires-in-loop-depth-clause-along
+below-found-requires-in-loop-depth-clause-along c = (
+  climbing_along (left (goal.at.below-found-requires-in-loop-depth-clause-along c).In-loop-depth),
+  refl,
+)
+
+pub returns-then-is_some-2 : goal.returns-then-is_some-2
+returns-then-is_some-2 c =
+    let at = (goal.at.returns-then-is_some-2 c).In-loop-depth in
+    climbing_found (left at) (reach at)
+    (rw c.from-from.ensures at c.below-found-in-loop-depth.ensures.search_tells)
+    (sym c.is_some-in-loop-depth.ensures ∙ c.if-is_some-2.true)
+
+pub loop-depth-preserved : goal.loop-depth-preserved
+loop-depth-preserved c =
+    let here = (goal.at.loop-depth-preserved c).In-loop-depth in
+    let found = c.below-found-in-loop-depth.ensures in
+    climbing_up (left here) (reach here)
+    (nothing_missing (rw c.from-from.ensures at found.search_tells)
+    (sym c.is_some-in-loop-depth.ensures ∙ c.if-is_some-2.false) found.path_kept)
+
+pub returns : goal.returns
+returns c =
+    told_none c.args.nodes.head c.args.nodes.image.now
+    (climbing_end c.loop-depth.depth c.loop-depth.invariant (omega arith))

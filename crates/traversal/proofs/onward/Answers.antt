@@ -2,7 +2,7 @@
 -- from the path's end. Assumes nothing.
 use native.Mathlib.Omega.{arith}
 use lib.Seq.{length-take-le}
-use Rattle.head.proofs.Permitted.{bounds}
+use Rattle.traversal.proofs.Paths.{room_kept}
 use Rattle.traversal.proofs.Searching.{told_same}
 use Rattle.traversal.proofs.Requests.{after_path}
 use Rattle.traversal.proofs.onward.Goals as goal
@@ -10,9 +10,12 @@ use Rattle.traversal.proofs.onward.Goals as goal
 pub returns : goal.returns
 returns c =
     let n = c.args.nodes in
-    let p = c.args.path.now in
+    let letters = c.args.letters.now in
     let r = c.requires in
-    let b = bounds n.head n.open.head_permitted in
-    let size = length-take-le c.args.len p.letters (omega (arith, b, r.short)) in
-    told_same n.head n.image.now
-    (after_path n.head n.image.now p.letters p.nodes r.short size r.along) c.climb.ensures
+    let size = length-take-le c.args.len letters (omega (arith, r.room.letters, r.short)) in
+    record {
+      search_tells = told_same n.head n.image.now
+          (after_path n.head n.image.now letters c.args.addresses.now r.short size r.along)
+          c.climb.ensures;
+      path_room = room_kept r.room c.climb.auto.letters c.climb.auto.addresses;
+    }
