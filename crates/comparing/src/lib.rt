@@ -47,8 +47,8 @@ pub fn compare(
     }
 }
 
-// The lowest place at which the numbers of two lists of one length differ, if there is one. All
-// are compared first, since they are mostly the same.
+// The lowest place at which the numbers of two lists of one length differ, if there is one. The
+// two are mostly the same, and `==` is the quickest way to see it.
 fn first_different(fresh: &[u32], counts: &[u32]) -> Option<usize>
     requires { length fresh.now ≡ length counts.now }
     ensures { result ≡ lowest_in (λ q. not (eqb (get_or counts.now q 0) (get_or fresh.now q 0))) 0
@@ -57,10 +57,5 @@ fn first_different(fresh: &[u32], counts: &[u32]) -> Option<usize>
     if fresh == counts {
         return None;
     }
-    for q in 0..counts.len() {
-        if counts[q] != fresh[q] {
-            return Some(q);
-        }
-    }
-    None
+    fresh.iter().zip(counts).position(|(f, c)| f != c)
 }

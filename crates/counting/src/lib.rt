@@ -14,11 +14,7 @@ pub fn count(sound: Sound) -> u32
         sound.entry.nodes.head.min sound.entry.nodes.head.max) }
 {
     let nodes = sound.nodes;
-    let mut sum: u32 = 0;
-    for q in 0..nodes.count() {
-        if nodes.data(q as u32) != 0 {
-            sum += 1;
-        }
-    }
-    sum
+    (0..nodes.count())
+        .filter(|q| nodes.data(*q as u32) != 0)
+        .count() as u32
 }

@@ -122,7 +122,7 @@ fn eight(s: &[u8], at: usize) -> u64
 }
 
 // Writes v into the w bytes from `at` on, the last byte first. What does not fit the width is
-// lost.
+// lost. By index: after a loop over `iter_mut().rev()` a proof knows nothing of the bytes.
 pub fn write(s: &mut [u8], at: usize, w: usize, v: u64)
     requires { at + w ≤ length s.old }
     ensures { s.new ≡ put_field s.old at w v }

@@ -67,8 +67,8 @@ fn letters(out: &mut [u8], at: usize, key: &[u8]) -> usize
     end
 }
 
-// Writes a letter number in decimal. It has at most three digits, and most of the output is
-// letters, so there is no loop.
+// Writes a letter number in decimal. By hand: it has at most three digits, and a letter has room
+// for three bytes and no more. There is no loop, since most of the output is letters.
 fn letter(out: &mut [u8], at: usize, x: u8) -> usize
     requires { at + 3 ≤ length out.old }
     ensures { TextAt out.old at (decimal x) result out.new }
@@ -88,32 +88,13 @@ fn letter(out: &mut [u8], at: usize, x: u8) -> usize
     at + 3
 }
 
-// Writes a number in decimal, from its last digit on. Decimal text is written by hand, since each
-// line is proved byte by byte, in lent memory and with no heap.
+// Writes a number in decimal: its text is made in a buffer on the stack, and copied.
 fn number(out: &mut [u8], at: usize, v: u64) -> usize
     requires { at + 20 ≤ length out.old }
     ensures { TextAt out.old at (decimal v) result out.new }
 {
-    let width = places(v);
-    let mut x = v;
-    for i in (0..width).rev() {
-        out[at + i] = b'0' + ((x % 10) as u8);
-        x /= 10;
-    }
-    at + width
-}
-
-// How many digits a number has. The loop divides; it goes over no range.
-fn places(v: u64) -> usize
-    ensures { result ≡ length (decimal v) }
-{
-    let mut x = v;
-    let mut n: usize = 1;
-    while 10 <= x {
-        x /= 10;
-        n += 1;
-    }
-    n
+    let mut buffer = itoa::Buffer::new();
+    word(out, at, buffer.format(v).as_bytes())
 }
 
 // Writes a text as it is.

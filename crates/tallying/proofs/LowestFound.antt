@@ -1,17 +1,22 @@
 -- A search upwards for the lowest number that passes a test. From the number reached the lowest
 -- is still the same, since no number passed over passes.
-use mathlib.Core.Path.{◌≡◌, refl, sym, ap, ◌∙◌}
+use mathlib.Core.Path.{◌≡◌, refl, sym, ap, ◌∙◌, subst}
 use mathlib.Core.Bool.{Bool, true, false}
 use Prim.Native.Nat.{ℕ, zero, suc, ◌+◌, ◌-◌, ◌≤◌, ◌<◌}
 use native.Mathlib.Numerals.{add-one}
 use native.Mathlib.Decide.{dec_lt}
 use native.Mathlib.Omega.{arith}
+use mathlib.Core.List.{List}
 use mathlib.Core.Option.{none, some}
 use lib.Dec.{ltb}
+use lib.ListN.{length, get_or}
 use borrow.Author.Tests.{lt-ltb, le-ltb, ltb-true}
 use Rattle.std.specs.Prelude.{Option, Some, None}
+use Rattle.std.specs.List.{AllWithin, HoldsAt}
+use Rattle.std.specs.Option.{MatchOption}
 use Rattle.std.proofs.lemmas.Option.{none-some, cond_some}
 use Rattle.trie.specs.Lowest.{lowest}
+use Rattle.trie.proofs.Lowest.{lowest_none, lowest_at}
 use Rattle.paper.specs.Answers.{number_at}
 use Rattle.paper.specs.Rows.{row_when_lowest}
 use Rattle.paper.proofs.Hearing.{is_given, not_given}
@@ -71,6 +76,32 @@ module _ {p : ℕ → Bool} {a k x : ℕ} (s : Seeking p a k x) where
   pub seeking_all : a + k ≤ x → None ≡ lowest_in p a k
   unfolding lowest
   seeking_all h = none_found p a k (omega (arith, s.same 0 (omega (arith, s.within))))
+
+-- ---- the same by the first element that `position` finds
+
+-- the numbers from a on stand for the elements of a list, in order
+module _ {X : Type 0} (yes no : X → Type 0) (xs : List X) (d : X) (p : ℕ → Bool) (a : ℕ)
+    (hit : (i : ℕ) → i < length xs → yes (get_or xs i d) → p (a + i) ≡ true)
+    (miss : (i : ℕ) → i < length xs → no (get_or xs i d) → p (a + i) ≡ false) where
+  passed_over : (k : ℕ) → k ≤ length xs → AllWithin no xs 0 k → (y : ℕ) → a ≤ y → y < a + k
+      → p y ≡ false
+  passed_over k b over y low high =
+      let e : a + (y - a) ≡ y = omega arith in
+      subst (λ (z : ℕ). p z ≡ false) e
+      (miss (y - a) (omega arith) (over (y - a) d (omega arith) (omega arith)))
+
+  pub first_element : (o : Option ℕ) → MatchOption o (AllWithin no xs 0 (length xs))
+      (λ i. (i < length xs) × HoldsAt yes xs i × AllWithin no xs 0 i)
+      → (r : Option ℕ) → MatchOption o (r ≡ None) (λ i. r ≡ Some (a + i))
+      → r ≡ lowest_in p a (length xs)
+  first_element None over r e =
+      e ∙ none_found p a (length xs)
+      (omega (arith, lowest_none p a (length xs) (passed_over (length xs) (omega arith) over)))
+  first_element (Some i) (b, here, over) r e =
+      e ∙ some_found p a (length xs)
+      (sym (lowest_at p a (length xs) (a + i) (omega arith) (omega arith) (hit i b (here d))
+      (passed_over i (omega arith) over)))
+      (omega arith)
 
 -- tests that agree on these numbers have the same lowest number
 pub lowest_same : (p r : ℕ → Bool) (a k : ℕ) → ((x : ℕ) → a ≤ x → x < a + k → p x ≡ r x)

@@ -78,6 +78,7 @@ fn hides(nodes: Nodes, x: u32, mark: u32) -> bool
 
 // True only if no working number from number 1 on, below `count`, is 0. The loop has no early
 // exit, so that it can handle several numbers at once. The answer false promises nothing.
+// By index: `&work[1..count]` would need `count` to be 1 or more, which is not required.
 pub fn all_met(work: &[u32], count: usize) -> bool
     requires { count ≤ length work.now }
     ensures { result ≡ true → AllMet work.now count }
@@ -95,12 +96,7 @@ pub fn first_holding(work: &[u32], count: usize, v: u32) -> Option<usize>
     requires room { count ≤ length work.now }
     ensures { FoundFrom work.now count v result }
 {
-    for x in 1..count {
-        if work[x] == v {
-            return Some(x);
-        }
-    }
-    None
+    work[1..count].iter().position(|x| *x == v).map(|x| x + 1)
 }
 
 // The lowest node that has hidden data, by the marks in the working numbers, if there is one.
@@ -108,9 +104,8 @@ pub fn first_hidden(nodes: Nodes, work: &[u32]) -> Option<u32>
     requires { nodes.head.g + 1 ≤ length work.now }
     ensures { HiddenFrom nodes.entry.head nodes.entry.image.now work.now result }
 {
-    for x in 0..nodes.count() {
-        let mark = work[x] % reaching::MARKS;
-        if hides(nodes, x as u32, mark) {
+    for (x, number) in work[..nodes.count()].iter().enumerate() {
+        if hides(nodes, x as u32, number % reaching::MARKS) {
             return Some(x as u32);
         }
     }
