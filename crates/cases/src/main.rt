@@ -38,14 +38,14 @@
 
 mod line;
 
-ghost use Rattle.std.specs.Prelude.{◌≤◌, length, IfOk};
+ghost use Rattle.std.specs.Prelude.{◌≤◌};
 
 use head::Head;
 use key::GivenKey;
 use line::{Line, cut};
 use paper::{Found, Noted, Refusal};
+use reading::read_full;
 use std::io;
-use std::io::Read;
 
 // The longest text that is read.
 const TEXT_MOST: usize = 262144;
@@ -79,22 +79,6 @@ fn main(rt: HostRuntime) -> io::Result<()> {
         print!(rt; "lines too many\n")?;
     }
     Ok(())
-}
-
-// Reads until the buffer is full or the input ends. Answers how many bytes it put at the buffer's
-// start.
-fn read_full(from: &mut impl Read, space: &mut [u8]) -> io::Result<usize>
-    ensures { IfOk result (λ n. n ≤ length space.new) }
-{
-    let mut len: usize = 0;
-    while len < space.len() {
-        let n = from.read(&mut space[len..])?;
-        if n == 0 {
-            break;
-        }
-        len += n;
-    }
-    Ok(len)
 }
 
 // The image, and how many of its bytes are lent.

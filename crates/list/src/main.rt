@@ -48,25 +48,6 @@ fn answer<R: Read, W: Write>(from: &mut R, to: &mut W) -> io::Result<()>
     tell(to, &space[..len], &mut done)
 }
 
-// Reads until the buffer is full or the input ends. Answers how many bytes it put at the buffer's
-// start. The loop has no range: only the input knows how much each read gives.
-fn read_full<R: Read>(from: &mut R, space: &mut [u8]) -> io::Result<usize>
-    ensures bound { IfOk result (λ n. n ≤ length space.new) }
-    ensures bytes { IfOk result (λ n.
-        Consumes (R.remaining from.old) (R.remaining from.new) (take n space.new)) }
-    ensures end { IfOk result (λ n. n < length space.new → IsAtEnd (R.remaining from.new)) }
-{
-    let mut len: usize = 0;
-    while len < space.len() {
-        let n = from.read(&mut space[len..])?;
-        if n == 0 {
-            break;
-        }
-        len += n;
-    }
-    Ok(len)
-}
-
 // Hands over the whole output for an input. `done` counts the bytes that were handed over: at the
 // start none, at the end all.
 fn tell<W: Write>(to: &mut W, input: &[u8], done: &mut usize) -> io::Result<()>

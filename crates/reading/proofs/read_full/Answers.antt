@@ -1,4 +1,4 @@
--- `list::read_full` meets its contract: what each read gives comes after what the buffer has.
+-- `reading::read_full` meets its contract: what each read gives comes after what the buffer has.
 -- Assumes nothing.
 use Rattle.std.proofs.Common.{◌≡◌, ℕ, ◌+◌, ◌-◌, ◌≤◌, List, [], ◌++◌, rules, arith, length, take}
 use Rattle.std.proofs.Common.{drop, refl, sym, ap, ◌∙◌, subst, le_refl, drop_at, length-take-le}
@@ -8,7 +8,7 @@ use Rattle.std.specs.Io.KnownBytes.{Consumes}
 use Rattle.std.proofs.KnownBytes.{Consumes-trans}
 use borrow.Rule.Slice.PartMut.{put_mid, post_of}
 use lib.Seq.{take-add, take-append-le}
-use Rattle.list.proofs.read_full.Goals as goal
+use Rattle.reading.proofs.read_full.Goals as goal
 
 none_given : (left : Option (List ℕ)) → Consumes left left []
 none_given None = tt
