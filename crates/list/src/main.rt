@@ -6,9 +6,8 @@
 // or write nothing more is written, and the program ends with that error.
 #![tactic(auto)]
 
-ghost use Rattle.std.specs.Prelude.{◌≡◌, ◌+◌, ◌<◌, ◌≤◌, length, take};
-ghost use Rattle.std.specs.Prelude.{IfOk, IfSome, IsOk, OnErr, OnOk};
-ghost use Rattle.std.specs.Io.KnownBytes.{Appends, Consumes, IsAtEnd};
+ghost use Rattle.std.specs.Prelude.{◌≡◌, ◌+◌, ◌≤◌, length, IfSome, IsOk, OnErr, OnOk};
+ghost use Rattle.std.specs.Io.KnownBytes.{Appends};
 ghost use Rattle.paper.specs.Answers.{said_of};
 ghost use Rattle.lines.specs.Lines.{TextAt, refused_line, entry_room};
 ghost use Rattle.list.specs.Output.{output_of, listing_text, NextPart, root_line};
@@ -16,6 +15,7 @@ ghost use Rattle.list.specs.Output.{output_of, listing_text, NextPart, root_line
 use alphabet::Codes;
 use head::Head;
 use paper::Refusal;
+use reading::read_full;
 use sound::Sound;
 use std::io;
 use std::io::{Read, Write};
