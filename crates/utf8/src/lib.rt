@@ -57,6 +57,7 @@ pub fn char_at(s: &[u8], at: usize, n: usize) -> u32
 }
 
 // Whether a whole character of this row begins at `at`.
+// By index: the number of the byte decides its range, and there are at most four turns.
 fn fits(row: [u8; 5], s: &[u8], at: usize) -> bool
     ensures { result ≡ fits_row row s.now at }
 {
