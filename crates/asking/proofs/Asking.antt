@@ -23,7 +23,7 @@ use Rattle.key.specs.declared.Key.{Key}
 use Rattle.key.specs.Hand.{Keyed, Ready}
 use Rattle.opening.specs.Opened.{Opens, Decoded}
 use Rattle.audit.specs.Audit.{Checked}
-use Rattle.asking.specs.declared.Asked.{Asked}
+use Rattle.key.specs.declared.asked.Asked.{Asked}
 use Rattle.asking.specs.Asked.{AsksAfter, Admitted}
 
 -- what the part before the key promises, whatever its rows are
@@ -93,20 +93,18 @@ module _ {rows : List Row} {left l work' : List ℕ} {codes : Codes} where
     key_refused j = record { verdict = keyed_rows j; numbers = o.numbers; allowed = tt }
 
     -- the key passes
-    pub key_passed : {k : Key} {given : Given} → Keyed l given (Ok k)
-        → AsksAfter rows left l given (Ok (record { head = h; key = k })) work'
+    pub key_ready : {k : Key} {given : Given} → Keyed l given (Ok k) → Ready h k
+    key_ready j = rw o.head j.key.0
+
+    pub key_passed : {k : Key} {given : Given} → Keyed l given (Ok k) → {ready : Ready h k}
+        → AsksAfter rows left l given (Ok (record { head = h; key = k; ready = ready })) work'
     unfolding row_of
-    key_passed j =
+    key_passed j {ready} =
         record {
           verdict = keyed_rows j;
           numbers = o.numbers;
           allowed =
-              record {
-                accepted = o.accepted;
-                head = o.head;
-                ready = rw o.head j.key.0;
-                letters = j.key.1;
-              };
+              record { accepted = o.accepted; head = o.head; ready = ready; letters = j.key.1 };
         }
 
 -- what a store requires

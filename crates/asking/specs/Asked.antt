@@ -11,7 +11,7 @@ use Rattle.paper.specs.Orders.{check_order, key_rows}
 use Rattle.paper.specs.Calls.{work_after}
 use Rattle.paper.specs.Accepted.{Accepted}
 use Rattle.key.specs.Hand.{letters_of, Ready}
-use Rattle.asking.specs.declared.Asked.{Asked}
+use Rattle.key.specs.declared.asked.Asked.{Asked}
 
 -- what a store can rely on once 10 has passed
 pub record Admitted (l key : List ℕ) (r : Asked) : Type 0 where

@@ -6,16 +6,8 @@ ghost use Rattle.key.specs.Hand.{given_of};
 ghost use Rattle.asking.specs.Asked.{Asks};
 
 use alphabet::Codes;
-use head::Head;
-use key::{GivenKey, Key};
+use key::{Asked, GivenKey};
 use paper::Refusal;
-
-// What a store goes on with, once 10 has passed: the image's head and the key in hand.
-#[derive(Clone, Copy)]
-pub struct Asked {
-    pub head: Head,
-    pub key: Key,
-}
 
 // Judges the check's rows, then the key given. Refusals: 1 to 8, 16, 19, then 9, 10 of letters or
 // 10, 9 of a text.

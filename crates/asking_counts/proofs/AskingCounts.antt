@@ -26,7 +26,7 @@ use Rattle.position.proofs.Plain.{counts_checked}
 use Rattle.position.proofs.Right.{none_25}
 use Rattle.key.specs.Hand.{letters_of}
 use Rattle.comparing.specs.Comparing.{Compared}
-use Rattle.asking.specs.declared.Asked.{Asked}
+use Rattle.key.specs.declared.asked.Asked.{Asked}
 use Rattle.asking.specs.Asked.{Admitted}
 use Rattle.asking.proofs.Asking.{Fronted}
 use Rattle.asking_counts.specs.AskedCounts.{AsksCounts}

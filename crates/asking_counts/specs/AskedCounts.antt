@@ -5,7 +5,7 @@ use Rattle.paper.specs.declared.Refusal.{Refusal}
 use Rattle.paper.specs.Given.{Given}
 use Rattle.position.specs.Orders.{check_counts_order}
 use Rattle.position.specs.Calls.{work_left}
-use Rattle.asking.specs.declared.Asked.{Asked}
+use Rattle.key.specs.declared.asked.Asked.{Asked}
 use Rattle.asking.specs.Asked.{AsksAfter}
 
 -- the check's rows, 25, then 9 and 10 of the key

@@ -6,8 +6,7 @@ ghost use Rattle.key.specs.Hand.{given_of};
 ghost use Rattle.asking_counts.specs.AskedCounts.{AsksCounts};
 
 use alphabet::Codes;
-use asking::Asked;
-use key::GivenKey;
+use key::{Asked, GivenKey};
 use paper::Refusal;
 
 // Judges the check's rows, 25, then the key given. Refusals: 1 to 8, 16, 19, 25, then 9, 10 of

@@ -3,7 +3,7 @@
 -- are the front of the list.
 use Prim.Native.Nat.{ℕ, ◌+◌, ◌≤◌}
 use mathlib.Core.Path.{◌≡◌, refl, sym, ◌∙◌, ap, ap₂}
-use mathlib.Core.Option.{none, some}
+use mathlib.Core.Option.{none}
 use mathlib.Core.List.{List, [], ◌∷◌}
 use lib.ListN.{length}
 use Rattle.std.specs.Prelude.{Result, Ok, Err}
@@ -13,7 +13,7 @@ use Rattle.alphabet.specs.declared.codes.Codes.{Codes}
 use Rattle.head.specs.Fields.{head_of}
 use Rattle.paper.specs.declared.Refusal.{Refusal}
 use Rattle.paper.specs.Hearing.{Numbers, first, outcome}
-use Rattle.paper.specs.Answers.{row_of, said_of, refusal_numbers, done_of}
+use Rattle.paper.specs.Answers.{row_of, refusal_numbers, done_of}
 use Rattle.paper.specs.Accepted.{Accepted}
 use Rattle.paper.specs.Orders.{check_order}
 use Rattle.paper.proofs.CheckCall.{check_accepts, checked}

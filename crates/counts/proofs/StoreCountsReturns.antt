@@ -2,30 +2,24 @@
 -- outcome of the part after 10. The laws serve a key given by letters and a key given as text.
 use Prim.Native.Nat.{ℕ}
 use mathlib.Core.Path.{◌≡◌, refl, sym, ◌∙◌, ap}
-use mathlib.Core.Bool.{true}
 use mathlib.Core.Option.{none, some}
 use mathlib.Core.List.{List, [], ◌∷◌, ◌++◌, append_assoc}
-use lib.ListN.{length}
 use lib.IntN.{ℤ}
 use Rattle.std.specs.Prelude.{Result, Ok, Err}
-use Rattle.field.specs.Range.{between}
 use Rattle.trie.specs.Table.{answer}
 use Rattle.trie.specs.Storing.{change_of}
-use Rattle.head.specs.Fields.{head_of}
 use Rattle.paper.specs.declared.Refusal.{Refusal}
 use Rattle.paper.specs.Hearing.{Row, Numbers, Outcome, first, heard, outcome, done_numbers}
 use Rattle.paper.specs.Answers.{said_of, refusal_numbers, stored_of}
 use Rattle.paper.specs.Given.{Given, key_in}
 use Rattle.paper.specs.Orders.{key_rows}
 use Rattle.paper.specs.Calls.{table_in, stored_image}
-use Rattle.paper.specs.Accepted.{Accepted}
 use Rattle.paper.proofs.Hearing.{first_part, second_part, heard_refused, told_refused, told_passed}
-use Rattle.position.specs.Counts.{RightCounts}
 use Rattle.position.specs.Orders.{check_counts_order, store_counts_order}
 use Rattle.position.specs.Calls.{work_left, worked, store_counts_of}
 use Rattle.position.specs.Promises.{StoresCounts}
-use Rattle.key.specs.Hand.{letters_of, Ready}
-use Rattle.asking.specs.declared.Asked.{Asked}
+use Rattle.key.specs.Hand.{letters_of}
+use Rattle.key.specs.declared.asked.Asked.{Asked}
 use Rattle.asking_counts.specs.AskedCounts.{AsksCounts}
 use Rattle.tracking.specs.Tracking.{adding_counts_rows, store_counted, StoresCounted}
 

@@ -47,5 +47,5 @@ pub fn store_counts(
         (stored_of result) image.new work.new list.new }
 {
     let asked = asking_counts::ask(image, work, list, given)?;
-    tracking::store_counted(image, asked.head, asked.key, value, list)
+    tracking::store_counted(image, asked, value, list)
 }

@@ -25,7 +25,7 @@ use Rattle.position.specs.Orders.{check_counts_order, if_stored, position_order}
 use Rattle.position.specs.Calls.{work_left, position_of}
 use Rattle.position.specs.Promises.{GivesPosition}
 use Rattle.key.specs.Hand.{letters_of}
-use Rattle.asking.specs.declared.Asked.{Asked}
+use Rattle.key.specs.declared.asked.Asked.{Asked}
 use Rattle.asking_counts.specs.AskedCounts.{AsksCounts}
 use Rattle.ranking.specs.Ranking.{ranked_of}
 use Rattle.jumps.specs.Jumps.{ranks_as}

@@ -1,1 +1,2 @@
 pub mod Hand
+pub mod Once

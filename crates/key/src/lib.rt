@@ -18,6 +18,9 @@ use alphabet::Codes;
 use head::Head;
 use paper::Refusal;
 
+mod asked;
+pub use asked::Asked;
+
 // How many letters a key in hand holds: the greatest max that is permitted.
 const HELD: usize = Head::MAX_MOST as usize;
 

@@ -10,12 +10,12 @@ ghost use Rattle.trie.specs.Storing.{added};
 ghost use Rattle.head.specs.Fields.{most_writes, head_of, longest_image, permitted, node_width};
 ghost use Rattle.head.specs.Fields.{used_len};
 ghost use Rattle.paper.specs.Accepted.{Accepted};
-ghost use Rattle.key.specs.Hand.{Ready, letters_of};
+ghost use Rattle.key.specs.Hand.{letters_of};
 ghost use Rattle.storing.specs.StoreStage.{Stop, end_of, stopped_at, Ends};
 ghost use Rattle.noting.specs.Noting.{NotesIn, Notes};
 
 use head::Head;
-use key::Key;
+use key::Asked;
 use node::Nodes;
 use paper::{Noted, Refusal};
 use walk::{Position, Walked};
@@ -24,22 +24,20 @@ use walk::{Position, Walked};
 // leave the list as it was.
 pub fn store_noted(
     image: &mut [u8],
-    h: Head,
-    key: Key,
+    asked: Asked,
     value: u64,
     writes: &mut [u32; Head::NOTED_MOST as usize],
 ) -> Result<Noted, Refusal>
     requires accepted { Accepted image.old }
-    requires own { h ≡ head_of image.old }
-    requires ready { Ready h key }
-    ensures { NotesIn image.old (letters_of key) value writes.old result
+    requires own { asked.head ≡ head_of image.old }
+    ensures { NotesIn image.old (letters_of asked.key) value writes.old result
         image.new writes.new }
 {
-    let walked = walk::walk(Nodes::of(image, h), key)?;
-    let change = storing::store_at(image, h, key, walked, value)?;
+    let walked = walk::walk(Nodes::of(image, asked.head), asked.key)?;
+    let change = storing::store_at(image, asked, walked, value)?;
     Ok(Noted {
         change,
-        writes: note_all(writes, h, key, walked, value),
+        writes: note_all(writes, asked, walked, value),
     })
 }
 
@@ -47,39 +45,41 @@ pub fn store_noted(
 // The places fit 32 bits, since the new nodes fit the longest image.
 fn note_all(
     writes: &mut [u32; Head::NOTED_MOST as usize],
-    h: Head,
-    key: Key,
+    asked: Asked,
     walked: Walked,
     value: u64,
 ) -> u32
-    requires permitted { permitted h ≡ true }
-    requires ready { Ready h key }
-    requires ends { Ends h key walked }
-    requires short { used_len h
-        + added (missing (end_of (letters_of key) walked)) value * node_width h
+    requires permitted { permitted asked.head ≡ true }
+    requires ends { Ends asked.head asked.key walked }
+    requires short { used_len asked.head
+        + added (missing (end_of (letters_of asked.key) walked)) value * node_width asked.head
         ≤ longest_image }
-    ensures { Notes h (end_of (letters_of key) walked) value writes.old result
+    ensures { Notes asked.head (end_of (letters_of asked.key) walked) value writes.old result
         writes.new }
 {
+    let h = asked.head;
     match walked {
         Walked::Complete(node) => {
             note(writes, 0, node::data_place(h, node) as u32, h.d);
             1
         }
-        Walked::Stopped(at) if value != 0 => note_path(writes, h, key, at),
+        Walked::Stopped(at) if value != 0 => note_path(writes, asked, at),
         Walked::Stopped(_) => 0,
     }
 }
 
 // Notes the writes of a new path: the new nodes by rising address, G, the link.
-fn note_path(writes: &mut [u32; Head::NOTED_MOST as usize], h: Head, key: Key, at: Position) -> u32
-    requires permitted { permitted h ≡ true }
-    requires ready { Ready h key }
-    requires stop { Stop h key at }
-    requires short { used_len h + (key.len - at.depth) * node_width h ≤ longest_image }
-    ensures { (v : ℕ) → Notes h (stopped_at at.node (drop at.depth (letters_of key)))
+fn note_path(writes: &mut [u32; Head::NOTED_MOST as usize], asked: Asked, at: Position) -> u32
+    requires permitted { permitted asked.head ≡ true }
+    requires stop { Stop asked.head asked.key at }
+    requires short { used_len asked.head
+        + (asked.key.len - at.depth) * node_width asked.head ≤ longest_image }
+    ensures { (v : ℕ) → Notes asked.head
+        (stopped_at at.node (drop at.depth (letters_of asked.key)))
         (suc v) writes.old result writes.new }
 {
+    let h = asked.head;
+    let key = asked.key;
     let depth = at.depth;
     let letters = key.letters;
     let nodes = key.len - depth;

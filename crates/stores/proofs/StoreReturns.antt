@@ -30,7 +30,7 @@ use Rattle.paper.proofs.Hearing.{first_part, second_part, heard_refused, told_re
 use Rattle.key.specs.Hand.{letters_of}
 use Rattle.storing.specs.StoreStage.{store_at, StoresIn}
 use Rattle.noting.specs.Noting.{NotesIn}
-use Rattle.asking.specs.declared.Asked.{Asked}
+use Rattle.key.specs.declared.asked.Asked.{Asked}
 use Rattle.asking.specs.Asked.{Asks}
 
 -- ---- one buffer more

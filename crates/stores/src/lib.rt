@@ -24,7 +24,7 @@ pub fn store(
         work.new }
 {
     let asked = asking::ask(image, work, given)?;
-    storing::store(image, asked.head, asked.key, value)
+    storing::store(image, asked, value)
 }
 
 // As `store`, and notes the place and the length of each write, in order. The bytes of a write are
@@ -40,5 +40,5 @@ pub fn store_writes(
         (noted_of result) image.new work.new writes.new }
 {
     let asked = asking::ask(image, work, given)?;
-    noting::store_noted(image, asked.head, asked.key, value, writes)
+    noting::store_noted(image, asked, value, writes)
 }

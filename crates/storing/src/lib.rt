@@ -14,57 +14,53 @@ ghost use Rattle.paper.specs.Hearing.{first, outcome};
 ghost use Rattle.paper.specs.Answers.{row_of, stored_of};
 ghost use Rattle.paper.specs.Orders.{adding_rows};
 ghost use Rattle.paper.specs.Accepted.{Accepted};
-ghost use Rattle.key.specs.Hand.{Ready, letters_of};
+ghost use Rattle.key.specs.Hand.{letters_of};
 ghost use Rattle.storing.specs.StoreStage.{store_at, StoresIn, Stop, stopped_at, end_of, Ends};
 ghost use Rattle.storing.specs.StoreStage.{Unrefused, Space, Builds};
 
 use head::Head;
-use key::Key;
+use key::Asked;
 use node::Nodes;
 use paper::Refusal;
 use walk::{Position, Walked};
 
 // Stores a value under a key; 0 deletes the key. Refusals: 11, 12, 13. An accepted image has no
 // bad link, so the walk is not refused.
-pub fn store(image: &mut [u8], h: Head, key: Key, value: u64) -> Result<i32, Refusal>
+pub fn store(image: &mut [u8], asked: Asked, value: u64) -> Result<i32, Refusal>
     requires accepted { Accepted image.old }
-    requires own { h ≡ head_of image.old }
-    requires ready { Ready h key }
-    ensures { StoresIn image.old (letters_of key) value result image.new }
+    requires own { asked.head ≡ head_of image.old }
+    ensures { StoresIn image.old (letters_of asked.key) value result image.new }
 {
-    let walked = walk::walk(Nodes::of(image, h), key)?;
-    store_at(image, h, key, walked, value)
+    let walked = walk::walk(Nodes::of(image, asked.head), asked.key)?;
+    store_at(image, asked, walked, value)
 }
 
 // Judges 11, 12 and 13 and carries out the writes, given how the key's walk ended. Refusals: 11,
 // 12, 13.
-pub fn store_at(
-    image: &mut [u8],
-    h: Head,
-    key: Key,
-    walked: Walked,
-    value: u64,
-) -> Result<i32, Refusal>
-    requires open { Open h image.old }
-    requires ready { Ready h key }
-    requires ends { Ends h key walked }
-    ensures { outcome (stored_of result) (image.new ∷ []) ≡ store_at h image.old
-        (end_of (letters_of key) walked) value }
+pub fn store_at(image: &mut [u8], asked: Asked, walked: Walked, value: u64) -> Result<i32, Refusal>
+    requires open { Open asked.head image.old }
+    requires ends { Ends asked.head asked.key walked }
+    ensures { outcome (stored_of result) (image.new ∷ []) ≡ store_at asked.head image.old
+        (end_of (letters_of asked.key) walked) value }
 {
-    judge(h, image.len(), new_count(h, key, walked, value), value)?;
-    Ok(write_at(image, h, key, walked, value))
+    judge(
+        asked.head,
+        image.len(),
+        new_count(asked, walked, value),
+        value,
+    )?;
+    Ok(write_at(image, asked, walked, value))
 }
 
 // The number of nodes that a store adds: one for each letter left where the walk stopped, none
 // for the value 0.
-pub fn new_count(h: Head, key: Key, walked: Walked, value: u64) -> usize
-    requires ready { Ready h key }
-    requires ends { Ends h key walked }
-    ensures added { result ≡ added (missing (end_of (letters_of key) walked)) value }
+pub fn new_count(asked: Asked, walked: Walked, value: u64) -> usize
+    requires ends { Ends asked.head asked.key walked }
+    ensures added { result ≡ added (missing (end_of (letters_of asked.key) walked)) value }
     ensures few { result ≤ most_letters }
 {
     match walked {
-        Walked::Stopped(at) if value != 0 => key.len - at.depth,
+        Walked::Stopped(at) if value != 0 => asked.key.len - at.depth,
         _ => 0,
     }
 }
@@ -98,19 +94,19 @@ pub fn judge(h: Head, len: usize, new: usize, value: u64) -> Result<(), Refusal>
 
 // Carries out the writes of a store that 11, 12 and 13 have passed, given how the key's walk
 // ended. Answers the change in the number of stored keys.
-pub fn write_at(image: &mut [u8], h: Head, key: Key, walked: Walked, value: u64) -> i32
-    requires open { Open h image.old }
-    requires ready { Ready h key }
-    requires ends { Ends h key walked }
-    requires unrefused { Unrefused h (length image.old) (end_of (letters_of key) walked) value }
+pub fn write_at(image: &mut [u8], asked: Asked, walked: Walked, value: u64) -> i32
+    requires open { Open asked.head image.old }
+    requires ends { Ends asked.head asked.key walked }
+    requires unrefused { Unrefused asked.head (length image.old)
+        (end_of (letters_of asked.key) walked) value }
     ensures image_after { image.new ≡ carried_out image.old
-        (store_writes h (end_of (letters_of key) walked) value) }
+        (store_writes asked.head (end_of (letters_of asked.key) walked) value) }
     ensures value { result ≡ change_of
-        (value_at (table_of h image.old) (end_of (letters_of key) walked)) value }
+        (value_at (table_of asked.head image.old) (end_of (letters_of asked.key) walked)) value }
 {
     match walked {
-        Walked::Complete(node) => replace(image, h, node, value),
-        Walked::Stopped(at) => extend(image, h, key, at, value),
+        Walked::Complete(node) => replace(image, asked.head, node, value),
+        Walked::Stopped(at) => extend(image, asked, at, value),
     }
 }
 
@@ -146,23 +142,22 @@ fn change(old: u64, new: u64) -> i32
 }
 
 // The path is incomplete: builds a node for each letter left, but none for the value 0.
-fn extend(image: &mut [u8], h: Head, key: Key, at: Position, value: u64) -> i32
-    requires open { Open h image.old }
-    requires ready { Ready h key }
-    requires stop { Stop h key at }
-    requires unrefused { Unrefused h (length image.old)
-        (stopped_at at.node (drop at.depth (letters_of key))) value }
+fn extend(image: &mut [u8], asked: Asked, at: Position, value: u64) -> i32
+    requires open { Open asked.head image.old }
+    requires stop { Stop asked.head asked.key at }
+    requires unrefused { Unrefused asked.head (length image.old)
+        (stopped_at at.node (drop at.depth (letters_of asked.key))) value }
     ensures image_after { image.new ≡ carried_out image.old
-        (store_writes h (stopped_at at.node (drop at.depth (letters_of key))) value) }
+        (store_writes asked.head (stopped_at at.node (drop at.depth (letters_of asked.key)))
+        value) }
     ensures value { result ≡ change_of 0 value }
 {
     if value != 0 {
         build(
             image,
-            h,
-            key,
+            asked,
             at,
-            h.g + ((key.len - at.depth) as u32),
+            asked.head.g + ((asked.key.len - at.depth) as u32),
             value,
         );
     }
@@ -171,15 +166,16 @@ fn extend(image: &mut [u8], h: Head, key: Key, at: Position, value: u64) -> i32
 
 // The writes of a new path, in the order of 02, Ask 1: the new nodes, then G, then the link that
 // the walk found empty.
-fn build(image: &mut [u8], h: Head, key: Key, at: Position, total: u32, value: u64)
-    requires open { Open h image.old }
-    requires ready { Ready h key }
-    requires stop { Stop h key at }
-    requires total { total ≡ h.g + (key.len - at.depth) }
-    requires space { Space h image.old total }
-    ensures { Builds h image.old at.node (drop at.depth (letters_of key))
+fn build(image: &mut [u8], asked: Asked, at: Position, total: u32, value: u64)
+    requires open { Open asked.head image.old }
+    requires stop { Stop asked.head asked.key at }
+    requires total { total ≡ asked.head.g + (asked.key.len - at.depth) }
+    requires space { Space asked.head image.old total }
+    ensures { Builds asked.head image.old at.node (drop at.depth (letters_of asked.key))
         total value image.new }
 {
+    let h = asked.head;
+    let key = asked.key;
     let depth = at.depth;
     let letters = key.letters;
     new_nodes(image, h, &letters[depth + 1..key.len], value);

@@ -16,7 +16,7 @@ ghost use Rattle.tracking.specs.Tracking.{StoresCounted, Whole, gain_of, loss_of
 ghost use Rattle.tracking.specs.Tracking.{Shifted, RangeCleared};
 
 use head::Head;
-use key::Key;
+use key::{Asked, Key};
 use node::Nodes;
 use paper::Refusal;
 
@@ -24,33 +24,33 @@ use paper::Refusal;
 // 5 again; they leave image and counts as they were.
 pub fn store_counted(
     image: &mut [u8],
-    h: Head,
-    key: Key,
+    asked: Asked,
     value: u64,
     counts: &mut [u32],
 ) -> Result<i32, Refusal>
     requires accepted { Accepted image.old }
-    requires own { h ≡ head_of image.old }
-    requires ready { Ready h key }
-    requires allowed { between (length (letters_of key)) h.min h.max ≡ true }
+    requires own { asked.head ≡ head_of image.old }
+    requires allowed { between (length (letters_of asked.key)) asked.head.min asked.head.max
+        ≡ true }
     requires right { RightCounts image.old counts.old }
-    ensures { StoresCounted image.old (letters_of key) value counts.old result image.new
+    ensures { StoresCounted image.old (letters_of asked.key) value counts.old result image.new
         counts.new }
 {
-    let walked = walk::walk(Nodes::of(image, h), key)?;
-    let new = storing::new_count(h, key, walked, value);
+    let h = asked.head;
+    let walked = walk::walk(Nodes::of(image, h), asked.key)?;
+    let new = storing::new_count(asked, walked, value);
     storing::judge(h, image.len(), new, value)?;
     let last = (h.g as usize) + new;
     if counts.len() <= last {
         return Err(Refusal::TooFewNumbers);
     }
-    let change = storing::write_at(image, h, key, walked, value);
+    let change = storing::write_at(image, asked, walked, value);
     clear(counts, (h.g as usize) + 1, last + 1);
     let grown = Head {
         g: last as u32,
         ..h
     };
-    carry(Nodes::of(image, grown), key, change, counts);
+    carry(Nodes::of(image, grown), asked.key, change, counts);
     Ok(change)
 }
 

@@ -3,11 +3,16 @@
 use Rattle.std.proofs.lemmas.Result.{err_from_is_err_and}
 use Rattle.key.proofs.Keyed.{keyed}
 use Rattle.asking.proofs.Asking.{checked_front, front_permitted, front_opens}
-use Rattle.asking.proofs.Asking.{before_refused, key_refused, key_passed}
+use Rattle.asking.proofs.Asking.{before_refused, key_refused, key_ready, key_passed}
 use Rattle.asking.proofs.ask.Goals as goal
 
 pub judge-requires : goal.judge-requires
 judge-requires c = front_permitted (checked_front c.in_ok-head.ensures)
+
+pub invariant_of-result : goal.invariant_of-result
+invariant_of-result c =
+    let o = checked_front c.in_ok-head.ensures in
+    record { ready = key_ready o (c.in_ok-key.ensures _ (front_opens o)) }
 
 pub returns-in_err-head : goal.returns-in_err-head
 returns-in_err-head c =

@@ -13,7 +13,6 @@ store_counted-requires c =
     record {
       accepted = a.accepted;
       own = a.head;
-      ready = a.ready;
       allowed = asked_length _ _ p refl;
       right = asked_right _ _ p refl;
     }

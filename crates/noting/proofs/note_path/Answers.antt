@@ -16,13 +16,13 @@ use Rattle.noting.proofs.note_path.Goals as goal
 use Rattle.noting.proofs.note_path.Goals.{Start}
 
 -- the array's length
-whole : (c : Start) → length c.args.key.letters ≡ most_letters
+whole : (c : Start) → length c.args.asked.key.letters ≡ most_letters
 whole c = search rules
 
 -- the letter that stopped the walk is below N
-below : (c : Start) → get_or c.args.key.letters c.args.at.depth 0 < c.args.h.n
+below : (c : Start) → get_or c.args.asked.key.letters c.args.at.depth 0 < c.args.asked.head.n
 below c =
-    letter_below c.args.key (whole c) c.requires.ready.short _ _ c.requires.ready.letters
+    letter_below c.args.asked.key (whole c) c.args.asked.ready.short _ _ c.args.asked.ready.letters
     c.requires.stop.depth
 
 pub link_place-link-requires-clause-letter : goal.link_place-link-requires-clause-letter
@@ -35,7 +35,7 @@ overflow_cast-link c =
     omega (
       arith,
       c.link_place-link.ensures,
-      inside_used (link_inside a.h a.at.node (below (goal.at.overflow_cast-link c).Start))
+      inside_used (link_inside a.asked.head a.at.node (below (goal.at.overflow_cast-link c).Start))
           c.requires.stop.node,
       c.requires.short,
     )
@@ -46,20 +46,20 @@ loop-i-preserved c = noting_on c.loop-i.invariant c.loop-i-test.true c.note.ensu
 pub returns : goal.returns
 returns c =
     let a = c.args in
-    let short = c.requires.ready.short in
+    let short = c.args.asked.ready.short in
     let depth = a.at.depth in
-    let k = letters_of a.key in
+    let k = letters_of a.asked.key in
     let array = whole (goal.at.returns c).Start in
-    notes_path a.h a.at.node _ _ _
-    (letters_from a.key array short depth c.requires.stop.depth)
-    (letters_after a.h.n (take depth k) (drop depth k)
-    (rw (take-append-drop depth k) c.requires.ready.letters))
+    notes_path a.asked.head a.at.node _ _ _
+    (letters_from a.asked.key array short depth c.requires.stop.depth)
+    (letters_after a.asked.head.n (take depth k) (drop depth k)
+    (rw (take-append-drop depth k) c.args.asked.ready.letters))
     (omega (
       arith,
       length-drop depth k,
-      letters_count a.key array short,
+      letters_count a.asked.key array short,
     ))
     c.used-place.ensures c.node_width-width.ensures
     c.link_place-link.ensures refl
-    (noting_end c.loop-i.invariant total_at total_len c.link_place-link.result a.h.a
+    (noting_end c.loop-i.invariant total_at total_len c.link_place-link.result a.asked.head.a
     (omega arith) c.note-2.ensures c.note-3.ensures)

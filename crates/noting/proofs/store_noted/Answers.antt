@@ -20,19 +20,19 @@ use Rattle.noting.proofs.store_noted.Goals.{In_ok-walked}
 -- how the walk ended
 walked : (c : In_ok-walked) →
     let a = c.args in
-    Ok c.in_ok-walked.walked ≡ walked_from a.h.g (table_of a.h a.image.now) at_root
-    (letters_of a.key)
+    Ok c.in_ok-walked.walked ≡ walked_from a.asked.head.g (table_of a.asked.head a.image.now)
+    at_root (letters_of a.asked.key)
 walked c = rw (c.of.ensures.head, c.of.ensures.bytes) at c.in_ok-walked.ensures
 
-ended : (c : In_ok-walked) → Ends c.args.h c.args.key c.in_ok-walked.walked
+ended : (c : In_ok-walked) → Ends c.args.asked.head c.args.asked.key c.in_ok-walked.walked
 ended c =
-    let key = c.args.key in
+    let key = c.args.asked.key in
     let whole : length key.letters ≡ most_letters = search rules in
-    ends c.requires.accepted c.requires.own key whole c.requires.ready.short _ (walked c)
+    ends c.requires.accepted c.requires.own key whole c.args.asked.ready.short _ (walked c)
 
 pub returns-in_err-walked : goal.returns-in_err-walked
 returns-in_err-walked c =
-    absurd (never_bad c.requires.accepted c.requires.own (letters_of c.args.key)
+    absurd (never_bad c.requires.accepted c.requires.own (letters_of c.args.asked.key)
     (rw (c.of.ensures.head, c.of.ensures.bytes) at c.in_err-walked.ensures))
 
 pub store_at-requires-clause-ends : goal.store_at-requires-clause-ends
@@ -43,7 +43,7 @@ returns-in_err-change c =
     let r = c.from_residual-in_err-change in
     let p = err_from_is_err_and r.result r.ensures.1 in
     rw (p.1, p.2)
-    (notes_refused c.requires.accepted c.requires.own (letters_of c.args.key)
+    (notes_refused c.requires.accepted c.requires.own (letters_of c.args.asked.key)
     (walked (goal.at.returns-in_err-change c).In_ok-walked) _ _ _ c.in_err-change.ensures)
 
 pub note_all-requires-clause-ends : goal.note_all-requires-clause-ends
@@ -51,7 +51,7 @@ note_all-requires-clause-ends c = ended (goal.at.note_all-requires-clause-ends c
 
 pub note_all-requires-clause-short : goal.note_all-requires-clause-short
 note_all-requires-clause-short c =
-    notes_room c.requires.accepted c.requires.own (letters_of c.args.key)
+    notes_room c.requires.accepted c.requires.own (letters_of c.args.asked.key)
     (walked (goal.at.note_all-requires-clause-short c).In_ok-walked) _ _ c.in_ok-change.ensures
 
 pub returns : goal.returns
@@ -59,5 +59,5 @@ returns c =
     let change = c.in_ok-change.change in
     let same : to_z w32 (of_z w32 change) ≡ change = search rules in
     rw same
-    (notes_done c.requires.accepted c.requires.own (letters_of c.args.key)
+    (notes_done c.requires.accepted c.requires.own (letters_of c.args.asked.key)
     (walked (goal.at.returns c).In_ok-walked) _ change c.in_ok-change.ensures _ c.note_all.ensures)

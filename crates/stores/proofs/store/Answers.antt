@@ -7,7 +7,7 @@ use Rattle.stores.proofs.store.Goals as goal
 pub store-requires : goal.store-requires
 store-requires c =
     let a = c.in_ok-asked.ensures.allowed in
-    record { accepted = a.accepted; own = a.head; ready = a.ready }
+    record { accepted = a.accepted; own = a.head }
 
 pub returns-in_err-asked : goal.returns-in_err-asked
 returns-in_err-asked c =

@@ -18,17 +18,17 @@ use Rattle.storing.proofs.build.Goals as goal
 use Rattle.storing.proofs.build.Goals.{Start}
 
 -- the array's length
-whole : (c : Start) → length c.args.key.letters ≡ most_letters
+whole : (c : Start) → length c.args.asked.key.letters ≡ most_letters
 whole c = search rules
 
 -- the letters after the one that stopped the walk, as the code takes them from the array
 after : (c : Start) →
     let from = c.args.at.depth + 1 in
-    let key = c.args.key in
+    let key = c.args.asked.key in
     drop from (letters_of key) ≡ take (key.len - from) (drop from key.letters)
 after c =
     let from : ℕ = c.args.at.depth + 1 in
-    let key = c.args.key in
+    let key = c.args.asked.key in
     let all : from + (key.len - from) ≡ key.len = omega (arith, c.requires.stop.depth) in
     ap (λ (n : ℕ). drop from (take n key.letters)) (sym all)
     ∙ drop-take from (key.len - from) key.letters
@@ -36,20 +36,20 @@ after c =
 -- the letter that stopped the walk, and those after it
 left : (c : Start) →
     let a = c.args in
-    drop a.at.depth (letters_of a.key) ≡ get_or a.key.letters a.at.depth 0
-    ∷ take (a.key.len - (a.at.depth + 1)) (drop (a.at.depth + 1) a.key.letters)
+    drop a.at.depth (letters_of a.asked.key) ≡ get_or a.asked.key.letters a.at.depth 0
+    ∷ take (a.asked.key.len - (a.at.depth + 1)) (drop (a.at.depth + 1) a.asked.key.letters)
 left c =
     let a = c.args in
     let e : a.at.depth + 1 ≡ suc a.at.depth = omega arith in
     rw (← after c, e)
-    (letters_from a.key (whole c) c.requires.ready.short a.at.depth c.requires.stop.depth)
+    (letters_from a.asked.key (whole c) c.args.asked.ready.short a.at.depth c.requires.stop.depth)
 
 pub new_nodes-requires-clause-below : goal.new_nodes-requires-clause-below
 new_nodes-requires-clause-below c =
-    let k = letters_of c.args.key in
+    let k = letters_of c.args.asked.key in
     let from : ℕ = c.args.at.depth + 1 in
     rw (← after (goal.at.new_nodes-requires-clause-below c).Start)
-    (letters_after _ (take from k) (drop from k) (rw take-append-drop c.requires.ready.letters))
+    (letters_after _ (take from k) (drop from k) (rw take-append-drop c.args.asked.ready.letters))
 
 pub set_total-requires : goal.set_total-requires
 set_total-requires c =
@@ -58,16 +58,16 @@ set_total-requires c =
       ap length c.new_nodes.ensures,
       length_carried,
       c.requires.space.room,
-      place_least c.args.h (c.args.total + 1),
+      place_least c.args.asked.head (c.args.total + 1),
     )
 
 pub set_link-requires-clause-letter : goal.set_link-requires-clause-letter
 set_link-requires-clause-letter c =
-    letter_below c.args.key (whole (goal.at.set_link-requires-clause-letter c).Start)
-    c.requires.ready.short _ _ c.requires.ready.letters c.requires.stop.depth
+    letter_below c.args.asked.key (whole (goal.at.set_link-requires-clause-letter c).Start)
+    c.args.asked.ready.short _ _ c.args.asked.ready.letters c.requires.stop.depth
 
 pub returns : goal.returns
 returns c =
     let a = c.args in
-    built a.h a.at.node _ a.total a.value _ a.image.now (left (goal.at.returns c).Start)
+    built a.asked.head a.at.node _ a.total a.value _ a.image.now (left (goal.at.returns c).Start)
     c.new_nodes.ensures c.set_total.ensures c.set_link.ensures.bytes

@@ -18,41 +18,42 @@ use Rattle.storing.proofs.extend.Goals as goal
 use Rattle.storing.proofs.extend.Goals.{Joined-value-ne0, Start, then-value-ne0, else-value-ne0}
 
 -- the array's length
-whole : (c : Start) → length c.args.key.letters ≡ most_letters
+whole : (c : Start) → length c.args.asked.key.letters ≡ most_letters
 whole c = search rules
 
 -- the letter that stopped the walk, and those after it
 left : (c : Start) →
     let a = c.args in
-    drop a.at.depth (letters_of a.key) ≡ get_or a.key.letters a.at.depth 0
-    ∷ drop (suc a.at.depth) (letters_of a.key)
-left c = letters_from c.args.key (whole c) c.requires.ready.short c.args.at.depth
+    drop a.at.depth (letters_of a.asked.key) ≡ get_or a.asked.key.letters a.at.depth 0
+    ∷ drop (suc a.at.depth) (letters_of a.asked.key)
+left c = letters_from c.args.asked.key (whole c) c.args.asked.ready.short c.args.at.depth
     c.requires.stop.depth
 
 -- as many nodes are missing as letters are left
 total : (c : Start) →
-    let a = c.args in a.h.g + (a.key.len - a.at.depth) ≡ a.h.g
-    + length (drop a.at.depth (letters_of a.key))
+    let a = c.args in a.asked.head.g + (a.asked.key.len - a.at.depth) ≡ a.asked.head.g
+    + length (drop a.at.depth (letters_of a.asked.key))
 total c =
     let a = c.args in
-    let count = letters_count a.key (whole c) c.requires.ready.short in
-    ap (λ n. a.h.g + n) (sym (length-drop a.at.depth (letters_of a.key)
+    let count = letters_count a.asked.key (whole c) c.args.asked.ready.short in
+    ap (λ n. a.asked.head.g + n) (sym (length-drop a.at.depth (letters_of a.asked.key)
     ∙ ap (λ n. n - a.at.depth) count))
 
 -- addresses and room for these nodes
 room : (c : Start) →
     let a = c.args in
-    a.value ≢ 0 → Space a.h a.image.now (a.h.g + (a.key.len - a.at.depth))
+    a.value ≢ 0 → Space a.asked.head a.image.now (a.asked.head.g + (a.asked.key.len - a.at.depth))
 room c some =
     rw (total c) (path_space _ _ _ _ _ (left c) _ some c.requires.unrefused)
 
 -- the image after the writes
 wrote : (c : Joined-value-ne0) → let a = c.args in
-    drop a.at.depth (letters_of a.key) ≡ get_or a.key.letters a.at.depth 0
-    ∷ drop (suc a.at.depth) (letters_of a.key) →
-    a.h.g + (a.key.len - a.at.depth) ≡ a.h.g + length (drop a.at.depth (letters_of a.key)) →
+    drop a.at.depth (letters_of a.asked.key) ≡ get_or a.asked.key.letters a.at.depth 0
+    ∷ drop (suc a.at.depth) (letters_of a.asked.key) →
+    a.asked.head.g + (a.asked.key.len - a.at.depth) ≡ a.asked.head.g
+    + length (drop a.at.depth (letters_of a.asked.key)) →
     c.if-value-ne0.image ≡ carried_out a.image.now
-    (store_writes a.h (stopped_at a.at.node (drop a.at.depth (letters_of a.key)))
+    (store_writes a.asked.head (stopped_at a.at.node (drop a.at.depth (letters_of a.asked.key)))
     a.value)
 wrote c l t =
     elim c.if-value-ne0.branch [
@@ -61,12 +62,12 @@ wrote c l t =
       | else-value-ne0 w ↦ w.image-is ∙ none_built _ _ _ _ _ l _ w.if-value-ne0.false
     ]
 
-pub overflow_add-h : goal.overflow_add-h
-overflow_add-h c =
+pub overflow_add-asked : goal.overflow_add-asked
+overflow_add-asked c =
     omega (
       arith,
-      (room (goal.at.overflow_add-h c).Start c.if-value-ne0.true).addresses,
-      addresses_fit (bounds c.args.h c.requires.open.head_permitted),
+      (room (goal.at.overflow_add-asked c).Start c.if-value-ne0.true).addresses,
+      addresses_fit (bounds c.args.asked.head c.requires.open.head_permitted),
     )
 
 pub build-requires-clause-space : goal.build-requires-clause-space

@@ -12,10 +12,10 @@ use Rattle.storing.proofs.new_count.Goals as goal
 
 pub returns-in-Stopped-clause-added : goal.returns-in-Stopped-clause-added
 returns-in-Stopped-clause-added c =
-    let key = c.args.key in
-    let short = c.requires.ready.short in
+    let key = c.args.asked.key in
+    let short = c.args.asked.ready.short in
     let whole : length key.letters ≡ most_letters = search rules in
-    let stop = subst (Ends c.args.h key) c.in-Stopped.is c.requires.ends in
+    let stop = subst (Ends c.args.asked.head key) c.in-Stopped.is c.requires.ends in
     ap (λ n. n - c.in-Stopped.at.depth) (sym (letters_count key whole short))
     ∙ count_path _ _ c.if-value-ne0.true c.in-Stopped.is _ _
     (letters_from key whole short _ stop.depth)

@@ -15,23 +15,23 @@ use Rattle.storing.proofs.store.Goals.{In_ok-walked}
 -- how the walk ended
 walked : (c : In_ok-walked) →
     let a = c.args in
-    Ok c.in_ok-walked.walked ≡ walked_from a.h.g (table_of a.h a.image.now) at_root
-    (letters_of a.key)
+    Ok c.in_ok-walked.walked ≡ walked_from a.asked.head.g (table_of a.asked.head a.image.now)
+    at_root (letters_of a.asked.key)
 walked c = rw (c.of.ensures.head, c.of.ensures.bytes) at c.in_ok-walked.ensures
 
 pub returns-in_err-walked : goal.returns-in_err-walked
 returns-in_err-walked c =
-    absurd (never_bad c.requires.accepted c.requires.own (letters_of c.args.key)
+    absurd (never_bad c.requires.accepted c.requires.own (letters_of c.args.asked.key)
     (rw (c.of.ensures.head, c.of.ensures.bytes) at c.in_err-walked.ensures))
 
 pub store_at-requires-clause-ends : goal.store_at-requires-clause-ends
 store_at-requires-clause-ends c =
-    let key = c.args.key in
+    let key = c.args.asked.key in
     let whole : length key.letters ≡ most_letters = search rules in
-    ends c.requires.accepted c.requires.own key whole c.requires.ready.short _
+    ends c.requires.accepted c.requires.own key whole c.args.asked.ready.short _
     (walked (goal.at.store_at-requires-clause-ends c).In_ok-walked)
 
 pub returns : goal.returns
 returns c =
-    stores c.requires.accepted c.requires.own (letters_of c.args.key)
+    stores c.requires.accepted c.requires.own (letters_of c.args.asked.key)
     (walked (goal.at.returns c).In_ok-walked) _ _ c.store_at.ensures

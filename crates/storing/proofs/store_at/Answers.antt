@@ -23,20 +23,20 @@ use Rattle.storing.proofs.store_at.Goals.{After-judge}
 judged : (c : After-judge) →
     let a = c.args in
     row_of c.judge.result
-    ≡ first (adding_rows a.h a.value
-    (added (missing (end_of (letters_of a.key) a.walked)) a.value)
+    ≡ first (adding_rows a.asked.head a.value
+    (added (missing (end_of (letters_of a.asked.key) a.walked)) a.value)
     (length a.image.now))
 judged c = let a = c.args in
     c.judge.ensures
-    ∙ ap (λ (k : ℕ). first (adding_rows a.h a.value k (length a.image.now)))
+    ∙ ap (λ (k : ℕ). first (adding_rows a.asked.head a.value k (length a.image.now)))
     c.new_count.ensures.added
 
 pub returns-in_err-judge : goal.returns-in_err-judge
 returns-in_err-judge c =
     let p = err_from_is_err_and c.from_residual.result c.from_residual.ensures.1 in
     rw (p.1, p.2)
-    (refuses c.args.h _ _ _ _ (told_refused (judged (goal.at.returns-in_err-judge c).After-judge)
-    c.in_err-judge.was))
+    (refuses c.args.asked.head _ _ _ _
+    (told_refused (judged (goal.at.returns-in_err-judge c).After-judge) c.in_err-judge.was))
 
 pub write_at-requires-clause-unrefused : goal.write_at-requires-clause-unrefused
 write_at-requires-clause-unrefused c =
@@ -45,6 +45,7 @@ write_at-requires-clause-unrefused c =
 
 pub returns : goal.returns
 returns c =
-    done c.args.h _ _ _ (told_passed (judged (goal.at.returns c).After-judge) c.in_ok-judge.was)
+    done c.args.asked.head _ _ _
+    (told_passed (judged (goal.at.returns c).After-judge) c.in_ok-judge.was)
     (to_z-of_z {w = w32} (sfits_of c.write_at.type_inv) ∙ c.write_at.ensures.value)
     c.write_at.ensures.image_after

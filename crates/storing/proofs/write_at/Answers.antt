@@ -18,12 +18,13 @@ replace-requires-clause-fits c = (passed _ _ _ _ c.requires.unrefused).fits
 
 pub extend-requires-clause-unrefused : goal.extend-requires-clause-unrefused
 extend-requires-clause-unrefused c =
-    allowed_path c.args.h _ (letters_of c.args.key) _ c.in-Stopped.is c.requires.unrefused
+    allowed_path c.args.asked.head _ (letters_of c.args.asked.key) _ c.in-Stopped.is
+    c.requires.unrefused
 
 pub returns-in-Complete : goal.returns-in-Complete
 returns-in-Complete c =
     let a = c.args in
-    let r = writes_over a.h _ (letters_of a.key) _ c.in-Complete.is
+    let r = writes_over a.asked.head _ (letters_of a.asked.key) _ c.in-Complete.is
     c.replace.ensures.image_after
     (to_z-of_z {w = w32} (sfits_of c.replace.type_inv) ∙ c.replace.ensures.value) in
     record { image_after = r.0; value = r.1 }
@@ -31,10 +32,10 @@ returns-in-Complete c =
 pub returns-in-Stopped : goal.returns-in-Stopped
 returns-in-Stopped c =
     let a = c.args in
-    let whole : length a.key.letters ≡ most_letters = search rules in
-    let stop = subst (Ends a.h a.key) c.in-Stopped.is c.requires.ends in
-    let r = writes_path a.h _ (letters_of a.key) _ c.in-Stopped.is _ _
-    (letters_from a.key whole c.requires.ready.short _ stop.depth)
+    let whole : length a.asked.key.letters ≡ most_letters = search rules in
+    let stop = subst (Ends a.asked.head a.asked.key) c.in-Stopped.is c.requires.ends in
+    let r = writes_path a.asked.head _ (letters_of a.asked.key) _ c.in-Stopped.is _ _
+    (letters_from a.asked.key whole c.args.asked.ready.short _ stop.depth)
     c.extend.ensures.image_after
     (to_z-of_z {w = w32} (sfits_of c.extend.type_inv) ∙ c.extend.ensures.value) in
     record { image_after = r.0; value = r.1 }

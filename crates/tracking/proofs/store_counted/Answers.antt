@@ -27,36 +27,37 @@ use Rattle.tracking.proofs.store_counted.Goals.{In_ok-judge}
 pub returns-in_err-walked : goal.returns-in_err-walked
 returns-in_err-walked c =
     let on = sym c.in_err-walked.was ∙ c.walk.ensures in
-    absurd (never_bad c.requires.accepted c.requires.own (letters_of c.args.key)
+    absurd (never_bad c.requires.accepted c.requires.own (letters_of c.args.asked.key)
     (rw (c.of.ensures.head, c.of.ensures.bytes) at on))
 
 walked : (c : In_ok-walked) → let a = c.args in
     Ok c.in_ok-walked.walked
-    ≡ walked_from a.h.g (table_of a.h a.image.now) at_root (letters_of a.key)
+    ≡ walked_from a.asked.head.g (table_of a.asked.head a.image.now) at_root
+    (letters_of a.asked.key)
 walked c =
     let on = sym c.in_ok-walked.was ∙ c.walk.ensures in
     rw (c.of.ensures.head, c.of.ensures.bytes) at on
 
 -- how the walk ended
-ended : (c : In_ok-walked) → let a = c.args in Ends a.h a.key c.in_ok-walked.walked
+ended : (c : In_ok-walked) → let a = c.args in Ends a.asked.head a.asked.key c.in_ok-walked.walked
 ended c =
-    ends c.requires.accepted c.requires.own c.args.key (search rules) c.requires.ready.short _
-    (walked c)
+    let x = c.args.asked in
+    ends c.requires.accepted c.requires.own x.key (search rules) x.ready.short _ (walked c)
 
-pub new_count-new-requires-clause-ends : goal.new_count-new-requires-clause-ends
-new_count-new-requires-clause-ends c =
-    ended (goal.at.new_count-new-requires-clause-ends c).In_ok-walked
+pub new_count-new-requires : goal.new_count-new-requires
+new_count-new-requires c =
+    record { ends = ended (goal.at.new_count-new-requires c).In_ok-walked }
 
 -- what is known once the new nodes are counted
 hand : (c : After-new_count-new)
     → let a = c.args in
-    Hand a.image.now a.h a.key c.in_ok-walked.walked a.value c.new_count-new.result
+    Hand a.image.now a.asked.head a.asked.key c.in_ok-walked.walked a.value c.new_count-new.result
 hand c =
     let on = sym c.in_ok-walked.was ∙ c.walk.ensures in
     record {
       accepted = c.requires.accepted;
       same = c.requires.own;
-      ready = c.requires.ready;
+      ready = c.args.asked.ready;
       allowed = c.requires.allowed;
       walked = rw (c.of.ensures.head, c.of.ensures.bytes) at on;
       count = c.new_count-new.ensures.added;
@@ -65,7 +66,7 @@ hand c =
 -- 11, 12 and 13 have passed
 passed : (c : In_ok-judge)
     → let a = c.args in
-    first (adding_rows a.h a.value c.new_count-new.result (length a.image.now)) ≡ none
+    first (adding_rows a.asked.head a.value c.new_count-new.result (length a.image.now)) ≡ none
 passed c = told_passed c.judge.ensures c.in_ok-judge.was
 
 pub returns-in_err-judge : goal.returns-in_err-judge
