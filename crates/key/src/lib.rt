@@ -19,6 +19,7 @@ use head::Head;
 use paper::Refusal;
 
 mod asked;
+
 pub use asked::Asked;
 
 // How many letters a key in hand holds: the greatest max that is permitted.
