@@ -20,7 +20,7 @@ use Rattle.paper.specs.Orders.{check_order, next_key_order}
 use Rattle.paper.specs.Calls.{table_in, stored_keys, work_after, check_of, count_of, next_key_of}
 use Rattle.paper.specs.Promises.{Checks, CountsKeys, Nexts}
 use Rattle.paper.specs.Accepted.{Accepted}
-use Rattle.paper.proofs.CheckCall.{check_accepts, accepted_open}
+use Rattle.paper.proofs.CheckCall.{check_accepts}
 use Rattle.paper.proofs.Hearing.{first_part, heard_refused, heard_done, told_refused, told_passed}
 use Rattle.audit.specs.Audit.{Checked}
 use Rattle.seeking.specs.Seeking.{Seeks}

@@ -2,15 +2,14 @@
 -- and the last digit. A leading zero is never written, so steps that are left over change
 -- nothing (`step_left`).
 use mathlib.Core.Path.{◌≡◌, refl, sym, ap, ◌∙◌}
-use Prim.Native.Nat.{ℕ, zero, suc, ◌+◌, ◌/◌, ◌%◌, ◌^◌, ◌≤◌, ◌<◌}
-use native.Mathlib.Nat.{zero-add, suc-add, pow-suc, pow-le-pow_right, lt_of_lt_of_le}
+use Prim.Native.Nat.{ℕ, zero, suc, ◌+◌, ◌*◌, ◌/◌, ◌%◌, ◌^◌, ◌≤◌, ◌<◌}
+use native.Mathlib.Nat.{zero-add, suc-add, pow-suc, pow-le-pow_right, mod-eq_of_lt, lt_of_lt_of_le}
+use native.Mathlib.Numerals.{add-one}
 use native.Mathlib.Omega.{arith}
 use native.Mathlib.Decide.{dec_lt}
 use mathlib.Core.List.{List, [], ◌∷◌, ◌++◌}
 use borrow.Author.Tests.{lt-ltb, le-ltb}
 use lib.ListN.{length, length-append}
-use Rattle.std.specs.Fmt.{decimal as std_decimal}
-use Rattle.std.proofs.lemmas.Fmt.{decimal_by_steps}
 use Rattle.lines.specs.Lines.{decimal_by, decimal}
 
 -- the same last digit after the same text
@@ -92,9 +91,61 @@ pub letter_long : (v : ℕ) → v < 256 → length (decimal v) ≤ 3
 unfolding decimal
 letter_long v h = rw (steps_left 17 2 v (omega arith)) (long_by 2 v)
 
--- ---- std's text of a number is this text
+some_power : (k : ℕ) → 1 ≤ 10 ^ k
+some_power zero = omega arith
+some_power (suc k) = omega (arith, pow-suc 10 k, some_power k)
 
-pub decimal_same : (v : ℕ) → v < 2 ^ 64 → std_decimal v ≡ decimal v
-decimal_same v h =
-    decimal_by_steps (λ n ds. n < 10 ^ 20 → ds ≡ decimal n) (λ n b s. sym (decimal_one n b))
-    (λ n ds b p s. with_last n (p (omega arith)) ∙ sym (decimal_more n b s)) v h (omega arith)
+-- a number from 10 ^ k up to 10 ^ (k + 1) has k + 1 digits
+pub digits_of_power : (k v : ℕ) → 10 ^ k ≤ v → v < 10 * 10 ^ k → v < 10 ^ 20
+    → length (decimal v) ≡ k + 1
+digits_of_power zero v low high b = ap length (decimal_one v (omega arith))
+digits_of_power (suc k) v low high b =
+    let p : 10 ^ suc k ≡ 10 ^ k * 10 = pow-suc 10 k in
+    let rest = digits_of_power k (v / 10) (omega (arith, p)) (omega (arith, p)) (omega arith) in
+    ap length (decimal_more v (omega (arith, p, some_power k)) b)
+    ∙ length-append (decimal (v / 10)) ((48 + v % 10) ∷ []) ∙ omega (arith, rest)
+
+-- ---- its digits in a width, the last first: how a loop from the end writes
+
+-- the last w digits of a number
+unfoldable pub figures : ℕ → ℕ → List ℕ
+figures zero v = []
+figures (suc w) v = figures w (v / 10) ++ ((48 + v % 10) ∷ [])
+
+pub length_figures : (w v : ℕ) → length (figures w v) ≡ w
+unfolding figures
+length_figures zero v = refl
+length_figures (suc w) v = length-append (figures w (v / 10)) ((48 + v % 10) ∷ [])
+    ∙ omega (arith, length_figures w (v / 10))
+
+figures_one : (n v : ℕ) → v < 10 → figures (length (decimal_by n v)) v ≡ decimal_by n v
+unfolding figures
+figures_one n v h = rw (by_one n v h) (ap (λ (d : ℕ). (48 + d) ∷ []) (mod-eq_of_lt h))
+
+figures_more : (n v : ℕ) → 10 ≤ v → figures (length (decimal_by n (v / 10))) (v / 10)
+    ≡ decimal_by n
+    (v / 10)
+    → figures (length (decimal_by (suc n) v)) v ≡ decimal_by (suc n) v
+unfolding figures
+figures_more n v h e =
+    rw (
+      by_more n v h,
+      length-append (decimal_by n (v / 10)) ((48 + v % 10) ∷ []),
+      add-one (length (decimal_by n (v / 10))),
+    )
+    (with_last v e)
+
+figures_by : (n v : ℕ) → v < 10 ^ suc n → figures (length (decimal_by n v)) v ≡ decimal_by n v
+figures_by zero v h = figures_one zero v h
+figures_by (suc n) v h = go (dec_lt v 10) (figures_by n (v / 10) (tenth n v h))
+  where
+    go : Dec (v < 10)
+        → figures (length (decimal_by n (v / 10))) (v / 10) ≡ decimal_by n (v / 10)
+        → figures (length (decimal_by (suc n) v)) v ≡ decimal_by (suc n) v
+    go (yes s) e = figures_one (suc n) v s
+    go (no b) e = figures_more n v (omega arith) e
+
+-- in as many digits as it has, the number is whole
+pub figures_all : (v : ℕ) → v < 10 ^ 20 → figures (length (decimal v)) v ≡ decimal v
+unfolding decimal
+figures_all v h = figures_by 19 v h

@@ -1,12 +1,13 @@
 -- A text written from a place on. A byte that is set is a text of one byte. A text written where
 -- another ends makes one text of the two (`sets_append`). So the lines are written piece by piece.
 use mathlib.Core.Path.{◌≡◌, refl, sym, ap, ap₂, ◌∙◌, subst}
+use mathlib.Core.Logic.{inr}
 use Prim.Native.Nat.{ℕ, ◌+◌}
 use native.Mathlib.Omega.{arith}
 use mathlib.Core.List.{List, [], ◌∷◌, ◌++◌}
 use lib.ListN.{length, set, length-append}
 use lib.Seq.{sets, length-sets}
-use Rattle.field.proofs.Sets.{sets_append}
+use Rattle.field.proofs.Sets.{sets_append, set_sets}
 use Rattle.lines.specs.Lines.{TextAt}
 
 pub laid_long : {out : List ℕ} {at : ℕ} {text : List ℕ} {end : ℕ} {out' : List ℕ}
@@ -34,3 +35,9 @@ laid_join {l} {at} {a} {e} {m} {b} {f} {n} p q =
           ∙ sym (sets_append l at a b);
       ends = omega (arith, p.ends, q.ends, length-append a b);
     }
+
+-- the last byte may be set first
+pub sets_last : (l vs : List ℕ) (at b : ℕ) → sets l at (vs ++ (b ∷ []))
+    ≡ sets (set l (at + length vs) b) at vs
+sets_last l vs at b =
+    sets_append l at vs (b ∷ []) ∙ sym (set_sets l vs at (at + length vs) b (inr (omega arith)))

@@ -88,13 +88,29 @@ fn letter(out: &mut [u8], at: usize, x: u8) -> usize
     at + 3
 }
 
-// Writes a number in decimal: its text is made in a buffer on the stack, and copied.
+// Writes a number in decimal, from its last digit on. By hand: the kit has a crate for it, and
+// what is proved here is to rest on the standard library alone.
 fn number(out: &mut [u8], at: usize, v: u64) -> usize
     requires { at + 20 ≤ length out.old }
     ensures { TextAt out.old at (decimal v) result out.new }
 {
-    let mut buffer = itoa::Buffer::new();
-    word(out, at, buffer.format(v).as_bytes())
+    let width = places(v);
+    let mut x = v;
+    for i in (0..width).rev() {
+        out[at + i] = b'0' + ((x % 10) as u8);
+        x /= 10;
+    }
+    at + width
+}
+
+// How many digits a number has.
+fn places(v: u64) -> usize
+    ensures { result ≡ length (decimal v) }
+{
+    match v.checked_ilog10() {
+        Some(power) => power as usize + 1,
+        None => 1,
+    }
 }
 
 // Writes a text as it is.

@@ -1,6 +1,6 @@
 -- What the nodes of an accepted image know: 01, "An image is called accepted if the check, lent
--- G+1 working numbers or more, answers 0". `Accepted` of `paper` says the same, rule by rule (`check_exactly`
--- there); it has witnesses, and a ghost field holds a fact that has one proof.
+-- G+1 working numbers or more, answers 0". `Accepted` of `paper` says the same, rule by rule
+-- (`check_exactly` there); it has witnesses, and a ghost field holds a fact that has one proof.
 use Rattle.std.specs.Prelude.{ℕ, ◌+◌, ◌≡◌, List, replicate}
 use Rattle.std.proofs.Math.Option.{none}
 use Rattle.head.specs.declared.Head.{Head}

@@ -18,7 +18,8 @@ use Rattle.weighing.proofs.+weighed.Goals.{After-from-one}
 pub loop-i-init : goal.loop-i-init
 loop-i-init t c =
     let a = c.args in
-    weighing_start a.sound.nodes.head a.sound.nodes.image.now a.node a.depth a.list.now c.requires.own
+    weighing_start a.sound.nodes.head a.sound.nodes.image.now a.node a.depth a.list.now
+    c.requires.own
 
 pub loop-i-preserved-then-c-eq0 : goal.loop-i-preserved-then-c-eq0
 loop-i-preserved-then-c-eq0 t c =
@@ -32,12 +33,12 @@ no_keys_below-requires t c = sound_link c.args.sound c.args.node c.loop-i.i c.li
 
 -- the child's own key
 own_counted : (t : ℕ) (c : After-from-one t)
-    → (let a = c.args in
-    c.from-one.result ≡ owned a.sound.nodes.head (node_table a.sound.nodes) c.link-c.result (a.depth + 1))
+    → (let n = c.args.sound.nodes in
+    c.from-one.result ≡ owned n.head (node_table n) c.link-c.result (c.args.depth + 1))
 own_counted t c =
-    let a = c.args in
+    let n = c.args.sound.nodes in
     c.from-one.ensures
-    ∙ owned_by a.sound.nodes.head (node_table a.sound.nodes) c.link-c.result (a.depth + 1) c.own_value.ensures
+    ∙ owned_by n.head (node_table n) c.link-c.result (c.args.depth + 1) c.own_value.ensures
 
 -- the child's address is at most G
 inside : (t : ℕ) (c : After-from-one t) → c.link-c.result ≤ c.args.sound.nodes.head.g

@@ -7,4 +7,5 @@ decreases-weighed l = l.sound.nodes.head.max - l.depth
 
 abbrev pub invariant-loop-i : goal.invariant-loop-i
 invariant-loop-i l =
-    Weighing l.sound.nodes.head l.sound.nodes.image.now l.node l.depth l.initial.list l.list l.sum l.i
+    Weighing l.sound.nodes.head l.sound.nodes.image.now l.node l.depth l.initial.list l.list
+    l.sum l.i

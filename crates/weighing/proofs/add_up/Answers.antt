@@ -39,4 +39,5 @@ weighed-requires c =
 pub returns : goal.returns
 returns c =
     let r = c.requires in
-    weighed_worked (sound_accepted c.args.sound) c.args.sound.own c.args.list.now r.zeros r.room c.weighed.ensures.weighed
+    weighed_worked (sound_accepted c.args.sound) c.args.sound.own c.args.list.now r.zeros r.room
+    c.weighed.ensures.weighed

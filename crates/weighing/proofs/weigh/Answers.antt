@@ -17,4 +17,6 @@ add_up-requires c =
 pub returns : goal.returns
 returns c =
     let clear = rw c.count.ensures at c.clear.ensures in
-    c.add_up.ensures ∙ cleared_worked (sound_accepted c.args.sound) c.args.sound.own c.args.list.now clear c.requires
+    c.add_up.ensures
+    ∙ cleared_worked (sound_accepted c.args.sound) c.args.sound.own c.args.list.now clear
+    c.requires
