@@ -13,7 +13,7 @@ judge-requires c = front_permitted (compared_front c.in_ok-head.ensures)
 pub invariant_of-result : goal.invariant_of-result
 invariant_of-result c =
     let o = compared_front c.in_ok-head.ensures in
-    record { ready = key_ready o (c.in_ok-key.ensures _ (front_opens o)) }
+    record { ready = key_ready o (keyed (front_opens o) c.in_ok-key.ensures) }
 
 pub returns-in_err-head : goal.returns-in_err-head
 returns-in_err-head c =
