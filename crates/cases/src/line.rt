@@ -144,7 +144,8 @@ fn after(b: u8) -> Mode {
     }
 }
 
-// The number with one more decimal digit, if 64 bits hold it.
+// The number with one more decimal digit, if 64 bits hold it. Digit by digit: a line may go on in
+// another mode after any of them.
 fn more(n: u64, b: u8) -> Option<u64> {
     let last = char::from(b).to_digit(10)?;
     n.checked_mul(10)?.checked_add(u64::from(last))

@@ -10,7 +10,7 @@ ghost use Rattle.depths.specs.Depths.{own_value, KeysBelow};
 use node::Nodes;
 
 // A stored key on a path: the number of its letters, which are the front of the path, and its
-// value.
+// value. `paper::Found` is what C is given of it, a length of 32 bits; a search counts in `usize`.
 #[derive(Clone, Copy)]
 pub struct Spot {
     pub length: usize,

@@ -53,6 +53,9 @@ pub fn done_with(length: u32, change: i32, value: u64) -> TrieffAnswer
     }
 }
 
+// An impl for each form of answer: each has its own arm for what is done, and a trait for the six
+// would say that once more.
+
 // The answer of make, check, mend, counts and check_counts.
 impl From<Result<(), Refusal>> for TrieffAnswer {
     ghost from_gives = { λ r a. numbers_of a ≡ done_of r };

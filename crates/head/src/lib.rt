@@ -10,7 +10,9 @@ ghost use Rattle.head.specs.Fields.{shortest_image, longest_image, fields_len, t
 ghost use Rattle.head.specs.Fields.{total_len, head_of, head_bytes, put_total, permitted};
 ghost use Rattle.head.specs.Fields.{node_width, node_place, used_len};
 
-// The seven fields of 01's table, in the order in which they are in the image.
+// The seven fields of 01's table, in the order in which they are in the image. That they are as is
+// permitted stays a clause: a head is read before it is judged, and a type for one that has been
+// judged would stand before each of its fields.
 #[derive(Clone, Copy)]
 pub struct Head {
     // The greatest node address.

@@ -137,7 +137,7 @@ impl GivenKey<'_> {
     }
 }
 
-// Is the length of a key in min..max?
+// Is the length of a key in min..max? By `&`: there is no branch between the two tests.
 fn length_allowed(len: usize, h: Head) -> bool
     ensures { result ≡ between len h.min h.max }
 {

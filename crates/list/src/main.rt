@@ -49,7 +49,8 @@ fn answer<R: Read, W: Write>(from: &mut R, to: &mut W) -> io::Result<()>
 }
 
 // Hands over the whole output for an input. `done` counts the bytes that were handed over: at the
-// start none, at the end all.
+// start none, at the end all. Writer, input and count are no struct: it would hold the writer by
+// `&mut`, and what the writer has got would be said of a field of a field.
 fn tell<W: Write>(to: &mut W, input: &[u8], done: &mut usize) -> io::Result<()>
     requires { done.old ≡ 0 }
     ensures done_value { done.new ≡ length (output_of input.now) }

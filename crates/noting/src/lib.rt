@@ -85,6 +85,7 @@ fn note_path(writes: &mut [u32; Head::NOTED_MOST as usize], asked: Asked, at: Po
     let nodes = key.len - depth;
     let width = h.node_width() as u32;
     let link = node::link_place(h, at.node, letters[depth] as u32) as u32;
+    // The place is carried along: a product in each turn would owe its bound anew.
     let mut place = h.used() as u32;
     for i in 0..nodes {
         note(writes, i, place, width);

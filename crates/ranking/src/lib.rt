@@ -52,7 +52,7 @@ pub struct Branch {
 }
 
 // The stored key at a position, which is below the number of stored keys. Its letters are then
-// the front of the path.
+// the front of the path, a slice of any length that has room: an array would ask for more.
 pub fn key_at(counted: Counted, position: u32, path: &mut [u8]) -> Spot
     requires position { position < length (stored_keys counted.sound.nodes.image.now) }
     requires room { counted.sound.nodes.head.max ≤ length path.old }
@@ -115,7 +115,7 @@ fn branch_at(counted: Counted, node: u32, depth: usize, position: u32) -> Branch
 
 // The position of a key whose length is allowed, if it is stored: the number of stored keys before
 // it. On the way down these are each node's own key and all keys at or under the children of lower
-// letters.
+// letters. That the length is allowed stays a clause: a store's stages do not ask it of a key.
 pub fn rank(counted: Counted, key: Key) -> Option<u32>
     requires ready { Ready counted.sound.nodes.head key }
     requires allowed { between (length (letters_of key)) counted.sound.nodes.head.min

@@ -24,7 +24,9 @@ pub const MARKS: u32 = 128;
 // Meets the nodes that are reached from the root, and answers how many there are. The first G+1
 // working numbers are 0 before. Afterwards the number of a node is 0 if it is not reached, else it
 // has the node's mark. Of the answer the contract says whether it is G+1: exactly then every node
-// is reached.
+// is reached. Links within G stay a clause: a type for it would wrap `Nodes` once more. So does
+// that the image is short: `Nodes` may be of any length. The loop has no range: what is next comes
+// off the stack.
 pub fn reach(nodes: Nodes, work: &mut [u32]) -> u32
     requires short { length nodes.image.now ≤ longest_image }
     requires within { Within (node_table nodes) nodes.head.g }

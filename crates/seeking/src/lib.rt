@@ -26,6 +26,7 @@ pub fn seek(sound: Sound, letters: &[u8], after: bool, buffer: &mut [u8]) -> Res
     let Some(spot) = traversal::next(nodes, key, after, &mut path, &mut addresses) else {
         return Err(Refusal::NoKey);
     };
+    // As `jumps::tell_key` ends: a function for both would take all that these lines name.
     field::copy(buffer, 0, &path[..spot.length]);
     Ok(Found {
         length: spot.length as u32,

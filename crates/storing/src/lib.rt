@@ -36,7 +36,7 @@ pub fn store(image: &mut [u8], asked: Asked, value: u64) -> Result<i32, Refusal>
 }
 
 // Judges 11, 12 and 13 and carries out the writes, given how the key's walk ended. Refusals: 11,
-// 12, 13.
+// 12, 13. How the walk ended stays a clause here and below: it is of this one store.
 pub fn store_at(image: &mut [u8], asked: Asked, walked: Walked, value: u64) -> Result<i32, Refusal>
     requires open { Open asked.head image.old }
     requires ends { Ends asked.head asked.key walked }
@@ -192,6 +192,7 @@ fn new_nodes(image: &mut [u8], h: Head, letters: &[u8], value: u64)
     ensures { image.new ≡ carried_out image.old
         (new_nodes h (suc h.g) letters.now value) }
 {
+    // The node is carried along: after the loop it is the last new one.
     let mut node = h.g + 1;
     for letter in letters {
         let next = node + 1;

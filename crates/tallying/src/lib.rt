@@ -17,7 +17,8 @@ use node::Nodes;
 pub const AGAIN: u32 = reaching::DEEPEST + 1;
 
 // The lowest node that holds a bad link, if one does. If none does, the working numbers have the
-// tally of the addresses 1 to G, and number 0 tells whether all is plain.
+// tally of the addresses 1 to G, and number 0 tells whether all is plain. That there is a number
+// for each node stays a clause: the numbers are lent on, to some stages without the nodes.
 pub fn first_bad_node(nodes: Nodes, work: &mut [u32]) -> Option<u32>
     requires room { nodes.head.g + 1 ≤ length work.old }
     requires zeros { work.old ≡ replicate (nodes.head.g + 1) 0
@@ -66,6 +67,7 @@ fn tally(nodes: Nodes, q: u32, work: &mut [u32]) -> bool
 }
 
 // Has node x hidden data: data that is not 0, where its mark is that of a depth outside min..max?
+// By `&`: there is no branch between the two tests.
 fn hides(nodes: Nodes, x: u32, mark: u32) -> bool
     requires { x ≤ nodes.head.g }
     ensures { result ≡ hidden_at nodes.entry.head (node_table nodes.entry) x mark }

@@ -63,7 +63,8 @@ fn clear(counts: &mut [u32], from: usize, to: usize)
     counts[from..to].fill(0);
 }
 
-// Adds the change in the number of stored keys to the counts of the nodes on the key's path.
+// Adds the change in the number of stored keys to the counts of the nodes on the key's path. From
+// here on it is what is gained and what is lost, since a count has no sign.
 fn carry(nodes: Nodes, key: Key, change: i32, counts: &mut [u32])
     requires ready { Ready nodes.head key }
     requires rules { LinkRules (node_table nodes) nodes.head.g }

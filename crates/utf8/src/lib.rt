@@ -76,7 +76,8 @@ fn fits(row: [u8; 5], s: &[u8], at: usize) -> bool
     true
 }
 
-// Whether b is in the range for byte i of a character of this row.
+// Whether b is in the range for byte i of a character of this row. By `&`: there is no branch
+// between the two tests.
 fn in_range(row: [u8; 5], i: usize, b: u8) -> bool
     ensures { result ≡ in_range row i b }
 {
