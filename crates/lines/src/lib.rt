@@ -1,6 +1,6 @@
 // The lines of 01's listing program, written into lent bytes. Each function writes its text from
 // `at` on and answers where it ends. The caller shows that there is room. The bytes and the place
-// are apart, not a struct: the program that lends the bytes hands them on, and begins anew in them.
+// are no struct: the program that lends the bytes hands them on, and begins anew in them.
 #![tactic(auto)]
 
 ghost use Rattle.std.specs.Prelude.{◌≡◌, ◌+◌, ◌*◌, ◌≤◌, length};

@@ -43,8 +43,8 @@ impl<'a> Nodes<'a> {
         (self.head.g as usize) + 1
     }
 
-    // Reads the link for letter i of node q. That a node is within G and a letter below N is a clause
-    // wherever one is given: each call has another.
+    // Reads the link for letter i of node q. That a node is within G and a letter below N is a
+    // clause wherever one is given: each call has another.
     pub fn link(self, q: u32, i: u32) -> u32
         requires node { q ≤ self.head.g }
         requires letter { i < self.head.n }
