@@ -79,9 +79,9 @@ impl Key {
     }
 
     // Judges a key by its letters. Refusals: 9, 10.
-    pub fn judge(self, h: Head) -> Result<(), Refusal>
+    pub fn judge(&self, h: Head) -> Result<(), Refusal>
         requires { permitted h ≡ true }
-        ensures { (k : List ℕ) → Holds self k → row_of result ≡ first (letters_rows h k) }
+        ensures { (k : List ℕ) → Holds self.now k → row_of result ≡ first (letters_rows h k) }
     {
         if !length_allowed(self.len, h) {
             return Err(Refusal::KeyLength);
@@ -91,9 +91,9 @@ impl Key {
 
     // Judges the key given to next key: another order than `judge`, since "For next key, 9 means
     // only a key longer than max." Refusals: 9, 10.
-    pub fn judge_next(self, h: Head) -> Result<(), Refusal>
+    pub fn judge_next(&self, h: Head) -> Result<(), Refusal>
         requires { permitted h ≡ true }
-        ensures { (k : List ℕ) → Holds self k → row_of result ≡ first (next_rows h k) }
+        ensures { (k : List ℕ) → Holds self.now k → row_of result ≡ first (next_rows h k) }
     {
         if (h.max as usize) < self.len {
             return Err(Refusal::KeyLength);
@@ -102,9 +102,9 @@ impl Key {
     }
 
     // Judges the letters of a key that is held whole. Refusals: 10.
-    fn spelled(self, h: Head) -> Result<(), Refusal>
-        requires { self.len ≤ most_letters }
-        ensures { (k : List ℕ) → Holds self k → row_of result ≡ row10 h k }
+    fn spelled(&self, h: Head) -> Result<(), Refusal>
+        requires { self.now.len ≤ most_letters }
+        ensures { (k : List ℕ) → Holds self.now k → row_of result ≡ row10 h k }
     {
         if !all_below(&self.letters[..self.len], h.n) {
             return Err(Refusal::Letter);
