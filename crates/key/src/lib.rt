@@ -122,9 +122,14 @@ impl GivenKey<'_> {
     {
         match self {
             GivenKey::Letters(letters) => {
-                let key = Key::of(letters);
-                key.judge(h)?;
-                Ok(key)
+                // Judged before they are put in hand, so that no key is moved that may be refused.
+                if !length_allowed(letters.len(), h) {
+                    return Err(Refusal::KeyLength);
+                }
+                if !all_below(letters, h.n) {
+                    return Err(Refusal::Letter);
+                }
+                Ok(Key::of(letters))
             }
             GivenKey::Text(text) => {
                 let key = Key::of_text(text, codes).ok_or(Refusal::Letter)?;
