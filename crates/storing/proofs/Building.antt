@@ -1,7 +1,7 @@
 -- The writes of a new path, as the code does them. At each turn the writes that are left, done
 -- on the image so far, give the image that all writes together give.
 use Prim.Native.Nat.{ℕ, suc, ◌+◌, ◌^◌, ◌≤◌, ◌<◌}
-use mathlib.Core.Path.{◌≡◌, sym, ◌∙◌, ap}
+use mathlib.Core.Path.{◌≡◌, refl, sym, ◌∙◌, ap}
 use mathlib.Core.List.{List, [], ◌∷◌}
 use native.Mathlib.Omega.{arith}
 use lib.ListN.{length, get_or, drop}
@@ -29,6 +29,12 @@ pub record Laying (h : Head) (ys : List ℕ) (value : ℕ) (l₀ l : List ℕ) (
   pub long : length l ≡ length l₀
   pub rest : carried_out l (new_nodes h node (drop i ys) value) ≡ carried_out l₀
       (new_nodes h (suc h.g) ys value)
+
+pub laying_none : (h : Head) (ys : List ℕ) (value : ℕ) (l : List ℕ)
+    → Laying h ys value l l 0 (h.g + 1)
+laying_none h ys value l =
+    let n : h.g + 1 ≡ suc h.g = omega arith in
+    record { count = omega arith; long = refl; rest = rw n refl }
 
 module _ {h : Head} {ys : List ℕ} {value : ℕ} {l₀ l : List ℕ} {i node : ℕ}
     (w : Laying h ys value l₀ l i node) where

@@ -5,7 +5,7 @@
 
 ghost use Rattle.std.specs.Prelude.{◌≡◌, suc, ◌+◌, ◌-◌, ◌≤◌, ◌<◌, ◌^◌, true, [], ◌∷◌};
 ghost use Rattle.std.specs.Prelude.{length, drop};
-ghost use Rattle.trie.specs.Table.{missing, value_at, LettersBelow};
+ghost use Rattle.trie.specs.Table.{missing, value_at};
 ghost use Rattle.trie.specs.Storing.{added, change_of};
 ghost use Rattle.head.specs.Fields.{head_of, most_letters, permitted};
 ghost use Rattle.node.specs.Image.{Open, table_of};
@@ -178,25 +178,28 @@ fn build(image: &mut [u8], asked: Asked, at: Position, total: u32, value: u64)
     let key = asked.key;
     let depth = at.depth;
     let letters = key.letters;
-    new_nodes(image, h, &letters[depth + 1..key.len], value);
+    new_nodes(image, asked, depth + 1, value);
     Head::set_total(image, total);
     node::set_link(image, h, at.node, letters[depth] as u32, h.g + 1);
 }
 
 // Writes the new nodes by rising address, from G+1 on: one for the letter that stopped the walk,
-// and one for each of the letters after it. Each links to the next; the last holds the value.
-fn new_nodes(image: &mut [u8], h: Head, letters: &[u8], value: u64)
-    requires permitted { permitted h ≡ true }
-    requires below { LettersBelow h.n letters.now }
-    requires space { Space h image.old (h.g + suc (length letters.now)) }
-    ensures { image.new ≡ carried_out image.old
-        (new_nodes h (suc h.g) letters.now value) }
+// and one for each letter from `from` on. Each links to the next; the last holds the value.
+fn new_nodes(image: &mut [u8], asked: Asked, from: usize, value: u64)
+    requires permitted { permitted asked.head ≡ true }
+    requires from { from ≤ asked.key.len }
+    requires space { Space asked.head image.old (asked.head.g + suc (asked.key.len - from)) }
+    ensures { image.new ≡ carried_out image.old (new_nodes asked.head (suc asked.head.g)
+        (drop from (letters_of asked.key)) value) }
 {
-    // The node is carried along: after the loop it is the last new one.
+    let h = asked.head;
+    let letters = asked.key.letters;
+    // The node is carried along: after the loop it is the last new one. The letters are taken by
+    // index: over a slice of them a store took six instructions more for each node.
     let mut node = h.g + 1;
-    for letter in letters {
+    for i in 0..asked.key.len - from {
         let next = node + 1;
-        node::write_path(image, h, node, u32::from(*letter), next);
+        node::write_path(image, h, node, u32::from(letters[from + i]), next);
         node = next;
     }
     node::write_last(image, h, node, value);
