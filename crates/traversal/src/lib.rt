@@ -41,7 +41,7 @@ pub fn next(
     let depth = along(nodes, key, letters, addresses);
     if depth < key.len {
         let from = u32::from(key.letters[depth]) + 1;
-        return climb(nodes, depth, from, letters, addresses);
+        return climb(&nodes, depth, from, letters, addresses);
     }
     if !after {
         let value = depths::own_value(nodes, addresses[depth], depth);
@@ -52,7 +52,7 @@ pub fn next(
             });
         }
     }
-    climb(nodes, depth, 0, letters, addresses)
+    climb(&nodes, depth, 0, letters, addresses)
 }
 
 // The first stored key after the one whose letters are the first `len` of `letters`, with its
@@ -68,7 +68,7 @@ pub fn onward(nodes: Nodes, len: usize, letters: &mut [u8], addresses: &mut [u32
         result letters.new addresses.new }
     ensures path_room { PathRoom nodes.entry.head letters.new addresses.new }
 {
-    climb(nodes, len, 0, letters, addresses)
+    climb(&nodes, len, 0, letters, addresses)
 }
 
 // Begins a listing: answers the value of the empty key. The value 0 is absent, as the format has
@@ -110,24 +110,25 @@ fn along(nodes: Nodes, key: Key, letters: &mut [u8], addresses: &mut [u32]) -> u
 // The first stored key below the path's end from a letter on, if there is one. If there is none,
 // the search goes on from node to node up the path, each time after the letter that was taken
 // there. These nodes have a link, so `no_keys_below` is asked only of the path's end, and only
-// where the search begins with the first letter.
+// where the search begins with the first letter. The nodes are lent here and below: handed over by
+// value they were copied for each step.
 fn climb(
-    nodes: Nodes,
+    nodes: &Nodes,
     end: usize,
     first: u32,
     letters: &mut [u8],
     addresses: &mut [u32],
 ) -> Option<Spot>
-    requires within { Within (node_table nodes) nodes.head.g }
-    requires end { end ≤ nodes.head.max }
-    requires inner { (0 < first → end < nodes.head.max) }
-    requires room { PathRoom nodes.head letters.old addresses.old }
-    requires along { Along nodes.head nodes.image.now end letters.old addresses.old }
-    ensures { SearchTells nodes.entry.head nodes.entry.image.now
-        (first_of (coming nodes.entry.head nodes.entry.image.now letters.old end first))
+    requires within { Within (node_table nodes.now) nodes.now.head.g }
+    requires end { end ≤ nodes.now.head.max }
+    requires inner { (0 < first → end < nodes.now.head.max) }
+    requires room { PathRoom nodes.now.head letters.old addresses.old }
+    requires along { Along nodes.now.head nodes.now.image.now end letters.old addresses.old }
+    ensures { SearchTells nodes.now.head nodes.now.image.now
+        (first_of (coming nodes.now.head nodes.now.image.now letters.old end first))
         result letters.new addresses.new }
 {
-    if first != 0 || !depths::no_keys_below(nodes, addresses[end], end) {
+    if first != 0 || !depths::no_keys_below(*nodes, addresses[end], end) {
         let found = below(nodes, addresses[end], end, first, letters, addresses);
         if found.is_some() {
             return found;
@@ -146,20 +147,20 @@ fn climb(
 // The first stored key below a node at a depth whose next letter is `from` or a later one, if
 // there is one. The function calls itself on the children; the depth left to max falls.
 fn below(
-    nodes: Nodes,
+    nodes: &Nodes,
     node: u32,
     depth: usize,
     from: u32,
     letters: &mut [u8],
     addresses: &mut [u32],
 ) -> Option<Spot>
-    requires within { Within (node_table nodes) nodes.head.g }
-    requires depth { depth < nodes.head.max }
-    requires room { PathRoom nodes.head letters.old addresses.old }
-    requires along { (Along nodes.head nodes.image.now depth letters.old addresses.old)
+    requires within { Within (node_table nodes.now) nodes.now.head.g }
+    requires depth { depth < nodes.now.head.max }
+    requires room { PathRoom nodes.now.head letters.old addresses.old }
+    requires along { (Along nodes.now.head nodes.now.image.now depth letters.old addresses.old)
         × (node ≡ get_or addresses.old depth 0) }
-    ensures search_tells { SearchTells nodes.entry.head nodes.entry.image.now
-        (first_of (ahead nodes.entry.head nodes.entry.image.now letters.old depth node from))
+    ensures search_tells { SearchTells nodes.now.head nodes.now.image.now
+        (first_of (ahead nodes.now.head nodes.now.image.now letters.old depth node from))
         result letters.new addresses.new }
     ensures path_kept { PathKept depth letters.old addresses.old letters.new addresses.new }
 {
@@ -170,14 +171,14 @@ fn below(
         }
         letters[depth] = i as u8;
         addresses[depth + 1] = c;
-        let value = depths::own_value(nodes, c, depth + 1);
+        let value = depths::own_value(*nodes, c, depth + 1);
         if value != 0 {
             return Some(Spot {
                 length: depth + 1,
                 value,
             });
         }
-        if depths::no_keys_below(nodes, c, depth + 1) {
+        if depths::no_keys_below(*nodes, c, depth + 1) {
             continue;
         }
         let deeper = below(nodes, c, depth + 1, 0, letters, addresses);

@@ -19,7 +19,7 @@ loop-i-init t c =
 
 pub link-c-requires-clause-node : goal.link-c-requires-clause-node
 link-c-requires-clause-node t c =
-    let n = c.args.nodes in
+    let n = c.args.nodes.now in
     rw c.requires.along.1 (along_within n.head n.image.now c.requires.within c.requires.along.0)
 
 pub loop-i-preserved-then-c-eq0 : goal.loop-i-preserved-then-c-eq0
@@ -28,12 +28,12 @@ loop-i-preserved-then-c-eq0 t c =
 
 pub overflow_cast-letters : goal.overflow_cast-letters
 overflow_cast-letters t c =
-    omega (arith, bounds c.args.nodes.head c.args.nodes.open.head_permitted)
+    omega (arith, bounds c.args.nodes.now.head c.args.nodes.now.open.head_permitted)
 
 -- the link is not empty
 onto : (t : ℕ) (c : After-own_value-value t)
     → (let a = c.args in
-    Onto a.nodes.head a.nodes.image.now a.letters.now a.addresses.now a.depth a.node a.from
+    Onto a.nodes.now.head a.nodes.now.image.now a.letters.now a.addresses.now a.depth a.node a.from
     c.loop-i.letters c.loop-i.addresses c.loop-i.i c.link-c.result)
 onto t c =
     let room = c.requires.room in
@@ -91,7 +91,7 @@ pub returns : goal.returns
 returns t c =
     let p = c.loop-i.invariant in
     record {
-      search_tells = told_none c.args.nodes.head c.args.nodes.image.now
+      search_tells = told_none c.args.nodes.now.head c.args.nodes.now.image.now
           (passing_end p c.loop-i-test.false);
       path_kept = p.kept;
     }

@@ -3,7 +3,7 @@ use Rattle.traversal.proofs.Searching.{Passing}
 use Rattle.traversal.proofs.+below.Given as goal
 
 abbrev pub decreases-below : goal.decreases-below
-decreases-below l = l.nodes.head.max - l.depth
+decreases-below l = l.nodes.now.head.max - l.depth
 
 abbrev pub invariant-loop-i : goal.invariant-loop-i
 invariant-loop-i l =

@@ -21,7 +21,7 @@ long c = omega (arith, c.requires.end, c.requires.room.letters)
 
 pub no_keys_below-requires : goal.no_keys_below-requires
 no_keys_below-requires c =
-    let n = c.args.nodes in
+    let n = c.args.nodes.now in
     along_within n.head n.image.now c.requires.within c.requires.along
 
 pub returns-then-is_some : goal.returns-then-is_some
@@ -31,7 +31,7 @@ returns-then-is_some c =
 
 -- no key was found below the path's end, or no search was made there
 nothing : (c : Joined-first-ne0)
-    → (let n = c.args.nodes in
+    → (let n = c.args.nodes.now in
     Nothing n.head n.image.now c.args.letters.now c.args.addresses.now c.args.end c.args.first
     c.if-first-ne0.letters c.if-first-ne0.addresses)
 nothing c =
@@ -52,7 +52,7 @@ loop-depth-init c =
 
 -- a node is left above
 left : (c : In-loop-depth)
-    → (let n = c.args.nodes in
+    → (let n = c.args.nodes.now in
     let at = c.loop-depth in
     Climbing n.head n.image.now c.args.letters.now c.args.end c.args.first at.letters at.addresses
     (suc (at.depth - 1)))
@@ -92,5 +92,5 @@ loop-depth-preserved c =
 
 pub returns : goal.returns
 returns c =
-    told_none c.args.nodes.head c.args.nodes.image.now
+    told_none c.args.nodes.now.head c.args.nodes.now.image.now
     (climbing_end c.loop-depth.depth c.loop-depth.invariant (omega arith))
