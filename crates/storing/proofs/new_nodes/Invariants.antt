@@ -5,5 +5,6 @@ use Rattle.storing.proofs.new_nodes.Given as goal
 
 abbrev pub invariant-loop-i : goal.invariant-loop-i
 invariant-loop-i l =
-    Laying l.fn.asked.head (drop l.fn.from (letters_of l.fn.asked.key)) l.fn.value l.initial.image l.image l.i
+    let a = l.fn in
+    Laying a.asked.head (drop a.from (letters_of a.asked.key)) a.value l.initial.image l.image l.i
     l.node
