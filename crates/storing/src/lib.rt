@@ -175,12 +175,10 @@ fn build(image: &mut [u8], asked: Asked, at: Position, total: u32, value: u64)
         total value image.new }
 {
     let h = asked.head;
-    let key = asked.key;
-    let depth = at.depth;
-    let letters = key.letters;
-    new_nodes(image, asked, depth + 1, value);
+    new_nodes(image, asked, at.depth + 1, value);
     Head::set_total(image, total);
-    node::set_link(image, h, at.node, letters[depth] as u32, h.g + 1);
+    let letter = asked.key.letters[at.depth];
+    node::set_link(image, h, at.node, u32::from(letter), h.g + 1);
 }
 
 // Writes the new nodes by rising address, from G+1 on: one for the letter that stopped the walk,
@@ -193,13 +191,13 @@ fn new_nodes(image: &mut [u8], asked: Asked, from: usize, value: u64)
         (drop from (letters_of asked.key)) value) }
 {
     let h = asked.head;
-    let letters = asked.key.letters;
     // The node is carried along: after the loop it is the last new one. The letters are taken by
     // index: over a slice of them a store took six instructions more for each node.
     let mut node = h.g + 1;
-    for i in 0..asked.key.len - from {
+    for depth in from..asked.key.len {
         let next = node + 1;
-        node::write_path(image, h, node, u32::from(letters[from + i]), next);
+        let letter = asked.key.letters[depth];
+        node::write_path(image, h, node, u32::from(letter), next);
         node = next;
     }
     node::write_last(image, h, node, value);

@@ -92,9 +92,8 @@ fn shift(nodes: Nodes, key: Key, gain: u32, loss: u32, counts: &mut [u32])
     requires fit { CountsFit (node_table nodes) (letters_of key) gain loss counts.old }
     ensures { Shifted (node_table nodes.entry) (letters_of key) gain loss counts.old counts.new }
 {
-    let letters = key.letters;
     let mut node: u32 = 0;
-    for letter in &letters[..key.len] {
+    for letter in &key.letters[..key.len] {
         let next = nodes.link(node, u32::from(*letter));
         bump(counts, node, gain, loss);
         node = next;

@@ -59,9 +59,8 @@ pub fn walk(nodes: Nodes, key: Key) -> Result<Walked, Refusal>
     ensures { result ≡ walked_from nodes.entry.head.g (node_table nodes.entry) at_root
         (letters_of key) }
 {
-    let letters = key.letters;
     let mut here = Position { node: 0, depth: 0 };
-    for letter in &letters[..key.len] {
+    for letter in &key.letters[..key.len] {
         let Ok(step) = here.step(nodes, *letter) else {
             return Err(Refusal::Link(here.node));
         };

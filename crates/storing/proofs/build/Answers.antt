@@ -42,11 +42,13 @@ set_total-requires c =
 
 pub set_link-requires-clause-letter : goal.set_link-requires-clause-letter
 set_link-requires-clause-letter c =
-    letter_below c.args.asked.key (whole (goal.at.set_link-requires-clause-letter c).Start)
-    c.args.asked.ready.short _ _ c.args.asked.ready.letters c.requires.stop.depth
+    rw c.from.ensures
+    (letter_below c.args.asked.key (whole (goal.at.set_link-requires-clause-letter c).Start)
+    c.args.asked.ready.short _ _ c.args.asked.ready.letters c.requires.stop.depth)
 
 pub returns : goal.returns
 returns c =
     let a = c.args in
     built a.asked.head a.at.node _ a.total a.value _ a.image.now (left (goal.at.returns c).Start)
-    c.new_nodes.ensures c.set_total.ensures c.set_link.ensures.bytes
+    c.new_nodes.ensures c.set_total.ensures
+    (rw c.from.ensures at c.set_link.ensures.bytes)
