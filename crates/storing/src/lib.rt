@@ -1,6 +1,8 @@
 // The part of a store after 10, on an image that has been checked, in two stages. First 11, 12
 // and 13 are judged. Then the store writes: the new nodes by rising address, G, and the link to
-// the first new node; or, if the path is complete, the data field alone.
+// the first new node; or, if the path is complete, the data field alone. That the image is open
+// stays a clause, as in `node` where it is written: a struct with the image by `&mut` would have
+// to hold the fact at each write, and the writes of a store come before G.
 #![tactic(auto)]
 
 ghost use Rattle.std.specs.Prelude.{◌≡◌, suc, ◌+◌, ◌-◌, ◌≤◌, ◌<◌, ◌^◌, true, [], ◌∷◌};
@@ -175,10 +177,10 @@ fn build(image: &mut [u8], asked: Asked, at: Position, total: u32, value: u64)
         total value image.new }
 {
     let h = asked.head;
+    let letters = asked.key.letters;
     new_nodes(image, asked, at.depth + 1, value);
     Head::set_total(image, total);
-    let letter = asked.key.letters[at.depth];
-    node::set_link(image, h, at.node, u32::from(letter), h.g + 1);
+    node::set_link(image, h, at.node, u32::from(letters[at.depth]), h.g + 1);
 }
 
 // Writes the new nodes by rising address, from G+1 on: one for the letter that stopped the walk,
@@ -192,12 +194,13 @@ fn new_nodes(image: &mut [u8], asked: Asked, from: usize, value: u64)
 {
     let h = asked.head;
     // The node is carried along: after the loop it is the last new one. The letters are taken by
-    // index: over a slice of them a store took six instructions more for each node.
+    // index, from an array of this function's own: over a slice of them, or over the caller's, a
+    // store took six instructions more for each node.
+    let letters = asked.key.letters;
     let mut node = h.g + 1;
     for depth in from..asked.key.len {
         let next = node + 1;
-        let letter = asked.key.letters[depth];
-        node::write_path(image, h, node, u32::from(letter), next);
+        node::write_path(image, h, node, u32::from(letters[depth]), next);
         node = next;
     }
     node::write_last(image, h, node, value);
