@@ -55,7 +55,7 @@ pub fn store_counted(
 }
 
 // Sets the numbers from `from` to `to` - 1 to 0: they belonged to no node and may hold anything.
-// Its contract says what the list of counts then holds, as `tallying::clear` says it of the numbers.
+// Its contract says what the list of counts then holds, as that of `tallying::clear` does.
 fn clear(counts: &mut [u32], from: usize, to: usize)
     requires order { from ≤ to }
     requires room { to ≤ length counts.old }
