@@ -82,7 +82,8 @@ pub fn key_at(counted: Counted, position: u32, path: &mut [u8]) -> Spot
 }
 
 // The child of a node at a depth at or under which the key at a position is. The position counts
-// the keys below the node, without the node's own key, and there is a key at it.
+// the keys below the node, without the node's own key, and there is a key at it. By the letter, as
+// wherever a node's links are gone over: its number is what the turn is about.
 fn branch_at(counted: Counted, node: u32, depth: usize, position: u32) -> Branch
     requires node { node ≤ counted.sound.nodes.head.g }
     requires depth { depth < counted.sound.nodes.head.max }
