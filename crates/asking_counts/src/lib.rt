@@ -11,6 +11,7 @@ use paper::Refusal;
 
 // Judges the check's rows, 25, then the key given. Refusals: 1 to 8, 16, 19, 25, then 9, 10 of
 // letters or 10, 9 of a text.
+#[inline(always)]
 pub fn ask(
     image: &[u8],
     work: &mut [u32],

@@ -55,7 +55,9 @@ impl Key {
         Key { letters: kept, len }
     }
 
-    // The key in hand that a text names, if it names one by the letters of an alphabet.
+    // The key in hand that a text names, if it names one by the letters of an alphabet. It stays a
+    // function of its own, so that a key by its letters pays nothing for it.
+    #[inline(never)]
     pub fn of_text(text: &[u8], codes: &Codes) -> Option<Key>
         ensures { result ≡ hand_of (key_of_text (letters_in codes.now) text.now) }
     {
@@ -115,21 +117,18 @@ impl Key {
 
 impl GivenKey<'_> {
     // The key in hand that is meant, judged by 9 and 10, with any head that is permitted and any
-    // letters. Refusals: by letters 9, 10; by text 10, 9.
+    // letters. Refusals: by letters 9, 10; by text 10, 9. It is compiled into its callers, as
+    // `asking::ask` is, so that a key is not moved twice on its way to a store.
+    #[inline(always)]
     pub fn judge(self, h: Head, codes: &Codes) -> Result<Key, Refusal>
         requires { permitted h ≡ true }
         ensures { JudgedBy h (letters_in codes.now) (given_of self.entry) result }
     {
         match self {
             GivenKey::Letters(letters) => {
-                // Judged before they are put in hand, so that no key is moved that may be refused.
-                if !length_allowed(letters.len(), h) {
-                    return Err(Refusal::KeyLength);
-                }
-                if !all_below(letters, h.n) {
-                    return Err(Refusal::Letter);
-                }
-                Ok(Key::of(letters))
+                let key = Key::of(letters);
+                key.judge(h)?;
+                Ok(key)
             }
             GivenKey::Text(text) => {
                 let key = Key::of_text(text, codes).ok_or(Refusal::Letter)?;
