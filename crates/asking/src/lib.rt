@@ -11,7 +11,8 @@ use paper::Refusal;
 
 // Judges the check's rows, then the key given. Refusals: 1 to 8, 16, 19, then 9, 10 of letters or
 // 10, 9 of a text. `asking_counts::ask` differs in its first stage alone; what they share is
-// `GivenKey::judge`, and a function over the stage would be longer than the two.
+// `GivenKey::judge`, and a function over the stage would be longer than the two. Like that, both
+// are compiled into their callers.
 #[inline(always)]
 pub fn ask(image: &[u8], work: &mut [u32], given: GivenKey) -> Result<Asked, Refusal>
     ensures { Asks image.now work.old (given_of given.entry) result work.new }

@@ -10,7 +10,7 @@ use key::{Asked, GivenKey};
 use paper::Refusal;
 
 // Judges the check's rows, 25, then the key given. Refusals: 1 to 8, 16, 19, 25, then 9, 10 of
-// letters or 10, 9 of a text.
+// letters or 10, 9 of a text. It is compiled into its callers, as `GivenKey::judge` is.
 #[inline(always)]
 pub fn ask(
     image: &[u8],

@@ -18,14 +18,14 @@ use Rattle.head.specs.declared.Head.{Head}
 use Rattle.head.specs.Fields.{permitted, most_letters}
 use Rattle.head.proofs.Permitted.{bounds}
 use Rattle.trie.specs.Table.{LettersBelow}
-use Rattle.trie.proofs.LettersBelow.{letters_at, letters_of_lem}
+use Rattle.trie.proofs.LettersBelow.{letters_more}
 use Rattle.alphabet.specs.Letters.{or_empty, key_of_text}
 use Rattle.paper.specs.Hearing.{Row, row_when, first}
 use Rattle.paper.specs.Answers.{number_at}
 use Rattle.paper.specs.Rows.{row9, row9next, row10, row10text, all_below, is_none}
 use Rattle.paper.specs.Orders.{letters_rows, next_rows, text_rows}
 use Rattle.paper.proofs.Hearing.{was_false, yes_row, no_row, passed_row}
-use Rattle.paper.proofs.Keying.{below_letters}
+use Rattle.paper.proofs.Keying.{below_letters, letters_fit, text_fit, some_found}
 use Rattle.paper.proofs.Named.{named_letters}
 use Rattle.key.specs.declared.Key.{Key}
 use Rattle.key.specs.Hand.{in_hand, Holds, hand_of, letters_of, Ready}
@@ -122,9 +122,8 @@ neither h k {test} e =
 pub letters_ready : (h : Head) {hand : Key} {k : List ℕ} → permitted h ≡ true → Holds hand k
     → first (letters_rows h k) ≡ none
     → Ready h hand × (letters_of hand ≡ k)
-unfolding letters_rows row9
 letters_ready h {k = k} p o e =
-    let u = neither h k e in ready h o (short h p (not-false _ u.0)) u.1
+    let f = letters_fit h k e in ready h o (short h p f.allowed) f.below
 
 pub next_ready : (h : Head) {hand : Key} {k : List ℕ} → permitted h ≡ true → Holds hand k
     → first (next_rows h k) ≡ none
@@ -136,16 +135,6 @@ next_ready h {hand} {k} p o e =
     let r = ready h o (omega (arith, bounds h p)) u.1 in
     (r.0, r.1, rw o.len most)
 
--- a text that passes names a key, whose length is allowed
-text_passing : (h : Head) (named : Option (List ℕ)) → first (text_rows h named) ≡ none
-    → (k : List ℕ) × (named ≡ some k) × (between (length k) h.min h.max ≡ true)
-unfolding text_rows row10text is_none row9 or_empty hand_of
-text_passing h none e = let z : ◌≡◌ {A = ℕ} 0 1 = cc (text_10 h none refl) in absurd (omega arith)
-text_passing h (some k) e =
-    let u = passed_row _ _ e in
-    let v = passed_row _ _ u.1 in
-    (k, refl, not-false _ (was_false 9 0 _ v.0))
-
 -- the same for a text, whose letters are those of an alphabet of at most N letters
 pub text_ready : (h : Head) {hand : Key} (alphabet text : List ℕ) {named : Option (List ℕ)}
     → permitted h ≡ true → Some hand ≡ hand_of named
@@ -153,11 +142,11 @@ pub text_ready : (h : Head) {hand : Key} (alphabet text : List ℕ) {named : Opt
     → Ready h hand × (named ≡ some (letters_of hand))
 unfolding hand_of
 text_ready h {hand} alphabet text {named} p e spelt few passed =
-    let (k, is, allowed) = text_passing h named passed in
-    let kept : Some hand ≡ Some (in_hand k) = e ∙ ap hand_of is in
-    let same : hand ≡ in_hand k = cc in
+    let t = text_fit h named passed in
+    let is = some_found named t.0 in
+    let kept : Some hand ≡ Some (in_hand (or_empty named)) = e ∙ ap hand_of is in
+    let same : hand ≡ in_hand (or_empty named) = cc in
     let among = named_letters alphabet text (sym spelt ∙ is) in
-    let o : Holds hand k = rw same (hand_holds k) in
-    let r = ready h o (short h p allowed)
-    (letters_of_lem h.n k (λ i b. omega (arith, letters_at (length alphabet) k among i b))) in
+    let o : Holds hand (or_empty named) = rw same (hand_holds (or_empty named)) in
+    let r = ready h o (short h p t.1) (letters_more _ _ (or_empty named) few among) in
     (r.0, is ∙ ap some (sym r.1))
