@@ -50,7 +50,7 @@ ten_by h o l e = ap (λ (t : Bool). row_when 10 0 (not t)) (rw (held o l) at e)
 
 -- ---- 9 by a test of the length, then 10, for a key by its letters
 
-alone : (r : Row) → first (r ∷ []) ≡ r
+pub alone : (r : Row) → first (r ∷ []) ≡ r
 unfolding first
 alone none = refl
 alone (some s) = refl

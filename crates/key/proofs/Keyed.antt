@@ -4,9 +4,10 @@
 -- this head and this alphabet has passed 1 to 4, a key that passes is also ready.
 use Prim.Native.Nat.{ℕ}
 use mathlib.Core.Path.{◌≡◌, refl, sym, ◌∙◌, ap}
-use mathlib.Core.Bool.{true, false}
+use mathlib.Core.Bool.{Bool, true, false, not}
 use mathlib.Core.Option.{none, some}
 use mathlib.Core.List.{List}
+use lib.ListN.{length}
 use Rattle.std.specs.Prelude.{Some, None, Result, Ok, Err, IfOk}
 use Rattle.field.specs.Range.{between}
 use Rattle.head.specs.declared.Head.{Head}
@@ -19,7 +20,8 @@ use Rattle.paper.specs.Hearing.{row_when, first}
 use Rattle.paper.specs.Answers.{row_of}
 use Rattle.paper.specs.Given.{Given, as_letters, as_text, alphabet_in, meant_by, meant_in, key_in}
 use Rattle.paper.specs.Orders.{letters_rows, key_rows_by, key_rows}
-use Rattle.paper.proofs.Hearing.{told_passed}
+use Rattle.paper.specs.Rows.{row9, row10, all_below}
+use Rattle.paper.proofs.Hearing.{told_passed, yes_row, no_row}
 use Rattle.paper.proofs.Keying.{given_meant}
 use Rattle.paper.proofs.Known.{Known}
 use Rattle.paper.proofs.LookUpCall.{given_fit}
@@ -29,10 +31,41 @@ use Rattle.key.specs.declared.Key.{Key}
 use Rattle.key.specs.Hand.{in_hand, Holds, hand_of, meant_with, key_rows_with, JudgedBy}
 use Rattle.key.specs.Hand.{letters_of, Ready, Keyed}
 use Rattle.key.proofs.Hand.{hand_holds}
-use Rattle.key.proofs.Judging.{short, text_10, text_by, ready}
+use Rattle.key.proofs.Judging.{short, alone, text_10, text_by, ready}
+
+-- 10 alone is left where the length of a key by its letters is allowed
+ten : (h : Head) (key : List ℕ) → between (length key) h.min h.max ≡ true
+    → first (letters_rows h key) ≡ row10 h key
+unfolding letters_rows row9
+ten h key allowed = no_row 9 0 _ (ap not allowed) ∙ alone (row10 h key)
 
 module _ {h : Head} {alphabet : List ℕ} where
-  -- a key by its letters, which are put in hand and judged there
+  -- a key by its letters, of any number, by the test of each row
+  pub letters_length : (key : List ℕ) → between (length key) h.min h.max ≡ false
+      → JudgedBy h alphabet (as_letters key) (Err Refusal.KeyLength)
+  unfolding row_of key_rows_with letters_rows row9
+  letters_length key b = record { verdict = sym (yes_row 9 0 _ (ap not b)); key = tt }
+
+  module _ (key : List ℕ) (allowed : between (length key) h.min h.max ≡ true) where
+    pub letters_outside : all_below h.n key ≡ false
+        → JudgedBy h alphabet (as_letters key) (Err Refusal.Letter)
+    unfolding row_of key_rows_with row10 row_when
+    letters_outside b =
+        record {
+          verdict = sym (ten h key allowed ∙ ap (λ (t : Bool). row_when 10 0 (not t)) b);
+          key = tt;
+        }
+
+    pub letters_passed : all_below h.n key ≡ true → {hand : Key} → hand ≡ in_hand key
+        → JudgedBy h alphabet (as_letters key) (Ok hand)
+    unfolding row_of key_rows_with meant_with hand_of row10 row_when
+    letters_passed b made =
+        record {
+          verdict = sym (ten h key allowed ∙ ap (λ (t : Bool). row_when 10 0 (not t)) b);
+          key = rw made refl;
+        }
+
+  -- the same by what judges the key in hand that they are put in
   module _ (key : List ℕ) {hand : Key} (made : hand ≡ in_hand key) {v : Result (Unit {0}) Refusal}
       (told : (k : List ℕ) → Holds hand k → row_of v ≡ first (letters_rows h k)) where
     pub letters_refused : {why : Refusal} → v ≡ Err why
@@ -41,9 +74,9 @@ module _ {h : Head} {alphabet : List ℕ} where
     letters_refused e =
         record { verdict = rw e at told key (rw made (hand_holds key)); key = tt }
 
-    pub letters_passed : {x : Unit {0}} → v ≡ Ok x → JudgedBy h alphabet (as_letters key) (Ok hand)
+    pub letters_judged : {x : Unit {0}} → v ≡ Ok x → JudgedBy h alphabet (as_letters key) (Ok hand)
     unfolding row_of key_rows_with meant_with hand_of
-    letters_passed e =
+    letters_judged e =
         record { verdict = rw e at told key (rw made (hand_holds key)); key = rw made refl }
 
   -- a key by its text

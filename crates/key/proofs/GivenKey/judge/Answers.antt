@@ -8,7 +8,7 @@ use Rattle.alphabet.specs.Letters.{key_of_text}
 use Rattle.alphabet.specs.Judged.{letters_in}
 use Rattle.paper.specs.declared.Refusal.{Refusal}
 use Rattle.key.specs.Hand.{hand_of}
-use Rattle.key.proofs.Keyed.{letters_refused, letters_passed}
+use Rattle.key.proofs.Keyed.{letters_refused, letters_judged}
 use Rattle.key.proofs.Keyed.{text_nameless, text_length, text_passed}
 use Rattle.key.proofs.GivenKey.judge.Goals as goal
 use Rattle.key.proofs.GivenKey.judge.Goals.{In_ok-key-in-Text}
@@ -33,7 +33,7 @@ returns-in_err-judge-in-Letters c =
 pub returns-in_ok-judge-in-Letters : goal.returns-in_ok-judge-in-Letters
 returns-in_ok-judge-in-Letters c =
     rw c.in-Letters.is
-    (letters_passed c.in-Letters.letters.now c.of-key.ensures c.judge.ensures
+    (letters_judged c.in-Letters.letters.now c.of-key.ensures c.judge.ensures
     c.in_ok-judge-in-Letters.was)
 
 pub returns-in_err-key-in-Text : goal.returns-in_err-key-in-Text
