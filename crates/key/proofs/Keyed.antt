@@ -40,7 +40,7 @@ unfolding letters_rows row9
 ten h key allowed = no_row 9 0 _ (ap not allowed) ∙ alone (row10 h key)
 
 module _ {h : Head} {alphabet : List ℕ} where
-  -- a key by its letters, of any number, by the test of each row
+  -- a key by its letters, of any length, by the test of each row
   pub letters_length : (key : List ℕ) → between (length key) h.min h.max ≡ false
       → JudgedBy h alphabet (as_letters key) (Err Refusal.KeyLength)
   unfolding row_of key_rows_with letters_rows row9
@@ -65,7 +65,7 @@ module _ {h : Head} {alphabet : List ℕ} where
           key = rw made refl;
         }
 
-  -- the same by what judges the key in hand that they are put in
+  -- the same, by the answer of what judges the key in hand
   module _ (key : List ℕ) {hand : Key} (made : hand ≡ in_hand key) {v : Result (Unit {0}) Refusal}
       (told : (k : List ℕ) → Holds hand k → row_of v ≡ first (letters_rows h k)) where
     pub letters_refused : {why : Refusal} → v ≡ Err why
