@@ -21,7 +21,7 @@ use Rattle.paper.specs.Answers.{row_of}
 use Rattle.paper.specs.Given.{Given, as_letters, as_text, alphabet_in, meant_by, meant_in, key_in}
 use Rattle.paper.specs.Orders.{letters_rows, key_rows_by, key_rows}
 use Rattle.paper.specs.Rows.{row9, row10, all_below}
-use Rattle.paper.proofs.Hearing.{told_passed, yes_row, no_row}
+use Rattle.paper.proofs.Hearing.{told_passed}
 use Rattle.paper.proofs.Keying.{given_meant}
 use Rattle.paper.proofs.Known.{Known}
 use Rattle.paper.proofs.LookUpCall.{given_fit}
@@ -31,39 +31,35 @@ use Rattle.key.specs.declared.Key.{Key}
 use Rattle.key.specs.Hand.{in_hand, Holds, hand_of, meant_with, key_rows_with, JudgedBy}
 use Rattle.key.specs.Hand.{letters_of, Ready, Keyed}
 use Rattle.key.proofs.Hand.{hand_holds}
-use Rattle.key.proofs.Judging.{short, alone, text_10, text_by, ready}
+use Rattle.key.proofs.Judging.{short, outside, nine_given, ten_decides}
+use Rattle.key.proofs.Judging.{text_10, text_by, ready}
 
--- 10 alone is left where the length of a key by its letters is allowed
-ten : (h : Head) (key : List ℕ) → between (length key) h.min h.max ≡ true
-    → first (letters_rows h key) ≡ row10 h key
-unfolding letters_rows row9
-ten h key allowed = no_row 9 0 _ (ap not allowed) ∙ alone (row10 h key)
+-- 10 decides where the length of a key by its letters is allowed
+ten : (h : Head) (key : List ℕ) → between (length key) h.min h.max ≡ true → {b : Bool}
+    → all_below h.n key ≡ b → first (letters_rows h key) ≡ row_when 10 0 (not b)
+unfolding in_hand letters_rows row9 row10
+ten h key allowed e =
+    ten_decides h (outside h) (hand_holds key) (ap not allowed)
+    ∙ ap (λ (t : Bool). row_when 10 0 (not t)) e
 
 module _ {h : Head} {alphabet : List ℕ} where
   -- a key by its letters, of any length, by the test of each row
   pub letters_length : (key : List ℕ) → between (length key) h.min h.max ≡ false
       → JudgedBy h alphabet (as_letters key) (Err Refusal.KeyLength)
-  unfolding row_of key_rows_with letters_rows row9
-  letters_length key b = record { verdict = sym (yes_row 9 0 _ (ap not b)); key = tt }
+  unfolding row_of in_hand key_rows_with letters_rows row9
+  letters_length key b =
+      record { verdict = sym (nine_given h (outside h) (hand_holds key) (ap not b)); key = tt }
 
   module _ (key : List ℕ) (allowed : between (length key) h.min h.max ≡ true) where
     pub letters_outside : all_below h.n key ≡ false
         → JudgedBy h alphabet (as_letters key) (Err Refusal.Letter)
-    unfolding row_of key_rows_with row10 row_when
-    letters_outside b =
-        record {
-          verdict = sym (ten h key allowed ∙ ap (λ (t : Bool). row_when 10 0 (not t)) b);
-          key = tt;
-        }
+    unfolding row_of key_rows_with row_when
+    letters_outside b = record { verdict = sym (ten h key allowed b); key = tt }
 
     pub letters_passed : all_below h.n key ≡ true → {hand : Key} → hand ≡ in_hand key
         → JudgedBy h alphabet (as_letters key) (Ok hand)
-    unfolding row_of key_rows_with meant_with hand_of row10 row_when
-    letters_passed b made =
-        record {
-          verdict = sym (ten h key allowed ∙ ap (λ (t : Bool). row_when 10 0 (not t)) b);
-          key = rw made refl;
-        }
+    unfolding row_of key_rows_with meant_with hand_of row_when
+    letters_passed b made = record { verdict = sym (ten h key allowed b); key = rw made refl }
 
   -- the same, by the answer of what judges the key in hand
   module _ (key : List ℕ) {hand : Key} (made : hand ≡ in_hand key) {v : Result (Unit {0}) Refusal}
